@@ -1,0 +1,20 @@
+-- What the program tells its caller at the end. Source: own.
+use Rattle.std.specs.Prelude.{ℕ, Option, Some, None, Result, Ok, Err}
+use Rattle.office_days.specs.declared.refusal.Refusal.{Refusal}
+use Rattle.office.specs.declared.output.Io.{Io}
+use Rattle.office.specs.declared.ending.Ending.{Ending}
+use Rattle.office.specs.declared.ending.Ending.TheVariants.{Done, Refused, BadWords, File, Memory}
+
+-- a refusal is told as such, and a writer's error as that of a file
+abbrev pub ending_of : Result (Option Refusal) Io → Ending
+ending_of (Ok None) = Done
+ending_of (Ok (Some refusal)) = Refused refusal
+ending_of (Err failed) = File
+
+-- 0 done, 1 something refused, 2 bad words, 3 a file, 4 memory
+abbrev pub exit_status : Ending → ℕ
+exit_status Done = 0
+exit_status (Refused refusal) = 1
+exit_status BadWords = 2
+exit_status File = 3
+exit_status Memory = 4

@@ -1,0 +1,59 @@
+ghost use Rattle.std.specs.Prelude.{◌≡◌};
+
+use crate::output::Io;
+use office_days::Refusal;
+use std::fmt;
+
+/// How the program ends. Its text is the line on standard error, with its line feed, or nothing.
+#[derive(Clone, Copy, PartialEq, Eq, Debug)]
+pub enum Ending {
+    /// All was done.
+    Done,
+    /// What was asked is refused.
+    Refused(Refusal),
+    /// The words are no command of the program; what is wrong was said already.
+    BadWords,
+    /// Standard output could not be written.
+    File,
+    /// An allocation was refused: fault 30.
+    Memory,
+}
+
+impl Ending {
+    ghost use Rattle.office.specs.Endings.{ending_of, exit_status};
+
+    /// The ending of a command that answers a refusal or none.
+    pub fn of(answer: Result<Option<Refusal>, Io>) -> Ending
+        ensures { result ≡ ending_of answer }
+    {
+        match answer {
+            Ok(None) => Ending::Done,
+            Ok(Some(refusal)) => Ending::Refused(refusal),
+            Err(Io) => Ending::File,
+        }
+    }
+
+    /// The exit status.
+    pub fn status(self) -> u8
+        ensures { result ≡ exit_status self }
+    {
+        match self {
+            Ending::Done => 0,
+            Ending::Refused(_) => 1,
+            Ending::BadWords => 2,
+            Ending::File => 3,
+            Ending::Memory => 4,
+        }
+    }
+}
+
+impl fmt::Display for Ending {
+    fn fmt<W: fmt::Write>(&self, f: &mut fmt::Formatter<W>) -> fmt::Result {
+        match self {
+            Ending::Done | Ending::BadWords => Ok(()),
+            Ending::Refused(refusal) => writeln!(f, "office: refused {}", refusal.number()),
+            Ending::File => writeln!(f, "office: file"),
+            Ending::Memory => writeln!(f, "office: fault 30"),
+        }
+    }
+}

@@ -1,0 +1,10 @@
+pub mod Civil
+pub mod Dates
+pub mod DayBytes
+pub mod FirstPassing
+pub mod Moves
+pub mod MonthLengths
+pub mod Numbers
+pub mod Numerals
+pub mod Naming
+pub mod Spans

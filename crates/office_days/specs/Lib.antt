@@ -1,0 +1,11 @@
+pub mod Calendar
+pub mod Due
+pub mod Limits
+pub mod Numerals
+pub mod Offsets
+pub mod Periods
+pub mod Refusals
+pub mod Search
+pub mod Spans
+pub mod Texts
+pub mod Words
