@@ -1,6 +1,8 @@
 -- What the program tells its caller at the end. Source: own.
-use Rattle.std.specs.Prelude.{ℕ, Option, Some, None, Result, Ok, Err}
+use Rattle.std.specs.Prelude.{ℕ, List, [], ◌∷◌, ◌++◌, codes, Option, Some, None, Result, Ok, Err}
+use Rattle.std.specs.Fmt.{decimal}
 use Rattle.office_days.specs.declared.refusal.Refusal.{Refusal}
+use Rattle.office_days.specs.Refusals.{refusal_number}
 use Rattle.office.specs.declared.output.Io.{Io}
 use Rattle.office.specs.declared.ending.Ending.{Ending}
 use Rattle.office.specs.declared.ending.Ending.TheVariants.{Done, Refused, BadWords, File, Memory}
@@ -18,3 +20,11 @@ exit_status (Refused refusal) = 1
 exit_status BadWords = 2
 exit_status File = 3
 exit_status Memory = 4
+
+-- the line on standard error, with its line feed, or nothing
+abbrev pub line_said : Ending → List ℕ
+line_said Done = []
+line_said (Refused refusal) = codes "office: refused " ++ decimal (refusal_number refusal) ++ 10 ∷ []
+line_said BadWords = []
+line_said File = codes "office: file" ++ 10 ∷ []
+line_said Memory = codes "office: fault 30" ++ 10 ∷ []

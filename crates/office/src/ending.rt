@@ -48,6 +48,11 @@ impl Ending {
 }
 
 impl fmt::Display for Ending {
+    ghost use Rattle.std.specs.Prelude.{Some};
+    ghost use Rattle.office.specs.Endings.{line_said};
+
+    ghost output = { λ e. Some (line_said e) };
+
     fn fmt<W: fmt::Write>(&self, f: &mut fmt::Formatter<W>) -> fmt::Result {
         match self {
             Ending::Done | Ending::BadWords => Ok(()),

@@ -23,6 +23,7 @@ pub enum Words<'a> {
 fn required<'a>(alloc: Global, name: &'a str, help: &'a str) -> Arg<'a>
     ensures rule { rule_of result ≡ operand name.entry.now }
     ensures global { result.global ≡ false }
+    ensures help { result.help ≡ Some help.entry }
 {
     Arg::new(alloc, name).required(true).help(help)
 }
