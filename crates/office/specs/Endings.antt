@@ -5,7 +5,9 @@ use Rattle.office_days.specs.declared.refusal.Refusal.{Refusal}
 use Rattle.office_days.specs.Refusals.{refusal_number}
 use Rattle.office.specs.declared.output.Io.{Io}
 use Rattle.office.specs.declared.ending.Ending.{Ending}
-use Rattle.office.specs.declared.ending.Ending.TheVariants.{Done, Refused, BadWords, File, Memory}
+use Rattle.office.specs.declared.ending.Ending.TheVariants.{Done, Refused, LineRefused, BadWords, File, Memory}
+use Rattle.office.specs.declared.input.PlanStop.{PlanStop}
+use Rattle.office.specs.declared.input.PlanStop.TheVariants as stop
 
 -- a refusal is told as such, and a writer's error as that of a file
 abbrev pub ending_of : Result (Option Refusal) Io → Ending
@@ -13,10 +15,18 @@ ending_of (Ok None) = Done
 ending_of (Ok (Some refusal)) = Refused refusal
 ending_of (Err failed) = File
 
+-- a line that is refused is told with its number, want of memory as fault 30
+abbrev pub ending_of_plan : Result (Option (ℕ × Refusal)) PlanStop → Ending
+ending_of_plan (Ok None) = Done
+ending_of_plan (Ok (Some p)) = LineRefused p.0 p.1
+ending_of_plan (Err stop.Io) = File
+ending_of_plan (Err stop.Memory) = Memory
+
 -- 0 done, 1 something refused, 2 bad words, 3 a file, 4 memory
 abbrev pub exit_status : Ending → ℕ
 exit_status Done = 0
 exit_status (Refused refusal) = 1
+exit_status (LineRefused line refusal) = 1
 exit_status BadWords = 2
 exit_status File = 3
 exit_status Memory = 4
@@ -25,6 +35,7 @@ exit_status Memory = 4
 abbrev pub line_said : Ending → List ℕ
 line_said Done = []
 line_said (Refused refusal) = codes "office: refused " ++ decimal (refusal_number refusal) ++ 10 ∷ []
+line_said (LineRefused line refusal) = codes "office: line " ++ decimal line ++ codes " refused " ++ decimal (refusal_number refusal) ++ 10 ∷ []
 line_said BadWords = []
 line_said File = codes "office: file" ++ 10 ∷ []
 line_said Memory = codes "office: fault 30" ++ 10 ∷ []

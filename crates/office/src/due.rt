@@ -4,17 +4,9 @@ ghost use Rattle.office_days.specs.Limits.{longest};
 ghost use Rattle.office.specs.DueCommand.{due_asked, due_line, written_line, refusal_asked};
 
 use crate::output::{Io, write_out};
-use office_days::{Day, DueDay, Offset, Period, Refusal, Unit, due_day, read_numeral};
+use crate::parts::period_of;
+use office_days::{Day, DueDay, Offset, Refusal, Unit, due_day, read_numeral};
 use std::io::Write;
-
-/// The period of so many units, where that is not over the unit's limit.
-fn period_of(unit: Unit, count: u64) -> Option<Period>
-    ensures within { IsSome result ↔ (count ≤ longest unit) }
-    ensures unit { IfSome result (λ p. p.unit ≡ unit) }
-    ensures count { IfSome result (λ p. p.count ≡ count) }
-{
-    Period::new(unit, u32::try_from(count).ok()?)
-}
 
 /// The due day that the operands ask for. Of several faults that of a text comes first.
 fn due_of(unit: &str, count: &str, offset: &str, day: &str) -> Result<DueDay, Refusal>

@@ -1,5 +1,6 @@
 ghost use Rattle.std.specs.Prelude.{◌≡◌};
 
+use crate::input::PlanStop;
 use crate::output::Io;
 use office_days::Refusal;
 use std::fmt;
@@ -11,6 +12,8 @@ pub enum Ending {
     Done,
     /// What was asked is refused.
     Refused(Refusal),
+    /// A line of what was read is refused, with its number from 1.
+    LineRefused(u64, Refusal),
     /// The words are no command of the program; what is wrong was said already.
     BadWords,
     /// Standard output could not be written.
@@ -20,7 +23,7 @@ pub enum Ending {
 }
 
 impl Ending {
-    ghost use Rattle.office.specs.Endings.{ending_of, exit_status};
+    ghost use Rattle.office.specs.Endings.{ending_of, ending_of_plan, exit_status};
 
     /// The ending of a command that answers a refusal or none.
     pub fn of(answer: Result<Option<Refusal>, Io>) -> Ending
@@ -33,6 +36,18 @@ impl Ending {
         }
     }
 
+    /// The ending of a plan.
+    pub fn of_plan(answer: Result<Option<(u64, Refusal)>, PlanStop>) -> Ending
+        ensures { result ≡ ending_of_plan answer }
+    {
+        match answer {
+            Ok(None) => Ending::Done,
+            Ok(Some((line, refusal))) => Ending::LineRefused(line, refusal),
+            Err(PlanStop::Io) => Ending::File,
+            Err(PlanStop::Memory) => Ending::Memory,
+        }
+    }
+
     /// The exit status.
     pub fn status(self) -> u8
         ensures { result ≡ exit_status self }
@@ -40,6 +55,7 @@ impl Ending {
         match self {
             Ending::Done => 0,
             Ending::Refused(_) => 1,
+            Ending::LineRefused(_, _) => 1,
             Ending::BadWords => 2,
             Ending::File => 3,
             Ending::Memory => 4,
@@ -57,6 +73,9 @@ impl fmt::Display for Ending {
         match self {
             Ending::Done | Ending::BadWords => Ok(()),
             Ending::Refused(refusal) => writeln!(f, "office: refused {}", refusal.number()),
+            Ending::LineRefused(line, refusal) => {
+                writeln!(f, "office: line {line} refused {}", refusal.number())
+            }
             Ending::File => writeln!(f, "office: file"),
             Ending::Memory => writeln!(f, "office: fault 30"),
         }

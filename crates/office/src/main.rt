@@ -7,14 +7,26 @@
 
 mod due;
 mod ending;
+mod input;
+mod lines;
+mod number;
 mod output;
+mod parting;
+mod parts;
+mod plan;
+mod plan_line;
+mod plan_step;
 #[cfg(test)]
 mod tests;
+mod text;
 mod words;
 
 use clap::error::ErrorKind;
 use due::due_to;
 use ending::Ending;
+use input::PlanStop;
+use plan::plan_to;
+use std::fs::File;
 use std::process::ExitCode;
 use std::{env, io};
 use words::{Words, read_words};
@@ -29,6 +41,10 @@ fn perform(rt: &HostRuntime, words: Words<'_>) -> Ending {
             offset,
             day,
         } => Ending::of(due_to(unit, count, offset, day, &mut out)),
+        Words::Plan { file } => match File::open(rt, file) {
+            Ok(mut reader) => Ending::of_plan(plan_to(rt.alloc(), &mut reader, &mut out)),
+            Err(error) => Ending::of_plan(Err(PlanStop::of(&error))),
+        },
         Words::Nothing => Ending::BadWords,
     }
 }

@@ -1,7 +1,7 @@
 ghost use Rattle.std.specs.Prelude.{◌≡◌, IfOk, IfErr, true, false, map};
 ghost use Rattle.clap.specs.Words.{app_of, found_of, kind_of, rows_of, rule_of, subcommand_of, subcommand_rows_of, takes};
 ghost use Rattle.clap.specs.declared.builder.command.Command.TheViews.{out-Command as fields_of};
-ghost use Rattle.office.specs.Command.{asked, asked_in, due_app, due_asked, office_app, operand, text_of};
+ghost use Rattle.office.specs.Command.{asked, asked_in, due_app, due_asked, office_app, operand, plan_app, plan_asked, text_of};
 
 use clap::error::ErrorKind;
 use clap::{Arg, ArgMatches, Command, Error};
@@ -15,6 +15,9 @@ pub enum Words<'a> {
         count: &'a str,
         offset: &'a str,
         day: &'a str,
+    },
+    Plan {
+        file: &'a str,
     },
     /// No command: `clap` takes no words without one.
     Nothing,
@@ -44,6 +47,19 @@ fn due_command<'a>(alloc: Global) -> Result<Command<'a>, AllocError>
         .arg(required(alloc, "DAY", "The start day, as 2017-06-30"))
 }
 
+fn plan_command<'a>(alloc: Global) -> Result<Command<'a>, AllocError>
+    ensures app { IfOk result (λ c. app_of c ≡ plan_app) }
+    ensures globals { IfOk result (λ c. (fields_of c).has_globals ≡ false) }
+{
+    Command::new(alloc, "plan")
+        .about("Prints the due day of each record of a plan file")
+        .arg(required(
+            alloc,
+            "FILE",
+            "A file of schedules, classes, aggregations and records",
+        ))
+}
+
 #[tactic(auto, unfolding(crate::specs::Command::office_app))]
 fn office_command<'a>(alloc: Global) -> Result<Command<'a>, AllocError>
     ensures { IfOk result (λ c. app_of c ≡ office_app) }
@@ -52,7 +68,8 @@ fn office_command<'a>(alloc: Global) -> Result<Command<'a>, AllocError>
         .about("A records disposal office with legal holds")
         .subcommand_required(true)
         .arg_required_else_help(true)
-        .subcommand(due_command(alloc)?)
+        .subcommand(due_command(alloc)?)?
+        .subcommand(plan_command(alloc)?)
 }
 
 /// The operand of that name; `clap` takes no words in which one lacks.
@@ -73,6 +90,14 @@ fn due_words<'a>(matches: &ArgMatches<'a>) -> Words<'a>
     }
 }
 
+fn plan_words<'a>(matches: &ArgMatches<'a>) -> Words<'a>
+    ensures { asked result ≡ plan_asked (rows_of (found_of matches.now)) }
+{
+    Words::Plan {
+        file: operand(matches, "FILE"),
+    }
+}
+
 fn words_of<'a>(matches: &ArgMatches<'a>) -> Words<'a>
     ensures { asked result ≡ asked_in (subcommand_rows_of matches.now) }
 {
@@ -80,6 +105,8 @@ fn words_of<'a>(matches: &ArgMatches<'a>) -> Words<'a>
         Some((name, inner)) => {
             if name == "due" {
                 due_words(inner)
+            } else if name == "plan" {
+                plan_words(inner)
             } else {
                 Words::Nothing
             }

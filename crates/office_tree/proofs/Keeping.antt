@@ -1,0 +1,339 @@
+-- What an act of which no condition holds makes of a sound tree is sound.
+use Rattle.std.proofs.Common.{◌≡◌, ℕ, zero, suc, ◌+◌, ◌<◌, ◌≤◌, List, [], ◌∷◌, ◌++◌, length, Option, Some, None, refl, sym, ap, ◌∙◌, subst, cond, Bool, true, false, arith, inl, inr, length-append, ℤ}
+use Rattle.std.specs.Prelude.{IsSome, IsNone, IfSome, not, nat_le, ◌&&◌, ◌||◌}
+use Rattle.std.specs.Option.{is_some, is_none, MatchOption}
+use Rattle.std.specs.List.{list_any, AllByRecursion}
+use Rattle.std.specs.FinMap.{FinMap, get, contains_key, len, empty, len-empty, get-empty}
+use Rattle.std.proofs.lemmas.Bool.Decides.{nat_tests}
+use Rattle.office_days.specs.declared.refusal.Refusal.{Refusal}
+use Rattle.office_tree.specs.Conditions.{first_of, conditions_of_add_schedule, conditions_of_add_class, conditions_of_add_aggregation, conditions_of_close_aggregation, conditions_of_add_record, lacks_class, lacks_schedule, lacks_parent, is_closed, is_child_of}
+use Rattle.office_tree.specs.Effects.{added_schedule, added_class, added_aggregation, closed_aggregation, added_record}
+use Rattle.office_tree.specs.Lists.{numbered, edited, holds_of}
+use Rattle.office_tree.specs.Sound.{IsSound, IsForest, IsWellPlaced, Names}
+use Rattle.office_tree.specs.Tree.{TreeState, code_cmp, empty_tree, has_aggregation, chain_of, chain}
+use Rattle.office_tree.specs.declared.aggregation.Aggregation.{Aggregation}
+use Rattle.office_tree.specs.declared.class.Class.{Class}
+use Rattle.office_tree.specs.declared.head.Record.{Record}
+use Rattle.office_tree.specs.declared.schedule.Schedule.{Schedule}
+use Rattle.office_tree.specs.declared.status.Status.TheVariants.{Here}
+use Rattle.office_tree.proofs.Inserting.{insert_keeps, Names-insert, insert_cases, len-insert_free}
+use Rattle.office_tree.proofs.Places.{numbered_push, numbered_edited, numbered_within, length-edited}
+use Rattle.office_tree.proofs.Reading.{aggregation_within}
+use Rattle.office_tree.proofs.Walk.{chain-edited, chain_pushed}
+
+-- ---- what it says that no condition holds
+
+none_first : (r : Refusal) (b : Bool) (rest : Option Refusal) → cond b (Some r) rest ≡ None → (b ≡ false) × (rest ≡ None)
+none_first r true rest e = absurd cc
+none_first r false rest e = (refl, e)
+
+-- where there is no refusal no condition holds
+pub none_holds : (cs : List (Refusal × Bool)) → first_of cs ≡ None → AllByRecursion (λ c. c.1 ≡ false) cs
+none_holds [] e = tt
+none_holds (c ∷ cs) e = let first = none_first c.0 c.1 (first_of cs) e in (first.0, none_holds cs first.1)
+
+not_false : (b : Bool) → not b ≡ false → b ≡ true
+not_false true e = refl
+not_false false e = absurd cc
+
+neither : (a b : Bool) → (a || b) ≡ false → (a ≡ false) × (b ≡ false)
+neither true b e = absurd cc
+neither false b e = (refl, e)
+
+below : (n k : ℕ) → nat_le k n ≡ false → n < k
+below n k e = grind (arith, nat_tests)
+
+-- a code that does not lack its thing names it
+names_of : {V : Type 0} (m : FinMap code_cmp V) (o : Option (List ℕ)) → holds_of o (λ code. not (contains_key m code)) ≡ false → Names m o
+names_of m None e = tt
+names_of m (Some code) e = not_false (contains_key m code) e
+
+none_at : {A : Type 0} (test : A → Bool) (xs : List A) (n : ℕ) (x : A) → list_any test xs ≡ false → numbered xs n ≡ Some x → test x ≡ false
+none_at test [] zero x none e = absurd cc
+none_at test [] (suc n) x none e = absurd cc
+none_at test (y ∷ ys) zero x none e = absurd cc
+none_at test (y ∷ ys) (suc zero) x none e = let same : y ≡ x = cc in ap test (sym same) ∙ (neither (test y) (list_any test ys) none).0
+none_at test (y ∷ ys) (suc (suc n)) x none e = none_at test ys (suc n) x (neither (test y) (list_any test ys) none).1 e
+
+-- ---- schedules and classes
+
+pub IsSound-add_schedule : (tree : TreeState) (code : List ℕ) (schedule : Schedule) → IsSound tree → first_of (conditions_of_add_schedule tree code) ≡ None → IsSound (added_schedule tree code schedule)
+IsSound-add_schedule tree code schedule sound accepted =
+    let no = none_holds (conditions_of_add_schedule tree code) accepted in
+    let few : len tree.schedules < 1_000 = below (len tree.schedules) 1_000 no.1.0 in
+    record {
+      limits = record {
+        schedules_few = omega (arith, few, len-insert_free tree.schedules code schedule no.0);
+        classes_few = sound.limits.classes_few;
+        aggregations_few = sound.limits.aggregations_few;
+        records_few = sound.limits.records_few;
+      };
+      forest = sound.forest;
+      names = record {
+        class_schedules = λ c class e. insert_keeps tree.schedules code schedule class.schedule (sound.names.class_schedules c class e);
+        aggregation_classes = sound.names.aggregation_classes;
+        homes = sound.names.homes;
+        record_classes = sound.names.record_classes;
+        record_schedules = λ r head e. Names-insert tree.schedules code schedule head.schedule (sound.names.record_schedules r head e);
+      };
+      statuses = sound.statuses;
+    }
+
+pub IsSound-add_class : (tree : TreeState) (code : List ℕ) (class : Class) → IsSound tree → first_of (conditions_of_add_class tree code class.schedule) ≡ None → IsSound (added_class tree code class)
+IsSound-add_class tree code class sound accepted =
+    let no = none_holds (conditions_of_add_class tree code class.schedule) accepted in
+    let few : len tree.classes < 1_000 = below (len tree.classes) 1_000 no.1.1.0 in
+    let there : IsSome (get tree.schedules class.schedule) = not_false (contains_key tree.schedules class.schedule) no.1.0 in
+    record {
+      limits = record {
+        schedules_few = sound.limits.schedules_few;
+        classes_few = omega (arith, few, len-insert_free tree.classes code class no.0);
+        aggregations_few = sound.limits.aggregations_few;
+        records_few = sound.limits.records_few;
+      };
+      forest = sound.forest;
+      names = record {
+        class_schedules = λ c it e. elim (insert_cases tree.classes code class c it e) [
+          | inl new ↦ subst (λ (k : Class). IsSome (get tree.schedules k.schedule)) new there
+          | inr old ↦ sound.names.class_schedules c it old
+        ];
+        aggregation_classes = λ a it e. Names-insert tree.classes code class it.class (sound.names.aggregation_classes a it e);
+        homes = sound.names.homes;
+        record_classes = λ r head e. Names-insert tree.classes code class head.class (sound.names.record_classes r head e);
+        record_schedules = sound.names.record_schedules;
+      };
+      statuses = sound.statuses;
+    }
+
+-- ---- a new aggregation
+
+has_its_parent : (tree : TreeState) (parent : Option ℕ) → lacks_parent tree parent ≡ false → IfSome parent (λ p. (0 < p) × (p ≤ length tree.aggregations))
+has_its_parent tree None e = tt
+has_its_parent tree (Some p) e = aggregation_within tree p (not_false (has_aggregation tree p) e)
+
+root_or_child : (n : ℕ) (parent : Option ℕ) (class : Option (List ℕ)) → IfSome parent (λ p. (0 < p) × (p ≤ n)) → (is_none parent && is_none class) ≡ false → MatchOption parent (IsSome class) (λ p. (0 < p) × (p < n + 1))
+root_or_child n None class within some = not_false (is_some class) some
+root_or_child n (Some p) class within some = let high : p ≤ n = within.1 in (within.0, omega arith)
+
+shallow : (xs : List Aggregation) (parent : Option ℕ) → holds_of parent (λ a. nat_le 8 (length (chain_of xs a))) ≡ false → IfSome parent (λ a. length (chain_of xs a) < 8)
+shallow xs None e = tt
+shallow xs (Some p) e = below (length (chain_of xs p)) 8 e
+
+parent_open : (xs : List Aggregation) (o : Option ℕ) (p : ℕ) (parent : Aggregation) → o ≡ Some p → numbered xs p ≡ Some parent → holds_of o (is_closed xs) ≡ false → IsNone parent.closed
+parent_open xs None p parent e there is_open = absurd cc
+parent_open xs (Some q) p parent e there is_open =
+    let same : q ≡ p = cc in
+    let number : numbered xs q ≡ Some parent = ap (numbered xs) same ∙ there in
+    sym (ap (λ o. holds_of o (λ (it : Aggregation). is_some it.closed)) number) ∙ is_open
+
+parent_low : (n : ℕ) (o : Option ℕ) (p : ℕ) → o ≡ Some p → IfSome o (λ a. (0 < a) × (a ≤ n)) → p ≤ n
+parent_low n None p e h = absurd cc
+parent_low n (Some q) p e h = let same : q ≡ p = cc in let high : q ≤ n = h.1 in omega arith
+
+-- what was there before a push
+was_there : {A : Type 0} (xs : List A) (x y : A) (n : ℕ) → n ≤ length xs → numbered (xs ++ x ∷ []) n ≡ Some y → numbered xs n ≡ Some y
+was_there xs x y n low e = elim (numbered_push xs x y n e) [ inl old ↦ old | inr new ↦ let is : n ≡ length xs + 1 = new.0 in absurd (omega arith) ]
+
+-- what is asked of a new aggregation
+abbrev FitsIn : List Aggregation → Aggregation → Type 0
+FitsIn xs x = IsWellPlaced (length xs + 1) x × IfSome x.parent (λ p. length (chain_of xs p) < 8) × IfSome x.parent (λ p. (0 < p) × (p ≤ length xs)) × (holds_of x.parent (is_closed xs) ≡ false)
+
+placed_push : (xs : List Aggregation) (x : Aggregation) → IsForest xs → FitsIn xs x → (a : ℕ) (it : Aggregation) → numbered (xs ++ x ∷ []) a ≡ Some it → IsWellPlaced a it
+placed_push xs x forest fits a it e = elim (numbered_push xs x it a e) [
+  | inl old ↦ forest.placed a it old
+  | inr new ↦ subst (IsWellPlaced a) new.1 (subst (λ (n : ℕ). IsWellPlaced n x) (sym new.0) fits.0)
+]
+
+parent_is_low : (a p n : ℕ) (it : Aggregation) → it.parent ≡ Some p → IsWellPlaced a it → a ≤ n → p ≤ n
+parent_is_low a p n it e w low = let placed = rw e at w in omega (arith, placed.1)
+
+open_push : (xs : List Aggregation) (x : Aggregation) → IsForest xs → FitsIn xs x → (a p : ℕ) (it parent : Aggregation) → numbered (xs ++ x ∷ []) a ≡ Some it → it.parent ≡ Some p → numbered (xs ++ x ∷ []) p ≡ Some parent → IsNone it.closed → IsNone parent.closed
+open_push xs x forest fits a p it parent e up above is_open = elim (numbered_push xs x it a e) [
+  | inl old ↦ forest.open_above a p it parent old up (was_there xs x parent p (parent_is_low a p (length xs) it up (forest.placed a it old) (numbered_within xs a it old).1) above) is_open
+  | inr new ↦
+      let up_new : x.parent ≡ Some p = ap (λ (k : Aggregation). k.parent) new.1 ∙ up in
+      parent_open xs x.parent p parent up_new (was_there xs x parent p (parent_low (length xs) x.parent p up_new fits.2) above) fits.3
+]
+
+IsForest-push : (xs : List Aggregation) (x : Aggregation) → IsForest xs → FitsIn xs x → IsForest (xs ++ x ∷ [])
+IsForest-push xs x forest fits = record {
+  placed = placed_push xs x forest fits;
+  depth = chain_pushed xs x forest.placed forest.depth fits.1 fits.2;
+  open_above = open_push xs x forest fits;
+}
+
+pub IsSound-add_aggregation : (tree : TreeState) (ref_text title : List ℕ) (parent : Option ℕ) (class : Option (List ℕ)) → IsSound tree → first_of (conditions_of_add_aggregation tree ref_text parent class) ≡ None → IsSound (added_aggregation tree ref_text title parent class)
+IsSound-add_aggregation tree ref_text title parent class sound accepted =
+    let x : Aggregation = record { ref_text = ref_text; title = title; parent = parent; class = class; closed = None } in
+    let no = none_holds (conditions_of_add_aggregation tree ref_text parent class) accepted in
+    let lacks = neither (lacks_parent tree parent) (lacks_class tree class) no.1.0 in
+    let few : length tree.aggregations < 50_000 = below (length tree.aggregations) 50_000 no.1.1.0 in
+    let within = has_its_parent tree parent lacks.0 in
+    let more = length-append tree.aggregations (x ∷ []) in
+    record {
+      limits = record {
+        schedules_few = sound.limits.schedules_few;
+        classes_few = sound.limits.classes_few;
+        aggregations_few = omega (arith, few, more);
+        records_few = sound.limits.records_few;
+      };
+      forest = IsForest-push tree.aggregations x sound.forest (root_or_child (length tree.aggregations) parent class within no.1.1.1.1.1.0, shallow tree.aggregations parent no.1.1.1.1.0, within, no.1.1.1.0);
+      names = record {
+        class_schedules = sound.names.class_schedules;
+        aggregation_classes = λ a it e. elim (numbered_push tree.aggregations x it a e) [
+          | inl old ↦ sound.names.aggregation_classes a it old
+          | inr new ↦ subst (λ (k : Aggregation). Names tree.classes k.class) new.1 (names_of tree.classes class lacks.1)
+        ];
+        homes = λ r head e. let home = sound.names.homes r head e in (home.0, omega (arith, home.1, more));
+        record_classes = sound.names.record_classes;
+        record_schedules = sound.names.record_schedules;
+      };
+      statuses = sound.statuses;
+    }
+
+-- ---- an aggregation that is closed
+
+abbrev pub as_closed : ℤ → Aggregation → Aggregation
+as_closed day it = record it { closed = Some day }
+
+open_unchanged : (day : ℤ) (it x : Aggregation) → it ≡ as_closed day x → IsNone it.closed → ⊥
+open_unchanged day it x e is_open = let closed = rw e at is_open in absurd cc
+
+is_its_child : (a : ℕ) (it : Aggregation) → it.parent ≡ Some a → IsNone it.closed → (is_child_of a it && is_none it.closed) ≡ true
+is_its_child a it up is_open = rw (up, is_open) (grind (arith, nat_tests))
+
+open_close : (xs : List Aggregation) (a : ℕ) (day : ℤ) → IsForest xs → list_any (λ it. is_child_of a it && is_none it.closed) xs ≡ false → (b p : ℕ) (it parent : Aggregation) → numbered (edited xs a (as_closed day)) b ≡ Some it → it.parent ≡ Some p → numbered (edited xs a (as_closed day)) p ≡ Some parent → IsNone it.closed → IsNone parent.closed
+open_close xs a day forest none b p it parent e up above is_open =
+    let child = numbered_edited xs a (as_closed day) it b e in
+    let over = numbered_edited xs a (as_closed day) parent p above in
+    elim child.2 [
+      | inl same ↦
+          let there : numbered xs b ≡ Some it = child.1 ∙ ap Some (sym same) in
+          elim over.2 [
+            | inl kept ↦ forest.open_above b p it parent there up (over.1 ∙ ap Some (sym kept)) is_open
+            | inr changed ↦
+                let up_here : it.parent ≡ Some a = up ∙ ap Some changed.0 in
+                let test : (is_child_of a it && is_none it.closed) ≡ false = none_at (λ (it : Aggregation). is_child_of a it && is_none it.closed) xs b it none there in
+                let other = is_its_child a it up_here is_open in
+                absurd cc
+          ]
+      | inr changed ↦ absurd (open_unchanged day it child.0 changed.1 is_open)
+    ]
+
+IsForest-close : (xs : List Aggregation) (a : ℕ) (day : ℤ) → IsForest xs → list_any (λ it. is_child_of a it && is_none it.closed) xs ≡ false → IsForest (edited xs a (as_closed day))
+IsForest-close xs a day forest none = record {
+  placed = λ b it e.
+      let came = numbered_edited xs a (as_closed day) it b e in
+      elim came.2 [
+        | inl same ↦ subst (IsWellPlaced b) (sym same) (forest.placed b came.0 came.1)
+        | inr changed ↦ subst (IsWellPlaced b) (sym changed.1) (forest.placed b came.0 came.1)
+      ];
+  depth = λ b. let same = chain-edited xs a (as_closed day) (λ it. refl) b (Some b) in rw same (forest.depth b);
+  open_above = open_close xs a day forest none;
+}
+
+pub IsSound-close_aggregation : (tree : TreeState) (a : ℕ) (day : ℤ) → IsSound tree → first_of (conditions_of_close_aggregation tree a) ≡ None → IsSound (closed_aggregation tree a day)
+IsSound-close_aggregation tree a day sound accepted =
+    let no = none_holds (conditions_of_close_aggregation tree a) accepted in
+    let same = length-edited tree.aggregations a (as_closed day) in
+    record {
+      limits = record {
+        schedules_few = sound.limits.schedules_few;
+        classes_few = sound.limits.classes_few;
+        aggregations_few = omega (arith, sound.limits.aggregations_few, same);
+        records_few = sound.limits.records_few;
+      };
+      forest = IsForest-close tree.aggregations a day sound.forest no.1.1.0;
+      names = record {
+        class_schedules = sound.names.class_schedules;
+        aggregation_classes = λ b it e.
+            let came = numbered_edited tree.aggregations a (as_closed day) it b e in
+            elim came.2 [
+              | inl same ↦ subst (λ (k : Aggregation). Names tree.classes k.class) (sym same) (sound.names.aggregation_classes b came.0 came.1)
+              | inr changed ↦ subst (λ (k : Aggregation). Names tree.classes k.class) (sym changed.1) (sound.names.aggregation_classes b came.0 came.1)
+            ];
+        homes = λ r head e. let home = sound.names.homes r head e in (home.0, omega (arith, home.1, same));
+        record_classes = sound.names.record_classes;
+        record_schedules = sound.names.record_schedules;
+      };
+      statuses = sound.statuses;
+    }
+
+-- an aggregation that may be closed is there
+pub closes_within : (tree : TreeState) (a : ℕ) → first_of (conditions_of_close_aggregation tree a) ≡ None → (0 < a) × (a ≤ length tree.aggregations)
+closes_within tree a accepted = aggregation_within tree a (not_false (has_aggregation tree a) (none_holds (conditions_of_close_aggregation tree a) accepted).0)
+
+-- ---- a new record
+
+pub IsSound-add_record : (tree : TreeState) (head : Record) → IsSound tree → first_of (conditions_of_add_record tree head.ref_text head.aggregation head.class head.schedule) ≡ None → IsSound (added_record tree head)
+IsSound-add_record tree head sound accepted =
+    let no = none_holds (conditions_of_add_record tree head.ref_text head.aggregation head.class head.schedule) accepted in
+    let lacks = neither (not (has_aggregation tree head.aggregation) || lacks_class tree head.class) (lacks_schedule tree head.schedule) no.1.0 in
+    let home_or_class = neither (not (has_aggregation tree head.aggregation)) (lacks_class tree head.class) lacks.0 in
+    let home = aggregation_within tree head.aggregation (not_false (has_aggregation tree head.aggregation) home_or_class.0) in
+    let few : length tree.records < 200_000 = below (length tree.records) 200_000 no.1.1.0 in
+    let more = length-append tree.records (head ∷ []) in
+    record {
+      limits = record {
+        schedules_few = sound.limits.schedules_few;
+        classes_few = sound.limits.classes_few;
+        aggregations_few = sound.limits.aggregations_few;
+        records_few = omega (arith, few, more);
+      };
+      forest = sound.forest;
+      names = record {
+        class_schedules = sound.names.class_schedules;
+        aggregation_classes = sound.names.aggregation_classes;
+        homes = λ r it e. elim (numbered_push tree.records head it r e) [
+          | inl old ↦ sound.names.homes r it old
+          | inr new ↦ subst (λ (k : Record). (0 < k.aggregation) × (k.aggregation ≤ length tree.aggregations)) new.1 home
+        ];
+        record_classes = λ r it e. elim (numbered_push tree.records head it r e) [
+          | inl old ↦ sound.names.record_classes r it old
+          | inr new ↦ subst (λ (k : Record). Names tree.classes k.class) new.1 (names_of tree.classes head.class home_or_class.1)
+        ];
+        record_schedules = λ r it e. elim (numbered_push tree.records head it r e) [
+          | inl old ↦ sound.names.record_schedules r it old
+          | inr new ↦ subst (λ (k : Record). Names tree.schedules k.schedule) new.1 (names_of tree.schedules head.schedule lacks.1)
+        ];
+      };
+      statuses = let same : length tree.statuses ≡ length tree.records = sound.statuses in omega (arith, more, length-append tree.statuses (Here ∷ []));
+    }
+
+-- ---- the empty tree
+
+nothing : {A : Type 0} (n : ℕ) (x : A) → numbered [] n ≡ Some x → ⊥
+nothing zero x e = absurd cc
+nothing (suc n) x e = absurd cc
+
+no_depth : (a : ℕ) → length (chain_of [] a) ≤ 8
+unfolding chain
+no_depth zero = omega arith
+no_depth (suc zero) = omega arith
+no_depth (suc (suc a)) = omega arith
+
+no_class : (q : List ℕ) (x : Class) → get (empty {X = Class} {R = code_cmp}) q ≡ Some x → ⊥
+no_class q x e = let none = get-empty {X = Class} code_cmp q in absurd cc
+
+pub IsSound-empty : IsSound empty_tree
+IsSound-empty = record {
+  limits = record {
+    schedules_few = let n = len-empty code_cmp Schedule in omega (arith, n);
+    classes_few = let n = len-empty code_cmp Class in omega (arith, n);
+    aggregations_few = omega arith;
+    records_few = omega arith;
+  };
+  forest = record {
+    placed = λ a it e. absurd (nothing a it e);
+    depth = no_depth;
+    open_above = λ a p it parent e up above is_open. absurd (nothing a it e);
+  };
+  names = record {
+    class_schedules = λ c class e. absurd (no_class c class e);
+    aggregation_classes = λ a it e. absurd (nothing a it e);
+    homes = λ r head e. absurd (nothing r head e);
+    record_classes = λ r head e. absurd (nothing r head e);
+    record_schedules = λ r head e. absurd (nothing r head e);
+  };
+  statuses = refl;
+}

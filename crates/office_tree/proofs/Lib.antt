@@ -1,0 +1,10 @@
+pub mod Inserting
+pub mod Keeping
+pub mod LastAddition
+pub mod Least
+pub mod Maps
+pub mod Places
+pub mod Plan
+pub mod Reading
+pub mod ScheduleLemmas
+pub mod Walk

@@ -1,0 +1,44 @@
+-- Small words on lists and optional things that the office's definitions share. Source: own.
+use Rattle.std.specs.Prelude.{ℕ, zero, suc, Bool, false, List, [], ◌∷◌, slice_get, Option, Some, None, ℤ}
+use Rattle.std.specs.Int.{int_max}
+use Rattle.std.specs.List.{fold}
+
+-- things are numbered 1, 2, ..: what number n is
+abbrev pub numbered : {A : Type 0} → List A → ℕ → Option A
+numbered xs zero = None
+numbered xs (suc n) = slice_get xs n
+
+abbrev pub edited_at : {A : Type 0} → List A → ℕ → (A → A) → List A
+edited_at [] i change = []
+edited_at (x ∷ xs) zero change = change x ∷ xs
+edited_at (x ∷ xs) (suc i) change = x ∷ edited_at xs i change
+
+-- the list with its number n changed, if that is there
+abbrev pub edited : {A : Type 0} → List A → ℕ → (A → A) → List A
+edited xs zero change = xs
+edited xs (suc n) change = edited_at xs n change
+
+-- the first that is there
+abbrev pub first_some : {A : Type 0} → List (Option A) → Option A
+first_some [] = None
+first_some (None ∷ xs) = first_some xs
+first_some (Some x ∷ xs) = Some x
+
+-- the thing, if it is there, else the other
+abbrev pub or_else : {A : Type 0} → Option A → Option A → Option A
+or_else None y = y
+or_else (Some x) y = Some x
+
+-- what a test says of the thing, if it is there
+abbrev pub holds_of : {A : Type 0} → Option A → (A → Bool) → Bool
+holds_of None test = false
+holds_of (Some x) test = test x
+
+-- the later of two days, where there may be no first
+abbrev pub later : Option ℤ → ℤ → Option ℤ
+later None day = Some day
+later (Some best) day = Some (int_max best day)
+
+-- the greatest day, where there is one
+abbrev pub greatest : List ℤ → Option ℤ
+greatest days = fold later None days

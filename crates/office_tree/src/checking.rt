@@ -1,0 +1,257 @@
+ghost use Rattle.std.specs.Prelude.{◌≡◌, ◌&&◌, false, is_none, length, nat_le};
+ghost use Rattle.std.specs.Option.{is_some, option_copied};
+ghost use Rattle.std.specs.FinMap.{contains_key, len};
+ghost use Rattle.std.specs.List.{list_any};
+ghost use Rattle.std.specs.Str.{bytes_eq};
+ghost use Rattle.office_tree.specs.Conditions.{IsLeastOf, conditions_of_add_aggregation, conditions_of_add_class, conditions_of_add_record, conditions_of_add_schedule, conditions_of_close_aggregation, first_of, is_child_of, is_closed, lacks_class, lacks_parent, lacks_schedule};
+ghost use Rattle.office_tree.specs.Lists.{holds_of};
+ghost use Rattle.office_tree.specs.Tree.{chain_of};
+
+use crate::classifying::chain_of;
+use crate::{AggNo, Aggregation, Code, Record, Text, Tree};
+use office_days::Refusal;
+
+/// Whether an open aggregation has this parent.
+fn has_open_child(aggregations: &[Aggregation], parent: AggNo) -> bool
+    ensures { result ≡ list_any (λ it. is_child_of parent it && is_none it.closed) aggregations.now }
+{
+    aggregations
+        .iter()
+        .any(|it| it.parent == Some(parent) && it.closed.is_none())
+}
+
+/// Whether an aggregation has this ref.
+fn has_aggregation_ref(aggregations: &[Aggregation], ref_text: &Text) -> bool
+    ensures { result ≡ list_any (λ it. bytes_eq it.ref_text ref_text.now) aggregations.now }
+{
+    aggregations.iter().any(|it| it.ref_text == *ref_text)
+}
+
+/// Whether a record has this ref.
+fn has_record_ref(records: &[Record], ref_text: &Text) -> bool
+    ensures { result ≡ list_any (λ head. bytes_eq head.ref_text ref_text.now) records.now }
+{
+    records.iter().any(|head| head.ref_text == *ref_text)
+}
+
+impl Tree {
+    /// Whether a schedule has this code.
+    fn has_schedule(&self, code: &Code) -> bool
+        ensures { result ≡ contains_key self.now.schedules code.now }
+    {
+        self.schedules.contains_key(code)
+    }
+
+    /// Whether a class has this code.
+    fn has_class(&self, code: &Code) -> bool
+        ensures { result ≡ contains_key self.now.classes code.now }
+    {
+        self.classes.contains_key(code)
+    }
+
+    /// Whether there are as many schedules as the office takes.
+    fn is_full_of_schedules(&self) -> bool
+        ensures { result ≡ nat_le 1_000 (len self.now.schedules) }
+    {
+        self.schedules.len() >= 1_000
+    }
+
+    /// Whether there are as many classes as the office takes.
+    fn is_full_of_classes(&self) -> bool
+        ensures { result ≡ nat_le 1_000 (len self.now.classes) }
+    {
+        self.classes.len() >= 1_000
+    }
+
+    /// Whether there are as many aggregations as the office takes.
+    fn is_full_of_aggregations(&self) -> bool
+        ensures { result ≡ nat_le 50_000 (length self.now.aggregations) }
+    {
+        self.aggregations.len() >= 50_000
+    }
+
+    /// Whether there are as many records as the office takes.
+    fn is_full_of_records(&self) -> bool
+        ensures { result ≡ nat_le 200_000 (length self.now.records) }
+    {
+        self.records.len() >= 200_000
+    }
+
+    /// Whether a code is given that names no class.
+    fn lacks_class(&self, class: Option<&Code>) -> bool
+        ensures { result ≡ lacks_class self.now (option_copied class.entry) }
+    {
+        match class {
+            Some(code) => !self.has_class(code),
+            None => false,
+        }
+    }
+
+    /// Whether a code is given that names no schedule.
+    fn lacks_schedule(&self, schedule: Option<&Code>) -> bool
+        ensures { result ≡ lacks_schedule self.now (option_copied schedule.entry) }
+    {
+        match schedule {
+            Some(code) => !self.has_schedule(code),
+            None => false,
+        }
+    }
+
+    /// Whether a number is given that names no aggregation.
+    fn lacks_parent(&self, parent: Option<AggNo>) -> bool
+        ensures { result ≡ lacks_parent self.now parent }
+    {
+        match parent {
+            Some(aggregation) => !self.has_aggregation(aggregation),
+            None => false,
+        }
+    }
+
+    /// Whether the aggregation is there and closed.
+    fn is_closed(&self, aggregation: AggNo) -> bool
+        ensures { result ≡ is_closed self.now.aggregations aggregation }
+    {
+        if !self.has_aggregation(aggregation) {
+            return false;
+        }
+        let here = &self.aggregations[aggregation as usize - 1];
+        here.closed.is_some()
+    }
+
+    /// Whether a parent is given that is closed.
+    fn has_closed_parent(&self, parent: Option<AggNo>) -> bool
+        ensures { result ≡ holds_of parent (is_closed self.now.aggregations) }
+    {
+        match parent {
+            Some(aggregation) => self.is_closed(aggregation),
+            None => false,
+        }
+    }
+
+    /// Whether a parent is given that has depth 8, the greatest.
+    fn has_deepest_parent(&self, parent: Option<AggNo>) -> bool
+        requires { lacks_parent self.now parent ≡ false }
+        ensures { result ≡ holds_of parent (λ a. nat_le 8 (length (chain_of self.now.aggregations a))) }
+    {
+        match parent {
+            Some(aggregation) => chain_of(&self.aggregations, aggregation).len() >= 8,
+            None => false,
+        }
+    }
+
+    /// Why a schedule of this code may not be added, if it may not: `Exists`, `Full`.
+    pub fn check_add_schedule(&self, code: &Code) -> Option<Refusal>
+        ensures first { result ≡ first_of (conditions_of_add_schedule self.now code.now) }
+        ensures least { IsLeastOf (conditions_of_add_schedule self.now code.now) result }
+    {
+        if self.has_schedule(code) {
+            return Some(Refusal::Exists);
+        }
+        if self.is_full_of_schedules() {
+            return Some(Refusal::Full);
+        }
+        None
+    }
+
+    /// Why a class of this code may not be added, if it may not: `Exists`, `NoSuch`, `Full`.
+    pub fn check_add_class(&self, code: &Code, schedule: &Code) -> Option<Refusal>
+        ensures first { result ≡ first_of (conditions_of_add_class self.now code.now schedule.now) }
+        ensures least { IsLeastOf (conditions_of_add_class self.now code.now schedule.now) result }
+    {
+        if self.has_class(code) {
+            return Some(Refusal::Exists);
+        }
+        if !self.has_schedule(schedule) {
+            return Some(Refusal::NoSuch);
+        }
+        if self.is_full_of_classes() {
+            return Some(Refusal::Full);
+        }
+        None
+    }
+
+    /// Why an aggregation of this ref may not be added there, if it may not: `Exists`, `NoSuch`,
+    /// `Full`, `Closed`, `TooDeep`, `NeedsClass`.
+    pub fn check_add_aggregation(
+        &self,
+        ref_text: &Text,
+        parent: Option<AggNo>,
+        class: Option<&Code>,
+    ) -> Option<Refusal>
+        ensures first { result ≡ first_of (conditions_of_add_aggregation self.now ref_text.now parent (option_copied class.entry)) }
+        ensures least { IsLeastOf (conditions_of_add_aggregation self.now ref_text.now parent (option_copied class.entry)) result }
+    {
+        if has_aggregation_ref(&self.aggregations, ref_text) {
+            return Some(Refusal::Exists);
+        }
+        if self.lacks_parent(parent) {
+            return Some(Refusal::NoSuch);
+        }
+        if self.lacks_class(class) {
+            return Some(Refusal::NoSuch);
+        }
+        if self.is_full_of_aggregations() {
+            return Some(Refusal::Full);
+        }
+        if self.has_closed_parent(parent) {
+            return Some(Refusal::Closed);
+        }
+        if self.has_deepest_parent(parent) {
+            return Some(Refusal::TooDeep);
+        }
+        if parent.is_none() && class.is_none() {
+            return Some(Refusal::NeedsClass);
+        }
+        None
+    }
+
+    /// Why the aggregation may not be closed, if it may not: `NoSuch`, `Closed`, `ChildOpen`.
+    pub fn check_close_aggregation(&self, aggregation: AggNo) -> Option<Refusal>
+        ensures first { result ≡ first_of (conditions_of_close_aggregation self.now aggregation) }
+        ensures least { IsLeastOf (conditions_of_close_aggregation self.now aggregation) result }
+    {
+        if !self.has_aggregation(aggregation) {
+            return Some(Refusal::NoSuch);
+        }
+        if self.aggregations[aggregation as usize - 1].closed.is_some() {
+            return Some(Refusal::Closed);
+        }
+        if has_open_child(&self.aggregations, aggregation) {
+            return Some(Refusal::ChildOpen);
+        }
+        None
+    }
+
+    /// Why a record of this ref may not be added there, if it may not: `Exists`, `NoSuch`, `Full`,
+    /// `Closed`.
+    pub fn check_add_record(
+        &self,
+        ref_text: &Text,
+        aggregation: AggNo,
+        class: Option<&Code>,
+        schedule: Option<&Code>,
+    ) -> Option<Refusal>
+        ensures first { result ≡ first_of (conditions_of_add_record self.now ref_text.now aggregation (option_copied class.entry) (option_copied schedule.entry)) }
+        ensures least { IsLeastOf (conditions_of_add_record self.now ref_text.now aggregation (option_copied class.entry) (option_copied schedule.entry)) result }
+    {
+        if has_record_ref(&self.records, ref_text) {
+            return Some(Refusal::Exists);
+        }
+        if !self.has_aggregation(aggregation) {
+            return Some(Refusal::NoSuch);
+        }
+        if self.lacks_class(class) {
+            return Some(Refusal::NoSuch);
+        }
+        if self.lacks_schedule(schedule) {
+            return Some(Refusal::NoSuch);
+        }
+        if self.is_full_of_records() {
+            return Some(Refusal::Full);
+        }
+        if self.is_closed(aggregation) {
+            return Some(Refusal::Closed);
+        }
+        None
+    }
+}

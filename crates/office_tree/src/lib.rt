@@ -1,0 +1,40 @@
+//! The tree of the office: disposal schedules, classes, aggregations and record heads.
+//!
+//! An aggregation holds records and other aggregations, at most eight deep. Each record has a
+//! **class**: its own, else that of the nearest aggregation above it that has one. Its **plan**
+//! is its own disposal schedule, else the schedule of its class. The plan's trigger tells the
+//! **start day**, and its retention period and calendar offset tell the **due day**, on which the
+//! record may be disposed of.
+//!
+//! Each act on the tree comes as a pair: `check_..` says why it is refused, with the least number,
+//! or `None`; `apply_..` asks that its check gives `None` and makes the change, or answers
+//! [`Memory`] and leaves the tree as it was. Readings take no memory.
+#![tactic(auto)]
+
+mod action;
+mod aggregation;
+mod applying;
+mod checking;
+mod class;
+mod classifying;
+mod code;
+mod head;
+mod memory;
+mod schedule;
+mod scheduling;
+mod status;
+mod text;
+mod tree;
+mod trigger;
+
+pub use action::Action;
+pub use aggregation::{AggNo, Aggregation};
+pub use class::Class;
+pub use code::Code;
+pub use head::{Confirmation, Receipt, Record, RecordNo, Review};
+pub use memory::Memory;
+pub use schedule::Schedule;
+pub use status::Status;
+pub use text::Text;
+pub use tree::Tree;
+pub use trigger::Trigger;

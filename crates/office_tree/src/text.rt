@@ -1,0 +1,88 @@
+ghost use Rattle.std.specs.Prelude.{◌≡◌, true, IfOk, nat_eq};
+ghost use Rattle.std.specs.Cmp.{partial_equiv_from_equiv};
+ghost use Rattle.std.specs.Cmp.Lexicographic.{pointwise, nat_list_eq_equiv};
+ghost use Rattle.std.specs.List.{list_all};
+ghost use Rattle.std.specs.Str.{chars, is_utf8};
+ghost use Rattle.office_tree.specs.TextForms.{is_text, is_text_character, text_named};
+
+use crate::Memory;
+use std::alloc::Global;
+use std::marker::Model;
+
+/// A line in words, as a title: 1 to 200 bytes of UTF-8 without the control characters, U+0000 to
+/// U+001F and U+007F to U+009F. Contracts see its bytes.
+#[derive(Debug, Drop)]
+pub struct Text {
+    text: String,
+}
+
+impl Model for Text {
+    ghost use Rattle.std.specs.Prelude.{◌≡◌, List, ℕ, true};
+    ghost use Rattle.std.specs.String.{string_bytes};
+    ghost use Rattle.office_tree.specs.TextForms.{is_text};
+
+    ghost Value = { List ℕ };
+
+    ghost view = { λ t. string_bytes t.text };
+
+    ghost invariant = { λ t. is_text (string_bytes t.text) ≡ true };
+}
+
+/// Whether no character is a control character.
+fn are_text_characters(text: &str) -> bool
+    ensures characters { result ≡ list_all is_text_character (chars text.now) }
+    ensures utf8 { is_utf8 text.now ≡ true }
+{
+    text.chars().all(|character| !character.is_control())
+}
+
+/// Whether the text has the form of a `Text`.
+fn is_text(text: &str) -> bool
+    ensures { result ≡ is_text text.now }
+{
+    !text.is_empty() && text.len() <= 200 && are_text_characters(text)
+}
+
+impl Text {
+    /// The text with these bytes; `None` where they do not have that form, and then no memory is
+    /// asked for.
+    pub fn read(alloc: Global, text: &str) -> Result<Option<Text>, Memory>
+        ensures { IfOk result (λ t. t ≡ text_named text.now) }
+    {
+        if !is_text(text) {
+            return Ok(None);
+        }
+        let text = String::from_str(alloc, text)?;
+        Ok(Some(Text { text }))
+    }
+
+    /// The text itself, which `read` takes back.
+    pub fn text(&self) -> &str
+        ensures value { result.now ≡ self.now }
+        ensures form { is_text self.now ≡ true }
+    {
+        self.text.as_str()
+    }
+
+    /// A second text that is equal to this one.
+    pub fn copy(&self, alloc: Global) -> Result<Text, Memory>
+        ensures { IfOk result (λ t. t ≡ self.now) }
+    {
+        let text = String::from_str(alloc, self.text.as_str())?;
+        Ok(Text { text })
+    }
+}
+
+impl PartialEq for Text {
+    ghost eq = { pointwise nat_eq };
+
+    ghost laws = { partial_equiv_from_equiv nat_list_eq_equiv };
+
+    fn eq(&self, other: &Text) -> bool {
+        self.text() == other.text()
+    }
+}
+
+impl Eq for Text {
+    ghost laws = { nat_list_eq_equiv };
+}
