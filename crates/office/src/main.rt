@@ -17,6 +17,8 @@ mod plan;
 mod plan_line;
 mod plan_step;
 #[cfg(test)]
+mod plan_tests;
+#[cfg(test)]
 mod tests;
 mod text;
 mod words;

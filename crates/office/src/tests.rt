@@ -131,7 +131,7 @@ fn words_of_the_command_line(rt: HostRuntime) {
         ) => {
             assert_eq!(rt; [unit, count, offset, day].as_slice(), &words[2..]);
         }
-        Ok(Words::Nothing) => panic!(rt; "a command was given"),
+        Ok(_) => panic!(rt; "a due day was asked for"),
         Err(error) => assert_eq!(rt; error.kind(), ErrorKind::OutOfMemory),
     }
 }
@@ -173,6 +173,11 @@ fn what_is_said_at_the_end(rt: HostRuntime) -> Result<(), Fail> {
             Ending::Refused(Refusal::WrongDigest),
             1,
             "office: refused 20\n",
+        ),
+        (
+            Ending::LineRefused(11, Refusal::NeedsClass),
+            1,
+            "office: line 11 refused 10\n",
         ),
         (Ending::BadWords, 2, ""),
         (Ending::File, 3, "office: file\n"),
