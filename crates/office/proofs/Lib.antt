@@ -1,7 +1,6 @@
 pub mod FirstLine
 pub mod PartLemmas
 pub mod PlanLemmas
-pub mod Reading
 pub mod Simple
 pub mod TextLemmas
 pub mod Utf8

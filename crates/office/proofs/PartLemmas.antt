@@ -1,5 +1,5 @@
 -- What is made of two parts.
-use Rattle.std.proofs.Common.{◌≡◌, Result, Ok, Err, sym, ap, ◌∙◌}
+use Rattle.std.proofs.Common.{◌≡◌, Result, sym, ap, ◌∙◌}
 use Rattle.office_days.specs.declared.refusal.Refusal.{Refusal}
 use Rattle.office.specs.Parts.{both, made}
 

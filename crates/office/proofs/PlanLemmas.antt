@@ -1,5 +1,5 @@
 -- A plan file, line by line, and what is printed of it, record by record.
-use Rattle.std.proofs.Common.{◌≡◌, ℕ, zero, suc, ◌+◌, List, [], ◌∷◌, ◌++◌, Option, Some, None, Result, Ok, Err, refl, sym, ap, subst, ◌∙◌, arith}
+use Rattle.std.proofs.Common.{◌≡◌, ℕ, suc, ◌+◌, List, [], ◌∷◌, ◌++◌, Option, Some, None, Result, Ok, Err, refl, sym, ap, subst, ◌∙◌, arith}
 use Rattle.office_days.specs.declared.refusal.Refusal.{Refusal}
 use Rattle.office_tree.specs.Tree.{TreeState}
 use Rattle.office.specs.PlanFile.{done_or_refused, due_line, due_lines, followed, line_taken, plan_from}

@@ -1,14 +1,13 @@
 -- Codes and the digits of numbers have the form of a text.
-use Rattle.std.proofs.Common.{◌≡◌, ◌⊎◌, inl, inr, ℕ, zero, suc, ◌<◌, ◌≤◌, ◌^◌, List, [], ◌∷◌, length, Bool, true, false, not, ◌&&◌, nat_lt, nat_le, arith, refl, sym, ap, subst, ◌∙◌, rules, slice_index}
+use Rattle.std.proofs.Common.{◌≡◌, ℕ, zero, suc, ◌<◌, ◌≤◌, ◌^◌, List, [], ◌∷◌, length, Bool, true, false, ◌&&◌, nat_lt, nat_le, arith, refl, sym, subst, rules}
 use Rattle.std.proofs.lemmas.Bool.Decides.{nat_tests}
 use Rattle.std.proofs.lemmas.Str.{chars-IsAscii}
-use Rattle.std.proofs.lemmas.Str.Parse.{IsDigitsTest, IsNumeralModel, numerals_by_value}
+use Rattle.std.proofs.lemmas.Str.Parse.{IsDigitsTest, numerals_by_value}
 use Rattle.std.proofs.lemmas.Fmt.{digits_decimal, length-decimal-le}
 use Rattle.std.specs.Char.{is_ascii_digit}
 use Rattle.std.specs.Fmt.{decimal}
 use Rattle.std.specs.List.{list_all}
-use Rattle.std.specs.Str.{IsAscii, chars, is_utf8}
-use Rattle.std.specs.Str.Parse.{digits_value}
+use Rattle.std.specs.Str.{IsAscii, is_utf8}
 use Rattle.office_tree.specs.Codes.{is_code, is_code_byte}
 use Rattle.office_tree.specs.TextForms.{is_text, is_text_character}
 

@@ -1,27 +1,24 @@
 -- What `due UNIT COUNT OFFSET DAY` answers. Source: own.
-use Rattle.std.specs.Prelude.{ℕ, ℤ, List, [], ◌∷◌, ◌++◌, Option, Some, None, Result, Ok, Err, nat_le, if◌then◌else◌}
+use Rattle.std.specs.Prelude.{ℕ, ℤ, List, [], ◌∷◌, ◌++◌, Option, Some, None, Result, Ok, Err}
 use Rattle.office_days.specs.declared.offset.Offset.{Offset}
 use Rattle.office_days.specs.declared.refusal.Refusal.{Refusal}
-use Rattle.office_days.specs.declared.refusal.Refusal.TheVariants.{BadText, BadNumber}
-use Rattle.office_days.specs.declared.unit.Unit.{Unit}
 use Rattle.office_days.specs.Calendar.{civil}
 use Rattle.office_days.specs.Due.{due_from}
-use Rattle.office_days.specs.Limits.{longest}
-use Rattle.office_days.specs.Numerals.{number_named}
+use Rattle.office_days.specs.Periods.{RetentionPeriod}
 use Rattle.office_days.specs.Texts.{day_named, day_text}
-use Rattle.office_days.specs.Words.{offset_named, unit_named}
+use Rattle.office_days.specs.Words.{offset_named}
+use Rattle.office.specs.Parts.{both, made, named_part, period_part}
 
--- the due day, where all four were read and the count is within the unit's limit; of both faults that of a text is told
-abbrev pub due_read : Option Unit → Option ℕ → Option Offset → Option ℤ → Result ℤ Refusal
-due_read (Some unit) (Some count) (Some offset) (Some day) =
-    if nat_le count (longest unit) then Ok (due_from day (record { unit = unit; count = count }) offset) else Err BadNumber
-due_read (Some unit) (Some count) (Some offset) None = Err BadText
-due_read (Some unit) (Some count) None day = Err BadText
-due_read (Some unit) None offset day = Err BadText
-due_read None count offset day = Err BadText
+-- the offset and the start day
+unfoldable pub move_asked : List ℕ → List ℕ → Result (Offset × ℤ) Refusal
+move_asked offset day = both (named_part (offset_named offset)) (named_part (day_named day))
 
-abbrev pub due_asked : List ℕ → List ℕ → List ℕ → List ℕ → Result ℤ Refusal
-due_asked unit count offset day = due_read (unit_named unit) (number_named count) (offset_named offset) (day_named day)
+abbrev pub due_made : RetentionPeriod × (Offset × ℤ) → ℤ
+due_made p = due_from p.1.1 p.0 p.1.0
+
+-- the due day that the operands ask for, or why there is none
+unfoldable pub due_asked : List ℕ → List ℕ → List ℕ → List ℕ → Result ℤ Refusal
+due_asked unit count offset day = made due_made (both (period_part unit count) (move_asked offset day))
 
 -- why there is no due day
 abbrev pub refusal_asked : Result ℤ Refusal → Option Refusal

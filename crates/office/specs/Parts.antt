@@ -1,6 +1,6 @@
 -- How the parts of a line are read, and why they are refused: 2 (BadText) where any part is not of its form, else 3 (BadNumber)
 -- where a number is out of range. Source: own.
-use Rattle.std.specs.Prelude.{ℕ, ℤ, List, Option, Some, None, Result, Ok, Err, codes, nat_le, if◌then◌else◌}
+use Rattle.std.specs.Prelude.{ℕ, List, Option, Some, None, Result, Ok, Err, codes, nat_le, if◌then◌else◌}
 use Rattle.std.specs.Str.{bytes_eq}
 use Rattle.office_days.specs.declared.refusal.Refusal.{Refusal}
 use Rattle.office_days.specs.declared.refusal.Refusal.TheVariants.{BadText, BadNumber}
@@ -11,7 +11,6 @@ use Rattle.office_days.specs.Periods.{RetentionPeriod}
 use Rattle.office_days.specs.Refusals.{refusal_number}
 use Rattle.office_days.specs.Words.{unit_named}
 use Rattle.office_tree.specs.Codes.{code_named}
-use Rattle.office.specs.Numbers.{thing_number}
 
 -- both parts, or the refusal with the least number
 abbrev pub both : {A B : Type 0} → Result A Refusal → Result B Refusal → Result (A × B) Refusal
@@ -44,5 +43,5 @@ period_read (Some unit) None = Err BadText
 period_read None count = Err BadText
 
 -- a period: a unit, and a count within the unit's limit
-abbrev pub period_part : List ℕ → List ℕ → Result RetentionPeriod Refusal
+unfoldable pub period_part : List ℕ → List ℕ → Result RetentionPeriod Refusal
 period_part unit count = period_read (unit_named unit) (number_named count)

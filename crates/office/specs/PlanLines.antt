@@ -1,7 +1,7 @@
 -- The lines of a plan file, by their words. Source: own.
 --     schedule CODE TRIGGER UNIT COUNT OFFSET ACTION      class CODE SCHEDULE      aggregation CLASS PARENT
 --     close NUMBER DAY      record AGGREGATION CLASS SCHEDULE ORIGINATED ADDED
-use Rattle.std.specs.Prelude.{ℕ, List, [], ◌==◌, ◌&&◌, ◌+◌, ℤ, Bool, length, Option, Result, Ok, Err, codes, unwrap_or, slice_get, if◌then◌else◌}
+use Rattle.std.specs.Prelude.{ℕ, List, [], ◌==◌, ◌&&◌, ◌+◌, ℤ, Bool, length, Option, Result, Err, codes, unwrap_or, slice_get, if◌then◌else◌}
 use Rattle.std.specs.List.{slice_split}
 use Rattle.std.specs.Str.{bytes_eq}
 use Rattle.office_days.specs.declared.offset.Offset.{Offset}

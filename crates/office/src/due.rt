@@ -1,23 +1,36 @@
-ghost use Rattle.std.specs.Prelude.{◌≡◌, ◌≤◌, ◌↔◌, IsSome, IfSome, IsOk, IfOk, IfErr, OnOk, OnErr};
+ghost use Rattle.std.specs.Prelude.{◌≡◌, IsOk, IfOk, IfErr, OnOk, OnErr};
 ghost use Rattle.std.specs.Io.KnownBytes.{Appends};
-ghost use Rattle.office_days.specs.Limits.{longest};
-ghost use Rattle.office.specs.DueCommand.{due_asked, due_line, written_line, refusal_asked};
+ghost use Rattle.office.specs.DueCommand.{due_asked, due_line, due_made, move_asked, refusal_asked, written_line};
 
 use crate::output::{Io, write_out};
-use crate::parts::period_of;
-use office_days::{Day, DueDay, Offset, Refusal, Unit, due_day, read_numeral};
+use crate::parts::{both, read_day, read_period};
+use office_days::{Day, DueDay, Offset, Period, Refusal, due_day};
 use std::io::Write;
+
+/// The offset and the start day.
+#[tactic(auto, unfolding(crate::specs::DueCommand::move_asked))]
+fn read_move(offset: &str, day: &str) -> Result<(Offset, Day), Refusal>
+    ensures { result ≡ move_asked offset.now day.now }
+{
+    both(Offset::read(offset).ok_or(Refusal::BadText), read_day(day))
+}
+
+/// The due day of a period, an offset and a start day.
+fn due_made(operands: (Period, (Offset, Day))) -> DueDay
+    ensures { result ≡ due_made operands }
+{
+    let (period, (offset, day)) = operands;
+    due_day(day, period, offset)
+}
 
 /// The due day that the operands ask for. Of several faults that of a text comes first.
 fn due_of(unit: &str, count: &str, offset: &str, day: &str) -> Result<DueDay, Refusal>
     ensures { result ≡ due_asked unit.now count.now offset.now day.now }
 {
-    let unit = Unit::read(unit).ok_or(Refusal::BadText)?;
-    let count = read_numeral(count).ok_or(Refusal::BadText)?;
-    let offset = Offset::read(offset).ok_or(Refusal::BadText)?;
-    let day = Day::read(day).ok_or(Refusal::BadText)?;
-    let period = period_of(unit, count).ok_or(Refusal::BadNumber)?;
-    Ok(due_day(day, period, offset))
+    match both(read_period(unit, count), read_move(offset, day)) {
+        Ok(operands) => Ok(due_made(operands)),
+        Err(refusal) => Err(refusal),
+    }
 }
 
 /// The line of a due day: its ten bytes and a line feed.

@@ -25,7 +25,7 @@ pub fn both<A: Drop, B: Drop>(
 }
 
 /// The period of so many units, where that is not over the unit's limit.
-pub fn period_of(unit: Unit, count: u64) -> Option<Period>
+fn period_of(unit: Unit, count: u64) -> Option<Period>
     ensures within { IsSome result ↔ (count ≤ longest unit) }
     ensures unit { IfSome result (λ p. p.unit ≡ unit) }
     ensures count { IfSome result (λ p. p.count ≡ count) }
@@ -34,6 +34,7 @@ pub fn period_of(unit: Unit, count: u64) -> Option<Period>
 }
 
 /// A period by the words for its unit and its count.
+#[tactic(auto, unfolding(crate::specs::Parts::period_part))]
 pub fn read_period(unit: &str, count: &str) -> Result<Period, Refusal>
     ensures { result ≡ period_part unit.now count.now }
 {

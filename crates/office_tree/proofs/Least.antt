@@ -5,8 +5,13 @@ use Rattle.std.specs.List.{All, AllByRecursion}
 use Rattle.std.proofs.lemmas.List.Elements.{All-nil, All-cons}
 use Rattle.office_days.specs.declared.refusal.Refusal.{Refusal}
 use Rattle.office_days.specs.Refusals.{refusal_number}
-use Rattle.office_tree.specs.Conditions.{first_of, IsRising, IsLeastOf, conditions_of_add_aggregation, conditions_of_add_record}
+use Rattle.office_tree.specs.Conditions.{first_of, IsLeastOf, conditions_of_add_aggregation, conditions_of_add_record}
 use Rattle.office_tree.specs.Tree.{TreeState}
+
+-- a table stands in the order of the numbers
+abbrev pub IsRising : List (Refusal × Bool) → Type 0
+IsRising [] = Unit {0}
+IsRising (c ∷ cs) = AllByRecursion (λ d. refusal_number c.0 < refusal_number d.0) cs × IsRising cs
 
 abbrev IsNotBelow : Refusal → Refusal × Bool → Type 0
 IsNotBelow r c = IsTrue c.1 → refusal_number r ≤ refusal_number c.0

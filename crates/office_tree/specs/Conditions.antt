@@ -1,8 +1,8 @@
 -- Why an act on the tree is refused: for each act one table of its conditions, in the order of the refusals' numbers, of which the
 -- first that holds is answered. A condition about a thing that is not there is false. Source: own.
-use Rattle.std.specs.Prelude.{◌≡◌, ℕ, Bool, true, false, IsTrue, ◌&&◌, ◌||◌, not, List, [], ◌∷◌, length, nat_le, Option, Some, None, IfSome, IfNone, ◌==◌, ◌<◌, ◌≤◌, if◌then◌else◌}
+use Rattle.std.specs.Prelude.{◌≡◌, ℕ, Bool, true, false, IsTrue, ◌&&◌, ◌||◌, not, List, [], ◌∷◌, length, nat_le, Option, Some, None, IfSome, IfNone, ◌==◌, ◌≤◌, if◌then◌else◌}
 use Rattle.std.specs.Option.{is_some, is_none}
-use Rattle.std.specs.List.{list_any, All, AllByRecursion, Contains}
+use Rattle.std.specs.List.{list_any, All, Contains}
 use Rattle.std.specs.Str.{bytes_eq}
 use Rattle.std.specs.FinMap.{contains_key, len}
 use Rattle.office_days.specs.declared.refusal.Refusal.{Refusal}
@@ -15,11 +15,6 @@ use Rattle.office_tree.specs.declared.aggregation.Aggregation.{Aggregation}
 abbrev pub first_of : List (Refusal × Bool) → Option Refusal
 first_of [] = None
 first_of (c ∷ cs) = if c.1 then Some c.0 else first_of cs
-
--- a table stands in the order of the numbers
-abbrev pub IsRising : List (Refusal × Bool) → Type 0
-IsRising [] = Unit {0}
-IsRising (c ∷ cs) = AllByRecursion (λ d. refusal_number c.0 < refusal_number d.0) cs × IsRising cs
 
 -- an answer by a table: a refusal whose condition holds and whose number is not above that of any condition that holds; none where no condition holds
 pub record IsLeastOf (conditions : List (Refusal × Bool)) (answer : Option Refusal) : Type 0 where

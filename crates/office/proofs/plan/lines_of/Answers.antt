@@ -1,4 +1,4 @@
-use Rattle.std.proofs.Common.{◌≡◌, ◌∙◌, ◌+◌, ◌++◌, ℕ, List, ap, sym}
+use Rattle.std.proofs.Common.{◌∙◌, ◌+◌, ◌++◌, ℕ, List, ap, sym}
 use Rattle.office.specs.PlanFile.{due_line}
 use Rattle.office.proofs.PlanLemmas.{due_lines-more, due_lines-none}
 use Rattle.office.proofs.plan.lines_of.Goals as goal

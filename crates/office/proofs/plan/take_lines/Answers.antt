@@ -1,4 +1,4 @@
-use Rattle.std.proofs.Common.{◌≡◌, ◌∙◌, ◌+◌, ℕ, List, [], arith, ap, refl}
+use Rattle.std.proofs.Common.{◌∙◌, ◌+◌, arith, ap, refl}
 use Rattle.std.specs.Str.Lines.{lines}
 use Rattle.office.proofs.PlanLemmas.{plan_from-done, plan_from-end, plan_from-refused}
 use Rattle.office.proofs.plan.take_lines.Goals as goal

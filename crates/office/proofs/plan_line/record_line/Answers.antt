@@ -1,4 +1,4 @@
-use Rattle.std.proofs.Common.{◌≡◌, ℕ, ℤ, List, Option, Result, Ok, Err, ap, sym, map}
+use Rattle.std.proofs.Common.{ℕ, ℤ, List, Option, Err, map}
 use Rattle.office.specs.PlanLines.{record_line, place_at, days_at}
 use Rattle.office.specs.declared.plan_line.PlanLine.{PlanLine}
 use Rattle.office.specs.declared.plan_line.PlanLine.TheVariants.{Record}

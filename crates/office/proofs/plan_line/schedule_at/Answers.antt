@@ -1,4 +1,4 @@
-use Rattle.std.proofs.Common.{◌≡◌, ◌+◌, ℕ, List, Result, Ok, Err, map}
+use Rattle.std.proofs.Common.{◌+◌, Ok, Err, map}
 use Rattle.office.specs.PlanLines.{schedule_at, schedule_made, keeping_at, disposal_at}
 use Rattle.office.proofs.PartLemmas.{made-both}
 use Rattle.office.proofs.plan_line.schedule_at.Goals as goal
