@@ -15,10 +15,11 @@ use Rattle.office.specs.PlanLines.{line_asked}
 use Rattle.office.specs.declared.plan_line.PlanLine.{PlanLine}
 use Rattle.office.specs.declared.plan_line.PlanLine.TheVariants.{Schedule, Class, Aggregation, Close, Record}
 
--- the ref and the title of a new aggregation or record are the digits of its number
+-- the ref and the title of the next aggregation: the digits of its number
 abbrev pub next_aggregation : TreeState → List ℕ
 next_aggregation tree = decimal (length tree.aggregations + 1)
 
+-- likewise of a record
 abbrev pub next_record : TreeState → List ℕ
 next_record tree = decimal (length tree.records + 1)
 
@@ -79,6 +80,7 @@ plan_from number (line ∷ rest) tree = followed number (line_taken tree line) (
 abbrev pub plan_asked : List ℕ → Result TreeState (ℕ × Refusal)
 plan_asked bytes = plan_from 1 (lines bytes) empty_tree
 
+-- a due day as it is printed, or `-`
 abbrev pub due_word : Option ℤ → List ℕ
 due_word None = codes "-"
 due_word (Some due) = day_text (civil due)

@@ -1,4 +1,4 @@
-ghost use Rattle.std.specs.Prelude.{◌≡◌, ◌++◌, length, IfOk, IfSome, IsSome, IsTrue, OnOk};
+ghost use Rattle.std.specs.Prelude.{◌≡◌, ◌++◌, length, IfErr, IfOk, IfSome, IsSome, IsTrue, OnOk};
 ghost use Rattle.std.specs.Io.KnownBytes.{Appends};
 ghost use Rattle.std.specs.Str.Lines.{lines};
 ghost use Rattle.office_tree.specs.Tree.{has_record};
@@ -75,7 +75,7 @@ fn lines_of(alloc: Global, tree: &Tree) -> Result<Vec<u8>, AllocError>
 /// number and the due day, or `-` where there is none. `None` after that was written; else the
 /// first line that is refused, counted from 1 with empty lines, and why, with nothing written.
 /// `Io` comes where the reader or the writer answered an error, `Memory` where an allocation was
-/// refused; in neither case was a line refused, and at `Memory` nothing was written.
+/// refused; at `Io` some of the lines may have gone out.
 pub fn plan_to<R: Read, W: Write>(
     alloc: Global,
     reader: &mut R,
@@ -84,8 +84,9 @@ pub fn plan_to<R: Read, W: Write>(
     ensures refusal { IfOk result (λ refused. IfSome (R.remaining reader.old) (λ bytes. refused ≡ plan_refusal (plan_asked bytes))) }
     ensures written { OnOk result (IfSome (R.remaining reader.old) (λ bytes. Appends (W.contents out.old) (W.contents out.new) (plan_written (plan_asked bytes)))) }
 
-    // Where a line is refused, the writer is not touched.
+    // Where a line is refused, or memory, the writer is not touched.
     ensures untouched { IfOk result (λ refused. IsSome refused → out.new ≡ out.old) }
+    ensures unwritten { IfErr result (λ stop. stop ≡ PlanStop.Memory → out.new ≡ out.old) }
 {
     let bytes = read_whole(alloc, reader)?;
     let mut tree = Tree::new(alloc);

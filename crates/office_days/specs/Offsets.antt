@@ -7,6 +7,7 @@ use Rattle.office_days.specs.declared.offset.Offset.TheVariants.{AnyDay, FirstOf
 use Rattle.office_days.specs.Calendar.{CivilDay, civil}
 use Rattle.office_days.specs.Search.{first_passing}
 
+-- January is 1 and December 12
 abbrev pub month_number : Month → ℕ
 month_number January = 1
 month_number February = 2
@@ -32,6 +33,7 @@ is_offset_day (FirstOf m) c = (c.day == 1) && (c.month == month_number m)
 abbrev pub offset_found : Offset → ℤ → Option ℤ
 offset_found offset day = first_passing (λ d. is_offset_day offset (civil d)) 800 day
 
+-- that day
 abbrev pub offset_from : Offset → ℤ → ℤ
 offset_from offset day = unwrap_or (offset_found offset day) day
 

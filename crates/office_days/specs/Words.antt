@@ -8,6 +8,7 @@ use Rattle.office_days.specs.declared.offset.Offset.TheVariants.{AnyDay, FirstOf
 use Rattle.office_days.specs.declared.unit.Unit.{Unit}
 use Rattle.office_days.specs.declared.unit.Unit.TheVariants.{Days, Weeks, Months, Years}
 
+-- the word for each unit
 abbrev pub unit_word : Unit → List ℕ
 unit_word Days = codes "days"
 unit_word Weeks = codes "weeks"
@@ -18,6 +19,7 @@ unit_word Years = codes "years"
 abbrev pub unit_named : List ℕ → Option Unit
 unit_named text = find (λ unit. bytes_eq text (unit_word unit)) (Days ∷ Weeks ∷ Months ∷ Years ∷ [])
 
+-- the word for each offset
 abbrev pub offset_word : Offset → List ℕ
 offset_word AnyDay = codes "none"
 offset_word FirstOfMonth = codes "month"
@@ -35,6 +37,7 @@ offset_word (FirstOf October) = codes "from-month-10"
 offset_word (FirstOf November) = codes "from-month-11"
 offset_word (FirstOf December) = codes "from-month-12"
 
+-- the fifteen offsets that there are
 abbrev pub all_offsets : List Offset
 all_offsets =
     AnyDay ∷ FirstOfMonth ∷ FirstOfQuarter

@@ -12,6 +12,7 @@ use Rattle.office_tree.specs.Lists.{numbered, holds_of}
 use Rattle.office_tree.specs.Tree.{TreeState, has_aggregation, chain_of}
 use Rattle.office_tree.specs.declared.aggregation.Aggregation.{Aggregation}
 
+-- the refusal of the first condition that holds, if one does
 abbrev pub first_of : List (Refusal × Bool) → Option Refusal
 first_of [] = None
 first_of (c ∷ cs) = if c.1 then Some c.0 else first_of cs
@@ -22,19 +23,23 @@ pub record IsLeastOf (conditions : List (Refusal × Bool)) (answer : Option Refu
   pub least : IfSome answer (λ r. All (λ c. IsTrue c.1 → refusal_number r ≤ refusal_number c.0) conditions)
   pub none : IfNone answer (All (λ c. c.1 ≡ false) conditions)
 
--- a code that is given names no class, or no schedule
+-- a code that is given names no class
 abbrev pub lacks_class : TreeState → Option (List ℕ) → Bool
 lacks_class tree class = holds_of class (λ code. not (contains_key tree.classes code))
 
+-- a code that is given names no schedule
 abbrev pub lacks_schedule : TreeState → Option (List ℕ) → Bool
 lacks_schedule tree schedule = holds_of schedule (λ code. not (contains_key tree.schedules code))
 
+-- a number that is given names no aggregation
 abbrev pub lacks_parent : TreeState → Option ℕ → Bool
 lacks_parent tree parent = holds_of parent (λ a. not (has_aggregation tree a))
 
+-- the aggregation is there and closed
 abbrev pub is_closed : List Aggregation → ℕ → Bool
 is_closed aggregations a = holds_of (numbered aggregations a) (λ it. is_some it.closed)
 
+-- the aggregation has that parent
 abbrev pub is_child_of : ℕ → Aggregation → Bool
 is_child_of a it = holds_of it.parent (λ p. p == a)
 

@@ -30,9 +30,11 @@ pub record TreeState : Type 0 where
   pub records : List Record
   pub statuses : List Status
 
+-- nothing is there yet
 abbrev pub empty_tree : TreeState
 empty_tree = record { schedules = empty; classes = empty; aggregations = []; records = []; statuses = [] }
 
+-- there is an aggregation, or a record, of that number
 abbrev pub has_aggregation : TreeState → ℕ → Bool
 has_aggregation tree a = nat_le 1 a && nat_le a (length tree.aggregations)
 
@@ -85,6 +87,7 @@ plan_in classes aggregations records r =
 abbrev pub plan_of : TreeState → ℕ → Option (List ℕ)
 plan_of tree r = plan_in tree.classes tree.aggregations tree.records r
 
+-- and the schedule under that code
 abbrev pub schedule_of : TreeState → ℕ → Option Schedule
 schedule_of tree r = option_and_then (get tree.schedules) (plan_of tree r)
 
@@ -107,6 +110,7 @@ start_in aggregations records schedule r = option_and_then (λ head. start_by sc
 abbrev pub start_of : TreeState → ℕ → Option ℤ
 start_of tree r = option_and_then (λ schedule. start_in tree.aggregations tree.records schedule r) (schedule_of tree r)
 
+-- the action is to retain permanently
 abbrev pub is_keep : Action → Bool
 is_keep action.Keep = true
 is_keep action.Review = false
