@@ -55,7 +55,7 @@ abbrev pub above_head : List Aggregation → Option Record → List ℕ
 above_head aggregations None = []
 above_head aggregations (Some head) = chain_of aggregations head.aggregation
 
--- the aggregations that contain the record, the nearest first
+-- the aggregations that contain the record, the nearest first (MoReq2010, record service)
 unfoldable pub above_in : List Aggregation → List Record → ℕ → List ℕ
 above_in aggregations records r = above_head aggregations (numbered records r)
 
@@ -66,18 +66,18 @@ above tree r = above_in tree.aggregations tree.records r
 abbrev pub own_classes : List Aggregation → List ℕ → List (Option (List ℕ))
 own_classes aggregations numbers = map (λ a. option_and_then (λ aggregation. aggregation.class) (numbered aggregations a)) numbers
 
--- the class of an aggregation: its own, else that of the nearest that contains it and has one
+-- the class of an aggregation: its own, else that of the nearest that contains it and has one (MoReq2010, classification service)
 unfoldable pub aggregation_class_in : List Aggregation → ℕ → Option (List ℕ)
 aggregation_class_in aggregations a = first_some (own_classes aggregations (chain_of aggregations a))
 
--- the class of a record: its own, else that of the nearest aggregation that contains it and has one
+-- the class of a record: its own, else that of the nearest aggregation that contains it and has one (MoReq2010, classification service)
 unfoldable pub class_in : List Aggregation → List Record → ℕ → Option (List ℕ)
 class_in aggregations records r = first_some (option_and_then (λ head. head.class) (numbered records r) ∷ own_classes aggregations (above_in aggregations records r))
 
 abbrev pub class_of : TreeState → ℕ → Option (List ℕ)
 class_of tree r = class_in tree.aggregations tree.records r
 
--- the plan of a record: its own schedule, else the schedule of its class
+-- the plan of a record: its own schedule, else the schedule of its class (MoReq2010, disposal scheduling service)
 unfoldable pub plan_in : FinMap code_cmp Class → List Aggregation → List Record → ℕ → Option (List ℕ)
 plan_in classes aggregations records r =
     or_else
@@ -110,14 +110,14 @@ start_in aggregations records schedule r = option_and_then (λ head. start_by sc
 abbrev pub start_of : TreeState → ℕ → Option ℤ
 start_of tree r = option_and_then (λ schedule. start_in tree.aggregations tree.records schedule r) (schedule_of tree r)
 
--- the action is to retain permanently
+-- the action is to retain permanently (MoReq2010, disposal scheduling service)
 abbrev pub is_keep : Action → Bool
 is_keep action.Keep = true
 is_keep action.Review = false
 is_keep action.Transfer = false
 is_keep action.Destroy = false
 
--- the start plus the period, then the offset; none where there is no start or the action is to keep
+-- the start plus the period, then the offset; none where there is no start or the action is to keep (MoReq2010, disposal scheduling service)
 unfoldable pub due_by : Schedule → Option ℤ → Option ℤ
 due_by schedule start =
     if is_keep schedule.action then None else option_map (λ day. due_from day schedule.period schedule.offset) start
