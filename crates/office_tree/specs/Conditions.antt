@@ -1,16 +1,22 @@
 -- Why an act on the tree is refused: for each act one table of its conditions, in the order of the refusals' numbers, of which the
 -- first that holds is answered. A condition about a thing that is not there is false. Source: own.
-use Rattle.std.specs.Prelude.{◌≡◌, ℕ, Bool, true, false, IsTrue, ◌&&◌, ◌||◌, not, List, [], ◌∷◌, length, nat_le, Option, Some, None, IfSome, IfNone, ◌==◌, ◌≤◌, if◌then◌else◌}
+use Rattle.std.specs.Prelude.{◌≡◌, ℕ, Bool, true, false, IsTrue, ◌&&◌, ◌||◌, not, List, [], ◌∷◌, length, nat_le, Option, Some, None, IfSome, IfNone, ◌==◌, ◌≤◌, ℤ, int_le, if◌then◌else◌}
 use Rattle.std.specs.Option.{is_some, is_none}
 use Rattle.std.specs.List.{list_any, All, Contains}
 use Rattle.std.specs.Str.{bytes_eq}
 use Rattle.std.specs.FinMap.{contains_key, len}
 use Rattle.office_days.specs.declared.refusal.Refusal.{Refusal}
-use Rattle.office_days.specs.declared.refusal.Refusal.TheVariants.{Exists, NoSuch, Full, Closed, ChildOpen, TooDeep, NeedsClass}
+use Rattle.office_days.specs.declared.refusal.Refusal.TheVariants.{Exists, NoSuch, Full, Closed, ChildOpen, TooDeep, NeedsClass, Ended, InTransfer, NotDue, WrongAction, NotSent, WrongDigest}
 use Rattle.office_days.specs.Refusals.{refusal_number}
 use Rattle.office_tree.specs.Lists.{numbered, holds_of}
-use Rattle.office_tree.specs.Tree.{TreeState, has_aggregation, chain_of}
+use Rattle.office_tree.specs.Disposal.{same_action, is_ended, is_sent, is_in_transfer}
+use Rattle.office_tree.specs.Tree.{TreeState, has_aggregation, has_record, chain_of, action_of, due_of, status_of}
+use Rattle.office_tree.specs.declared.action.Action.{Action}
+use Rattle.office_tree.specs.declared.action.Action.TheVariants as action
 use Rattle.office_tree.specs.declared.aggregation.Aggregation.{Aggregation}
+use Rattle.office_tree.specs.declared.classified.Classified.{Classified}
+use Rattle.office_tree.specs.declared.classified.Classified.TheVariants as classified
+use Rattle.office_tree.specs.declared.status.Status.{Status}
 
 -- the refusal of the first condition that holds, if one does
 abbrev pub first_of : List (Refusal × Bool) → Option Refusal
@@ -84,4 +90,87 @@ conditions_of_add_record tree ref_text aggregation class schedule =
     ∷ (NoSuch, not (has_aggregation tree aggregation) || lacks_class tree class || lacks_schedule tree schedule)
     ∷ (Full, nat_le 200_000 (length tree.records))
     ∷ (Closed, is_closed tree.aggregations aggregation)
+    ∷ []
+
+-- no such class or schedule
+abbrev pub conditions_of_set_class_schedule : TreeState → List ℕ → List ℕ → List (Refusal × Bool)
+conditions_of_set_class_schedule tree class schedule =
+    (NoSuch, not (contains_key tree.classes class) || not (contains_key tree.schedules schedule))
+    ∷ []
+
+-- the record is there and ended
+abbrev pub has_ended : TreeState → ℕ → Bool
+has_ended tree r = holds_of (status_of tree r) is_ended
+
+-- the record is there and sent or received
+abbrev pub is_under_way : TreeState → ℕ → Bool
+is_under_way tree r = holds_of (status_of tree r) is_in_transfer
+
+-- no such record or schedule; the record is ended; it is sent or received
+abbrev pub conditions_of_set_record_schedule : TreeState → ℕ → Option (List ℕ) → List (Refusal × Bool)
+conditions_of_set_record_schedule tree r schedule =
+    (NoSuch, not (has_record tree r) || lacks_schedule tree schedule)
+    ∷ (Ended, has_ended tree r)
+    ∷ (InTransfer, is_under_way tree r)
+    ∷ []
+
+-- there is no such aggregation, or no such record
+abbrev pub lacks_classified : TreeState → Classified → Bool
+lacks_classified tree (classified.Aggregation a) = not (has_aggregation tree a)
+lacks_classified tree (classified.Record r) = not (has_record tree r)
+
+-- it is an aggregation without parent
+abbrev pub is_root : TreeState → Classified → Bool
+is_root tree (classified.Aggregation a) = holds_of (numbered tree.aggregations a) (λ it. is_none it.parent)
+is_root tree (classified.Record r) = false
+
+-- the status of a record; an aggregation has none
+abbrev pub classified_status : TreeState → Classified → Option Status
+classified_status tree (classified.Aggregation a) = None
+classified_status tree (classified.Record r) = status_of tree r
+
+-- no such target or class; a root and no class given; the record is ended; it is sent or received
+abbrev pub conditions_of_reclassify : TreeState → Classified → Option (List ℕ) → List (Refusal × Bool)
+conditions_of_reclassify tree what class =
+    (NoSuch, lacks_classified tree what || lacks_class tree class)
+    ∷ (NeedsClass, is_root tree what && is_none class)
+    ∷ (Ended, holds_of (classified_status tree what) is_ended)
+    ∷ (InTransfer, holds_of (classified_status tree what) is_in_transfer)
+    ∷ []
+
+-- the record has no due day, or one after the day
+abbrev pub is_not_due : TreeState → ℕ → ℤ → Bool
+is_not_due tree r day = has_record tree r && not (holds_of (due_of tree r) (λ due. int_le due day))
+
+-- the record's plan has another action
+abbrev pub has_other_action : TreeState → ℕ → Action → Bool
+has_other_action tree r named = has_record tree r && not (holds_of (action_of tree r) (same_action named))
+
+-- no such record; it is ended; it is sent or received; it is not due; the named action is not the plan's, or it is to review
+abbrev pub conditions_of_confirm : TreeState → ℤ → ℕ → Action → List (Refusal × Bool)
+conditions_of_confirm tree day r named =
+    (NoSuch, not (has_record tree r))
+    ∷ (Ended, has_ended tree r)
+    ∷ (InTransfer, is_under_way tree r)
+    ∷ (NotDue, is_not_due tree r day)
+    ∷ (WrongAction, has_other_action tree r named || same_action named action.Review)
+    ∷ []
+
+-- no such record or schedule; the record is ended; it is sent or received; it is not due; its plan's action is not to review
+abbrev pub conditions_of_review : TreeState → ℤ → ℕ → Option (List ℕ) → List (Refusal × Bool)
+conditions_of_review tree day r schedule =
+    (NoSuch, not (has_record tree r) || lacks_schedule tree schedule)
+    ∷ (Ended, has_ended tree r)
+    ∷ (InTransfer, is_under_way tree r)
+    ∷ (NotDue, is_not_due tree r day)
+    ∷ (WrongAction, has_other_action tree r action.Review)
+    ∷ []
+
+-- no such record; it is ended; it is not sent; the digest is not its own
+abbrev pub conditions_of_receipt : TreeState → ℕ → List ℕ → List (Refusal × Bool)
+conditions_of_receipt tree r digest =
+    (NoSuch, not (has_record tree r))
+    ∷ (Ended, has_ended tree r)
+    ∷ (NotSent, holds_of (status_of tree r) (λ status. not (is_sent status)))
+    ∷ (WrongDigest, holds_of (numbered tree.records r) (λ head. not (bytes_eq head.digest digest)))
     ∷ []

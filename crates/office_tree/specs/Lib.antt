@@ -1,7 +1,10 @@
 pub mod Codes
 pub mod Conditions
+pub mod Disposal
 pub mod Effects
+pub mod Forms
 pub mod Lists
+pub mod Meanings
 pub mod Sound
 pub mod TextForms
 pub mod Tree

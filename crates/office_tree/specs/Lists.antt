@@ -1,5 +1,7 @@
--- Small words on lists and optional things that the office's definitions share. Source: own.
+-- Small words on lists, maps and optional things that the office's definitions share. Source: own.
 use Rattle.std.specs.Prelude.{ℕ, zero, suc, Bool, false, List, [], ◌∷◌, slice_get, Option, Some, None, ℤ}
+use Rattle.std.specs.declared.cmp.Ordering.{Ordering}
+use Rattle.std.specs.FinMap.{FinMap, get, insert}
 use Rattle.std.specs.Int.{int_max}
 use Rattle.std.specs.List.{fold}
 
@@ -42,3 +44,16 @@ later (Some best) day = Some (int_max best day)
 -- the greatest day, where there is one
 abbrev pub greatest : List ℤ → Option ℤ
 greatest days = fold later None days
+
+-- so many numbers after a number, in rising order
+abbrev pub numbers_after : ℕ → ℕ → List ℕ
+numbers_after from zero = []
+numbers_after from (suc count) = suc from ∷ numbers_after (suc from) count
+
+abbrev pub amended_by : {K V : Type 0} {R : K → K → Ordering} → FinMap R V → K → (V → V) → Option V → FinMap R V
+amended_by things key change None = things
+amended_by things key change (Some x) = insert things key (change x)
+
+-- the map with the thing under a key changed, if that is there
+abbrev pub amended : {K V : Type 0} {R : K → K → Ordering} → FinMap R V → K → (V → V) → FinMap R V
+amended things key change = amended_by things key change (get things key)

@@ -1,5 +1,5 @@
--- When a tree is sound. Source: own; the limits are this project's.
-use Rattle.std.specs.Prelude.{◌≡◌, ◌<◌, ◌≤◌, ℕ, List, length, Option, Some, IsSome, IsNone, IfSome, MatchOption}
+-- When a tree is sound, each item over the parts that it speaks of. Source: own; the limits are this project's.
+use Rattle.std.specs.Prelude.{◌≡◌, ◌<◌, ◌≤◌, ℕ, List, length, Option, Some, None, IsSome, IsNone, IfSome}
 use Rattle.std.specs.FinMap.{FinMap, get, len}
 use Rattle.office_tree.specs.Lists.{numbered}
 use Rattle.office_tree.specs.Tree.{TreeState, code_cmp, chain_of}
@@ -8,28 +8,6 @@ use Rattle.office_tree.specs.declared.class.Class.{Class}
 use Rattle.office_tree.specs.declared.aggregation.Aggregation.{Aggregation}
 use Rattle.office_tree.specs.declared.head.Record.{Record}
 
--- a root has a class, and a parent's number is below its child's
-abbrev pub IsWellPlaced : ℕ → Aggregation → Type 0
-IsWellPlaced a it = MatchOption it.parent (IsSome it.class) (λ p. (0 < p) × (p < a))
-
--- aggregations are well placed, at most 8 deep, and no open one has a closed parent
-pub record IsForest (aggregations : List Aggregation) : Type 0 where
-  pub placed : (a : ℕ) (it : Aggregation) → numbered aggregations a ≡ Some it → IsWellPlaced a it
-  pub depth : (a : ℕ) → length (chain_of aggregations a) ≤ 8
-  pub open_above : (a p : ℕ) (it parent : Aggregation) → numbered aggregations a ≡ Some it → it.parent ≡ Some p → numbered aggregations p ≡ Some parent → IsNone it.closed → IsNone parent.closed
-
--- a code that is given names something
-abbrev pub Names : {V : Type 0} → FinMap code_cmp V → Option (List ℕ) → Type 0
-Names things code = IfSome code (λ c. IsSome (get things c))
-
--- every named schedule, class and aggregation is there
-pub record NamesStand (schedules : FinMap code_cmp Schedule) (classes : FinMap code_cmp Class) (aggregations : List Aggregation) (records : List Record) : Type 0 where
-  pub class_schedules : (code : List ℕ) (class : Class) → get classes code ≡ Some class → IsSome (get schedules class.schedule)
-  pub aggregation_classes : (a : ℕ) (it : Aggregation) → numbered aggregations a ≡ Some it → Names classes it.class
-  pub homes : (r : ℕ) (head : Record) → numbered records r ≡ Some head → (0 < head.aggregation) × (head.aggregation ≤ length aggregations)
-  pub record_classes : (r : ℕ) (head : Record) → numbered records r ≡ Some head → Names classes head.class
-  pub record_schedules : (r : ℕ) (head : Record) → numbered records r ≡ Some head → Names schedules head.schedule
-
 -- no more of each than the office takes
 pub record FitsLimits (schedules : FinMap code_cmp Schedule) (classes : FinMap code_cmp Class) (aggregations : List Aggregation) (records : List Record) : Type 0 where
   pub schedules_few : len schedules ≤ 1_000
@@ -37,8 +15,37 @@ pub record FitsLimits (schedules : FinMap code_cmp Schedule) (classes : FinMap c
   pub aggregations_few : length aggregations ≤ 50_000
   pub records_few : length records ≤ 200_000
 
+-- a parent's number is below its child's, and depths are at most 8
+pub record IsForest (aggregations : List Aggregation) : Type 0 where
+  pub below : (a p : ℕ) (it : Aggregation) → numbered aggregations a ≡ Some it → it.parent ≡ Some p → (0 < p) × (p < a)
+  pub depth : (a : ℕ) → length (chain_of aggregations a) ≤ 8
+
+-- a root has a class
+abbrev pub RootsHaveClasses : List Aggregation → Type 0
+RootsHaveClasses aggregations = (a : ℕ) (it : Aggregation) → numbered aggregations a ≡ Some it → it.parent ≡ None → IsSome it.class
+
+-- a code that is given names something
+abbrev pub Names : {V : Type 0} → FinMap code_cmp V → Option (List ℕ) → Type 0
+Names things code = IfSome code (λ c. IsSome (get things c))
+
+-- every named schedule, class and aggregation is there, and a root has a class
+pub record NamesStand (schedules : FinMap code_cmp Schedule) (classes : FinMap code_cmp Class) (aggregations : List Aggregation) (records : List Record) : Type 0 where
+  pub class_schedules : (code : List ℕ) (class : Class) → get classes code ≡ Some class → IsSome (get schedules class.schedule)
+  pub aggregation_classes : (a : ℕ) (it : Aggregation) → numbered aggregations a ≡ Some it → Names classes it.class
+  pub root_classes : RootsHaveClasses aggregations
+  pub homes : (r : ℕ) (head : Record) → numbered records r ≡ Some head → (0 < head.aggregation) × (head.aggregation ≤ length aggregations)
+  pub record_classes : (r : ℕ) (head : Record) → numbered records r ≡ Some head → Names classes head.class
+  pub record_schedules : (r : ℕ) (head : Record) → numbered records r ≡ Some head → Names schedules head.schedule
+
+-- no open aggregation has a closed parent
+abbrev pub NoneIsOpenUnderClosed : List Aggregation → Type 0
+NoneIsOpenUnderClosed aggregations =
+    (a p : ℕ) (it parent : Aggregation) → numbered aggregations a ≡ Some it → it.parent ≡ Some p → numbered aggregations p ≡ Some parent → IsNone it.closed → IsNone parent.closed
+
+-- what the tree's readings rest on
 pub record IsSound (tree : TreeState) : Type 0 where
   pub limits : FitsLimits tree.schedules tree.classes tree.aggregations tree.records
   pub forest : IsForest tree.aggregations
   pub names : NamesStand tree.schedules tree.classes tree.aggregations tree.records
+  pub closed : NoneIsOpenUnderClosed tree.aggregations
   pub statuses : length tree.statuses ≡ length tree.records

@@ -125,3 +125,15 @@ due_by schedule start =
 -- the due day of a record
 abbrev pub due_of : TreeState → ℕ → Option ℤ
 due_of tree r = option_and_then (λ schedule. due_by schedule (start_in tree.aggregations tree.records schedule r)) (schedule_of tree r)
+
+-- the action of a record's plan
+abbrev pub action_of : TreeState → ℕ → Option Action
+action_of tree r = option_map (λ schedule. schedule.action) (schedule_of tree r)
+
+-- the class of an aggregation
+abbrev pub aggregation_class_of : TreeState → ℕ → Option (List ℕ)
+aggregation_class_of tree a = aggregation_class_in tree.aggregations a
+
+-- how far a record's disposal has come
+abbrev pub status_of : TreeState → ℕ → Option Status
+status_of tree r = numbered tree.statuses r
