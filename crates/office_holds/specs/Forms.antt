@@ -1,0 +1,25 @@
+-- When what stands in the holds is of its form and within its limits. Source: own.
+use Rattle.std.specs.Prelude.{◌≡◌, ◌≤◌, ℕ, List, Some, IfSome, IsTrue}
+use Rattle.std.specs.FinMap.{get, len}
+use Rattle.std.specs.FinSet.{contains}
+use Rattle.office_days.specs.Limits.{IsDayNumber}
+use Rattle.office_tree.specs.Forms.{IsCode, IsText}
+use Rattle.office_holds.specs.Conditions.{target_count}
+use Rattle.office_holds.specs.Holds.{HoldMap, HoldState}
+
+-- the texts and days of a hold, and the codes of its classes
+pub record IsFormedHold (hold : HoldState) : Type 0 where
+  pub reason : IsText hold.reason
+  pub placed : IsDayNumber hold.placed
+  pub by : IsText hold.by
+  pub lifted : IfSome hold.lifted IsDayNumber
+  pub classes : (code : List ℕ) → IsTrue (contains hold.classes code) → IsCode code
+
+-- every code, text and day of the holds is of its form
+abbrev pub AreFormedHolds : HoldMap → Type 0
+AreFormedHolds holds = (code : List ℕ) (hold : HoldState) → get holds code ≡ Some hold → IsCode code × IsFormedHold hold
+
+-- at most 1,000 holds, each with at most 1,000 targets
+pub record FitsHoldLimits (holds : HoldMap) : Type 0 where
+  pub holds_few : len holds ≤ 1_000
+  pub targets_few : (code : List ℕ) (hold : HoldState) → get holds code ≡ Some hold → target_count hold ≤ 1_000

@@ -1,0 +1,6 @@
+pub mod Conditions
+pub mod Effects
+pub mod Forms
+pub mod Holds
+pub mod Meanings
+pub mod Sound
