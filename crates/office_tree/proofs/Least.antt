@@ -5,13 +5,8 @@ use Rattle.std.specs.List.{All, AllByRecursion}
 use Rattle.std.proofs.lemmas.List.Elements.{All-nil, All-cons}
 use Rattle.office_days.specs.declared.refusal.Refusal.{Refusal}
 use Rattle.office_days.specs.Refusals.{refusal_number}
-use Rattle.office_tree.specs.Conditions.{first_of, IsLeastOf, conditions_of_add_aggregation, conditions_of_add_record}
+use Rattle.office_tree.specs.Conditions.{first_of, IsLeastOf, IsRising, conditions_of_add_aggregation, conditions_of_add_record}
 use Rattle.office_tree.specs.Tree.{TreeState}
-
--- a table stands in the order of the numbers
-abbrev pub IsRising : List (Refusal × Bool) → Type 0
-IsRising [] = Unit {0}
-IsRising (c ∷ cs) = AllByRecursion (λ d. refusal_number c.0 < refusal_number d.0) cs × IsRising cs
 
 abbrev IsNotBelow : Refusal → Refusal × Bool → Type 0
 IsNotBelow r c = IsTrue c.1 → refusal_number r ≤ refusal_number c.0
@@ -36,7 +31,7 @@ by_test k true cs low rest = record {
 }
 by_test k false cs low rest = after_false k cs (first_of cs) rest
 
-first_is_least : (cs : List (Refusal × Bool)) → IsRising cs → IsLeastOf cs (first_of cs)
+pub first_is_least : (cs : List (Refusal × Bool)) → IsRising cs → IsLeastOf cs (first_of cs)
 first_is_least [] rises = record { holds = tt; least = tt; none = All-nil (λ (c : Refusal × Bool). c.1 ≡ false) }
 first_is_least (c ∷ cs) rises = by_test c.0 c.1 cs rises.0 (first_is_least cs rises.1)
 
