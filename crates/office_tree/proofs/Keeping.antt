@@ -32,11 +32,11 @@ pub none_holds : (cs : List (Refusal × Bool)) → first_of cs ≡ None → AllB
 none_holds [] e = tt
 none_holds (c ∷ cs) e = let first = none_first c.0 c.1 (first_of cs) e in (first.0, none_holds cs first.1)
 
-not_false : (b : Bool) → not b ≡ false → b ≡ true
+pub not_false : (b : Bool) → not b ≡ false → b ≡ true
 not_false true e = refl
 not_false false e = absurd cc
 
-neither : (a b : Bool) → (a || b) ≡ false → (a ≡ false) × (b ≡ false)
+pub neither : (a b : Bool) → (a || b) ≡ false → (a ≡ false) × (b ≡ false)
 neither true b e = absurd cc
 neither false b e = (refl, e)
 
@@ -44,7 +44,7 @@ below : (n k : ℕ) → nat_le k n ≡ false → n < k
 below n k e = grind (arith, nat_tests)
 
 -- a code that does not lack its thing names it
-names_of : {V : Type 0} (m : FinMap code_cmp V) (o : Option (List ℕ)) → holds_of o (λ code. not (contains_key m code)) ≡ false → Names m o
+pub names_of : {V : Type 0} (m : FinMap code_cmp V) (o : Option (List ℕ)) → holds_of o (λ code. not (contains_key m code)) ≡ false → Names m o
 names_of m None e = tt
 names_of m (Some code) e = not_false (contains_key m code) e
 

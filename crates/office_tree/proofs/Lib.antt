@@ -1,3 +1,4 @@
+pub mod Amending
 pub mod Inserting
 pub mod Keeping
 pub mod LastAddition
