@@ -34,28 +34,29 @@ pub Names-insert : {V : Type 0} (m : FinMap code_cmp V) (k : List ℕ) (v : V) (
 Names-insert m k v None h = tt
 Names-insert m k v (Some q) h = insert_keeps m k v q h
 
-cond_cases : {V : Type 0} (b : Bool) (v : V) (o : Option V) (x : V) → cond b (Some v) o ≡ Some x → (v ≡ x) ⊎ (o ≡ Some x)
-cond_cases true v o x e = inl cc
-cond_cases false v o x e = inr e
-
--- what is there is the new thing, or was there
-pub insert_cases : {V : Type 0} (m : FinMap code_cmp V) (k : List ℕ) (v : V) (q : List ℕ) (x : V) → get (insert m k v) q ≡ Some x → (v ≡ x) ⊎ (get m q ≡ Some x)
-insert_cases m k v q x e = cond_cases (eq_by_cmp code_cmp q k) v (get m q) x (sym (get-insert nat_list_cmp_total m k v q) ∙ e)
-
 -- at a code that is free there is one more
 pub len-insert_free : {V : Type 0} (m : FinMap code_cmp V) (k : List ℕ) (v : V) → contains_key m k ≡ false → len (insert m k v) ≡ len m + 1
 len-insert_free m k v free = len-insert nat_list_cmp_total m k v ∙ ap (λ b. cond b (len m) (len m + 1)) free
 
--- ---- a thing that is changed
+-- ---- only equal codes tie
 
 is_equal : (o : Ordering) → is_eq o ≡ true → o ≡ Equal
 is_equal Less e = absurd cc
 is_equal Equal e = refl
 is_equal Greater e = absurd cc
 
--- only equal codes tie
 same_code : (q k : List ℕ) → eq_by_cmp code_cmp q k ≡ true → q ≡ k
 same_code q k e = slice_cmp-IsAntisymmetric nat_cmp-IsAntisymmetric q k (is_equal (code_cmp q k) e)
+
+cond_cases : {V : Type 0} (b : Bool) (v : V) (o : Option V) (x : V) (here : Type 0) → (b ≡ true → here) → cond b (Some v) o ≡ Some x → (here × (v ≡ x)) ⊎ (o ≡ Some x)
+cond_cases true v o x here is e = inl (is refl, cc)
+cond_cases false v o x here is e = inr e
+
+-- what is there after a thing was put in is the new thing at its code, or was there
+pub insert_cases : {V : Type 0} (m : FinMap code_cmp V) (k : List ℕ) (v : V) (q : List ℕ) (x : V) → get (insert m k v) q ≡ Some x → ((q ≡ k) × (v ≡ x)) ⊎ (get m q ≡ Some x)
+insert_cases m k v q x e = cond_cases (eq_by_cmp code_cmp q k) v (get m q) x (q ≡ k) (same_code q k) (sym (get-insert nat_list_cmp_total m k v q) ∙ e)
+
+-- ---- a thing that is changed
 
 none_or_same : {V : Type 0} (b : Bool) (here there : Option V) → (b ≡ true → there ≡ here) → here ≡ None → there ≡ cond b None there
 none_or_same true here there same none = same refl ∙ none

@@ -96,7 +96,7 @@ IsSound-add_class tree code class sound accepted =
       forest = sound.forest;
       names = record {
         class_schedules = λ c it e. elim (insert_cases tree.classes code class c it e) [
-          | inl new ↦ subst (λ (k : Class). IsSome (get tree.schedules k.schedule)) new there
+          | inl new ↦ subst (λ (k : Class). IsSome (get tree.schedules k.schedule)) new.1 there
           | inr old ↦ sound.names.class_schedules c it old
         ];
         aggregation_classes = λ a it e. Names-insert tree.classes code class it.class (sound.names.aggregation_classes a it e);
