@@ -1,5 +1,5 @@
 -- What an act makes of a tree whose texts, codes, days and numbers are of their forms is such a tree.
-use Rattle.std.proofs.Common.{◌≡◌, ℕ, zero, suc, List, [], ◌∷◌, ◌++◌, Option, Some, None, refl, sym, ap, subst, cond, Bool, true, false, inl, inr, ℤ}
+use Rattle.std.proofs.Common.{◌≡◌, ℕ, zero, suc, List, [], ◌∷◌, ◌++◌, Option, Some, None, sym, subst, inl, inr, ℤ}
 use Rattle.std.specs.Prelude.{IfSome}
 use Rattle.std.specs.Option.{option_map}
 use Rattle.std.specs.FinMap.{FinMap, get, insert, empty, get-empty}
@@ -9,7 +9,6 @@ use Rattle.office_tree.specs.Forms.{IsCode, IsText, IsFormedSchedule, IsFormedCl
 use Rattle.office_tree.specs.Lists.{numbered, edited, amended, or_else}
 use Rattle.office_tree.specs.Tree.{TreeState, code_cmp, due_of, empty_tree}
 use Rattle.office_tree.specs.declared.action.Action.{Action}
-use Rattle.office_tree.specs.declared.aggregation.Aggregation.{Aggregation}
 use Rattle.office_tree.specs.declared.class.Class.{Class}
 use Rattle.office_tree.specs.declared.classified.Classified.{Classified}
 use Rattle.office_tree.specs.declared.classified.Classified.TheVariants as classified

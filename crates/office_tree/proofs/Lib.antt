@@ -1,4 +1,5 @@
 pub mod Amending
+pub mod DueNumbers
 pub mod Forming
 pub mod Inserting
 pub mod Keeping
