@@ -1,7 +1,7 @@
 -- What an act of which no condition holds makes of a sound tree is sound.
 use Rattle.std.proofs.Common.{◌≡◌, ℕ, zero, suc, ◌+◌, ◌<◌, ◌≤◌, List, [], ◌∷◌, ◌++◌, length, Option, Some, None, refl, sym, ap, ◌∙◌, subst, cond, Bool, true, false, arith, inl, inr, length-append, ℤ}
 use Rattle.std.specs.Prelude.{IsSome, IsNone, IfSome, not, nat_le, ◌&&◌, ◌||◌}
-use Rattle.std.specs.Option.{is_some, is_none, MatchOption}
+use Rattle.std.specs.Option.{is_some, is_none}
 use Rattle.std.specs.List.{list_any, AllByRecursion}
 use Rattle.std.specs.FinMap.{FinMap, get, contains_key, len, empty, len-empty, get-empty}
 use Rattle.std.proofs.lemmas.Bool.Decides.{nat_tests}
@@ -9,7 +9,7 @@ use Rattle.office_days.specs.declared.refusal.Refusal.{Refusal}
 use Rattle.office_tree.specs.Conditions.{first_of, conditions_of_add_schedule, conditions_of_add_class, conditions_of_add_aggregation, conditions_of_close_aggregation, conditions_of_add_record, lacks_class, lacks_schedule, lacks_parent, is_closed, is_child_of}
 use Rattle.office_tree.specs.Effects.{added_schedule, added_class, added_aggregation, closed_aggregation, added_record}
 use Rattle.office_tree.specs.Lists.{numbered, edited, holds_of}
-use Rattle.office_tree.specs.Sound.{IsSound, IsForest, IsWellPlaced, Names}
+use Rattle.office_tree.specs.Sound.{IsSound, IsForest, RootsHaveClasses, NoneIsOpenUnderClosed, Names}
 use Rattle.office_tree.specs.Tree.{TreeState, code_cmp, empty_tree, has_aggregation, chain_of, chain}
 use Rattle.office_tree.specs.declared.aggregation.Aggregation.{Aggregation}
 use Rattle.office_tree.specs.declared.class.Class.{Class}
@@ -19,7 +19,7 @@ use Rattle.office_tree.specs.declared.status.Status.TheVariants.{Here}
 use Rattle.office_tree.proofs.Inserting.{insert_keeps, Names-insert, insert_cases, len-insert_free}
 use Rattle.office_tree.proofs.Places.{numbered_push, numbered_edited, numbered_within, length-edited}
 use Rattle.office_tree.proofs.Reading.{aggregation_within}
-use Rattle.office_tree.proofs.Walk.{chain-edited, chain_pushed}
+use Rattle.office_tree.proofs.Walk.{chain-edited, chain_pushed, placed_in}
 
 -- ---- what it says that no condition holds
 
@@ -32,11 +32,11 @@ pub none_holds : (cs : List (Refusal × Bool)) → first_of cs ≡ None → AllB
 none_holds [] e = tt
 none_holds (c ∷ cs) e = let first = none_first c.0 c.1 (first_of cs) e in (first.0, none_holds cs first.1)
 
-not_false : (b : Bool) → not b ≡ false → b ≡ true
+pub not_false : (b : Bool) → not b ≡ false → b ≡ true
 not_false true e = refl
 not_false false e = absurd cc
 
-neither : (a b : Bool) → (a || b) ≡ false → (a ≡ false) × (b ≡ false)
+pub neither : (a b : Bool) → (a || b) ≡ false → (a ≡ false) × (b ≡ false)
 neither true b e = absurd cc
 neither false b e = (refl, e)
 
@@ -44,7 +44,7 @@ below : (n k : ℕ) → nat_le k n ≡ false → n < k
 below n k e = grind (arith, nat_tests)
 
 -- a code that does not lack its thing names it
-names_of : {V : Type 0} (m : FinMap code_cmp V) (o : Option (List ℕ)) → holds_of o (λ code. not (contains_key m code)) ≡ false → Names m o
+pub names_of : {V : Type 0} (m : FinMap code_cmp V) (o : Option (List ℕ)) → holds_of o (λ code. not (contains_key m code)) ≡ false → Names m o
 names_of m None e = tt
 names_of m (Some code) e = not_false (contains_key m code) e
 
@@ -72,10 +72,12 @@ IsSound-add_schedule tree code schedule sound accepted =
       names = record {
         class_schedules = λ c class e. insert_keeps tree.schedules code schedule class.schedule (sound.names.class_schedules c class e);
         aggregation_classes = sound.names.aggregation_classes;
+        root_classes = sound.names.root_classes;
         homes = sound.names.homes;
         record_classes = sound.names.record_classes;
         record_schedules = λ r head e. Names-insert tree.schedules code schedule head.schedule (sound.names.record_schedules r head e);
       };
+      closed = sound.closed;
       statuses = sound.statuses;
     }
 
@@ -94,14 +96,16 @@ IsSound-add_class tree code class sound accepted =
       forest = sound.forest;
       names = record {
         class_schedules = λ c it e. elim (insert_cases tree.classes code class c it e) [
-          | inl new ↦ subst (λ (k : Class). IsSome (get tree.schedules k.schedule)) new there
+          | inl new ↦ subst (λ (k : Class). IsSome (get tree.schedules k.schedule)) new.1 there
           | inr old ↦ sound.names.class_schedules c it old
         ];
         aggregation_classes = λ a it e. Names-insert tree.classes code class it.class (sound.names.aggregation_classes a it e);
+        root_classes = sound.names.root_classes;
         homes = sound.names.homes;
         record_classes = λ r head e. Names-insert tree.classes code class head.class (sound.names.record_classes r head e);
         record_schedules = sound.names.record_schedules;
       };
+      closed = sound.closed;
       statuses = sound.statuses;
     }
 
@@ -111,9 +115,9 @@ has_its_parent : (tree : TreeState) (parent : Option ℕ) → lacks_parent tree 
 has_its_parent tree None e = tt
 has_its_parent tree (Some p) e = aggregation_within tree p (not_false (has_aggregation tree p) e)
 
-root_or_child : (n : ℕ) (parent : Option ℕ) (class : Option (List ℕ)) → IfSome parent (λ p. (0 < p) × (p ≤ n)) → (is_none parent && is_none class) ≡ false → MatchOption parent (IsSome class) (λ p. (0 < p) × (p < n + 1))
-root_or_child n None class within some = not_false (is_some class) some
-root_or_child n (Some p) class within some = let high : p ≤ n = within.1 in (within.0, omega arith)
+root_has_class : (parent : Option ℕ) (class : Option (List ℕ)) → (is_none parent && is_none class) ≡ false → parent ≡ None → IsSome class
+root_has_class None class some e = not_false (is_some class) some
+root_has_class (Some p) class some e = absurd cc
 
 shallow : (xs : List Aggregation) (parent : Option ℕ) → holds_of parent (λ a. nat_le 8 (length (chain_of xs a))) ≡ false → IfSome parent (λ a. length (chain_of xs a) < 8)
 shallow xs None e = tt
@@ -126,41 +130,46 @@ parent_open xs (Some q) p parent e there is_open =
     let number : numbered xs q ≡ Some parent = ap (numbered xs) same ∙ there in
     sym (ap (λ o. holds_of o (λ (it : Aggregation). is_some it.closed)) number) ∙ is_open
 
-parent_low : (n : ℕ) (o : Option ℕ) (p : ℕ) → o ≡ Some p → IfSome o (λ a. (0 < a) × (a ≤ n)) → p ≤ n
-parent_low n None p e h = absurd cc
-parent_low n (Some q) p e h = let same : q ≡ p = cc in let high : q ≤ n = h.1 in omega arith
-
 -- what was there before a push
 was_there : {A : Type 0} (xs : List A) (x y : A) (n : ℕ) → n ≤ length xs → numbered (xs ++ x ∷ []) n ≡ Some y → numbered xs n ≡ Some y
 was_there xs x y n low e = elim (numbered_push xs x y n e) [ inl old ↦ old | inr new ↦ let is : n ≡ length xs + 1 = new.0 in absurd (omega arith) ]
 
--- what is asked of a new aggregation
-abbrev FitsIn : List Aggregation → Aggregation → Type 0
-FitsIn xs x = IsWellPlaced (length xs + 1) x × IfSome x.parent (λ p. length (chain_of xs p) < 8) × IfSome x.parent (λ p. (0 < p) × (p ≤ length xs)) × (holds_of x.parent (is_closed xs) ≡ false)
+-- a parent that is there, less than 8 deep
+abbrev FitsIn : List Aggregation → Option ℕ → Type 0
+FitsIn xs parent = IfSome parent (λ p. length (chain_of xs p) < 8) × IfSome parent (λ p. (0 < p) × (p ≤ length xs))
 
-placed_push : (xs : List Aggregation) (x : Aggregation) → IsForest xs → FitsIn xs x → (a : ℕ) (it : Aggregation) → numbered (xs ++ x ∷ []) a ≡ Some it → IsWellPlaced a it
-placed_push xs x forest fits a it e = elim (numbered_push xs x it a e) [
-  | inl old ↦ forest.placed a it old
-  | inr new ↦ subst (IsWellPlaced a) new.1 (subst (λ (n : ℕ). IsWellPlaced n x) (sym new.0) fits.0)
+parent_in : (n p : ℕ) (o : Option ℕ) → o ≡ Some p → IfSome o (λ a. (0 < a) × (a ≤ n)) → (0 < p) × (p ≤ n)
+parent_in n p None e h = absurd cc
+parent_in n p (Some q) e h = let same : q ≡ p = cc in subst (λ (a : ℕ). (0 < a) × (a ≤ n)) same h
+
+below_push : (xs : List Aggregation) (x : Aggregation) → IsForest xs → FitsIn xs x.parent → (a p : ℕ) (it : Aggregation) → numbered (xs ++ x ∷ []) a ≡ Some it → it.parent ≡ Some p → (0 < p) × (p < a)
+below_push xs x forest fits a p it e up = elim (numbered_push xs x it a e) [
+  | inl old ↦ forest.below a p it old up
+  | inr new ↦ let there = parent_in (length xs) p x.parent (ap (λ (k : Aggregation). k.parent) new.1 ∙ up) fits.1 in (there.0, omega (arith, new.0, there.1))
 ]
 
-parent_is_low : (a p n : ℕ) (it : Aggregation) → it.parent ≡ Some p → IsWellPlaced a it → a ≤ n → p ≤ n
-parent_is_low a p n it e w low = let placed = rw e at w in omega (arith, placed.1)
+IsForest-push : (xs : List Aggregation) (x : Aggregation) → IsForest xs → RootsHaveClasses xs → FitsIn xs x.parent → IsForest (xs ++ x ∷ [])
+IsForest-push xs x forest roots fits = record {
+  below = below_push xs x forest fits;
+  depth = chain_pushed xs x (placed_in xs forest roots) forest.depth fits.0 fits.1;
+}
 
-open_push : (xs : List Aggregation) (x : Aggregation) → IsForest xs → FitsIn xs x → (a p : ℕ) (it parent : Aggregation) → numbered (xs ++ x ∷ []) a ≡ Some it → it.parent ≡ Some p → numbered (xs ++ x ∷ []) p ≡ Some parent → IsNone it.closed → IsNone parent.closed
-open_push xs x forest fits a p it parent e up above is_open = elim (numbered_push xs x it a e) [
-  | inl old ↦ forest.open_above a p it parent old up (was_there xs x parent p (parent_is_low a p (length xs) it up (forest.placed a it old) (numbered_within xs a it old).1) above) is_open
+roots_push : (xs : List Aggregation) (x : Aggregation) → RootsHaveClasses xs → (x.parent ≡ None → IsSome x.class) → RootsHaveClasses (xs ++ x ∷ [])
+roots_push xs x roots own a it e root = elim (numbered_push xs x it a e) [
+  | inl old ↦ roots a it old root
+  | inr new ↦ subst (λ (k : Aggregation). IsSome k.class) new.1 (own (ap (λ (k : Aggregation). k.parent) new.1 ∙ root))
+]
+
+closed_push : (xs : List Aggregation) (x : Aggregation) → IsForest xs → NoneIsOpenUnderClosed xs → FitsIn xs x.parent → holds_of x.parent (is_closed xs) ≡ false → NoneIsOpenUnderClosed (xs ++ x ∷ [])
+closed_push xs x forest closed fits parents a p it parent e up above is_open = elim (numbered_push xs x it a e) [
+  | inl old ↦
+      let low = (forest.below a p it old up).1 in
+      let within = (numbered_within xs a it old).1 in
+      closed a p it parent old up (was_there xs x parent p (omega (arith, low, within)) above) is_open
   | inr new ↦
       let up_new : x.parent ≡ Some p = ap (λ (k : Aggregation). k.parent) new.1 ∙ up in
-      parent_open xs x.parent p parent up_new (was_there xs x parent p (parent_low (length xs) x.parent p up_new fits.2) above) fits.3
+      parent_open xs x.parent p parent up_new (was_there xs x parent p (parent_in (length xs) p x.parent up_new fits.1).1 above) parents
 ]
-
-IsForest-push : (xs : List Aggregation) (x : Aggregation) → IsForest xs → FitsIn xs x → IsForest (xs ++ x ∷ [])
-IsForest-push xs x forest fits = record {
-  placed = placed_push xs x forest fits;
-  depth = chain_pushed xs x forest.placed forest.depth fits.1 fits.2;
-  open_above = open_push xs x forest fits;
-}
 
 pub IsSound-add_aggregation : (tree : TreeState) (ref_text title : List ℕ) (parent : Option ℕ) (class : Option (List ℕ)) → IsSound tree → first_of (conditions_of_add_aggregation tree ref_text parent class) ≡ None → IsSound (added_aggregation tree ref_text title parent class)
 IsSound-add_aggregation tree ref_text title parent class sound accepted =
@@ -177,17 +186,19 @@ IsSound-add_aggregation tree ref_text title parent class sound accepted =
         aggregations_few = omega (arith, few, more);
         records_few = sound.limits.records_few;
       };
-      forest = IsForest-push tree.aggregations x sound.forest (root_or_child (length tree.aggregations) parent class within no.1.1.1.1.1.0, shallow tree.aggregations parent no.1.1.1.1.0, within, no.1.1.1.0);
+      forest = IsForest-push tree.aggregations x sound.forest sound.names.root_classes (shallow tree.aggregations parent no.1.1.1.1.0, within);
       names = record {
         class_schedules = sound.names.class_schedules;
         aggregation_classes = λ a it e. elim (numbered_push tree.aggregations x it a e) [
           | inl old ↦ sound.names.aggregation_classes a it old
           | inr new ↦ subst (λ (k : Aggregation). Names tree.classes k.class) new.1 (names_of tree.classes class lacks.1)
         ];
+        root_classes = roots_push tree.aggregations x sound.names.root_classes (root_has_class parent class no.1.1.1.1.1.0);
         homes = λ r head e. let home = sound.names.homes r head e in (home.0, omega (arith, home.1, more));
         record_classes = sound.names.record_classes;
         record_schedules = sound.names.record_schedules;
       };
+      closed = closed_push tree.aggregations x sound.forest sound.closed (shallow tree.aggregations parent no.1.1.1.1.0, within) no.1.1.1.0;
       statuses = sound.statuses;
     }
 
@@ -202,15 +213,15 @@ open_unchanged day it x e is_open = let closed = rw e at is_open in absurd cc
 is_its_child : (a : ℕ) (it : Aggregation) → it.parent ≡ Some a → IsNone it.closed → (is_child_of a it && is_none it.closed) ≡ true
 is_its_child a it up is_open = rw (up, is_open) (grind (arith, nat_tests))
 
-open_close : (xs : List Aggregation) (a : ℕ) (day : ℤ) → IsForest xs → list_any (λ it. is_child_of a it && is_none it.closed) xs ≡ false → (b p : ℕ) (it parent : Aggregation) → numbered (edited xs a (as_closed day)) b ≡ Some it → it.parent ≡ Some p → numbered (edited xs a (as_closed day)) p ≡ Some parent → IsNone it.closed → IsNone parent.closed
-open_close xs a day forest none b p it parent e up above is_open =
+closed_close : (xs : List Aggregation) (a : ℕ) (day : ℤ) → NoneIsOpenUnderClosed xs → list_any (λ it. is_child_of a it && is_none it.closed) xs ≡ false → NoneIsOpenUnderClosed (edited xs a (as_closed day))
+closed_close xs a day closed none b p it parent e up above is_open =
     let child = numbered_edited xs a (as_closed day) it b e in
     let over = numbered_edited xs a (as_closed day) parent p above in
     elim child.2 [
       | inl same ↦
           let there : numbered xs b ≡ Some it = child.1 ∙ ap Some (sym same) in
           elim over.2 [
-            | inl kept ↦ forest.open_above b p it parent there up (over.1 ∙ ap Some (sym kept)) is_open
+            | inl kept ↦ closed b p it parent there up (over.1 ∙ ap Some (sym kept)) is_open
             | inr changed ↦
                 let up_here : it.parent ≡ Some a = up ∙ ap Some changed.0 in
                 let test : (is_child_of a it && is_none it.closed) ≡ false = none_at (λ (it : Aggregation). is_child_of a it && is_none it.closed) xs b it none there in
@@ -220,17 +231,25 @@ open_close xs a day forest none b p it parent e up above is_open =
       | inr changed ↦ absurd (open_unchanged day it child.0 changed.1 is_open)
     ]
 
-IsForest-close : (xs : List Aggregation) (a : ℕ) (day : ℤ) → IsForest xs → list_any (λ it. is_child_of a it && is_none it.closed) xs ≡ false → IsForest (edited xs a (as_closed day))
-IsForest-close xs a day forest none = record {
-  placed = λ b it e.
-      let came = numbered_edited xs a (as_closed day) it b e in
+-- a change that keeps the parent leaves a forest
+pub IsForest-edited : (xs : List Aggregation) (a : ℕ) (f : Aggregation → Aggregation) → ((it : Aggregation) → (f it).parent ≡ it.parent) → IsForest xs → IsForest (edited xs a f)
+IsForest-edited xs a f keeps forest = record {
+  below = λ b p it e up.
+      let came = numbered_edited xs a f it b e in
       elim came.2 [
-        | inl same ↦ subst (IsWellPlaced b) (sym same) (forest.placed b came.0 came.1)
-        | inr changed ↦ subst (IsWellPlaced b) (sym changed.1) (forest.placed b came.0 came.1)
+        | inl same ↦ forest.below b p came.0 came.1 (ap (λ (k : Aggregation). k.parent) (sym same) ∙ up)
+        | inr changed ↦ forest.below b p came.0 came.1 (sym (keeps came.0) ∙ ap (λ (k : Aggregation). k.parent) (sym changed.1) ∙ up)
       ];
-  depth = λ b. let same = chain-edited xs a (as_closed day) (λ it. refl) b (Some b) in rw same (forest.depth b);
-  open_above = open_close xs a day forest none;
+  depth = λ b. let same = chain-edited xs a f keeps b (Some b) in rw same (forest.depth b);
 }
+
+roots_close : (xs : List Aggregation) (a : ℕ) (day : ℤ) → RootsHaveClasses xs → RootsHaveClasses (edited xs a (as_closed day))
+roots_close xs a day roots b it e root =
+    let came = numbered_edited xs a (as_closed day) it b e in
+    elim came.2 [
+      | inl same ↦ subst (λ (k : Aggregation). IsSome k.class) (sym same) (roots b came.0 came.1 (ap (λ (k : Aggregation). k.parent) (sym same) ∙ root))
+      | inr changed ↦ subst (λ (k : Aggregation). IsSome k.class) (sym changed.1) (roots b came.0 came.1 (ap (λ (k : Aggregation). k.parent) (sym changed.1) ∙ root))
+    ]
 
 pub IsSound-close_aggregation : (tree : TreeState) (a : ℕ) (day : ℤ) → IsSound tree → first_of (conditions_of_close_aggregation tree a) ≡ None → IsSound (closed_aggregation tree a day)
 IsSound-close_aggregation tree a day sound accepted =
@@ -243,7 +262,7 @@ IsSound-close_aggregation tree a day sound accepted =
         aggregations_few = omega (arith, sound.limits.aggregations_few, same);
         records_few = sound.limits.records_few;
       };
-      forest = IsForest-close tree.aggregations a day sound.forest no.1.1.0;
+      forest = IsForest-edited tree.aggregations a (as_closed day) (λ it. refl) sound.forest;
       names = record {
         class_schedules = sound.names.class_schedules;
         aggregation_classes = λ b it e.
@@ -252,10 +271,12 @@ IsSound-close_aggregation tree a day sound accepted =
               | inl same ↦ subst (λ (k : Aggregation). Names tree.classes k.class) (sym same) (sound.names.aggregation_classes b came.0 came.1)
               | inr changed ↦ subst (λ (k : Aggregation). Names tree.classes k.class) (sym changed.1) (sound.names.aggregation_classes b came.0 came.1)
             ];
+        root_classes = roots_close tree.aggregations a day sound.names.root_classes;
         homes = λ r head e. let home = sound.names.homes r head e in (home.0, omega (arith, home.1, same));
         record_classes = sound.names.record_classes;
         record_schedules = sound.names.record_schedules;
       };
+      closed = closed_close tree.aggregations a day sound.closed no.1.1.0;
       statuses = sound.statuses;
     }
 
@@ -284,6 +305,7 @@ IsSound-add_record tree head sound accepted =
       names = record {
         class_schedules = sound.names.class_schedules;
         aggregation_classes = sound.names.aggregation_classes;
+        root_classes = sound.names.root_classes;
         homes = λ r it e. elim (numbered_push tree.records head it r e) [
           | inl old ↦ sound.names.homes r it old
           | inr new ↦ subst (λ (k : Record). (0 < k.aggregation) × (k.aggregation ≤ length tree.aggregations)) new.1 home
@@ -297,6 +319,7 @@ IsSound-add_record tree head sound accepted =
           | inr new ↦ subst (λ (k : Record). Names tree.schedules k.schedule) new.1 (names_of tree.schedules head.schedule lacks.1)
         ];
       };
+      closed = sound.closed;
       statuses = let same : length tree.statuses ≡ length tree.records = sound.statuses in omega (arith, more, length-append tree.statuses (Here ∷ []));
     }
 
@@ -324,16 +347,17 @@ IsSound-empty = record {
     records_few = omega arith;
   };
   forest = record {
-    placed = λ a it e. absurd (nothing a it e);
+    below = λ a p it e up. absurd (nothing a it e);
     depth = no_depth;
-    open_above = λ a p it parent e up above is_open. absurd (nothing a it e);
   };
   names = record {
     class_schedules = λ c class e. absurd (no_class c class e);
     aggregation_classes = λ a it e. absurd (nothing a it e);
+    root_classes = λ a it e root. absurd (nothing a it e);
     homes = λ r head e. absurd (nothing r head e);
     record_classes = λ r head e. absurd (nothing r head e);
     record_schedules = λ r head e. absurd (nothing r head e);
   };
+  closed = λ a p it parent e up above is_open. absurd (nothing a it e);
   statuses = refl;
 }

@@ -1,3 +1,6 @@
+pub mod Amending
+pub mod DueNumbers
+pub mod Forming
 pub mod Inserting
 pub mod Keeping
 pub mod LastAddition

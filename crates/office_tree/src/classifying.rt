@@ -1,6 +1,6 @@
 ghost use Rattle.std.specs.Prelude.{◌≡◌, ◌<◌, ◌≤◌, IsTrue, Some, length};
 ghost use Rattle.office_tree.specs.Lists.{numbered};
-ghost use Rattle.office_tree.specs.Sound.{IsForest};
+ghost use Rattle.office_tree.specs.Sound.{IsForest, RootsHaveClasses};
 ghost use Rattle.office_tree.specs.Tree.{above, above_in, aggregation_class_in, chain_of, class_in, class_of, has_record};
 
 use crate::{AggNo, Aggregation, Code, Record, RecordNo, Tree};
@@ -9,6 +9,7 @@ use arrayvec::ArrayVec;
 /// The aggregation and all that contain it, the nearest first; so many is its depth.
 pub(crate) fn chain_of(aggregations: &[Aggregation], aggregation: AggNo) -> ArrayVec<AggNo, 8>
     requires forest { IsForest aggregations.now }
+    requires roots { RootsHaveClasses aggregations.now }
     requires low { 0 < aggregation }
     requires high { aggregation ≤ length aggregations.now }
     ensures { result.items ≡ chain_of aggregations.now aggregation }
@@ -26,6 +27,7 @@ pub(crate) fn chain_of(aggregations: &[Aggregation], aggregation: AggNo) -> Arra
 /// The class of an aggregation: its own, else that of the nearest that contains it and has one.
 pub(crate) fn aggregation_class_in(aggregations: &[Aggregation], aggregation: AggNo) -> &Code
     requires forest { IsForest aggregations.now }
+    requires roots { RootsHaveClasses aggregations.now }
     requires low { 0 < aggregation }
     requires high { aggregation ≤ length aggregations.now }
     ensures { aggregation_class_in aggregations.now aggregation ≡ Some result.now }
@@ -50,6 +52,7 @@ pub(crate) fn class_in<'a>(
     record_no: RecordNo,
 ) -> &'a Code
     requires forest { IsForest aggregations.now }
+    requires roots { RootsHaveClasses aggregations.now }
     requires home { (head : Record) → numbered records.now record_no ≡ Some head → (0 < head.aggregation) × (head.aggregation ≤ length aggregations.now) }
     requires low { 0 < record_no }
     requires high { record_no ≤ length records.now }
