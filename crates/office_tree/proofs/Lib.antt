@@ -1,6 +1,8 @@
+pub mod Containing
 pub mod Inserting
 pub mod Keeping
 pub mod LastAddition
+pub mod LastAdditions
 pub mod Least
 pub mod Maps
 pub mod Places
