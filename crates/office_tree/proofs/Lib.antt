@@ -9,4 +9,5 @@ pub mod Places
 pub mod Plan
 pub mod Reading
 pub mod ScheduleLemmas
+pub mod Spending
 pub mod Walk
