@@ -1,5 +1,5 @@
 -- The aggregations above a record are those that its steps lead to, and its class is that of the nearest that has one.
-use Rattle.std.proofs.Common.{◌≡◌, ◌↔◌, ◌⊎◌, inl, inr, ℕ, zero, suc, ◌<◌, ◌≤◌, ◌==◌, Bool, true, false, ◌||◌, IsTrue, List, [], ◌∷◌, map, slice_get, Option, Some, None, refl, sym, ap, ◌∙◌, arith, option_and_then}
+use Rattle.std.proofs.Common.{◌≡◌, ◌↔◌, inl, inr, ℕ, zero, suc, ◌<◌, ◌≤◌, ◌==◌, Bool, true, false, ◌||◌, IsTrue, List, [], ◌∷◌, map, slice_get, Option, Some, None, refl, sym, ap, ◌∙◌, arith, option_and_then}
 use Rattle.std.proofs.lemmas.Bool.Decides.{nat_tests}
 use Rattle.std.specs.List.{list_any}
 use Rattle.office_tree.specs.Disposal.{is_below}
@@ -89,6 +89,7 @@ first_is own (x ∷ xs) class e = here own x xs class (own x) refl e (first_is o
     later : (own : ℕ → Option (List ℕ)) (x : ℕ) (xs : List ℕ) (place : ℕ) → own x ≡ None → ((m b : ℕ) → m < place → slice_get xs m ≡ Some b → own b ≡ None) → (m b : ℕ) → m < suc place → slice_get (x ∷ xs) m ≡ Some b → own b ≡ None
     later own x xs place none before zero b h e = let same : x ≡ b = cc in ap own (sym same) ∙ none
     later own x xs place none before (suc m) b h e = before m b (omega (arith, h)) e
+
     here : (own : ℕ → Option (List ℕ)) (x : ℕ) (xs : List ℕ) (class : List ℕ) (o : Option (List ℕ)) → own x ≡ o → first_some (o ∷ map own xs) ≡ Some class → (first_some (map own xs) ≡ Some class → IsFirst own xs class) → IsFirst own (x ∷ xs) class
     here own x xs class None is e rest = let h = rest e in record { place = suc h.place; number = h.number; at = h.at; has = h.has; before = later own x xs h.place is h.before }
     here own x xs class (Some c) is e rest = record { place = 0; number = x; at = refl; has = is ∙ e; before = λ m b h at. absurd (omega (arith, h)) }
@@ -103,11 +104,11 @@ nearest_is : (tree : TreeState) (r : ℕ) (class : List ℕ) → IsSound tree �
 nearest_is tree r class sound e =
     let h = first_is (own_class_of tree.aggregations) (above tree r) class e in
     record {
-        steps = h.place;
-        nearest = h.number;
-        leads = sym (above_place tree sound r h.place) ∙ h.at;
-        own = h.has;
-        nearer = λ fewer b less leads. h.before fewer b less (above_place tree sound r fewer ∙ leads);
+      steps = h.place;
+      nearest = h.number;
+      leads = sym (above_place tree sound r h.place) ∙ h.at;
+      own = h.has;
+      nearer = λ fewer b less leads. h.before fewer b less (above_place tree sound r fewer ∙ leads);
     }
 
 is_nearest : (tree : TreeState) (r : ℕ) (class : List ℕ) → IsSound tree → IsNearestClass tree r class → first_some (own_classes tree.aggregations (above tree r)) ≡ Some class

@@ -44,8 +44,8 @@ later_some : (o : Option ℤ) (x : ℤ) → later o x ≡ None → ⊥
 later_some None x e = absurd cc
 later_some (Some b) x e = absurd cc
 
-is_same : (m n : ℕ) → (m == n) ≡ true → m ≡ n
-is_same m n h = grind (arith, nat_tests)
+same_is : (m n : ℕ) → (m == n) ≡ true → m ≡ n
+same_is m n h = grind (arith, nat_tests)
 
 is_other : (m n : ℕ) → (m == n) ≡ false → m ≡ n → ⊥
 is_other m n h e = grind (arith, nat_tests)
@@ -60,12 +60,12 @@ greatest_step first x xs a day true test rest e =
     let h = rest (later first x.added) e in
     let tops = later_after first x.added day h.after_first in
     record {
-        one = elim h.one [
-          | inl last ↦ elim (later_one first x.added day last) [ inl old ↦ inl old | inr new ↦ inr (0, x, refl, is_same x.aggregation a test, new) ]
-          | inr more ↦ inr (one_on x xs a day more)
-        ];
-        after_first = tops.1;
-        greatest = bound x xs a day tops.0 h.greatest;
+      one = elim h.one [
+        | inl last ↦ elim (later_one first x.added day last) [ inl old ↦ inl old | inr new ↦ inr (0, x, refl, same_is x.aggregation a test, new) ]
+        | inr more ↦ inr (one_on x xs a day more)
+      ];
+      after_first = tops.1;
+      greatest = bound x xs a day tops.0 h.greatest;
     }
   where
     bound : (x : Record) (xs : List Record) (a : ℕ) (day : ℤ) → x.added ≤ℤ day → ((i : ℕ) (head : Record) → slice_get xs i ≡ Some head → head.aggregation ≡ a → head.added ≤ℤ day)
@@ -75,9 +75,9 @@ greatest_step first x xs a day true test rest e =
 greatest_step first x xs a day false test rest e =
     let h = rest first e in
     record {
-        one = elim h.one [ inl last ↦ inl last | inr more ↦ inr (one_on x xs a day more) ];
-        after_first = h.after_first;
-        greatest = bound x xs a day test h.greatest;
+      one = elim h.one [ inl last ↦ inl last | inr more ↦ inr (one_on x xs a day more) ];
+      after_first = h.after_first;
+      greatest = bound x xs a day test h.greatest;
     }
   where
     bound : (x : Record) (xs : List Record) (a : ℕ) (day : ℤ) → (x.aggregation == a) ≡ false → ((i : ℕ) (head : Record) → slice_get xs i ≡ Some head → head.aggregation ≡ a → head.added ≤ℤ day)
@@ -114,8 +114,8 @@ numbered_bound records a P h (suc i) head at is = h i head at is
 
 last_of : (records : List Record) (a : ℕ) (day : ℤ) → IsGreatestFrom None records a day → IsLastAddition records a day
 last_of records a day h = record {
-    one = elim h.one [ inl none ↦ absurd cc | inr (i, head, at, is, added) ↦ (suc i, head, at, is, added) ];
-    greatest = numbered_bound records a (λ (head : Record). head.added ≤ℤ day) h.greatest;
+  one = elim h.one [ inl none ↦ absurd cc | inr (i, head, at, is, added) ↦ (suc i, head, at, is, added) ];
+  greatest = numbered_bound records a (λ (head : Record). head.added ≤ℤ day) h.greatest;
 }
 
 last_is : (records : List Record) (a : ℕ) (day : ℤ) → last_addition records a ≡ Some day → IsLastAddition records a day

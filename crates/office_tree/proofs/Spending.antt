@@ -1,5 +1,5 @@
 -- An aggregation is spent where it is closed, a record lies below it, and all records below it are ended.
-use Rattle.std.proofs.Common.{◌≡◌, ◌↔◌, ◌⊎◌, inl, inr, ℕ, zero, suc, ◌+◌, ◌<◌, ◌≤◌, nat_lt, nat_le, Bool, true, false, cond, ◌&&◌, IsTrue, IsSome, List, [], ◌∷◌, filter, length, Option, Some, None, refl, ap, ◌∙◌, arith}
+use Rattle.std.proofs.Common.{◌≡◌, ◌↔◌, inl, inr, ℕ, zero, suc, ◌+◌, ◌<◌, ◌≤◌, nat_lt, nat_le, Bool, true, false, cond, ◌&&◌, IsTrue, IsSome, List, ◌∷◌, filter, length, Option, Some, None, refl, ap, ◌∙◌, arith}
 use Rattle.std.proofs.lemmas.Bool.{and_parts, and_from, cases_lt}
 use Rattle.std.proofs.lemmas.Bool.Decides.{nat_tests}
 use Rattle.std.specs.List.{list_all}
@@ -84,6 +84,7 @@ there_record tree r h = let parts = and_parts (nat_le 1 r) (nat_le r (length tre
   where
     low : (r : ℕ) → nat_le 1 r ≡ true → 0 < r
     low r h = grind (arith, nat_tests)
+
     high : (r n : ℕ) → nat_le r n ≡ true → r ≤ 0 + n
     high r n h = grind (arith, nat_tests)
 
@@ -127,9 +128,9 @@ spent_is tree a sound h =
     let outer = and_parts (closed_at tree a && nat_lt 0 (length (records_below tree a))) (list_all (ended tree) (records_below tree a)) h in
     let inner = and_parts (closed_at tree a) (nat_lt 0 (length (records_below tree a))) outer.0 in
     record {
-        closed = closed_is (numbered tree.aggregations a) inner.0;
-        some_below = some_below_is tree a sound (lt_holds 0 (length (records_below tree a)) inner.1);
-        all_ended = all_ended_is tree a sound outer.1;
+      closed = closed_is (numbered tree.aggregations a) inner.0;
+      some_below = some_below_is tree a sound (lt_holds 0 (length (records_below tree a)) inner.1);
+      all_ended = all_ended_is tree a sound outer.1;
     }
 
 is_spent_where : (tree : TreeState) (a : ℕ) → IsSound tree → IsSpent tree a → is_spent tree a ≡ true

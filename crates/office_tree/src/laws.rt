@@ -11,19 +11,16 @@ ghost use Rattle.office_tree.specs.declared.head.Record.{Record};
 pub fn law_of_classification()
     ensures above { (tree : TreeState) (a r : ℕ) → IsSound tree → (IsTrue (is_below tree a r) ↔ Contains tree a r) }
     ensures class { (tree : TreeState) (r : ℕ) (class : List ℕ) → IsSound tree → ((class_of tree r ≡ Some class) ↔ IsClassOf tree r class) }
-{
-}
+{}
 
 /// The last addition to an aggregation is the greatest added day of its records, and there is none
 /// exactly where it has no record.
 pub fn law_of_last_addition()
     ensures greatest { (records : List Record) (a : ℕ) (day : ℤ) → ((last_addition records a ≡ Some day) ↔ IsLastAddition records a day) }
-{
-}
+{}
 
 /// In a sound tree an aggregation is spent exactly where it is closed, a record lies below it at
 /// some depth, and all records below it are ended.
 pub fn law_of_spent_aggregations()
     ensures spent { (tree : TreeState) (a : ℕ) → IsSound tree → (IsTrue (is_spent tree a) ↔ IsSpent tree a) }
-{
-}
+{}
