@@ -16,7 +16,8 @@ use Rattle.office_tree.specs.declared.classified.Classified.TheVariants as class
 use Rattle.office_tree.specs.declared.head.Record.{Record}
 use Rattle.office_tree.specs.declared.status.Status.TheVariants.{Received}
 use Rattle.office_tree.proofs.Inserting.{Names-amended, amended_cases, len-amended}
-use Rattle.office_tree.proofs.Keeping.{none_holds, not_false, neither, names_of, IsForest-edited}
+use Rattle.office_tree.proofs.Accepting.{none_holds, not_false, neither}
+use Rattle.office_tree.proofs.Keeping.{names_of, IsForest-edited}
 use Rattle.office_tree.proofs.Places.{numbered_edited, length-edited}
 
 -- ---- a class's schedule

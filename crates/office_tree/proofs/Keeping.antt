@@ -1,11 +1,10 @@
 -- What an act of which no condition holds makes of a sound tree is sound.
-use Rattle.std.proofs.Common.{◌≡◌, ℕ, zero, suc, ◌+◌, ◌<◌, ◌≤◌, List, [], ◌∷◌, ◌++◌, length, Option, Some, None, refl, sym, ap, ◌∙◌, subst, cond, Bool, true, false, arith, inl, inr, length-append, ℤ}
+use Rattle.std.proofs.Common.{◌≡◌, ℕ, zero, suc, ◌+◌, ◌<◌, ◌≤◌, List, [], ◌∷◌, ◌++◌, length, Option, Some, None, refl, sym, ap, ◌∙◌, subst, Bool, true, false, arith, inl, inr, length-append, ℤ}
 use Rattle.std.specs.Prelude.{IsSome, IsNone, IfSome, not, nat_le, ◌&&◌, ◌||◌}
 use Rattle.std.specs.Option.{is_some, is_none}
-use Rattle.std.specs.List.{list_any, AllByRecursion}
+use Rattle.std.specs.List.{list_any}
 use Rattle.std.specs.FinMap.{FinMap, get, contains_key, len, empty, len-empty, get-empty}
 use Rattle.std.proofs.lemmas.Bool.Decides.{nat_tests}
-use Rattle.office_days.specs.declared.refusal.Refusal.{Refusal}
 use Rattle.office_tree.specs.Conditions.{first_of, conditions_of_add_schedule, conditions_of_add_class, conditions_of_add_aggregation, conditions_of_close_aggregation, conditions_of_add_record, lacks_class, lacks_schedule, lacks_parent, is_closed, is_child_of}
 use Rattle.office_tree.specs.Effects.{added_schedule, added_class, added_aggregation, closed_aggregation, added_record}
 use Rattle.office_tree.specs.Lists.{numbered, edited, holds_of}
@@ -16,32 +15,13 @@ use Rattle.office_tree.specs.declared.class.Class.{Class}
 use Rattle.office_tree.specs.declared.head.Record.{Record}
 use Rattle.office_tree.specs.declared.schedule.Schedule.{Schedule}
 use Rattle.office_tree.specs.declared.status.Status.TheVariants.{Here}
+use Rattle.office_tree.proofs.Accepting.{none_holds, not_false, neither, below}
 use Rattle.office_tree.proofs.Inserting.{insert_keeps, Names-insert, insert_cases, len-insert_free}
 use Rattle.office_tree.proofs.Places.{numbered_push, numbered_edited, numbered_within, length-edited}
 use Rattle.office_tree.proofs.Reading.{aggregation_within}
 use Rattle.office_tree.proofs.Walk.{chain-edited, chain_pushed, placed_in}
 
--- ---- what it says that no condition holds
-
-none_first : (r : Refusal) (b : Bool) (rest : Option Refusal) → cond b (Some r) rest ≡ None → (b ≡ false) × (rest ≡ None)
-none_first r true rest e = absurd cc
-none_first r false rest e = (refl, e)
-
--- where there is no refusal no condition holds
-pub none_holds : (cs : List (Refusal × Bool)) → first_of cs ≡ None → AllByRecursion (λ c. c.1 ≡ false) cs
-none_holds [] e = tt
-none_holds (c ∷ cs) e = let first = none_first c.0 c.1 (first_of cs) e in (first.0, none_holds cs first.1)
-
-pub not_false : (b : Bool) → not b ≡ false → b ≡ true
-not_false true e = refl
-not_false false e = absurd cc
-
-pub neither : (a b : Bool) → (a || b) ≡ false → (a ≡ false) × (b ≡ false)
-neither true b e = absurd cc
-neither false b e = (refl, e)
-
-below : (n k : ℕ) → nat_le k n ≡ false → n < k
-below n k e = grind (arith, nat_tests)
+-- ---- names and places
 
 -- a code that does not lack its thing names it
 pub names_of : {V : Type 0} (m : FinMap code_cmp V) (o : Option (List ℕ)) → holds_of o (λ code. not (contains_key m code)) ≡ false → Names m o

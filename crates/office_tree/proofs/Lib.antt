@@ -1,13 +1,17 @@
+pub mod Accepting
 pub mod Amending
+pub mod Containing
 pub mod DueNumbers
 pub mod Forming
 pub mod Inserting
 pub mod Keeping
 pub mod LastAddition
+pub mod LastAdditions
 pub mod Least
 pub mod Maps
 pub mod Places
 pub mod Plan
 pub mod Reading
 pub mod ScheduleLemmas
+pub mod Spending
 pub mod Walk

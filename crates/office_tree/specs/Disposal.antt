@@ -1,6 +1,6 @@
 -- What a record's disposal rests on: its confirmation, its status, and what is spent below an aggregation.
 -- Source: MoReq2010, its disposal scheduling service; confirmation, statuses and what is spent are own.
-use Rattle.std.specs.Prelude.{◌≡◌, ◌<◌, ℕ, ◌==◌, nat_lt, Bool, true, false, ◌&&◌, List, filter, length, Option, Some, None, IsSome, IsTrue}
+use Rattle.std.specs.Prelude.{ℕ, ◌==◌, nat_lt, Bool, true, false, ◌&&◌, List, filter, length, Option}
 use Rattle.std.specs.List.{list_any, list_all}
 use Rattle.std.specs.Option.{option_and_then, is_some}
 use Rattle.std.specs.Ordering.{int_eq}

@@ -1,13 +1,13 @@
 -- When what stands in a tree is of its form and within its limits. The types of the code see to it; here it is said of
 -- states, for rows that come from elsewhere. Source: own.
-use Rattle.std.specs.Prelude.{◌≡◌, ◌<◌, ◌≤◌, ℕ, true, List, length, Option, Some, IfSome, ℤ}
+use Rattle.std.specs.Prelude.{◌≡◌, ◌<◌, ◌≤◌, ℕ, true, List, length, Some, IfSome}
 use Rattle.std.specs.List.{All}
-use Rattle.std.specs.FinMap.{FinMap, get}
+use Rattle.std.specs.FinMap.{get}
 use Rattle.office_days.specs.Limits.{IsDayNumber, IsDueNumber, longest}
 use Rattle.office_tree.specs.Codes.{is_code}
 use Rattle.office_tree.specs.TextForms.{is_text}
 use Rattle.office_tree.specs.Lists.{numbered}
-use Rattle.office_tree.specs.Tree.{TreeState, code_cmp}
+use Rattle.office_tree.specs.Tree.{TreeState}
 use Rattle.office_tree.specs.declared.schedule.Schedule.{Schedule}
 use Rattle.office_tree.specs.declared.class.Class.{Class}
 use Rattle.office_tree.specs.declared.aggregation.Aggregation.{Aggregation}

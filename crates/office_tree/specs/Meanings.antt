@@ -1,10 +1,10 @@
 -- What the readings of a tree that compute mean, in the rules' own words: the laws of `src/laws.rt` say that they agree.
 -- Source: MoReq2010, its classification and disposal scheduling services; what is spent is own.
-use Rattle.std.specs.Prelude.{◌≡◌, ◌<◌, ◌≤ℤ◌, ◌⊎◌, ℕ, zero, suc, List, Option, Some, None, IsTrue, IsSome, slice_get, ℤ}
+use Rattle.std.specs.Prelude.{◌≡◌, ◌<◌, ◌≤ℤ◌, ◌⊎◌, ℕ, zero, suc, List, Option, Some, None, IsTrue, IsSome, ℤ}
 use Rattle.std.specs.Option.{option_and_then}
 use Rattle.office_tree.specs.Disposal.{is_ended}
 use Rattle.office_tree.specs.Lists.{numbered, holds_of}
-use Rattle.office_tree.specs.Tree.{TreeState, above, status_of, has_record}
+use Rattle.office_tree.specs.Tree.{TreeState, status_of, has_record}
 use Rattle.office_tree.specs.declared.aggregation.Aggregation.{Aggregation}
 use Rattle.office_tree.specs.declared.head.Record.{Record}
 
