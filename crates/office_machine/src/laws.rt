@@ -1,0 +1,7 @@
+//! What the office's definitions promise, as laws that are proved: calls of these do nothing.
+pub mod contents;
+pub mod lasting;
+pub mod refusing;
+pub mod resuming;
+pub mod running;
+pub mod soundness;

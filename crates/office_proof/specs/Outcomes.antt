@@ -1,0 +1,30 @@
+-- What an outcome says. Source: own.
+use Rattle.std.specs.Prelude.{Bool, true, false, List, ℕ, codes}
+use Rattle.office_proof.specs.declared.outcome.Outcome.{Outcome}
+use Rattle.office_proof.specs.declared.outcome.Outcome.TheVariants.{Destroyed, Transferred, Sent, Skipped}
+
+-- the record is ended by it, and its content gone
+abbrev pub is_ending : Outcome → Bool
+is_ending Destroyed = true
+is_ending Transferred = true
+is_ending Sent = false
+is_ending Skipped = false
+
+abbrev pub is_sending : Outcome → Bool
+is_sending Destroyed = false
+is_sending Transferred = false
+is_sending Sent = true
+is_sending Skipped = false
+
+abbrev pub is_skipping : Outcome → Bool
+is_skipping Destroyed = false
+is_skipping Transferred = false
+is_skipping Sent = false
+is_skipping Skipped = true
+
+-- the word for each outcome
+abbrev pub outcome_word : Outcome → List ℕ
+outcome_word Destroyed = codes "destroyed"
+outcome_word Transferred = codes "transferred"
+outcome_word Sent = codes "sent"
+outcome_word Skipped = codes "skipped"

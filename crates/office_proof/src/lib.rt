@@ -1,0 +1,16 @@
+//! What proves that a disposal run did what it did: its entries, and the text of its certificate.
+//!
+//! A run writes one **entry** for each record that it takes: what came of the record, under which
+//! class and schedule, for which confirmed due day and by whom it was confirmed, and for a skipped
+//! record the hold that kept it. When the run closes, its **certificate** lists the entries by record
+//! number, and the aggregations that are spent, and ends with the SHA-256 of all that stands above.
+//!
+//! Today this crate has the types and the definitions (`specs`); the code that writes entries and
+//! certificates is not built yet.
+#![tactic(auto)]
+
+mod entry;
+mod outcome;
+
+pub use entry::{Entry, RunNo};
+pub use outcome::Outcome;
