@@ -1,5 +1,5 @@
 -- What each accepted act makes of the holds. Source: MoReq2010, its disposal holding service.
-use Rattle.std.specs.Prelude.{ℕ, List, Option, Some, None, ℤ}
+use Rattle.std.specs.Prelude.{ℕ, List, Some, None, ℤ}
 use Rattle.std.specs.FinMap.{insert}
 use Rattle.std.specs.FinSet as set
 use Rattle.office_tree.specs.Lists.{amended}

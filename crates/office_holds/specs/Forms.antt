@@ -6,6 +6,8 @@ use Rattle.office_days.specs.Limits.{IsDayNumber}
 use Rattle.office_tree.specs.Forms.{IsCode, IsText}
 use Rattle.office_holds.specs.Conditions.{target_count}
 use Rattle.office_holds.specs.Holds.{HoldMap, HoldState}
+use Rattle.office_holds.specs.declared.target.Target.{Target}
+use Rattle.office_holds.specs.declared.target.Target.TheVariants as target
 
 -- the texts and days of a hold, and the codes of its classes
 pub record IsFormedHold (hold : HoldState) : Type 0 where
@@ -23,3 +25,9 @@ AreFormedHolds holds = (code : List ℕ) (hold : HoldState) → get holds code �
 pub record FitsHoldLimits (holds : HoldMap) : Type 0 where
   pub holds_few : len holds ≤ 1_000
   pub targets_few : (code : List ℕ) (hold : HoldState) → get holds code ≡ Some hold → target_count hold ≤ 1_000
+
+-- the form of a target: the code of a class
+abbrev pub IsFormedTarget : Target → Type 0
+IsFormedTarget (target.Class code) = IsCode code
+IsFormedTarget (target.Aggregation a) = Unit {0}
+IsFormedTarget (target.Record r) = Unit {0}

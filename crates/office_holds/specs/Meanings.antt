@@ -1,6 +1,6 @@
 -- What it means that a hold covers a record, in the rule's own words. Source: MoReq2010, its disposal holding service;
 -- what a hold covers is own.
-use Rattle.std.specs.Prelude.{◌≡◌, ◌⊎◌, ℕ, List, Option, Some, IsTrue}
+use Rattle.std.specs.Prelude.{◌≡◌, ◌⊎◌, ℕ, List, Some, IsTrue}
 use Rattle.std.specs.FinMap.{get}
 use Rattle.std.specs.FinSet.{contains}
 use Rattle.office_tree.specs.Meanings.{Contains}

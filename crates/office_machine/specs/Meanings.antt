@@ -6,8 +6,6 @@ use Rattle.office_tree.specs.Forms.{IsCode, IsText}
 use Rattle.office_tree.specs.Lists.{holds_of}
 use Rattle.office_days.specs.Limits.{IsDayNumber}
 use Rattle.office_holds.specs.Holds.{is_held}
-use Rattle.office_holds.specs.declared.target.Target.{Target}
-use Rattle.office_holds.specs.declared.target.Target.TheVariants as target
 use Rattle.office_proof.specs.declared.outcome.Outcome.TheVariants.{Destroyed, Transferred}
 use Rattle.office_machine.specs.Disposing.{is_ready}
 use Rattle.office_machine.specs.Runs.{cursor_of, run_day}
@@ -45,9 +43,3 @@ pub record IsFormedNewRecord (new : NewRecord) : Type 0 where
   pub class : IfSome new.class IsCode
   pub schedule : IfSome new.schedule IsCode
   pub content_few : length new.content.items ≤ 262_144
-
--- the form of a target: the code of a class
-abbrev pub IsFormedTarget : Target → Type 0
-IsFormedTarget (target.Class code) = IsCode code
-IsFormedTarget (target.Aggregation a) = Unit {0}
-IsFormedTarget (target.Record r) = Unit {0}

@@ -45,7 +45,7 @@ is_equal Less e = absurd cc
 is_equal Equal e = refl
 is_equal Greater e = absurd cc
 
-same_code : (q k : List ℕ) → eq_by_cmp code_cmp q k ≡ true → q ≡ k
+pub same_code : (q k : List ℕ) → eq_by_cmp code_cmp q k ≡ true → q ≡ k
 same_code q k e = slice_cmp-IsAntisymmetric nat_cmp-IsAntisymmetric q k (is_equal (code_cmp q k) e)
 
 cond_cases : {V : Type 0} (b : Bool) (v : V) (o : Option V) (x : V) (here : Type 0) → (b ≡ true → here) → cond b (Some v) o ≡ Some x → (here × (v ≡ x)) ⊎ (o ≡ Some x)
