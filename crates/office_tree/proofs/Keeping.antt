@@ -15,7 +15,7 @@ use Rattle.office_tree.specs.declared.class.Class.{Class}
 use Rattle.office_tree.specs.declared.head.Record.{Record}
 use Rattle.office_tree.specs.declared.schedule.Schedule.{Schedule}
 use Rattle.office_tree.specs.declared.status.Status.TheVariants.{Here}
-use Rattle.office_tree.proofs.Accepting.{none_holds, not_false, neither, below}
+use Rattle.office_tree.proofs.Accepting.{none_holds, not_false, neither, below, none_at}
 use Rattle.office_tree.proofs.Inserting.{insert_keeps, Names-insert, insert_cases, len-insert_free}
 use Rattle.office_tree.proofs.Places.{numbered_push, numbered_edited, numbered_within, length-edited}
 use Rattle.office_tree.proofs.Reading.{aggregation_within}
@@ -27,13 +27,6 @@ use Rattle.office_tree.proofs.Walk.{chain-edited, chain_pushed, placed_in}
 pub names_of : {V : Type 0} (m : FinMap code_cmp V) (o : Option (List ℕ)) → holds_of o (λ code. not (contains_key m code)) ≡ false → Names m o
 names_of m None e = tt
 names_of m (Some code) e = not_false (contains_key m code) e
-
-none_at : {A : Type 0} (test : A → Bool) (xs : List A) (n : ℕ) (x : A) → list_any test xs ≡ false → numbered xs n ≡ Some x → test x ≡ false
-none_at test [] zero x none e = absurd cc
-none_at test [] (suc n) x none e = absurd cc
-none_at test (y ∷ ys) zero x none e = absurd cc
-none_at test (y ∷ ys) (suc zero) x none e = let same : y ≡ x = cc in ap test (sym same) ∙ (neither (test y) (list_any test ys) none).0
-none_at test (y ∷ ys) (suc (suc n)) x none e = none_at test ys (suc n) x (neither (test y) (list_any test ys) none).1 e
 
 -- ---- schedules and classes
 

@@ -12,6 +12,7 @@ pub mod Maps
 pub mod Places
 pub mod Plan
 pub mod Reading
+pub mod Refs
 pub mod ScheduleLemmas
 pub mod Spending
 pub mod Walk

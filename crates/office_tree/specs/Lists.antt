@@ -1,5 +1,5 @@
 -- Small words on lists, maps and optional things that the office's definitions share. Source: own.
-use Rattle.std.specs.Prelude.{ℕ, zero, suc, Bool, false, List, [], ◌∷◌, slice_get, Option, Some, None, ℤ}
+use Rattle.std.specs.Prelude.{◌≡◌, ℕ, zero, suc, Bool, false, List, [], ◌∷◌, slice_get, Option, Some, None, ℤ}
 use Rattle.std.specs.declared.cmp.Ordering.{Ordering}
 use Rattle.std.specs.FinMap.{FinMap, get, insert}
 use Rattle.std.specs.Int.{int_max}
@@ -57,3 +57,7 @@ amended_by things key change (Some x) = insert things key (change x)
 -- the map with the thing under a key changed, if that is there
 abbrev pub amended : {K V : Type 0} {R : K → K → Ordering} → FinMap R V → K → (V → V) → FinMap R V
 amended things key change = amended_by things key change (get things key)
+
+-- no two of the list have the same
+abbrev pub Differ : {A : Type 0} → (A → List ℕ) → List A → Type 0
+Differ {A} name xs = (m n : ℕ) (x y : A) → numbered xs m ≡ Some x → numbered xs n ≡ Some y → name x ≡ name y → m ≡ n
