@@ -11,9 +11,12 @@
 #![tactic(auto)]
 
 mod answer;
+mod disposing;
 pub mod laws;
 mod new_record;
 mod run;
+#[cfg(test)]
+mod tests;
 
 pub use answer::Answer;
 pub use new_record::NewRecord;
