@@ -17,6 +17,11 @@ use Rattle.office_proof.specs.declared.outcome.Outcome.{Outcome}
 use Rattle.office_proof.specs.declared.outcome.Outcome.TheVariants.{Destroyed, Transferred, Sent, Skipped}
 use Rattle.office_proof.proofs.Columns.{line_from_column, literal_column, code_column, text_column, decimal_column, date_column, digest_column, hold_column}
 
+-- a fact of the first of a list, beside those of the others
+infixr 20 ◌beside◌
+◌beside◌ : {A B : Type 0} → A → B → A × B
+first beside others = (first, others)
+
 -- ---- the columns of an entry's line
 
 outcome_column : (outcome : Outcome) → IsOneColumn (outcome_word outcome)
@@ -27,17 +32,18 @@ outcome_column Skipped = literal_column (codes "skipped") refl
 
 each_column : (e : Entry) (head : Record) → IsFormedEntry e → IsFormedRecord head → AllByRecursion IsOneColumn (entry_columns e head)
 each_column e head entry_formed head_formed =
-    (literal_column (codes "ENTRY") refl,
-    (decimal_column e.record_no,
-    (outcome_column e.outcome,
-    (text_column head.ref_text head_formed.ref_text,
-    (code_column e.class entry_formed.class,
-    (code_column e.schedule entry_formed.schedule,
-    (date_column e.due,
-    (hold_column e.hold entry_formed.hold,
-    (text_column e.confirmed_by entry_formed.confirmed_by,
-    (decimal_column head.length,
-    (digest_column head.digest, tt)))))))))))
+    literal_column (codes "ENTRY") refl
+    beside decimal_column e.record_no
+    beside outcome_column e.outcome
+    beside text_column head.ref_text head_formed.ref_text
+    beside code_column e.class entry_formed.class
+    beside code_column e.schedule entry_formed.schedule
+    beside date_column e.due
+    beside hold_column e.hold entry_formed.hold
+    beside text_column e.confirmed_by entry_formed.confirmed_by
+    beside decimal_column head.length
+    beside digest_column head.digest
+    beside tt
 
 pub columns_whole : (e : Entry) (head : Record) → IsFormedEntry e → IsFormedRecord head → All IsOneColumn (entry_columns e head)
 columns_whole e head entry_formed head_formed = All-from_recursion IsOneColumn (entry_columns e head) (each_column e head entry_formed head_formed)
@@ -59,7 +65,7 @@ entry_line e head entry_formed head_formed = subst IsOneLine (sym (words_joined 
 
 aggregation_line : (a : ℕ) (it : Aggregation) → IsFormedAggregation it → IsOneLine (aggregation_words a it)
 aggregation_line a it formed =
-    tabbed_line (codes "AGGREGATION" ∷ decimal a ∷ it.ref_text ∷ []) (literal_column (codes "AGGREGATION") refl, (decimal_column a, (text_column it.ref_text formed.ref_text, tt)))
+    tabbed_line (codes "AGGREGATION" ∷ decimal a ∷ it.ref_text ∷ []) (literal_column (codes "AGGREGATION") refl beside decimal_column a beside text_column it.ref_text formed.ref_text beside tt)
 
 labelled_line : (label word : List ℕ) → IsOneColumn label → IsOneColumn word → IsOneLine (label ++ word)
 labelled_line label word label_one word_one = All-append (λ b. b ≢ 10) label word (line_from_column label label_one) (line_from_column word word_one)
@@ -94,16 +100,16 @@ lines_whole tree run day by entries spent formed by_formed each =
     let spent_line = codes "SPENT " ++ decimal (length spent) in
     let spent_part = flat_map (λ (a : ℕ). made_of (aggregation_words a) (numbered tree.aggregations a)) spent in
     let rest : All IsOneLine (entry_part ++ spent_line ∷ spent_part) =
-      All-append IsOneLine entry_part (spent_line ∷ spent_part) (entry_lines tree entries formed each)
-      (All-cons IsOneLine spent_line spent_part (counted_line (codes "SPENT ") (length spent) (literal_column (codes "SPENT ") refl)) (aggregation_lines tree spent formed)) in
+    All-append IsOneLine entry_part (spent_line ∷ spent_part) (entry_lines tree entries formed each)
+    (All-cons IsOneLine spent_line spent_part (counted_line (codes "SPENT ") (length spent) (literal_column (codes "SPENT ") refl)) (aggregation_lines tree spent formed)) in
     All-from_recursion IsOneLine (certificate_lines tree run day by entries spent)
-    (counted_line (codes "CERTIFICATE ") run (literal_column (codes "CERTIFICATE ") refl),
-    (labelled_line (codes "DAY ") (date_text day) (literal_column (codes "DAY ") refl) (date_column day),
-    (labelled_line (codes "BY ") by (literal_column (codes "BY ") refl) (text_column by by_formed),
-    (labelled_line (codes "ENDED ") (counted is_ending entries) (literal_column (codes "ENDED ") refl) (decimal_column _),
-    (labelled_line (codes "SENT ") (counted is_sending entries) (literal_column (codes "SENT ") refl) (decimal_column _),
-    (labelled_line (codes "SKIPPED ") (counted is_skipping entries) (literal_column (codes "SKIPPED ") refl) (decimal_column _),
-    recursion_from_All IsOneLine (entry_part ++ spent_line ∷ spent_part) rest))))))
+    (counted_line (codes "CERTIFICATE ") run (literal_column (codes "CERTIFICATE ") refl)
+    beside labelled_line (codes "DAY ") (date_text day) (literal_column (codes "DAY ") refl) (date_column day)
+    beside labelled_line (codes "BY ") by (literal_column (codes "BY ") refl) (text_column by by_formed)
+    beside labelled_line (codes "ENDED ") (counted is_ending entries) (literal_column (codes "ENDED ") refl) (decimal_column _)
+    beside labelled_line (codes "SENT ") (counted is_sending entries) (literal_column (codes "SENT ") refl) (decimal_column _)
+    beside labelled_line (codes "SKIPPED ") (counted is_skipping entries) (literal_column (codes "SKIPPED ") refl) (decimal_column _)
+    beside recursion_from_All IsOneLine (entry_part ++ spent_line ∷ spent_part) rest)
 
 -- ---- a line for each entry
 

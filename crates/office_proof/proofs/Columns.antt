@@ -1,8 +1,8 @@
 -- No byte of a text, a code, a numeral or a date is a tab or a line feed.
-use Rattle.std.proofs.Common.{◌≡◌, ◌≢◌, ◌⊎◌, ℕ, zero, suc, ◌<◌, ◌≤◌, ◌+◌, ◌/◌, ◌%◌, Bool, true, false, cond, ◌&&◌, not, ◌==◌, ltb, List, [], ◌∷◌, ◌++◌, get_or, slice_index, codes, unwrap_or, IfSome, Option, Some, None, refl, sym, subst, inl, inr, arith, le-ltb, if◌then◌else◌, ℤ}
+use Rattle.std.proofs.Common.{◌≡◌, ◌≢◌, ◌⊎◌, ℕ, zero, suc, ◌<◌, ◌≤◌, ◌+◌, ◌/◌, ◌%◌, Bool, true, false, cond, ◌&&◌, not, ◌==◌, ltb, List, [], ◌∷◌, get_or, slice_index, codes, unwrap_or, IfSome, Option, Some, None, refl, subst, inl, inr, arith, le-ltb, if◌then◌else◌, ℤ}
 use Rattle.std.specs.Char.{encode_utf8}
 use Rattle.std.specs.Fmt.{decimal, digits, digits_onto, digit_glyph}
-use Rattle.std.specs.List.{All, AllByRecursion, list_all}
+use Rattle.std.specs.List.{AllByRecursion, list_all}
 use Rattle.std.specs.Str.{chars, is_utf8, encode_utf8_all}
 use Rattle.std.proofs.lemmas.Bool.{and_parts}
 use Rattle.std.proofs.lemmas.Bool.Decides.{nat_tests, leb_tells}
@@ -11,7 +11,7 @@ use Rattle.std.proofs.lemmas.Str.{encode_ascii, encodes-chars, IsUtf8-from_is_ut
 use Rattle.hex.specs.Hex.{encode_with, encode_lower, lower_digits}
 use Rattle.office_days.specs.Calendar.{CivilDay, civil}
 use Rattle.office_days.specs.Texts.{day_text}
-use Rattle.office_tree.specs.Codes.{is_code, is_code_byte}
+use Rattle.office_tree.specs.Codes.{is_code_byte}
 use Rattle.office_tree.specs.Forms.{IsCode, IsText}
 use Rattle.office_tree.specs.TextForms.{is_text_character}
 use Rattle.office_proof.specs.Certificates.{date_text}
