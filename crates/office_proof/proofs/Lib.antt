@@ -1,0 +1,2 @@
+pub mod CertificateLines
+pub mod Columns

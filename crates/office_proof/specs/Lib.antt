@@ -1,3 +1,4 @@
 pub mod Certificates
 pub mod Forms
+pub mod Meanings
 pub mod Outcomes

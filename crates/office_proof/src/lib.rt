@@ -5,11 +5,12 @@
 //! record the hold that kept it. When the run closes, its **certificate** lists the entries by record
 //! number, and the aggregations that are spent, and ends with the SHA-256 of all that stands above.
 //!
-//! Today this crate has the types and the definitions (`specs`); the code that writes entries and
-//! certificates is not built yet.
+//! Today this crate has the types, the definitions (`specs`) and laws of what these mean; the code
+//! that writes entries and certificates is not built yet.
 #![tactic(auto)]
 
 mod entry;
+pub mod laws;
 mod outcome;
 
 pub use entry::{Entry, RunNo};

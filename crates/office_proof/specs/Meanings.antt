@@ -1,0 +1,25 @@
+-- What a line and a column of a certificate are, and which words stand in the line of an entry: the laws of `src/laws.rt`
+-- say that no title, ref or name breaks them. Source: own.
+use Rattle.std.specs.Prelude.{◌≢◌, ℕ, List, [], ◌∷◌, codes}
+use Rattle.std.specs.Fmt.{decimal}
+use Rattle.std.specs.List.{All}
+use Rattle.std.specs.Option.{unwrap_or}
+use Rattle.hex.specs.Hex.{encode_lower}
+use Rattle.office_tree.specs.declared.head.Record.{Record}
+use Rattle.office_proof.specs.Certificates.{date_text}
+use Rattle.office_proof.specs.Outcomes.{outcome_word}
+use Rattle.office_proof.specs.declared.entry.Entry.{Entry}
+
+-- no byte of it is a line feed
+abbrev pub IsOneLine : List ℕ → Type 0
+IsOneLine line = All (λ b. b ≢ 10) line
+
+-- no byte of it is a tab or a line feed
+abbrev pub IsOneColumn : List ℕ → Type 0
+IsOneColumn word = All (λ b. (b ≢ 9) × (b ≢ 10)) word
+
+-- the eleven words of the line of an entry and its record
+abbrev pub entry_columns : Entry → Record → List (List ℕ)
+entry_columns e head =
+    codes "ENTRY" ∷ decimal e.record_no ∷ outcome_word e.outcome ∷ head.ref_text ∷ e.class ∷ e.schedule ∷ date_text e.due
+    ∷ unwrap_or e.hold (codes "-") ∷ e.confirmed_by ∷ decimal head.length ∷ encode_lower head.digest ∷ []
