@@ -42,9 +42,18 @@ after_close_aggregation s day a = with_tree s day (closed_aggregation s.tree a d
 -- the head of a new record: added on the act's day, with its content's length and SHA-256, not yet reviewed, confirmed or received
 abbrev pub new_head : ℤ → NewRecord → Record
 new_head day new = record {
-  ref_text = new.ref_text; title = new.title; originated = new.originated; added = day; aggregation = new.aggregation;
-  class = new.class; schedule = new.schedule; length = length new.content.items; digest = sha256 new.content.items;
-  review = None; confirmation = None; receipt = None;
+  ref_text = new.ref_text;
+  title = new.title;
+  originated = new.originated;
+  added = day;
+  aggregation = new.aggregation;
+  class = new.class;
+  schedule = new.schedule;
+  length = length new.content.items;
+  digest = sha256 new.content.items;
+  review = None;
+  confirmation = None;
+  receipt = None;
 }
 
 abbrev pub after_add_record : Office → ℤ → NewRecord → Office

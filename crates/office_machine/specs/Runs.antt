@@ -85,7 +85,7 @@ abbrev pub office_with_outcomes : Office → ℕ → List ℕ → Office
 office_with_outcomes s run rs = record s {
   tree = record (s.tree) { statuses = all_statuses s rs s.tree.statuses };
   entries = all_entries s run rs s.entries;
-  runs = cursor_at_last s.runs run rs
+  runs = cursor_at_last s.runs run rs;
 }
 
 -- the state with the outcomes and entries of these records, all at once, and the cursor at the last of them

@@ -5,7 +5,7 @@ use Rattle.office_days.specs.Limits.{IsDayNumber}
 use Rattle.office_tree.specs.Disposal.{is_disposal, is_ended}
 use Rattle.office_tree.specs.Forms.{IsFormedTree, IsText}
 use Rattle.office_tree.specs.Lists.{numbered, holds_of}
-use Rattle.office_tree.specs.Sound.{FitsLimits, IsForest, NamesStand, NoneIsOpenUnderClosed}
+use Rattle.office_tree.specs.Sound.{FitsLimits, IsForest, NamesStand, NoneIsOpenUnderClosed, RefsDiffer}
 use Rattle.office_tree.specs.Tree.{TreeState, code_cmp}
 use Rattle.office_tree.specs.declared.aggregation.Aggregation.{Aggregation}
 use Rattle.office_tree.specs.declared.class.Class.{Class}
@@ -23,10 +23,11 @@ use Rattle.office_proof.specs.declared.outcome.Outcome.TheVariants.{Transferred,
 use Rattle.office_machine.specs.State.{State, EntryMap, ByteMap}
 use Rattle.office_machine.specs.declared.run.Run.{Run}
 
--- the day and the opener of a run
+-- the day and the opener of a run, and a cursor that is a number of a record or 0
 pub record IsFormedRun (it : Run) : Type 0 where
   pub day : IsDayNumber it.day
   pub by : IsText it.by
+  pub cursor : it.cursor ≤ 4_294_967_295
 
 -- every text, code, day and number is of its form and within its limit, and there are no more of each than the office takes
 pub record IsWithinLimits (tree : TreeState) (holds : HoldMap) (runs : List Run) (entries : EntryMap) (day : ℤ) : Type 0 where
@@ -90,7 +91,7 @@ pub record NoDayIsAfter (aggregations : List Aggregation) (records : List Record
   pub held : NoHoldIsAfter holds day
   pub run_days : (run : ℕ) (it : Run) → numbered runs run ≡ Some it → it.day ≤ℤ day
 
--- the nine items
+-- the nine items, and that refs differ
 pub record IsSound (s : State) : Type 0 where
   pub limits : IsWithinLimits s.office.tree s.office.holds s.office.runs s.office.entries s.office.day
   pub forest : IsForest s.office.tree.aggregations
@@ -101,3 +102,4 @@ pub record IsSound (s : State) : Type 0 where
   pub entries : EntriesStand s.office.tree.statuses s.office.runs s.office.entries
   pub runs : RunsStand s.office.runs s.office.certificates
   pub days : NoDayIsAfter s.office.tree.aggregations s.office.tree.records s.office.holds s.office.runs s.office.day
+  pub refs : RefsDiffer s.office.tree.aggregations s.office.tree.records

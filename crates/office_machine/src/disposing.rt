@@ -22,11 +22,7 @@ pub(crate) fn ready_by(status: Status, may_begin: bool) -> bool
 fn unless_held(ending: Outcome, held: bool) -> Outcome
     ensures { result ≡ (if held then Skipped else ending) }
 {
-    if held {
-        Outcome::Skipped
-    } else {
-        ending
-    }
+    if held { Outcome::Skipped } else { ending }
 }
 
 /// What comes of a record of that status whose plan has that action; `None` where a run does not

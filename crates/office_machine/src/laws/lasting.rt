@@ -31,5 +31,4 @@ pub fn law_of_lasting_holds()
     ensures open_run { (s : State) (day : ℤ) (by : List ℕ) (held : ℕ) → IsSound s → IsAccepted (refusals_of_open_run s.office day) → IsHeldIn s.office held → IsHeldIn (after_open_run s.office day by) held }
     ensures receipt { (s : State) (day : ℤ) (r : ℕ) (digest by : List ℕ) (held : ℕ) → IsSound s → IsAccepted (refusals_of_receipt s.office day r digest) → IsHeldIn s.office held → IsHeldIn (after_receipt s.office day r by) held }
     ensures run_step { (s : State) (run held : ℕ) → open_run s.office ≡ Some run → IsHeldIn s.office held → IsHeldIn (run_step s run).office held }
-{
-}
+{}

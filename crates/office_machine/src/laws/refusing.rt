@@ -29,5 +29,4 @@ pub fn law_of_the_least_refusal()
     ensures open_run { (s : Office) (day : ℤ) → IsLeastOf (refusals_of_open_run s day) (first_of (refusals_of_open_run s day)) }
     ensures receipt { (s : Office) (day : ℤ) (r : ℕ) (digest : List ℕ) → IsLeastOf (refusals_of_receipt s day r digest) (first_of (refusals_of_receipt s day r digest)) }
     ensures run_step { (s : Office) → IsLeastOf (refusals_of_run_step s) (first_of (refusals_of_run_step s)) }
-{
-}
+{}

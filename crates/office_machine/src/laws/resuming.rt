@@ -13,5 +13,4 @@ pub fn law_of_resumption()
     ensures same { (s t : State) (run : ℕ) → open_run s.office ≡ Some run → open_run t.office ≡ Some run → IsMidway s run t → whole t run ≡ whole s run }
     ensures resumed { (s t : State) (run : ℕ) → open_run s.office ≡ Some run → open_run t.office ≡ Some run → IsMidway s run t → after_steps t (suc (length (candidates t.office run))) ≡ whole s run }
     ensures closed { (s t : State) (run : ℕ) → open_run s.office ≡ Some run → IsMidway s run t → open_run t.office ≡ None → t ≡ whole s run }
-{
-}
+{}

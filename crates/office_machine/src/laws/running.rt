@@ -26,8 +26,7 @@ pub fn law_of_other_records()
     ensures confirmation { (s : State) (run r : ℕ) (taken : List ℕ) → counts (with_outcomes s run taken).office.tree r ≡ counts s.office.tree r }
     ensures status { (s : State) (run taken r : ℕ) → taken ≢ r → status_of (with_outcomes s run (taken ∷ [])).office.tree r ≡ status_of s.office.tree r }
     ensures content { (s : State) (run taken r : ℕ) → taken ≢ r → get (with_outcomes s run (taken ∷ [])).contents r ≡ get s.contents r }
-{
-}
+{}
 
 /// The candidates of a run are the records above its cursor that are ready, by number, and a step
 /// takes the least of them.
@@ -37,24 +36,21 @@ pub fn law_of_candidates()
     ensures next { (s : Office) (run r : ℕ) → next_ready s run ≡ Some r → IsCandidate s run r }
     ensures least { (s : Office) (run r other : ℕ) → next_ready s run ≡ Some r → IsCandidate s run other → r ≤ other }
     ensures none { (s : Office) (run r : ℕ) → next_ready s run ≡ None → IsCandidate s run r → ⊥ }
-{
-}
+{}
 
 /// In a sound state the entries that a certificate lists are those of the run, each once, by record
 /// number.
 pub fn law_of_listed_entries()
     ensures these { (s : State) (run : ℕ) (entry : Entry) → IsSound s → (Contains (entries_of s.office run) entry ↔ ((r : ℕ) × (get s.office.entries (run, r) ≡ Some entry))) }
     ensures by_number { (s : State) (run : ℕ) → IsSound s → IsStrictlySortedBy nat_cmp (map (λ e. e.record_no) (entries_of s.office run)) }
-{
-}
+{}
 
 /// The aggregations that a certificate lists, by number, are those that are spent and have a record
 /// below, at any depth, that one of the entries ended.
 pub fn law_of_listed_aggregations()
     ensures these { (tree : TreeState) (entries : List Entry) (a : ℕ) → (Contains (spent_list tree entries) a
         ↔ (IsTrue (has_aggregation tree a) × IsTrue (is_spent tree a)
-            × ((r : ℕ) × IsTrue (has_record tree r) × IsTrue (is_below tree a r)
-                × ((entry : Entry) × Contains entries entry × (entry.record_no ≡ r) × IsTrue (is_ending entry.outcome))))) }
+        × ((r : ℕ) × IsTrue (has_record tree r) × IsTrue (is_below tree a r)
+        × ((entry : Entry) × Contains entries entry × (entry.record_no ≡ r) × IsTrue (is_ending entry.outcome))))) }
     ensures by_number { (tree : TreeState) (entries : List Entry) → IsStrictlySortedBy nat_cmp (spent_list tree entries) }
-{
-}
+{}

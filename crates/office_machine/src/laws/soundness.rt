@@ -37,5 +37,4 @@ pub fn law_of_soundness()
     ensures open_run { (s : State) (day : ℤ) (by : List ℕ) → IsSound s → IsDayNumber day → IsText by → IsAccepted (refusals_of_open_run s.office day) → IsSound (with_office s (after_open_run s.office day by)) }
     ensures receipt { (s : State) (day : ℤ) (r : ℕ) (digest by : List ℕ) → IsSound s → IsDayNumber day → IsText by → IsAccepted (refusals_of_receipt s.office day r digest) → IsSound (with_office s (after_receipt s.office day r by)) }
     ensures run_step { (s : State) (run : ℕ) → IsSound s → open_run s.office ≡ Some run → IsSound (run_step s run) }
-{
-}
+{}
