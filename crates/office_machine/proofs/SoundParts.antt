@@ -1,7 +1,6 @@
 -- What an act on the tree or on the holds leaves of a sound state, part by part.
-use Rattle.std.proofs.Common.{◌≡◌, ℕ, ◌≤◌, ◌≤ℤ◌, ℤ, List, [], ◌∷◌, ◌++◌, length, Option, Some, None, refl, sym, ap, subst, ◌∙◌, cond, Bool, true, false, inl, inr, arith}
-use Rattle.std.specs.Prelude.{IsSome, IfSome, IsTrue, int_lt}
-use Rattle.std.specs.List.{AllByRecursion}
+use Rattle.std.proofs.Common.{◌≡◌, ℕ, ◌≤◌, ◌≤ℤ◌, ℤ, List, [], ◌∷◌, ◌++◌, length, Option, Some, None, sym, subst, inl, inr, arith}
+use Rattle.std.specs.Prelude.{IsSome, IfSome, IsTrue}
 use Rattle.std.specs.FinMap.{get}
 use Rattle.std.proofs.lemmas.Int.{ints}
 use Rattle.office_days.specs.Limits.{IsDayNumber}
@@ -22,7 +21,7 @@ use Rattle.office_holds.proofs.Keeping.{TargetsStand-more, NoHoldIsAfter-later}
 use Rattle.office_proof.specs.declared.entry.Entry.{Entry}
 use Rattle.office_machine.specs.Effects.{with_tree, with_holds}
 use Rattle.office_machine.specs.Sound.{IsSound, IsNamedEntry, ContentsStand, PapersStand, EntriesStand, NoDayIsAfter}
-use Rattle.office_machine.specs.State.{State, Office, ByteMap, with_office}
+use Rattle.office_machine.specs.State.{State, ByteMap, with_office}
 
 -- ---- days
 

@@ -1,6 +1,6 @@
 -- What each accepted act makes of the office. Every act but a step of a run also sets the office's day to its own.
 -- Source: MoReq2010, its classification, record, disposal scheduling and disposal holding services; runs are own.
-use Rattle.std.specs.Prelude.{ℕ, suc, false, List, [], ◌∷◌, ◌++◌, length, Option, Some, None, ℤ}
+use Rattle.std.specs.Prelude.{ℕ, suc, false, List, [], ◌∷◌, ◌++◌, length, Option, None, ℤ}
 use Rattle.std.specs.FinMap.{insert}
 use Rattle.sha2.specs.Sha256.{sha256}
 use Rattle.office_tree.specs.Effects.{added_schedule, added_class, with_class_schedule, added_aggregation, closed_aggregation, added_record, with_record_schedule, reclassified, confirmed, reviewed, receipted}

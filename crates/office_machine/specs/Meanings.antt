@@ -1,9 +1,8 @@
 -- Words in which the laws are told. Source: own.
-use Rattle.std.specs.Prelude.{◌≡◌, ◌<◌, ◌≤◌, ℕ, Bool, false, true, List, length, Option, Some, None, IsTrue}
+use Rattle.std.specs.Prelude.{◌≡◌, ◌<◌, ◌≤◌, ℕ, Bool, true, List, length, Option, Some, None, IsTrue}
 use Rattle.office_days.specs.declared.refusal.Refusal.{Refusal}
 use Rattle.office_tree.specs.Conditions.{first_of}
 use Rattle.office_tree.specs.Forms.{IsCode, IsText}
-use Rattle.office_tree.specs.Lists.{holds_of}
 use Rattle.office_days.specs.Limits.{IsDayNumber}
 use Rattle.office_holds.specs.Holds.{is_held}
 use Rattle.office_proof.specs.declared.outcome.Outcome.TheVariants.{Destroyed, Transferred}
@@ -11,7 +10,7 @@ use Rattle.office_machine.specs.Disposing.{is_ready}
 use Rattle.office_machine.specs.Runs.{cursor_of, run_day}
 use Rattle.office_machine.specs.State.{Office}
 use Rattle.office_machine.specs.declared.answer.Answer.{Answer}
-use Rattle.office_machine.specs.declared.answer.Answer.TheVariants.{Done, Number, Same, Step, RunClosed, Refused}
+use Rattle.office_machine.specs.declared.answer.Answer.TheVariants.{Step}
 use Rattle.office_machine.specs.declared.new_record.NewRecord.{NewRecord}
 use Rattle.std.specs.Prelude.{IfSome}
 

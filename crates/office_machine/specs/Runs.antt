@@ -1,5 +1,5 @@
 -- A disposal run: its candidates, its steps, and what a run that never stops makes of the office at once. Source: own.
-use Rattle.std.specs.Prelude.{◌≡◌, ◌==◌, ◌&&◌, ℕ, zero, suc, ◌-◌, ◌≤◌, ◌⊎◌, Bool, true, false, List, [], ◌∷◌, take, length, filter, Option, Some, None, ℤ, pos, if◌then◌else◌}
+use Rattle.std.specs.Prelude.{◌≡◌, ◌==◌, ◌&&◌, ℕ, zero, suc, ◌-◌, ◌≤◌, ◌⊎◌, Bool, true, List, [], ◌∷◌, take, length, filter, Option, Some, None, ℤ, pos, if◌then◌else◌}
 use Rattle.std.specs.List.{find, list_any}
 use Rattle.std.specs.Option.{unwrap_or, option_map}
 use Rattle.std.specs.FinMap.{insert, remove, values}

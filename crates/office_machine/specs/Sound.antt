@@ -1,10 +1,10 @@
 -- When a state is sound: nine items, each over the parts that it speaks of. Source: own; the limits are this project's.
-use Rattle.std.specs.Prelude.{◌≡◌, ◌≢◌, ◌≤◌, ◌≤ℤ◌, ◌<◌, ◌↔◌, ℕ, false, true, List, length, Option, Some, None, ℤ, IsSome, IsTrue, IfSome}
+use Rattle.std.specs.Prelude.{◌≡◌, ◌≢◌, ◌≤◌, ◌≤ℤ◌, ◌<◌, ◌↔◌, ℕ, false, true, List, length, Some, ℤ, IsSome, IsTrue, IfSome}
 use Rattle.std.specs.FinMap.{FinMap, get}
 use Rattle.office_days.specs.Limits.{IsDayNumber}
-use Rattle.office_tree.specs.Disposal.{is_disposal, is_ended}
+use Rattle.office_tree.specs.Disposal.{is_disposal}
 use Rattle.office_tree.specs.Forms.{IsFormedTree, IsText}
-use Rattle.office_tree.specs.Lists.{numbered, holds_of}
+use Rattle.office_tree.specs.Lists.{numbered}
 use Rattle.office_tree.specs.Sound.{FitsLimits, IsForest, NamesStand, NoneIsOpenUnderClosed, RefsDiffer}
 use Rattle.office_tree.specs.Tree.{TreeState, code_cmp}
 use Rattle.office_tree.specs.declared.aggregation.Aggregation.{Aggregation}
