@@ -5,6 +5,7 @@ pub mod Effects
 pub mod Forms
 pub mod Lists
 pub mod Meanings
+pub mod Rows
 pub mod Sound
 pub mod TextForms
 pub mod Tree
