@@ -1,0 +1,44 @@
+//! A small office, worked out by the definitions.
+ghost use Rattle.std.specs.Prelude.{◌≡◌, ◌≢◌, ◌≤ℤ◌, ◌++◌, ℕ, ℤ, true, false, List, [], ◌∷◌, Some, None, codes};
+ghost use Rattle.std.specs.FinMap.{get};
+ghost use Rattle.sha2.specs.Sha256.{sha256};
+ghost use Rattle.office_days.specs.declared.refusal.Refusal.TheVariants.{DayBack, Exists, ChildOpen, HeldClass, Ended, NotDue, WrongAction, NoRun, WrongDigest};
+ghost use Rattle.office_tree.specs.Conditions.{first_of};
+ghost use Rattle.office_tree.specs.Disposal.{counts};
+ghost use Rattle.office_tree.specs.Lists.{numbered};
+ghost use Rattle.office_tree.specs.Tree.{class_of, plan_of, due_of, action_of, status_of, last_addition};
+ghost use Rattle.office_tree.specs.declared.action.Action.TheVariants as action;
+ghost use Rattle.office_tree.specs.declared.classified.Classified.TheVariants as classified;
+ghost use Rattle.office_tree.specs.declared.status.Status.{Status};
+ghost use Rattle.office_tree.specs.declared.status.Status.TheVariants as status;
+ghost use Rattle.office_holds.specs.Holds.{is_held, least_covering};
+ghost use Rattle.office_proof.specs.Certificates.{lines_text, date_text, sealed};
+ghost use Rattle.office_proof.specs.declared.outcome.Outcome.TheVariants as outcome;
+ghost use Rattle.office_machine.specs.Conditions.{refusals_of_close_aggregation, refusals_of_confirm, refusals_of_open_run, refusals_of_receipt, refusals_of_reclassify, refusals_of_add_record, same_record};
+ghost use Rattle.office_machine.specs.Disposing.{outcome_of};
+ghost use Rattle.office_machine.specs.Effects.{after_add_record, after_receipt};
+ghost use Rattle.office_machine.specs.Meanings.{IsAccepted, IsHeldIn};
+ghost use Rattle.office_machine.specs.Runs.{spent_list};
+ghost use Rattle.office_machine.specs.State.{Office, first_day};
+ghost use Rattle.office_machine.specs.Worked.{filing_day, filing_due, day_before_due, rooted_office, base_office, confirmed_office, sent_office, with_record, AsksFor, opening, first_step, second_step, twice_held, once_held, free_again, finance_held, ended_office, child_closed, both_closed, ending_entry, twice_added};
+ghost use Rattle.office_machine.specs.declared.answer.Answer.TheVariants.{Number, RunClosed, Refused};
+ghost use Rattle.office_machine.specs.declared.new_record.NewRecord.{NewRecord};
+
+/// A child that is open keeps its parent open. Once both are closed and a run has ended the record
+/// in the child, both are listed in its certificate; a parent that is open is not.
+pub fn law_of_closing()
+    ensures child_open { first_of (refusals_of_close_aggregation ended_office filing_due 1) ≡ Some ChildOpen }
+    ensures child_closed { IsAccepted (refusals_of_close_aggregation child_closed filing_due 1) }
+    ensures both { spent_list both_closed.tree (ending_entry ∷ []) ≡ 1 ∷ 2 ∷ [] }
+    ensures child { spent_list child_closed.tree (ending_entry ∷ []) ≡ 2 ∷ [] }
+{
+}
+
+/// The last addition to an aggregation is the later of two days, whatever has become of the record
+/// of the earlier one.
+pub fn law_of_a_last_addition()
+    ensures later { (status : Status) → last_addition (twice_added status).records 1 ≡ Some filing_due }
+    ensures alone { last_addition base_office.tree.records 1 ≡ Some filing_day }
+    ensures no_other { (status : Status) → last_addition (twice_added status).records 2 ≡ None }
+{
+}
