@@ -1,1 +1,3 @@
 pub mod WorkedClosing
+pub mod WorkedNewOffice
+pub mod WorkedTransfer

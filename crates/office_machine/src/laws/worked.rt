@@ -42,3 +42,29 @@ pub fn law_of_a_last_addition()
     ensures no_other { (status : Status) → last_addition (twice_added status).records 2 ≡ None }
 {
 }
+
+/// A record that is here and planned to be transferred is sent, held or not. A received record is
+/// skipped while it is held, and else its transfer ends. A receipt for a sent record is refused where
+/// it tells another digest; with the record's own it is accepted and the record is received; for an
+/// ended record it is refused.
+pub fn law_of_a_transfer()
+    ensures sent { (s : Office) (r : ℕ) → status_of s.tree r ≡ Some status.Here → action_of s.tree r ≡ Some action.Transfer → outcome_of s r ≡ Some outcome.Sent }
+    ensures skipped { (s : Office) (r : ℕ) → status_of s.tree r ≡ Some status.Received → IsHeldIn s r → outcome_of s r ≡ Some outcome.Skipped }
+    ensures ended { (s : Office) (r : ℕ) → status_of s.tree r ≡ Some status.Received → is_held s.holds s.tree r ≡ false → outcome_of s r ≡ Some outcome.Transferred }
+    ensures wrong_digest { (digest : List ℕ) → digest ≢ sha256 (codes "abc") → first_of (refusals_of_receipt sent_office filing_day 1 digest) ≡ Some WrongDigest }
+    ensures right_digest { IsAccepted (refusals_of_receipt sent_office filing_day 1 (sha256 (codes "abc"))) }
+    ensures received { (by : List ℕ) → status_of (after_receipt sent_office filing_day 1 by).tree 1 ≡ Some status.Received }
+    ensures of_ended { (digest : List ℕ) → first_of (refusals_of_receipt ended_office filing_day 1 digest) ≡ Some Ended }
+{
+}
+
+/// On any day a new office opens its first run, a step closes it with a certificate that tells no
+/// record, and then there is no run to step.
+pub fn law_of_a_new_office()
+    ensures opened { (day : ℤ) → first_day ≤ℤ day → (opening day).0 ≡ Number 1 }
+    ensures closed { (day : ℤ) → first_day ≤ℤ day → (first_step day).0 ≡ RunClosed 1 }
+    ensures no_run { (day : ℤ) → first_day ≤ℤ day → (second_step day).0 ≡ Refused NoRun }
+    ensures certificate { (day : ℤ) → first_day ≤ℤ day → get (first_step day).1.office.certificates 1 ≡ Some (sealed (lines_text (
+        codes "CERTIFICATE 1" ∷ (codes "DAY " ++ date_text day) ∷ codes "BY registrar" ∷ codes "ENDED 0" ∷ codes "SENT 0" ∷ codes "SKIPPED 0" ∷ codes "SPENT 0" ∷ []))) }
+{
+}
