@@ -1,3 +1,9 @@
+pub mod WorkedBase
 pub mod WorkedClosing
+pub mod WorkedConfirming
+pub mod WorkedDays
+pub mod WorkedHolds
+pub mod WorkedMaps
 pub mod WorkedNewOffice
+pub mod WorkedRepeating
 pub mod WorkedTransfer

@@ -16,16 +16,9 @@ use Rattle.office_machine.specs.Runs.{run_step, closed, spent_list, certificate_
 use Rattle.office_machine.specs.State.{State, empty_state, first_day, with_office, entry_cmp}
 use Rattle.office_machine.specs.Steps.{by_refusal, step_run_step}
 use Rattle.office_machine.specs.Worked.{opening, first_step, second_step}
+use Rattle.office_machine.proofs.WorkedMaps.{no_entries}
 use Rattle.office_machine.specs.declared.answer.Answer.{Answer}
 use Rattle.office_machine.specs.declared.answer.Answer.TheVariants.{Number, RunClosed, Refused}
-
-no_length : {A : Type 0} (es : List A) → length es ≡ 0 → es ≡ []
-no_length [] e = refl
-no_length (x ∷ es) e = absurd (omega arith)
-
--- an empty map has no entries
-pub no_entries : {K V : Type 0} (R : K → K → Ordering) → entries (empty {X = V} {R = R}) ≡ []
-no_entries {V = V} R = no_length _ (sym (len-entries (empty {X = V} {R = R})) ∙ len-empty R V)
 
 not_before : (day : ℤ) → first_day ≤ℤ day → int_lt day first_day ≡ false
 not_before day h = grind (arith, ints)

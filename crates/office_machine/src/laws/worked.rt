@@ -2,6 +2,7 @@
 ghost use Rattle.std.specs.Prelude.{◌≡◌, ◌≢◌, ◌≤ℤ◌, ◌++◌, ℕ, ℤ, true, false, List, [], ◌∷◌, Some, None, codes};
 ghost use Rattle.std.specs.FinMap.{get};
 ghost use Rattle.sha2.specs.Sha256.{sha256};
+ghost use Rattle.office_days.specs.Calendar.{civil};
 ghost use Rattle.office_days.specs.declared.refusal.Refusal.TheVariants.{DayBack, Exists, ChildOpen, HeldClass, Ended, NotDue, WrongAction, NoRun, WrongDigest};
 ghost use Rattle.office_tree.specs.Conditions.{first_of};
 ghost use Rattle.office_tree.specs.Disposal.{counts};
@@ -66,5 +67,48 @@ pub fn law_of_a_new_office()
     ensures no_run { (day : ℤ) → first_day ≤ℤ day → (second_step day).0 ≡ Refused NoRun }
     ensures certificate { (day : ℤ) → first_day ≤ℤ day → get (first_step day).1.office.certificates 1 ≡ Some (sealed (lines_text (
         codes "CERTIFICATE 1" ∷ (codes "DAY " ++ date_text day) ∷ codes "BY registrar" ∷ codes "ENDED 0" ∷ codes "SENT 0" ∷ codes "SKIPPED 0" ∷ codes "SPENT 0" ∷ []))) }
+{
+}
+
+/// Records take the class of their aggregation and its schedule, and are due one year after they were
+/// added. The day before, a confirmation is refused; on the due day it is accepted where it names the
+/// plan's action. From then on no act has an earlier day, and the confirmation counts for that record.
+pub fn law_of_the_base_office()
+    ensures class { (class_of base_office.tree 1 ≡ Some (codes "FIN")) × (class_of base_office.tree 2 ≡ Some (codes "LEG")) × (class_of base_office.tree 3 ≡ Some (codes "FIN")) }
+    ensures plan { (plan_of base_office.tree 1 ≡ Some (codes "D1")) × (plan_of base_office.tree 2 ≡ Some (codes "D1")) × (plan_of base_office.tree 3 ≡ Some (codes "D1")) }
+    ensures filing { civil filing_day ≡ record { year = 2024; month = 1; day = 2 } }
+    ensures due { (due_of base_office.tree 1 ≡ Some filing_due) × (due_of base_office.tree 2 ≡ Some filing_due) × (due_of base_office.tree 3 ≡ Some filing_due) }
+    ensures due_day { civil filing_due ≡ record { year = 2025; month = 1; day = 2 } }
+    ensures not_due { first_of (refusals_of_confirm base_office day_before_due 1 action.Destroy) ≡ Some NotDue }
+    ensures wrong_action { first_of (refusals_of_confirm base_office filing_due 1 action.Transfer) ≡ Some WrongAction }
+    ensures accepted { IsAccepted (refusals_of_confirm base_office filing_due 1 action.Destroy) }
+    ensures day_back { first_of (refusals_of_open_run confirmed_office day_before_due) ≡ Some DayBack }
+    ensures counted { counts confirmed_office.tree 1 ≡ true }
+    ensures not_counted { counts confirmed_office.tree 2 ≡ false }
+{
+}
+
+/// A record that is asked for again, with all that its first asking told, is told by its number. With
+/// another title it is refused, since its ref is there.
+pub fn law_of_a_repeated_record()
+    ensures first { (new : NewRecord) → AsksFor new (codes "r1") (codes "r1") 1 (codes "abc") → after_add_record rooted_office filing_day new ≡ with_record rooted_office (codes "r1") 1 (codes "abc") }
+    ensures same { (new : NewRecord) → AsksFor new (codes "r1") (codes "r1") 1 (codes "abc") → same_record base_office new ≡ Some 1 }
+    ensures other_title { (new : NewRecord) (title : List ℕ) → title ≢ codes "r1" → AsksFor new (codes "r1") title 1 (codes "abc") → same_record base_office new ≡ None }
+    ensures refused { (new : NewRecord) (title : List ℕ) → AsksFor new (codes "r1") title 1 (codes "abc") → first_of (refusals_of_add_record base_office filing_day new) ≡ Some Exists }
+{
+}
+
+/// A hold on a class holds the records of that class and no others. Of two holds that cover a record
+/// the one whose code is first in byte order is told, and once that is lifted, the other; once its
+/// class is taken off that one too, nothing holds the record. An aggregation may not leave a class
+/// that a hold has as a target, and may be given the class that it has.
+pub fn law_of_a_held_class()
+    ensures held { is_held twice_held.holds twice_held.tree 2 ≡ true }
+    ensures not_held { is_held twice_held.holds twice_held.tree 1 ≡ false }
+    ensures least { least_covering twice_held.holds twice_held.tree 2 ≡ Some (codes "H-2") }
+    ensures after_lifting { least_covering once_held.holds once_held.tree 2 ≡ Some (codes "H-9") }
+    ensures after_taking_off { is_held free_again.holds free_again.tree 2 ≡ false }
+    ensures leaving { first_of (refusals_of_reclassify finance_held filing_day (classified.Aggregation 1) (Some (codes "LEG"))) ≡ Some HeldClass }
+    ensures staying { IsAccepted (refusals_of_reclassify finance_held filing_day (classified.Aggregation 1) (Some (codes "FIN"))) }
 {
 }
