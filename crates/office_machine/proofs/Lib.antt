@@ -2,6 +2,7 @@ pub mod WorkedBase
 pub mod WorkedClosing
 pub mod WorkedConfirming
 pub mod WorkedDays
+pub mod WorkedFiling
 pub mod WorkedHolds
 pub mod WorkedMaps
 pub mod WorkedNewOffice

@@ -12,13 +12,14 @@ use Rattle.office_machine.specs.Worked.{filing_day, filing_due, yearly, class_ti
 use Rattle.office_machine.proofs.WorkedDays.{due_from_filing}
 use Rattle.office_machine.proofs.WorkedMaps.{no_entries, entries_inserted, get_of_entries}
 
-schedules : entries classed_office.tree.schedules ≡ (codes "D1", yearly) ∷ []
+pub schedules : entries classed_office.tree.schedules ≡ (codes "D1", yearly) ∷ []
 schedules = entries_inserted empty (codes "D1") [] (no_entries code_cmp) yearly
 
-classes : entries classed_office.tree.classes ≡ (codes "FIN", class_titled (codes "FIN")) ∷ (codes "LEG", class_titled (codes "LEG")) ∷ []
-classes =
-    let one = entries_inserted empty (codes "FIN") [] (no_entries code_cmp) (class_titled (codes "FIN")) in
-    entries_inserted (with_class with_yearly (codes "FIN")).tree.classes (codes "LEG") ((codes "FIN", class_titled (codes "FIN")) ∷ []) one (class_titled (codes "LEG"))
+pub one_class : entries (with_class with_yearly (codes "FIN")).tree.classes ≡ (codes "FIN", class_titled (codes "FIN")) ∷ []
+one_class = entries_inserted empty (codes "FIN") [] (no_entries code_cmp) (class_titled (codes "FIN"))
+
+pub classes : entries classed_office.tree.classes ≡ (codes "FIN", class_titled (codes "FIN")) ∷ (codes "LEG", class_titled (codes "LEG")) ∷ []
+classes = entries_inserted (with_class with_yearly (codes "FIN")).tree.classes (codes "LEG") _ one_class (class_titled (codes "LEG"))
 
 pub schedule_there : get classed_office.tree.schedules (codes "D1") ≡ Some yearly
 schedule_there = get_of_entries classed_office.tree.schedules (codes "D1") ((codes "D1", yearly) ∷ []) schedules

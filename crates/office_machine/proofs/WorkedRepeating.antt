@@ -1,5 +1,5 @@
 -- The first record of the base office, asked for again.
-use Rattle.std.proofs.Common.{◌≡◌, ◌≢◌, ◌==◌, ◌&&◌, ℕ, List, [], ◌∷◌, length, Bool, true, false, cond, Option, Some, None, refl, sym, ap, ◌∙◌}
+use Rattle.std.proofs.Common.{◌≡◌, ◌≢◌, ◌==◌, ◌&&◌, ℕ, suc, List, [], ◌∷◌, length, Bool, true, false, cond, Option, Some, None, refl, sym, ap, ◌∙◌}
 use Rattle.std.specs.Prelude.{codes}
 use Rattle.std.specs.Bool.{Decides}
 use Rattle.std.specs.Ordering.{int_eq}
@@ -8,20 +8,14 @@ use Rattle.std.proofs.lemmas.Slice.Eq.{bytes_eq-Decides}
 use Rattle.sha2.specs.Sha256.{sha256}
 use Rattle.office_days.specs.declared.refusal.Refusal.TheVariants.{Exists}
 use Rattle.office_tree.specs.Conditions.{first_of, conditions_of_add_record}
-use Rattle.office_tree.specs.Effects.{added_record}
 use Rattle.office_tree.specs.declared.head.Record.{Record}
 use Rattle.office_machine.specs.Conditions.{dated, refusals_of_add_record, is_same_record, same_record}
-use Rattle.office_machine.specs.Effects.{with_tree, after_add_record}
-use Rattle.office_machine.specs.Worked.{AsksFor, filing_day, head_with, rooted_office, base_office, with_record}
+use Rattle.office_machine.specs.Effects.{with_new_record}
+use Rattle.office_machine.specs.State.{Office, State}
+use Rattle.office_machine.specs.Steps.{by_refusal, by_same_record, step_add_record}
+use Rattle.office_machine.specs.Worked.{AsksFor, filing_day, head_with, base_office}
+use Rattle.office_machine.specs.declared.answer.Answer.TheVariants.{Number, Same, Refused}
 use Rattle.office_machine.specs.declared.new_record.NewRecord.{NewRecord}
-
-pub is_first : (new : NewRecord) → AsksFor new (codes "r1") (codes "r1") 1 (codes "abc") → after_add_record rooted_office filing_day new ≡ with_record rooted_office (codes "r1") 1 (codes "abc")
-is_first new h =
-    λ i. with_tree rooted_office filing_day (added_record rooted_office.tree (record {
-      ref_text = h.ref_text i; title = h.title i; originated = h.originated i; added = filing_day; aggregation = h.aggregation i;
-      class = h.class i; schedule = h.schedule i; length = length (h.content i); digest = sha256 (h.content i);
-      review = None; confirmation = None; receipt = None;
-    }))
 
 -- the comparison with a head, told by what is asked
 abbrev compared : List ℕ → List ℕ → ℕ → List ℕ → Record → Bool
@@ -59,5 +53,13 @@ is_other new title other h =
     let three = compares new (codes "r1") title 1 (codes "abc") (head_with (codes "r3") 1 (codes "abc")) h in
     λ i. of_three (one i) (two i) (three i)
 
-pub is_refused : (new : NewRecord) (title : List ℕ) → AsksFor new (codes "r1") title 1 (codes "abc") → first_of (refusals_of_add_record base_office filing_day new) ≡ Some Exists
-is_refused new title h = λ i. first_of (dated base_office filing_day (conditions_of_add_record base_office.tree (h.ref_text i) new.aggregation new.class new.schedule))
+pub is_told : (s : State) (new : NewRecord) → s.office ≡ base_office → AsksFor new (codes "r1") (codes "r1") 1 (codes "abc") → step_add_record s filing_day new ≡ (Same 1, s)
+is_told s new base h = ap (λ o. by_same_record o s filing_day new) (ap (λ (o : Office). same_record o new) base ∙ is_same new h)
+
+exists : (new : NewRecord) (title : List ℕ) → AsksFor new (codes "r1") title 1 (codes "abc") → first_of (refusals_of_add_record base_office filing_day new) ≡ Some Exists
+exists new title h = λ i. first_of (dated base_office filing_day (conditions_of_add_record base_office.tree (h.ref_text i) new.aggregation new.class new.schedule))
+
+pub is_refused : (s : State) (new : NewRecord) (title : List ℕ) → s.office ≡ base_office → title ≢ codes "r1" → AsksFor new (codes "r1") title 1 (codes "abc") → step_add_record s filing_day new ≡ (Refused Exists, s)
+is_refused s new title base other h =
+    ap (λ o. by_same_record o s filing_day new) (ap (λ (o : Office). same_record o new) base ∙ is_other new title other h)
+    ∙ ap (λ o. by_refusal o s (Number (suc (length s.office.tree.records))) (with_new_record s filing_day new)) (ap (λ (o : Office). first_of (refusals_of_add_record o filing_day new)) base ∙ exists new title h)

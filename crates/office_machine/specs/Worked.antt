@@ -70,8 +70,14 @@ classed_office = with_class (with_class with_yearly (codes "FIN")) (codes "LEG")
 abbrev pub rooted_office : Office
 rooted_office = with_root (with_root classed_office (codes "A") (codes "FIN")) (codes "B") (codes "LEG")
 
+abbrev pub first_filed : Office
+first_filed = with_record rooted_office (codes "r1") 1 (codes "abc")
+
+abbrev pub second_filed : Office
+second_filed = with_record first_filed (codes "r2") 2 []
+
 abbrev pub base_office : Office
-base_office = with_record (with_record (with_record rooted_office (codes "r1") 1 (codes "abc")) (codes "r2") 2 []) (codes "r3") 1 (codes "abc")
+base_office = with_record second_filed (codes "r3") 1 (codes "abc")
 
 -- what is asked for with such a record, under a title that may be another
 pub record AsksFor (new : NewRecord) (name words : List ℕ) (home : ℕ) (bytes : List ℕ) : Type 0 where

@@ -15,14 +15,15 @@ ghost use Rattle.office_tree.specs.declared.status.Status.TheVariants as status;
 ghost use Rattle.office_holds.specs.Holds.{is_held, least_covering};
 ghost use Rattle.office_proof.specs.Certificates.{lines_text, date_text, sealed};
 ghost use Rattle.office_proof.specs.declared.outcome.Outcome.TheVariants as outcome;
-ghost use Rattle.office_machine.specs.Conditions.{refusals_of_close_aggregation, refusals_of_confirm, refusals_of_open_run, refusals_of_receipt, refusals_of_reclassify, refusals_of_add_record, same_record};
+ghost use Rattle.office_machine.specs.Conditions.{refusals_of_add_schedule, refusals_of_add_class, refusals_of_add_aggregation, refusals_of_close_aggregation, refusals_of_confirm, refusals_of_open_run, refusals_of_receipt, refusals_of_reclassify, refusals_of_add_record, same_record};
 ghost use Rattle.office_machine.specs.Disposing.{outcome_of};
 ghost use Rattle.office_machine.specs.Effects.{after_add_record, after_receipt};
 ghost use Rattle.office_machine.specs.Meanings.{IsAccepted, IsHeldIn};
 ghost use Rattle.office_machine.specs.Runs.{spent_list};
-ghost use Rattle.office_machine.specs.State.{Office, first_day};
-ghost use Rattle.office_machine.specs.Worked.{filing_day, filing_due, day_before_due, rooted_office, base_office, confirmed_office, sent_office, with_record, AsksFor, opening, first_step, second_step, twice_held, once_held, free_again, finance_held, ended_office, child_closed, both_closed, ending_entry, twice_added};
-ghost use Rattle.office_machine.specs.declared.answer.Answer.TheVariants.{Number, RunClosed, Refused};
+ghost use Rattle.office_machine.specs.State.{Office, State, empty_office, first_day};
+ghost use Rattle.office_machine.specs.Steps.{step_add_record};
+ghost use Rattle.office_machine.specs.Worked.{filing_day, filing_due, day_before_due, with_yearly, with_class, class_titled, classed_office, with_root, rooted_office, first_filed, second_filed, base_office, confirmed_office, sent_office, with_record, AsksFor, opening, first_step, second_step, twice_held, once_held, free_again, finance_held, ended_office, child_closed, both_closed, ending_entry, twice_added};
+ghost use Rattle.office_machine.specs.declared.answer.Answer.TheVariants.{Number, Same, RunClosed, Refused};
 ghost use Rattle.office_machine.specs.declared.new_record.NewRecord.{NewRecord};
 
 /// A child that is open keeps its parent open. Once both are closed and a run has ended the record
@@ -70,6 +71,20 @@ pub fn law_of_a_new_office()
 {
 }
 
+/// Each act that makes the base office is accepted where it comes.
+pub fn law_of_filing()
+    ensures schedule { IsAccepted (refusals_of_add_schedule empty_office filing_day (codes "D1")) }
+    ensures first_class { IsAccepted (refusals_of_add_class with_yearly filing_day (codes "FIN") (class_titled (codes "FIN"))) }
+    ensures second_class { IsAccepted (refusals_of_add_class (with_class with_yearly (codes "FIN")) filing_day (codes "LEG") (class_titled (codes "LEG"))) }
+    ensures first_root { IsAccepted (refusals_of_add_aggregation classed_office filing_day (codes "A") None (Some (codes "FIN"))) }
+    ensures second_root { IsAccepted (refusals_of_add_aggregation (with_root classed_office (codes "A") (codes "FIN")) filing_day (codes "B") None (Some (codes "LEG"))) }
+    ensures first_record { (new : NewRecord) → AsksFor new (codes "r1") (codes "r1") 1 (codes "abc") → IsAccepted (refusals_of_add_record rooted_office filing_day new) }
+    ensures second_record { (new : NewRecord) → AsksFor new (codes "r2") (codes "r2") 2 [] → IsAccepted (refusals_of_add_record first_filed filing_day new) }
+    ensures third_record { (new : NewRecord) → AsksFor new (codes "r3") (codes "r3") 1 (codes "abc") → IsAccepted (refusals_of_add_record second_filed filing_day new) }
+    ensures filed { (s : Office) (new : NewRecord) (name : List ℕ) (home : ℕ) (bytes : List ℕ) → AsksFor new name name home bytes → after_add_record s filing_day new ≡ with_record s name home bytes }
+{
+}
+
 /// Records take the class of their aggregation and its schedule, and are due one year after they were
 /// added. The day before, a confirmation is refused; on the due day it is accepted where it names the
 /// plan's action. From then on no act has an earlier day, and the confirmation counts for that record.
@@ -88,13 +103,13 @@ pub fn law_of_the_base_office()
 {
 }
 
-/// A record that is asked for again, with all that its first asking told, is told by its number. With
-/// another title it is refused, since its ref is there.
+/// A record that is asked for again, with all that its first asking told, is told by its number and
+/// nothing is done. With another title it is refused, since its ref is there.
 pub fn law_of_a_repeated_record()
-    ensures first { (new : NewRecord) → AsksFor new (codes "r1") (codes "r1") 1 (codes "abc") → after_add_record rooted_office filing_day new ≡ with_record rooted_office (codes "r1") 1 (codes "abc") }
     ensures same { (new : NewRecord) → AsksFor new (codes "r1") (codes "r1") 1 (codes "abc") → same_record base_office new ≡ Some 1 }
+    ensures told { (s : State) (new : NewRecord) → s.office ≡ base_office → AsksFor new (codes "r1") (codes "r1") 1 (codes "abc") → step_add_record s filing_day new ≡ (Same 1, s) }
     ensures other_title { (new : NewRecord) (title : List ℕ) → title ≢ codes "r1" → AsksFor new (codes "r1") title 1 (codes "abc") → same_record base_office new ≡ None }
-    ensures refused { (new : NewRecord) (title : List ℕ) → AsksFor new (codes "r1") title 1 (codes "abc") → first_of (refusals_of_add_record base_office filing_day new) ≡ Some Exists }
+    ensures refused { (s : State) (new : NewRecord) (title : List ℕ) → s.office ≡ base_office → title ≢ codes "r1" → AsksFor new (codes "r1") title 1 (codes "abc") → step_add_record s filing_day new ≡ (Refused Exists, s) }
 {
 }
 
