@@ -1,5 +1,5 @@
 -- When the first record of the base office may be confirmed, and for what the confirmation counts.
-use Rattle.std.proofs.Common.{◌≡◌, ◌&&◌, ◌||◌, not, ℕ, List, [], ◌∷◌, Bool, true, false, Option, Some, None, ℤ, refl, ap, ◌∙◌}
+use Rattle.std.proofs.Common.{◌≡◌, ◌&&◌, ◌||◌, not, ℕ, List, [], ◌∷◌, Bool, true, false, Some, ℤ, refl, ap}
 use Rattle.std.specs.Prelude.{codes, int_lt, int_le}
 use Rattle.std.specs.Option.{option_map}
 use Rattle.std.specs.Ordering.{int_eq}
@@ -33,13 +33,13 @@ confirming : (s : Office) (day : ℤ) (r : ℕ) (named : Action) (due : ℤ) (ac
 unfolding by_due
 confirming s day r named due action d a =
     λ i. first_of (
-      (DayBack, int_lt day s.day)
-      ∷ (NoSuch, not (has_record s.tree r))
-      ∷ (Ended, has_ended s.tree r)
-      ∷ (InTransfer, is_under_way s.tree r)
-      ∷ (NotDue, has_record s.tree r && not (holds_of (d i) (λ due. int_le due day)))
-      ∷ (WrongAction, (has_record s.tree r && not (holds_of (a i) (same_action named))) || same_action named Review)
-      ∷ [])
+    (DayBack, int_lt day s.day)
+    ∷ (NoSuch, not (has_record s.tree r))
+    ∷ (Ended, has_ended s.tree r)
+    ∷ (InTransfer, is_under_way s.tree r)
+    ∷ (NotDue, has_record s.tree r && not (holds_of (d i) (λ due. int_le due day)))
+    ∷ (WrongAction, (has_record s.tree r && not (holds_of (a i) (same_action named))) || same_action named Review)
+    ∷ [])
 
 pub is_not_due : first_of (refusals_of_confirm base_office day_before_due 1 Destroy) ≡ Some NotDue
 unfolding by_due
@@ -82,3 +82,6 @@ confirmation_counts =
 
 pub other_does_not_count : counts confirmed_office.tree 2 ≡ false
 other_does_not_count = refl
+
+pub third_does_not_count : counts confirmed_office.tree 3 ≡ false
+third_does_not_count = refl

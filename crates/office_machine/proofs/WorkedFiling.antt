@@ -1,12 +1,12 @@
 -- Each act that makes the base office is accepted where it comes.
-use Rattle.std.proofs.Common.{◌≡◌, ◌||◌, not, ℕ, List, [], ◌∷◌, length, Bool, true, false, Option, Some, None, refl, ap, ◌∙◌}
-use Rattle.std.specs.Prelude.{codes, nat_le, int_lt}
+use Rattle.std.proofs.Common.{◌≡◌, not, ℕ, List, [], ◌∷◌, length, Bool, false, Some, None, ap, ◌∙◌}
+use Rattle.std.specs.Prelude.{codes, nat_le}
 use Rattle.std.specs.Option.{is_some}
-use Rattle.std.specs.FinMap.{FinMap, contains_key, len, empty, entries, find, len-entries}
+use Rattle.std.specs.FinMap.{FinMap, contains_key, len, entries, find, len-entries}
 use Rattle.sha2.specs.Sha256.{sha256}
 use Rattle.office_days.specs.declared.refusal.Refusal.{Refusal}
 use Rattle.office_days.specs.declared.refusal.Refusal.TheVariants.{DayBack, Exists, NoSuch, Full, Closed, TooDeep, NeedsClass}
-use Rattle.office_tree.specs.Conditions.{first_of, lacks_class, conditions_of_add_aggregation, conditions_of_add_record}
+use Rattle.office_tree.specs.Conditions.{first_of, conditions_of_add_record}
 use Rattle.office_tree.specs.Effects.{added_record}
 use Rattle.office_tree.specs.Tree.{code_cmp}
 use Rattle.office_machine.specs.Conditions.{dated, refusals_of_add_schedule, refusals_of_add_class, refusals_of_add_aggregation, refusals_of_add_record}
@@ -78,7 +78,16 @@ third_record_added new h = adding second_filed new (codes "r3") (codes "r3") 1 (
 pub filed : (s : Office) (new : NewRecord) (name : List ℕ) (home : ℕ) (bytes : List ℕ) → AsksFor new name name home bytes → after_add_record s filing_day new ≡ with_record s name home bytes
 filed s new name home bytes h =
     λ i. with_tree s filing_day (added_record s.tree (record {
-      ref_text = h.ref_text i; title = h.title i; originated = h.originated i; added = filing_day; aggregation = h.aggregation i;
-      class = h.class i; schedule = h.schedule i; length = length (h.content i); digest = sha256 (h.content i);
-      review = None; confirmation = None; receipt = None;
+      ref_text = h.ref_text i;
+      title = h.title i;
+      originated = h.originated i;
+      added = filing_day;
+      aggregation = h.aggregation i;
+      class = h.class i;
+      schedule = h.schedule i;
+      length = length (h.content i);
+      digest = sha256 (h.content i);
+      review = None;
+      confirmation = None;
+      receipt = None;
     }))

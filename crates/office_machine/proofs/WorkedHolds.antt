@@ -1,5 +1,5 @@
 -- Two holds of the worked office, and which records they cover.
-use Rattle.std.proofs.Common.{◌≡◌, ◌&&◌, ◌||◌, not, ℕ, List, [], ◌∷◌, map, filter, slice_get, Bool, true, false, cond, Option, Some, None, refl, ap, ◌∙◌}
+use Rattle.std.proofs.Common.{◌≡◌, ◌&&◌, ◌||◌, not, ℕ, List, [], ◌∷◌, map, filter, slice_get, Bool, true, false, cond, Option, Some, refl, ap, ◌∙◌}
 use Rattle.std.specs.Prelude.{codes}
 use Rattle.std.specs.List.{list_any}
 use Rattle.std.specs.Option.{is_some}
@@ -12,7 +12,6 @@ use Rattle.std.specs.FinSet as set
 use Rattle.office_days.specs.declared.refusal.Refusal.{Refusal}
 use Rattle.office_days.specs.declared.refusal.Refusal.TheVariants.{DayBack, NoSuch, NeedsClass, HeldClass, Ended, InTransfer}
 use Rattle.office_tree.specs.Conditions.{first_of, lacks_class}
-use Rattle.office_tree.specs.Lists.{holds_of}
 use Rattle.office_tree.specs.Tree.{TreeState, code_cmp, above, above_in, chain, class_in, class_of, aggregation_class_in}
 use Rattle.office_tree.specs.declared.classified.Classified.TheVariants as classified
 use Rattle.office_holds.specs.Conditions.{would_leave_held_class}

@@ -1,5 +1,5 @@
 -- The entries of maps by code that acts build step by step.
-use Rattle.std.proofs.Common.{◌≡◌, ℕ, List, [], ◌∷◌, length, Option, Some, None, refl, sym, ap, ◌∙◌, arith}
+use Rattle.std.proofs.Common.{◌≡◌, ℕ, List, [], ◌∷◌, length, Some, refl, sym, ap, ◌∙◌, arith}
 use Rattle.std.specs.FinMap.{FinMap, get, empty, entries, insert, find, entries-insert, get-entries, len-entries, len-empty}
 use Rattle.std.specs.FinMap.Entries.{put}
 use Rattle.std.specs.Cmp.Lexicographic.{nat_list_cmp_total}

@@ -1,10 +1,9 @@
 -- The first run of a new office, which finds no record.
-use Rattle.std.proofs.Common.{◌≡◌, ◌++◌, ◌≤ℤ◌, ℕ, ℤ, List, [], ◌∷◌, Bool, true, false, Option, Some, None, refl, sym, ap, ◌∙◌, arith, length, map}
+use Rattle.std.proofs.Common.{◌≡◌, ◌++◌, ◌≤ℤ◌, ℕ, ℤ, List, [], ◌∷◌, false, Some, refl, ap, ◌∙◌, arith, map}
 use Rattle.std.specs.Prelude.{codes, int_lt, filter, ◌==◌}
 use Rattle.std.specs.Fmt.{digits}
-use Rattle.std.specs.FinMap.{FinMap, get, empty, entries, len-entries, len-empty, get-insert}
+use Rattle.std.specs.FinMap.{get, empty, get-insert}
 use Rattle.std.specs.Cmp.{nat_cmp_total}
-use Rattle.std.specs.declared.cmp.Ordering.{Ordering}
 use Rattle.std.proofs.lemmas.Int.{ints}
 use Rattle.office_days.specs.declared.refusal.Refusal.TheVariants.{DayBack, NoRun}
 use Rattle.office_tree.specs.Conditions.{first_of}

@@ -1,7 +1,6 @@
 -- The first record of the base office, asked for again.
-use Rattle.std.proofs.Common.{◌≡◌, ◌≢◌, ◌==◌, ◌&&◌, ℕ, suc, List, [], ◌∷◌, length, Bool, true, false, cond, Option, Some, None, refl, sym, ap, ◌∙◌}
+use Rattle.std.proofs.Common.{◌≡◌, ◌≢◌, ◌==◌, ◌&&◌, ℕ, suc, List, [], length, Bool, true, cond, Option, Some, None, refl, ap, ◌∙◌}
 use Rattle.std.specs.Prelude.{codes}
-use Rattle.std.specs.Bool.{Decides}
 use Rattle.std.specs.Ordering.{int_eq}
 use Rattle.std.specs.Str.{bytes_eq}
 use Rattle.std.proofs.lemmas.Slice.Eq.{bytes_eq-Decides}
@@ -16,6 +15,7 @@ use Rattle.office_machine.specs.Steps.{by_refusal, by_same_record, step_add_reco
 use Rattle.office_machine.specs.Worked.{AsksFor, filing_day, head_with, base_office}
 use Rattle.office_machine.specs.declared.answer.Answer.TheVariants.{Number, Same, Refused}
 use Rattle.office_machine.specs.declared.new_record.NewRecord.{NewRecord}
+use Rattle.office_machine.proofs.WorkedTransfer.{fails}
 
 -- the comparison with a head, told by what is asked
 abbrev compared : List ℕ → List ℕ → ℕ → List ℕ → Record → Bool
@@ -40,15 +40,11 @@ is_same new h =
     let one = compares new (codes "r1") (codes "r1") 1 (codes "abc") (head_with (codes "r1") 1 (codes "abc")) h ∙ same_digest in
     ap (λ b. of_three b (is_same_record new (head_with (codes "r2") 2 [])) (is_same_record new (head_with (codes "r3") 1 (codes "abc")))) one
 
-fails : {P : Type 0} (b : Bool) → Decides b P → ¬ P → b ≡ false
-fails true d n = absurd (n (d.0 refl))
-fails false d n = refl
-
 pub is_other : (new : NewRecord) (title : List ℕ) → title ≢ codes "r1" → AsksFor new (codes "r1") title 1 (codes "abc") → same_record base_office new ≡ None
 is_other new title other h =
     let differs = fails (bytes_eq title (codes "r1")) (bytes_eq-Decides title (codes "r1")) other in
     let one = compares new (codes "r1") title 1 (codes "abc") (head_with (codes "r1") 1 (codes "abc")) h
-            ∙ ap (λ b. b && true && true && true && bytes_eq (sha256 (codes "abc")) (sha256 (codes "abc"))) differs in
+    ∙ ap (λ b. b && true && true && true && bytes_eq (sha256 (codes "abc")) (sha256 (codes "abc"))) differs in
     let two = compares new (codes "r1") title 1 (codes "abc") (head_with (codes "r2") 2 []) h in
     let three = compares new (codes "r1") title 1 (codes "abc") (head_with (codes "r3") 1 (codes "abc")) h in
     λ i. of_three (one i) (two i) (three i)

@@ -1,5 +1,5 @@
 -- What comes of a transfer: sending, the receipt, and the end under a hold or free.
-use Rattle.std.proofs.Common.{◌≡◌, ◌≢◌, ℕ, List, [], ◌∷◌, Bool, true, false, not, Option, Some, None, refl, sym, ap}
+use Rattle.std.proofs.Common.{◌≡◌, ◌≢◌, ℕ, List, [], ◌∷◌, Bool, true, false, not, Option, Some, refl, sym, ap}
 use Rattle.std.specs.Prelude.{codes}
 use Rattle.std.specs.Str.{bytes_eq}
 use Rattle.std.specs.Bool.{Decides}
@@ -30,7 +30,7 @@ pub free_is_ended : (s : Office) (r : ℕ) → status_of s.tree r ≡ Some statu
 free_is_ended s r received free = λ i. outcome_by (received i) (action_of s.tree r) (free i)
 
 -- a test that decides a false statement fails
-fails : {P : Type 0} (b : Bool) → Decides b P → ¬ P → b ≡ false
+pub fails : {P : Type 0} (b : Bool) → Decides b P → ¬ P → b ≡ false
 fails true d n = absurd (n (d.0 refl))
 fails false d n = refl
 

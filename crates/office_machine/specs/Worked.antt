@@ -1,12 +1,11 @@
 -- A small office that laws work out: one schedule, two classes, two aggregations and three records. Source: own.
-use Rattle.std.specs.Prelude.{◌≡◌, ℕ, List, [], ◌∷◌, length, Option, Some, None, ℤ, pos, codes}
+use Rattle.std.specs.Prelude.{◌≡◌, ℕ, List, [], ◌∷◌, length, Some, None, ℤ, pos, codes}
 use Rattle.sha2.specs.Sha256.{sha256}
 use Rattle.office_days.specs.declared.offset.Offset.TheVariants.{AnyDay}
 use Rattle.office_days.specs.declared.unit.Unit.TheVariants.{Years}
 use Rattle.office_tree.specs.Effects.{added_record}
 use Rattle.office_tree.specs.Tree.{TreeState, empty_tree}
 use Rattle.office_tree.specs.declared.action.Action.TheVariants.{Destroy}
-use Rattle.office_tree.specs.declared.aggregation.Aggregation.{Aggregation}
 use Rattle.office_tree.specs.declared.class.Class.{Class}
 use Rattle.office_tree.specs.declared.head.Record.{Record}
 use Rattle.office_tree.specs.declared.schedule.Schedule.{Schedule}
@@ -17,7 +16,7 @@ use Rattle.office_holds.specs.declared.target.Target.TheVariants as target
 use Rattle.office_proof.specs.declared.entry.Entry.{Entry}
 use Rattle.office_proof.specs.declared.outcome.Outcome.TheVariants.{Destroyed}
 use Rattle.office_machine.specs.Effects.{with_tree, after_add_schedule, after_add_class, after_add_aggregation, after_close_aggregation, after_confirm, after_place_hold, after_hold_on, after_hold_off, after_lift_hold}
-use Rattle.office_machine.specs.State.{Office, empty_office, empty_state, State, with_office}
+use Rattle.office_machine.specs.State.{Office, empty_office, empty_state, State}
 use Rattle.office_machine.specs.Steps.{step_open_run, step_run_step}
 use Rattle.office_machine.specs.declared.answer.Answer.{Answer}
 use Rattle.office_machine.specs.declared.new_record.NewRecord.{NewRecord}
@@ -56,9 +55,18 @@ with_root s ref_text class = after_add_aggregation s filing_day ref_text ref_tex
 -- the head of a record whose title is its ref, with no class or schedule of its own
 abbrev pub head_with : List ℕ → ℕ → List ℕ → Record
 head_with ref_text aggregation content = record {
-  ref_text = ref_text; title = ref_text; originated = filing_day; added = filing_day; aggregation = aggregation;
-  class = None; schedule = None; length = length content; digest = sha256 content;
-  review = None; confirmation = None; receipt = None;
+  ref_text = ref_text;
+  title = ref_text;
+  originated = filing_day;
+  added = filing_day;
+  aggregation = aggregation;
+  class = None;
+  schedule = None;
+  length = length content;
+  digest = sha256 content;
+  review = None;
+  confirmation = None;
+  receipt = None;
 }
 
 abbrev pub with_record : Office → List ℕ → ℕ → List ℕ → Office
@@ -148,8 +156,14 @@ both_closed = after_close_aggregation child_closed filing_due 1
 -- the entry of the run that ended it
 abbrev pub ending_entry : Entry
 ending_entry = record {
-  run = 1; record_no = 1; outcome = Destroyed; class = codes "FIN"; schedule = codes "D1"; due = filing_due;
-  confirmed_by = codes "registrar"; hold = None;
+  run = 1;
+  record_no = 1;
+  outcome = Destroyed;
+  class = codes "FIN";
+  schedule = codes "D1";
+  due = filing_due;
+  confirmed_by = codes "registrar";
+  hold = None;
 }
 
 -- ---- two records added to one aggregation on two days, the first of them of any status

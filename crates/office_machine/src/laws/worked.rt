@@ -1,4 +1,5 @@
-//! A small office, worked out by the definitions.
+//! A small office, worked out by the definitions: where a law names no other, it speaks of the
+//! offices of `specs/Worked.antt`.
 ghost use Rattle.std.specs.Prelude.{◌≡◌, ◌≢◌, ◌≤ℤ◌, ◌++◌, ℕ, ℤ, true, false, List, [], ◌∷◌, Some, None, codes};
 ghost use Rattle.std.specs.FinMap.{get};
 ghost use Rattle.sha2.specs.Sha256.{sha256};
@@ -6,7 +7,6 @@ ghost use Rattle.office_days.specs.Calendar.{civil};
 ghost use Rattle.office_days.specs.declared.refusal.Refusal.TheVariants.{DayBack, Exists, ChildOpen, HeldClass, Ended, NotDue, WrongAction, NoRun, WrongDigest};
 ghost use Rattle.office_tree.specs.Conditions.{first_of};
 ghost use Rattle.office_tree.specs.Disposal.{counts};
-ghost use Rattle.office_tree.specs.Lists.{numbered};
 ghost use Rattle.office_tree.specs.Tree.{class_of, plan_of, due_of, action_of, status_of, last_addition};
 ghost use Rattle.office_tree.specs.declared.action.Action.TheVariants as action;
 ghost use Rattle.office_tree.specs.declared.classified.Classified.TheVariants as classified;
@@ -33,8 +33,7 @@ pub fn law_of_closing()
     ensures child_closed { IsAccepted (refusals_of_close_aggregation child_closed filing_due 1) }
     ensures both { spent_list both_closed.tree (ending_entry ∷ []) ≡ 1 ∷ 2 ∷ [] }
     ensures child { spent_list child_closed.tree (ending_entry ∷ []) ≡ 2 ∷ [] }
-{
-}
+{}
 
 /// The last addition to an aggregation is the later of two days, whatever has become of the record
 /// of the earlier one.
@@ -42,8 +41,7 @@ pub fn law_of_a_last_addition()
     ensures later { (status : Status) → last_addition (twice_added status).records 1 ≡ Some filing_due }
     ensures alone { last_addition base_office.tree.records 1 ≡ Some filing_day }
     ensures no_other { (status : Status) → last_addition (twice_added status).records 2 ≡ None }
-{
-}
+{}
 
 /// A record that is here and planned to be transferred is sent, held or not. A received record is
 /// skipped while it is held, and else its transfer ends. A receipt for a sent record is refused where
@@ -57,8 +55,7 @@ pub fn law_of_a_transfer()
     ensures right_digest { IsAccepted (refusals_of_receipt sent_office filing_day 1 (sha256 (codes "abc"))) }
     ensures received { (by : List ℕ) → status_of (after_receipt sent_office filing_day 1 by).tree 1 ≡ Some status.Received }
     ensures of_ended { (digest : List ℕ) → first_of (refusals_of_receipt ended_office filing_day 1 digest) ≡ Some Ended }
-{
-}
+{}
 
 /// On any day a new office opens its first run, a step closes it with a certificate that tells no
 /// record, and then there is no run to step.
@@ -68,8 +65,7 @@ pub fn law_of_a_new_office()
     ensures no_run { (day : ℤ) → first_day ≤ℤ day → (second_step day).0 ≡ Refused NoRun }
     ensures certificate { (day : ℤ) → first_day ≤ℤ day → get (first_step day).1.office.certificates 1 ≡ Some (sealed (lines_text (
         codes "CERTIFICATE 1" ∷ (codes "DAY " ++ date_text day) ∷ codes "BY registrar" ∷ codes "ENDED 0" ∷ codes "SENT 0" ∷ codes "SKIPPED 0" ∷ codes "SPENT 0" ∷ []))) }
-{
-}
+{}
 
 /// Each act that makes the base office is accepted where it comes.
 pub fn law_of_filing()
@@ -82,12 +78,11 @@ pub fn law_of_filing()
     ensures second_record { (new : NewRecord) → AsksFor new (codes "r2") (codes "r2") 2 [] → IsAccepted (refusals_of_add_record first_filed filing_day new) }
     ensures third_record { (new : NewRecord) → AsksFor new (codes "r3") (codes "r3") 1 (codes "abc") → IsAccepted (refusals_of_add_record second_filed filing_day new) }
     ensures filed { (s : Office) (new : NewRecord) (name : List ℕ) (home : ℕ) (bytes : List ℕ) → AsksFor new name name home bytes → after_add_record s filing_day new ≡ with_record s name home bytes }
-{
-}
+{}
 
 /// Records take the class of their aggregation and its schedule, and are due one year after they were
 /// added. The day before, a confirmation is refused; on the due day it is accepted where it names the
-/// plan's action. From then on no act has an earlier day, and the confirmation counts for that record.
+/// plan's action. After it no run of the day before is opened, and it counts for that record alone.
 pub fn law_of_the_base_office()
     ensures class { (class_of base_office.tree 1 ≡ Some (codes "FIN")) × (class_of base_office.tree 2 ≡ Some (codes "LEG")) × (class_of base_office.tree 3 ≡ Some (codes "FIN")) }
     ensures plan { (plan_of base_office.tree 1 ≡ Some (codes "D1")) × (plan_of base_office.tree 2 ≡ Some (codes "D1")) × (plan_of base_office.tree 3 ≡ Some (codes "D1")) }
@@ -99,9 +94,8 @@ pub fn law_of_the_base_office()
     ensures accepted { IsAccepted (refusals_of_confirm base_office filing_due 1 action.Destroy) }
     ensures day_back { first_of (refusals_of_open_run confirmed_office day_before_due) ≡ Some DayBack }
     ensures counted { counts confirmed_office.tree 1 ≡ true }
-    ensures not_counted { counts confirmed_office.tree 2 ≡ false }
-{
-}
+    ensures not_counted { (counts confirmed_office.tree 2 ≡ false) × (counts confirmed_office.tree 3 ≡ false) }
+{}
 
 /// A record that is asked for again, with all that its first asking told, is told by its number and
 /// nothing is done. With another title it is refused, since its ref is there.
@@ -110,8 +104,7 @@ pub fn law_of_a_repeated_record()
     ensures told { (s : State) (new : NewRecord) → s.office ≡ base_office → AsksFor new (codes "r1") (codes "r1") 1 (codes "abc") → step_add_record s filing_day new ≡ (Same 1, s) }
     ensures other_title { (new : NewRecord) (title : List ℕ) → title ≢ codes "r1" → AsksFor new (codes "r1") title 1 (codes "abc") → same_record base_office new ≡ None }
     ensures refused { (s : State) (new : NewRecord) (title : List ℕ) → s.office ≡ base_office → title ≢ codes "r1" → AsksFor new (codes "r1") title 1 (codes "abc") → step_add_record s filing_day new ≡ (Refused Exists, s) }
-{
-}
+{}
 
 /// A hold on a class holds the records of that class and no others. Of two holds that cover a record
 /// the one whose code is first in byte order is told, and once that is lifted, the other; once its
@@ -125,5 +118,4 @@ pub fn law_of_a_held_class()
     ensures after_taking_off { is_held free_again.holds free_again.tree 2 ≡ false }
     ensures leaving { first_of (refusals_of_reclassify finance_held filing_day (classified.Aggregation 1) (Some (codes "LEG"))) ≡ Some HeldClass }
     ensures staying { IsAccepted (refusals_of_reclassify finance_held filing_day (classified.Aggregation 1) (Some (codes "FIN"))) }
-{
-}
+{}
