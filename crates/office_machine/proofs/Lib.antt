@@ -23,3 +23,13 @@ pub mod SoundSchedules
 pub mod SoundSteps
 pub mod SoundTaken
 pub mod SoundTree
+pub mod WorkedBase
+pub mod WorkedClosing
+pub mod WorkedConfirming
+pub mod WorkedDays
+pub mod WorkedFiling
+pub mod WorkedHolds
+pub mod WorkedMaps
+pub mod WorkedNewOffice
+pub mod WorkedRepeating
+pub mod WorkedTransfer

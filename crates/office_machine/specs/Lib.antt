@@ -6,3 +6,4 @@ pub mod Runs
 pub mod Sound
 pub mod State
 pub mod Steps
+pub mod Worked

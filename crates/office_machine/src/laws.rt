@@ -5,3 +5,4 @@ pub mod refusing;
 pub mod resuming;
 pub mod running;
 pub mod soundness;
+pub mod worked;

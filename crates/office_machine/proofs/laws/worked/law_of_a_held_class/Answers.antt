@@ -1,0 +1,13 @@
+use Rattle.office_machine.proofs.WorkedHolds.{second_held, first_free, least_is, least_after_lifting, free_after_taking_off, leaving_is_refused, staying_is_accepted}
+use Rattle.office_machine.proofs.laws.worked.law_of_a_held_class.Goals as goal
+
+pub returns : goal.returns
+returns c = record {
+  held = second_held;
+  not_held = first_free;
+  least = least_is;
+  after_lifting = least_after_lifting;
+  after_taking_off = free_after_taking_off;
+  leaving = leaving_is_refused;
+  staying = staying_is_accepted;
+}
