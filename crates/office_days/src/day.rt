@@ -1,4 +1,4 @@
-ghost use Rattle.std.specs.Prelude.{◌≡◌, ◌↔◌, ◌≤◌, IsSome, IfSome, ℤ, ◌≤ℤ◌};
+ghost use Rattle.std.specs.Prelude.{neg_ℤ, pos, ◌≡◌, ◌↔◌, ◌≤◌, IsSome, IfSome, ℤ, ◌≤ℤ◌};
 ghost use Rattle.jiff.specs.Words.{epoch_day};
 ghost use Rattle.office_days.specs.Calendar.{CivilDay, IsDay, civil, number_of};
 ghost use Rattle.office_days.specs.Limits.{IsDayNumber};
@@ -60,6 +60,13 @@ impl Day {
         Some(Day {
             number: number as i32,
         })
+    }
+
+    /// The first day that there is, 0001-01-01.
+    pub fn first() -> Day
+        ensures { result ≡ neg_ℤ (pos 719_162) }
+    {
+        Day { number: -719_162 }
     }
 
     /// The date of `jiff` for the day.

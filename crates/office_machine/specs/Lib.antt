@@ -1,9 +1,12 @@
+pub mod Acts
 pub mod Conditions
 pub mod Disposing
 pub mod Effects
 pub mod Meanings
+pub mod Rows
 pub mod Runs
 pub mod Sound
 pub mod State
 pub mod Steps
 pub mod Worked
+pub mod Writes

@@ -3,6 +3,7 @@ pub mod contents;
 pub mod lasting;
 pub mod refusing;
 pub mod resuming;
+pub mod rows;
 pub mod running;
 pub mod soundness;
 pub mod worked;

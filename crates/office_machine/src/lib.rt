@@ -10,14 +10,22 @@
 //! decides and applies acts is not built yet.
 #![tactic(auto)]
 
+mod act;
 mod answer;
+mod change;
+mod machine;
 mod disposing;
 pub mod laws;
 mod new_record;
+mod rows;
 mod run;
 #[cfg(test)]
 mod tests;
 
+pub use act::Act;
 pub use answer::Answer;
+pub use change::{Change, Decision};
+pub use machine::Machine;
 pub use new_record::NewRecord;
+pub use rows::{HoldRow, RecordRow, RowWrite};
 pub use run::Run;

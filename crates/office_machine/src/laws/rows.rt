@@ -1,0 +1,18 @@
+//! The rows that a state stands for, and what each write makes of them.
+ghost use Rattle.std.specs.Prelude.{◌≡◌, List, length};
+ghost use Rattle.office_machine.specs.Rows.{rows_of, write_rows, all_row_writes};
+ghost use Rattle.office_machine.specs.State.{State};
+ghost use Rattle.office_machine.specs.Writes.{write, all_writes, CanWrite, HasPlace};
+ghost use Rattle.office_machine.specs.declared.rows.RowWrite.{RowWrite};
+
+/// Two different states stand for different rows, where each record has a status.
+pub fn law_of_one_state()
+    ensures one { (s t : State) → length s.office.tree.statuses ≡ length s.office.tree.records → length t.office.tree.statuses ≡ length t.office.tree.records → rows_of s ≡ rows_of t → s ≡ t }
+{}
+
+/// A write of a row that has a place makes of the rows of a state those of the next; and so do the
+/// writes of a change, one after another.
+pub fn law_of_writes()
+    ensures each { (s : State) (w : RowWrite) → length s.office.tree.statuses ≡ length s.office.tree.records → HasPlace s.office w → rows_of (write w s) ≡ write_rows w (rows_of s) }
+    ensures all { (s : State) (ws : List RowWrite) → length s.office.tree.statuses ≡ length s.office.tree.records → CanWrite s.office ws → rows_of (all_writes ws s) ≡ all_row_writes ws (rows_of s) }
+{}

@@ -1,0 +1,49 @@
+ghost use Rattle.std.specs.Prelude.{◌≡◌, IfOk, OnOk, OnErr};
+ghost use Rattle.office_machine.specs.Acts.{IsDecidedFor};
+ghost use Rattle.office_machine.specs.State.{empty_office};
+ghost use Rattle.office_machine.specs.Writes.{all_office_writes, CanWrite};
+
+use crate::{Act, Change, Decision};
+use office_days::Day;
+use office_tree::{Memory, Tree};
+use std::alloc::Global;
+use std::marker::Model;
+
+/// The office in memory, without the contents of its records. Contracts see an `Office`.
+#[derive(Drop)]
+pub struct Machine {
+    pub(crate) tree: Tree,
+    pub(crate) day: Day,
+}
+
+impl Model for Machine {
+    ghost use Rattle.std.specs.Coded.{codes};
+    ghost use Rattle.std.specs.FinMap as map;
+    ghost use Rattle.std.specs.Prelude.{[]};
+    ghost use Rattle.office_machine.specs.State.{Office};
+
+    ghost Value = { Office };
+
+    ghost coded = { Prim.hlevel (codes, map.code) };
+
+    ghost view = { λ m. record {
+        tree = m.tree;
+        holds = map.empty;
+        runs = [];
+        entries = map.empty;
+        certificates = map.empty;
+        day = m.day;
+    } };
+}
+
+impl Machine {
+    /// A new office, in which nothing is, on the first day that there is.
+    pub fn new(alloc: Global) -> Machine
+        ensures { result ≡ empty_office }
+    {
+        Machine {
+            tree: Tree::new(alloc),
+            day: Day::first(),
+        }
+    }
+}
