@@ -19,6 +19,7 @@ mod class;
 mod classified;
 mod classifying;
 mod code;
+mod finding;
 mod head;
 pub mod laws;
 mod memory;
