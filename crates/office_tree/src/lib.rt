@@ -23,6 +23,7 @@ mod finding;
 mod head;
 pub mod laws;
 mod memory;
+mod placing;
 mod schedule;
 mod scheduling;
 mod status;
