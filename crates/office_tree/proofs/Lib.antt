@@ -11,6 +11,7 @@ pub mod Least
 pub mod Maps
 pub mod Places
 pub mod Plan
+pub mod Putting
 pub mod Reading
 pub mod Refs
 pub mod ScheduleLemmas

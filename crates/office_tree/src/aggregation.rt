@@ -1,5 +1,9 @@
-use crate::{Code, Text};
+ghost use Rattle.std.specs.Prelude.{◌≡◌, IfOk};
+
+use crate::code::copy_code;
+use crate::{Code, Memory, Text};
 use office_days::Day;
+use std::alloc::Global;
 
 /// The number of an aggregation: 1, 2, .. in the order of addition.
 pub type AggNo = u32;
@@ -13,4 +17,19 @@ pub struct Aggregation {
     pub parent: Option<AggNo>,
     pub class: Option<Code>,
     pub closed: Option<Day>,
+}
+
+impl Aggregation {
+    /// A second aggregation that is equal to this one.
+    pub fn copy(&self, alloc: Global) -> Result<Aggregation, Memory>
+        ensures { IfOk result (λ a. a ≡ self.now) }
+    {
+        Ok(Aggregation {
+            ref_text: self.ref_text.copy(alloc)?,
+            title: self.title.copy(alloc)?,
+            parent: self.parent,
+            class: copy_code(alloc, self.class.as_ref())?,
+            closed: self.closed,
+        })
+    }
 }

@@ -2,6 +2,7 @@ ghost use Rattle.std.specs.Prelude.{◌≡◌, true, IfOk, Some, nat_eq, refl};
 ghost use Rattle.std.specs.Cmp.{partial_equiv_from_equiv};
 ghost use Rattle.std.specs.Cmp.Lexicographic.{pointwise, slice_cmp, nat_list_eq_equiv, nat_list_cmp_total, texts_ties, texts_po};
 ghost use Rattle.std.specs.List.{list_all};
+ghost use Rattle.std.specs.Option.{option_copied};
 ghost use Rattle.std.specs.Ordering.{nat_cmp};
 ghost use Rattle.office_tree.specs.Codes.{code_named, is_code, is_code_byte};
 
@@ -70,6 +71,16 @@ impl Code {
     {
         let text = String::from_str(alloc, self.text.as_str())?;
         Ok(Code { text })
+    }
+}
+
+/// A second code that is equal to this one, if there is one.
+pub(crate) fn copy_code(alloc: Global, code: Option<&Code>) -> Result<Option<Code>, Memory>
+    ensures { IfOk result (λ c. c ≡ option_copied code.entry) }
+{
+    match code {
+        Some(code) => Ok(Some(code.copy(alloc)?)),
+        None => Ok(None),
     }
 }
 

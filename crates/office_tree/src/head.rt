@@ -1,5 +1,9 @@
-use crate::{Action, AggNo, Code, Text};
+ghost use Rattle.std.specs.Prelude.{◌≡◌, IfOk};
+
+use crate::code::copy_code;
+use crate::{Action, AggNo, Code, Memory, Text};
 use office_days::{Day, DueDay};
+use std::alloc::Global;
 
 /// The number of a record: 1, 2, .. in the order of addition.
 pub type RecordNo = u32;
@@ -44,4 +48,77 @@ pub struct Record {
     pub review: Option<Review>,
     pub confirmation: Option<Confirmation>,
     pub receipt: Option<Receipt>,
+}
+
+impl Review {
+    /// A second review that is equal to this one.
+    pub fn copy(&self, alloc: Global) -> Result<Review, Memory>
+        ensures { IfOk result (λ r. r ≡ self.now) }
+    {
+        Ok(Review {
+            day: self.day,
+            by: self.by.copy(alloc)?,
+        })
+    }
+}
+
+impl Confirmation {
+    /// A second confirmation that is equal to this one.
+    pub fn copy(&self, alloc: Global) -> Result<Confirmation, Memory>
+        ensures { IfOk result (λ c. c ≡ self.now) }
+    {
+        Ok(Confirmation {
+            action: self.action,
+            due: self.due,
+            day: self.day,
+            by: self.by.copy(alloc)?,
+        })
+    }
+}
+
+impl Receipt {
+    /// A second receipt that is equal to this one.
+    pub fn copy(&self, alloc: Global) -> Result<Receipt, Memory>
+        ensures { IfOk result (λ r. r ≡ self.now) }
+    {
+        Ok(Receipt {
+            day: self.day,
+            by: self.by.copy(alloc)?,
+        })
+    }
+}
+
+impl Record {
+    /// A second head that is equal to this one.
+    pub fn copy(&self, alloc: Global) -> Result<Record, Memory>
+        ensures { IfOk result (λ r. r ≡ self.now) }
+    {
+        let review = match &self.review {
+            Some(review) => Some(review.copy(alloc)?),
+            None => None,
+        };
+        let confirmation = match &self.confirmation {
+            Some(confirmation) => Some(confirmation.copy(alloc)?),
+            None => None,
+        };
+        let receipt = match &self.receipt {
+            Some(receipt) => Some(receipt.copy(alloc)?),
+            None => None,
+        };
+        let digest = self.digest;
+        Ok(Record {
+            ref_text: self.ref_text.copy(alloc)?,
+            title: self.title.copy(alloc)?,
+            originated: self.originated,
+            added: self.added,
+            aggregation: self.aggregation,
+            class: copy_code(alloc, self.class.as_ref())?,
+            schedule: copy_code(alloc, self.schedule.as_ref())?,
+            length: self.length,
+            digest,
+            review,
+            confirmation,
+            receipt,
+        })
+    }
 }

@@ -1,0 +1,18 @@
+use Rattle.std.proofs.Common.{◌∙◌, sym, ap, subst}
+use Rattle.std.specs.FinMap.{FinMap}
+use Rattle.office_tree.specs.Rows.{put_class}
+use Rattle.office_tree.specs.Sound.{IsSound}
+use Rattle.office_tree.specs.Tree.{TreeState}
+use Rattle.office_tree.specs.contracts.tree.Tree.{the_view}
+use Rattle.office_tree.specs.declared.class.Class.{Class}
+use Rattle.office_tree.proofs.Inserting.{inserted}
+use Rattle.office_tree.proofs.tree.Tree.put_class.Goals as goal
+
+pub returns-clause-ok : goal.returns-clause-ok
+returns-clause-ok c =
+    let tree = the_view c.self.inside in
+    let new = inserted c.self.inside.classes.entries c.insert.new.self.entries c.args.code c.args.class c.in_ok-insert.ensures.updates.0 in
+    ap (λ classes. record tree { classes = classes }) new ∙ ap (λ t. put_class t c.args.code c.args.class) c.self.view_is
+
+pub invariant_of-self-2 : goal.invariant_of-self-2
+invariant_of-self-2 c = subst (λ (t : TreeState). IsSound t) (sym (returns-clause-ok c)) c.requires

@@ -1,0 +1,78 @@
+ghost use Rattle.std.specs.Prelude.{◌≡◌, ◌+◌, ◌<◌, ◌≤◌, OnOk, OnErr, IsOk, length, vec_len, vec_capacity};
+ghost use Rattle.office_tree.specs.Lists.{put};
+ghost use Rattle.office_tree.specs.Rows.{put_aggregation, put_class, put_record, put_schedule};
+ghost use Rattle.office_tree.specs.Sound.{IsSound};
+
+use crate::{AggNo, Aggregation, Class, Code, Memory, Record, RecordNo, Schedule, Status, Tree};
+
+/// Puts a row in place of the one with that number, which needs no memory, or as the next.
+fn put_row<T: Drop>(rows: &mut Vec<T>, number: u32, row: T) -> Result<(), Memory>
+    requires { 0 < number }
+    ensures ok { OnOk result (rows.new.items ≡ put rows.old.items number row) }
+    ensures err { OnErr result (rows.new.items ≡ rows.old.items) }
+    ensures in_place { number ≤ vec_len rows.old → IsOk result }
+    ensures room { vec_len rows.old < vec_capacity rows.old → IsOk result }
+{
+    let at = number as usize - 1;
+    if at < rows.len() {
+        rows[at] = row;
+    } else {
+        rows.push(row)?;
+    }
+    Ok(())
+}
+
+impl Tree {
+    /// Puts a schedule under its code, in place of what was there or as a new one.
+    pub fn put_schedule(&mut self, code: Code, schedule: Schedule) -> Result<(), Memory>
+        requires { IsSound (put_schedule self.old code schedule) }
+        ensures ok { OnOk result (self.new ≡ put_schedule self.old code schedule) }
+        ensures err { OnErr result (self.new ≡ self.old) }
+    {
+        self.schedules.insert(code, schedule)?;
+        Ok(())
+    }
+
+    /// Puts a class under its code, in place of what was there or as a new one.
+    pub fn put_class(&mut self, code: Code, class: Class) -> Result<(), Memory>
+        requires { IsSound (put_class self.old code class) }
+        ensures ok { OnOk result (self.new ≡ put_class self.old code class) }
+        ensures err { OnErr result (self.new ≡ self.old) }
+    {
+        self.classes.insert(code, class)?;
+        Ok(())
+    }
+
+    /// Puts an aggregation in place of the one with that number, which needs no memory, or as the
+    /// next.
+    pub fn put_aggregation(&mut self, aggregation: AggNo, it: Aggregation) -> Result<(), Memory>
+        requires sound { IsSound (put_aggregation self.old aggregation it) }
+        requires number { (0 < aggregation) × (aggregation ≤ length self.old.aggregations + 1) }
+        ensures ok { OnOk result (self.new ≡ put_aggregation self.old aggregation it) }
+        ensures err { OnErr result (self.new ≡ self.old) }
+        ensures in_place { aggregation ≤ length self.old.aggregations → IsOk result }
+    {
+        put_row(&mut self.aggregations, aggregation, it)
+    }
+
+    /// Puts a record's head with its status in place of the one with that number, which needs no
+    /// memory, or as the next.
+    pub fn put_record(
+        &mut self,
+        record_no: RecordNo,
+        head: Record,
+        status: Status,
+    ) -> Result<(), Memory>
+        requires sound { IsSound (put_record self.old record_no head status) }
+        requires number { (0 < record_no) × (record_no ≤ length self.old.records + 1) }
+        ensures ok { OnOk result (self.new ≡ put_record self.old record_no head status) }
+        ensures err { OnErr result (self.new ≡ self.old) }
+        ensures in_place { record_no ≤ length self.old.records → IsOk result }
+    {
+        if record_no as usize > self.statuses.len() {
+            self.statuses.try_reserve(1)?;
+        }
+        put_row(&mut self.records, record_no, head)?;
+        put_row(&mut self.statuses, record_no, status)
+    }
+}
