@@ -1,7 +1,6 @@
 pub mod Accepted
 pub mod Candidates
 pub mod Contents
-pub mod Digests
 pub mod HeldSteps
 pub mod LeastHolds
 pub mod Listing

@@ -26,7 +26,7 @@ use Rattle.office_machine.specs.State.{State, EntryMap, ByteMap, with_office}
 use Rattle.office_machine.specs.declared.new_record.NewRecord.{NewRecord}
 use Rattle.office_machine.specs.declared.run.Run.{Run}
 use Rattle.office_proof.specs.declared.entry.Entry.{Entry}
-use Rattle.office_machine.proofs.Digests.{IsDigest-sha256}
+use Rattle.office_proof.proofs.Digests.{IsDigest-sha256}
 use Rattle.office_machine.proofs.Accepted.{tree_sound, dated_accepted}
 use Rattle.office_machine.proofs.SoundParts.{IsClosedBy, IsHeadBy, closed_by, heads_by, each_push, each_edited, NamesDisposal, as_many, no_fewer, sound_after}
 

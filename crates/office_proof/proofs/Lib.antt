@@ -1,2 +1,3 @@
 pub mod CertificateLines
 pub mod Columns
+pub mod Digests

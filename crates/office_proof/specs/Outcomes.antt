@@ -1,5 +1,7 @@
 -- What an outcome says. Source: own.
-use Rattle.std.specs.Prelude.{Bool, true, false, List, ℕ, codes}
+use Rattle.std.specs.Prelude.{Bool, true, false, List, [], ◌∷◌, ℕ, Option, codes}
+use Rattle.std.specs.List.{find}
+use Rattle.std.specs.Str.{bytes_eq}
 use Rattle.office_proof.specs.declared.outcome.Outcome.{Outcome}
 use Rattle.office_proof.specs.declared.outcome.Outcome.TheVariants.{Destroyed, Transferred, Sent, Skipped}
 
@@ -28,3 +30,7 @@ outcome_word Destroyed = codes "destroyed"
 outcome_word Transferred = codes "transferred"
 outcome_word Sent = codes "sent"
 outcome_word Skipped = codes "skipped"
+
+-- the outcome that a text names: the one whose word it is
+abbrev pub outcome_named : List ℕ → Option Outcome
+outcome_named text = find (λ outcome. bytes_eq text (outcome_word outcome)) (Destroyed ∷ Transferred ∷ Sent ∷ Skipped ∷ [])

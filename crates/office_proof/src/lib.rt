@@ -5,13 +5,17 @@
 //! record the hold that kept it. When the run closes, its **certificate** lists the entries by record
 //! number, and the aggregations that are spent, and ends with the SHA-256 of all that stands above.
 //!
-//! Today this crate has the types, the definitions (`specs`) and laws of what these mean; the code
-//! that writes entries and certificates is not built yet.
+//! Today this crate has the types, the definitions (`specs`) and laws of what these mean, the words of
+//! outcomes and the digest of a content; the code that writes entries and certificates is not built yet.
 #![tactic(auto)]
 
+mod digest;
 mod entry;
 pub mod laws;
 mod outcome;
+#[cfg(test)]
+mod tests;
 
+pub use digest::digest_of;
 pub use entry::{Entry, RunNo};
 pub use outcome::Outcome;

@@ -1,3 +1,6 @@
+ghost use Rattle.std.specs.Prelude.{◌≡◌};
+ghost use Rattle.office_proof.specs.Outcomes.{outcome_named, outcome_word};
+
 /// What a disposal run did with a record.
 #[derive(Clone, Copy, PartialEq, Eq, Debug)]
 pub enum Outcome {
@@ -9,4 +12,31 @@ pub enum Outcome {
     Sent,
     /// A hold kept it from being ended.
     Skipped,
+}
+
+impl Outcome {
+    /// The outcome of that word: `destroyed`, `transferred`, `sent` or `skipped`.
+    pub fn read(text: &str) -> Option<Outcome>
+        ensures { result ≡ outcome_named text.now }
+    {
+        match text {
+            "destroyed" => Some(Outcome::Destroyed),
+            "transferred" => Some(Outcome::Transferred),
+            "sent" => Some(Outcome::Sent),
+            "skipped" => Some(Outcome::Skipped),
+            _ => None,
+        }
+    }
+
+    /// The word for the outcome, which `read` takes back.
+    pub fn text(self) -> &'static str
+        ensures { result.now ≡ outcome_word self }
+    {
+        match self {
+            Outcome::Destroyed => "destroyed",
+            Outcome::Transferred => "transferred",
+            Outcome::Sent => "sent",
+            Outcome::Skipped => "skipped",
+        }
+    }
 }
