@@ -38,14 +38,18 @@ answers s (a ∷ rest) = (step s a).0 ∷ answers (step s a).1 rest
 abbrev pub with_contents : Office → ByteMap → State
 with_contents s contents = record { office = s; contents = contents }
 
--- a change that is right for an act: its answer, at most six writes that can be done, and what they lead to
-pub record IsChangeFor (s : Office) (a : Act) (change : Change) : Type 0 where
-  pub answered : (contents : ByteMap) → (step (with_contents s contents) a).0 ≡ change.answer
+-- a change that is right where each contents lead to such an answer and next state: its answer, at most six writes that can be done, and what they lead to
+pub record IsChangeTo (s : Office) (next : ByteMap → Answer × State) (change : Change) : Type 0 where
+  pub answered : (contents : ByteMap) → (next contents).0 ≡ change.answer
   pub few : length change.writes.items ≤ 6
   pub fits : CanWrite s change.writes.items
-  pub leads : (contents : ByteMap) → all_writes change.writes.items (with_contents s contents) ≡ (step (with_contents s contents) a).1
+  pub leads : (contents : ByteMap) → all_writes change.writes.items (with_contents s contents) ≡ (next contents).1
 
--- a decision that is right for an act: where nothing is to be done the answer leaves the state, else it is a change that is right
+-- a decision that is right: where nothing is to be done the answer leaves the state, else it is a change that is right
+abbrev pub IsDecidedTo : Office → (ByteMap → Answer × State) → Decision → Type 0
+IsDecidedTo s next (decision.Stay answer) = (contents : ByteMap) → next contents ≡ (answer, with_contents s contents)
+IsDecidedTo s next (decision.Go change) = IsChangeTo s next change
+
+-- and right for an act: it is that one's step, whatever the contents
 abbrev pub IsDecidedFor : Office → Act → Decision → Type 0
-IsDecidedFor s a (decision.Stay answer) = (contents : ByteMap) → step (with_contents s contents) a ≡ (answer, with_contents s contents)
-IsDecidedFor s a (decision.Go change) = IsChangeFor s a change
+IsDecidedFor s a d = IsDecidedTo s (λ contents. step (with_contents s contents) a) d

@@ -14,6 +14,7 @@ mod act;
 mod answer;
 mod change;
 mod machine;
+mod deciding;
 mod disposing;
 pub mod laws;
 mod new_record;

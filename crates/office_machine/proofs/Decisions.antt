@@ -1,0 +1,30 @@
+-- What a decision rests on: the first condition of an act's table that holds, or that none does.
+use Rattle.std.proofs.Common.{◌≡◌, ◌≤◌, ℕ, Bool, true, false, cond, List, [], ◌∷◌, length, Option, Some, None, ℤ, refl, sym, ap, ◌∙◌}
+use Rattle.office_days.specs.declared.refusal.Refusal.{Refusal}
+use Rattle.office_tree.specs.Conditions.{first_of}
+use Rattle.office_machine.specs.Acts.{IsChangeTo, with_contents}
+use Rattle.office_machine.specs.State.{Office, State, ByteMap}
+use Rattle.office_machine.specs.Steps.{stepped, by_refusal}
+use Rattle.office_machine.specs.Writes.{CanWrite, all_writes}
+use Rattle.office_machine.specs.declared.answer.Answer.{Answer}
+use Rattle.office_machine.specs.declared.answer.Answer.TheVariants.{Refused}
+use Rattle.office_machine.specs.declared.change.Change.{Change}
+
+-- a condition that holds refuses
+pub refused_step : (conditions : List (Refusal × Bool)) (refusal : Refusal) (before : State) (answer : Answer) (next : State) → first_of conditions ≡ Some refusal → stepped conditions before answer next ≡ (Refused refusal, before)
+refused_step conditions refusal before answer next e = ap (λ o. by_refusal o before answer next) e
+
+-- where none holds the act is done
+pub accepted_step : (conditions : List (Refusal × Bool)) (before : State) (answer : Answer) (next : State) → first_of conditions ≡ None → stepped conditions before answer next ≡ (answer, next)
+accepted_step conditions before answer next e = ap (λ o. by_refusal o before answer next) e
+
+-- a change for an accepted act
+pub accepted_change : (s : Office) (conditions : List (Refusal × Bool)) (answer : Answer) (next : ByteMap → State) (change : Change) → first_of conditions ≡ None → answer ≡ change.answer → length change.writes.items ≤ 6
+    → CanWrite s change.writes.items → ((contents : ByteMap) → all_writes change.writes.items (with_contents s contents) ≡ next contents)
+    → IsChangeTo s (λ contents. stepped conditions (with_contents s contents) answer (next contents)) change
+accepted_change s conditions answer next change accepted same few fits leads = record {
+  answered = λ contents. ap (λ (p : Answer × State). p.0) (accepted_step conditions (with_contents s contents) answer (next contents) accepted) ∙ same;
+  few = few;
+  fits = fits;
+  leads = λ contents. leads contents ∙ sym (ap (λ (p : Answer × State). p.1) (accepted_step conditions (with_contents s contents) answer (next contents) accepted));
+}
