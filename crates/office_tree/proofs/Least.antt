@@ -1,12 +1,14 @@
 -- In a table in the order of the numbers the first condition that holds has the least.
-use Rattle.std.proofs.Common.{◌≡◌, ℕ, suc, ◌<◌, ◌≤◌, List, [], ◌∷◌, Bool, true, false, Option, Some, None, refl, sym, subst, arith, rules}
+use Rattle.std.proofs.Common.{◌≡◌, ℕ, ℤ, suc, ◌<◌, ◌≤◌, List, [], ◌∷◌, Bool, true, false, Option, Some, None, refl, sym, subst, arith, rules}
 use Rattle.std.specs.Prelude.{IsTrue, if◌then◌else◌}
 use Rattle.std.specs.List.{All, AllByRecursion}
 use Rattle.std.proofs.lemmas.List.Elements.{All-nil, All-cons}
 use Rattle.office_days.specs.declared.refusal.Refusal.{Refusal}
 use Rattle.office_days.specs.Refusals.{refusal_number}
-use Rattle.office_tree.specs.Conditions.{first_of, IsLeastOf, IsRising, conditions_of_add_aggregation, conditions_of_add_record}
+use Rattle.office_tree.specs.Conditions.{first_of, IsLeastOf, IsRising, conditions_of_add_aggregation, conditions_of_add_record, conditions_of_confirm, conditions_of_reclassify, conditions_of_review}
 use Rattle.office_tree.specs.Tree.{TreeState}
+use Rattle.office_tree.specs.declared.action.Action.{Action}
+use Rattle.office_tree.specs.declared.classified.Classified.{Classified}
 
 abbrev IsNotBelow : Refusal → Refusal × Bool → Type 0
 IsNotBelow r c = IsTrue c.1 → refusal_number r ≤ refusal_number c.0
@@ -39,7 +41,7 @@ first_is_least (c ∷ cs) rises = by_test c.0 c.1 cs rises.0 (first_is_least cs 
 pub least_of_first : (cs : List (Refusal × Bool)) (answer : Option Refusal) → IsRising cs → answer ≡ first_of cs → IsLeastOf cs answer
 least_of_first cs answer rises e = subst (λ (o : Option Refusal). IsLeastOf cs o) (sym e) (first_is_least cs rises)
 
--- ---- at the two longest tables, which the search does not take whole
+-- ---- at the longest tables, which the search does not take whole
 
 pub least_add_aggregation : (tree : TreeState) (ref_text : List ℕ) (parent : Option ℕ) (class : Option (List ℕ)) (answer : Option Refusal) → answer ≡ first_of (conditions_of_add_aggregation tree ref_text parent class)
     → IsLeastOf (conditions_of_add_aggregation tree ref_text parent class) answer
@@ -48,3 +50,12 @@ least_add_aggregation tree ref_text parent class answer e = least_of_first (cond
 pub least_add_record : (tree : TreeState) (ref_text : List ℕ) (aggregation : ℕ) (class schedule : Option (List ℕ)) (answer : Option Refusal) → answer ≡ first_of (conditions_of_add_record tree ref_text aggregation class schedule)
     → IsLeastOf (conditions_of_add_record tree ref_text aggregation class schedule) answer
 least_add_record tree ref_text aggregation class schedule answer e = least_of_first (conditions_of_add_record tree ref_text aggregation class schedule) answer (search rules) e
+
+pub least_reclassify : (tree : TreeState) (what : Classified) (class : Option (List ℕ)) (answer : Option Refusal) → answer ≡ first_of (conditions_of_reclassify tree what class) → IsLeastOf (conditions_of_reclassify tree what class) answer
+least_reclassify tree what class answer e = least_of_first (conditions_of_reclassify tree what class) answer (search rules) e
+
+pub least_confirm : (tree : TreeState) (day : ℤ) (r : ℕ) (named : Action) (answer : Option Refusal) → answer ≡ first_of (conditions_of_confirm tree day r named) → IsLeastOf (conditions_of_confirm tree day r named) answer
+least_confirm tree day r named answer e = least_of_first (conditions_of_confirm tree day r named) answer (search rules) e
+
+pub least_review : (tree : TreeState) (day : ℤ) (r : ℕ) (schedule : Option (List ℕ)) (answer : Option Refusal) → answer ≡ first_of (conditions_of_review tree day r schedule) → IsLeastOf (conditions_of_review tree day r schedule) answer
+least_review tree day r schedule answer e = least_of_first (conditions_of_review tree day r schedule) answer (search rules) e

@@ -36,14 +36,14 @@ fn has_record_ref(records: &[Record], ref_text: &Text) -> bool
 
 impl Tree {
     /// Whether a schedule has this code.
-    fn has_schedule(&self, code: &Code) -> bool
+    pub(crate) fn has_schedule(&self, code: &Code) -> bool
         ensures { result ≡ contains_key self.now.schedules code.now }
     {
         self.schedules.contains_key(code)
     }
 
     /// Whether a class has this code.
-    fn has_class(&self, code: &Code) -> bool
+    pub(crate) fn has_class(&self, code: &Code) -> bool
         ensures { result ≡ contains_key self.now.classes code.now }
     {
         self.classes.contains_key(code)
@@ -78,7 +78,7 @@ impl Tree {
     }
 
     /// Whether a code is given that names no class.
-    fn lacks_class(&self, class: Option<&Code>) -> bool
+    pub(crate) fn lacks_class(&self, class: Option<&Code>) -> bool
         ensures { result ≡ lacks_class self.now (option_copied class.entry) }
     {
         match class {
@@ -88,7 +88,7 @@ impl Tree {
     }
 
     /// Whether a code is given that names no schedule.
-    fn lacks_schedule(&self, schedule: Option<&Code>) -> bool
+    pub(crate) fn lacks_schedule(&self, schedule: Option<&Code>) -> bool
         ensures { result ≡ lacks_schedule self.now (option_copied schedule.entry) }
     {
         match schedule {

@@ -15,6 +15,7 @@ mod action;
 mod aggregation;
 mod applying;
 mod checking;
+mod checking_changes;
 mod class;
 mod classified;
 mod classifying;
