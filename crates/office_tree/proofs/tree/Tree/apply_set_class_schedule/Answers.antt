@@ -25,7 +25,7 @@ written : (c : goal.After-self-in-Some-1)
 written c =
     let new = c.put_class_schedule.new.class in
     let there = sym c.in-Some.ensures.value in
-    let finds = ((c.get_mut.follows.holds new).1.1.1.0 (ap is_some there)).0 in
+    let finds = ((c.get_mut.follows.holds new).3 (ap is_some there)).0 in
     ap (λ (classes : FinMap code_cmp Class). record (the_view c.self.inside) { classes = classes })
     (amended_written c.self.inside.classes.entries (c.get_mut.follows.lender new).entries c.args.class.now (as_scheduled c.args.schedule) c.in-Some.here.now new there c.put_class_schedule.ensures finds)
 
