@@ -80,8 +80,7 @@ fn review_head(head: &mut Record, review: Review, schedule: Option<Code>)
 }
 
 impl Tree {
-    /// Gives the class this schedule in place of its own. It takes no memory, so it succeeds, as
-    /// do all changes of what is there.
+    /// Gives the class this schedule in place of its own. It takes no memory, so it succeeds.
     pub fn apply_set_class_schedule(&mut self, class: &Code, schedule: Code) -> Result<(), Memory>
         requires { first_of (conditions_of_set_class_schedule self.old class.now schedule) ≡ None }
         ensures succeeds { IsOk result }
