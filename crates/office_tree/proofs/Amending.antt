@@ -1,5 +1,5 @@
 -- What an act of which no condition holds makes of a sound tree is sound: the acts that change what is there.
-use Rattle.std.proofs.Common.{◌≡◌, ℕ, ◌<◌, ◌≤◌, List, length, Option, Some, None, refl, sym, ap, ◌∙◌, subst, Bool, false, arith, inl, inr, ℤ}
+use Rattle.std.proofs.Common.{◌≡◌, ℕ, ◌-◌, ◌<◌, ◌≤◌, List, length, get_or, set, Option, Some, None, refl, sym, ap, ◌∙◌, subst, Bool, true, false, arith, inl, inr, ℤ}
 use Rattle.std.specs.Prelude.{IsSome, IsNone, not, ◌&&◌}
 use Rattle.std.specs.Option.{is_none, option_map}
 use Rattle.std.specs.FinMap.{get, contains_key}
@@ -7,7 +7,7 @@ use Rattle.office_tree.specs.Conditions.{first_of, conditions_of_set_class_sched
 use Rattle.office_tree.specs.Effects.{with_class_schedule, with_head, with_record_schedule, reclassified, confirmed, reviewed, receipted}
 use Rattle.office_tree.specs.Lists.{numbered, edited, holds_of, or_else}
 use Rattle.office_tree.specs.Sound.{IsSound, RootsHaveClasses, NoneIsOpenUnderClosed, NamesStand, Names}
-use Rattle.office_tree.specs.Tree.{TreeState, due_of, has_record}
+use Rattle.office_tree.specs.Tree.{TreeState, due_of, has_aggregation, has_record}
 use Rattle.office_tree.specs.declared.action.Action.{Action}
 use Rattle.office_tree.specs.declared.aggregation.Aggregation.{Aggregation}
 use Rattle.office_tree.specs.declared.class.Class.{Class}
@@ -18,7 +18,8 @@ use Rattle.office_tree.specs.declared.status.Status.TheVariants.{Received}
 use Rattle.office_tree.proofs.Inserting.{Names-amended, amended_cases, len-amended}
 use Rattle.office_tree.proofs.Accepting.{none_holds, not_false, neither}
 use Rattle.office_tree.proofs.Keeping.{names_of, IsForest-edited}
-use Rattle.office_tree.proofs.Places.{numbered_edited, length-edited}
+use Rattle.office_tree.proofs.Places.{numbered_edited, length-edited, edited_put}
+use Rattle.office_tree.proofs.Reading.{aggregation_within, record_within}
 
 -- ---- a class's schedule
 
@@ -56,7 +57,20 @@ IsSound-set_class_schedule tree class schedule sound accepted =
       statuses = sound.statuses;
     }
 
+-- a class whose schedule may be set is there
+pub schedules_class : (tree : TreeState) (class schedule : List ℕ) → first_of (conditions_of_set_class_schedule tree class schedule) ≡ None → contains_key tree.classes class ≡ true
+schedules_class tree class schedule accepted =
+    let no = none_holds (conditions_of_set_class_schedule tree class schedule) accepted in
+    not_false (contains_key tree.classes class) (neither (not (contains_key tree.classes class)) (not (contains_key tree.schedules schedule)) no.0).0
+
 -- ---- a record's head
+
+-- what is written is the head as it was read, changed
+pub head_written : (tree now : TreeState) (r : ℕ) (change : Record → Record) (x y : Record) → tree ≡ now → has_record now r ≡ true → x ≡ get_or tree.records (r - 1) x → y ≡ change x
+    → with_head tree r change ≡ record tree { records = set tree.records (r - 1) y }
+head_written tree now r change x y same there read is =
+    let within = record_within tree r (ap (λ t. has_record t r) same ∙ there) in
+    ap (λ (records : List Record). record tree { records = records }) (edited_put tree.records r change x y within read is)
 
 -- a change that keeps the home and gives only classes and schedules that are there
 pub record IsFit (tree : TreeState) (r : ℕ) (change : Record → Record) : Type 0 where
@@ -122,6 +136,11 @@ IsSound-set_record_schedule tree r schedule sound accepted =
       schedule = λ head e. names_of tree.schedules schedule lacks.1;
     })
 
+-- a record whose schedule may be set is there
+pub schedules_record : (tree : TreeState) (r : ℕ) (schedule : Option (List ℕ)) → first_of (conditions_of_set_record_schedule tree r schedule) ≡ None → has_record tree r ≡ true
+schedules_record tree r schedule accepted =
+    not_false (has_record tree r) (neither (not (has_record tree r)) (lacks_schedule tree schedule) (none_holds (conditions_of_set_record_schedule tree r schedule) accepted).0).0
+
 pub IsSound-confirm : (tree : TreeState) (day : ℤ) (r : ℕ) (named : Action) (by : List ℕ) → IsSound tree → first_of (conditions_of_confirm tree day r named) ≡ None → IsSound (confirmed tree day r named by)
 IsSound-confirm tree day r named by sound accepted =
     IsSound-with_head tree r (λ head. record head { confirmation = option_map (λ due. record { action = named; due = due; day = day; by = by }) (due_of tree r) }) sound (record {
@@ -129,6 +148,10 @@ IsSound-confirm tree day r named by sound accepted =
       class = λ head e. sound.names.record_classes r head e;
       schedule = λ head e. sound.names.record_schedules r head e;
     })
+
+-- a record whose disposal may be confirmed is there
+pub confirms_record : (tree : TreeState) (day : ℤ) (r : ℕ) (named : Action) → first_of (conditions_of_confirm tree day r named) ≡ None → has_record tree r ≡ true
+confirms_record tree day r named accepted = not_false (has_record tree r) (none_holds (conditions_of_confirm tree day r named) accepted).0
 
 pub IsSound-review : (tree : TreeState) (day : ℤ) (r : ℕ) (schedule : Option (List ℕ)) (by : List ℕ) → IsSound tree → first_of (conditions_of_review tree day r schedule) ≡ None → IsSound (reviewed tree day r schedule by)
 IsSound-review tree day r schedule by sound accepted =
@@ -139,6 +162,11 @@ IsSound-review tree day r schedule by sound accepted =
       class = λ head e. sound.names.record_classes r head e;
       schedule = λ head e. names_else tree schedule head.schedule (names_of tree.schedules schedule lacks.1) (sound.names.record_schedules r head e);
     })
+
+-- a record that may be reviewed is there
+pub reviews_record : (tree : TreeState) (day : ℤ) (r : ℕ) (schedule : Option (List ℕ)) → first_of (conditions_of_review tree day r schedule) ≡ None → has_record tree r ≡ true
+reviews_record tree day r schedule accepted =
+    not_false (has_record tree r) (neither (not (has_record tree r)) (lacks_schedule tree schedule) (none_holds (conditions_of_review tree day r schedule) accepted).0).0
 
 pub IsSound-receipt : (tree : TreeState) (day : ℤ) (r : ℕ) (digest by : List ℕ) → IsSound tree → first_of (conditions_of_receipt tree r digest) ≡ None → IsSound (receipted tree day r by)
 IsSound-receipt tree day r digest by sound accepted =
@@ -238,3 +266,14 @@ IsSound-reclassify tree (classified.Record r) class sound accepted =
       class = λ head e. names_of tree.classes class lacks.1;
       schedule = λ head e. sound.names.record_schedules r head e;
     })
+
+-- an aggregation that may be reclassified is there, and so is a record
+pub reclassifies : (tree : TreeState) (what : Classified) (class : Option (List ℕ)) → first_of (conditions_of_reclassify tree what class) ≡ None → lacks_classified tree what ≡ false
+reclassifies tree what class accepted = (neither (lacks_classified tree what) (lacks_class tree class) (none_holds (conditions_of_reclassify tree what class) accepted).0).0
+
+-- what is written is the aggregation as it was read, with the class
+pub aggregation_written : (tree now : TreeState) (a : ℕ) (class : Option (List ℕ)) (x y : Aggregation) → tree ≡ now → lacks_classified now (classified.Aggregation a) ≡ false
+    → x ≡ get_or tree.aggregations (a - 1) x → y ≡ as_classed class x → reclassified tree (classified.Aggregation a) class ≡ record tree { aggregations = set tree.aggregations (a - 1) y }
+aggregation_written tree now a class x y same lacks read is =
+    let within = aggregation_within tree a (ap (λ t. has_aggregation t a) same ∙ not_false (has_aggregation now a) lacks) in
+    ap (λ (aggregations : List Aggregation). record tree { aggregations = aggregations }) (edited_put tree.aggregations a (as_classed class) x y within read is)

@@ -104,3 +104,9 @@ len-amended_by m k f (Some x) e = len-insert nat_list_cmp_total m k (f x) ∙ ap
 -- a change adds and takes nothing
 pub len-amended : {V : Type 0} (m : FinMap code_cmp V) (k : List ℕ) (f : V → V) → len (amended m k f) ≡ len m
 len-amended m k f = len-amended_by m k f (get m k) refl
+
+-- entries of which each look-up finds the changed thing at its code, and else what it found before, make the map with the thing changed
+pub amended_written : {V : Type 0} (es fs : List (List ℕ × V)) (k : List ℕ) (f : V → V) (x y : V) → lookup (is_at (code_cmp k)) es ≡ Some x → y ≡ f x
+    → ((q : List ℕ) → lookup (is_at (code_cmp q)) fs ≡ cond (is_at (code_cmp k) q) (Some y) (lookup (is_at (code_cmp q)) es)) → amended (from_entries {R = code_cmp} es) k f ≡ from_entries fs
+amended_written es fs k f x y there is finds =
+    ap (amended_by (from_entries es) k f) (get_is es k ∙ there) ∙ ap (insert (from_entries es) k) (sym is) ∙ sym (inserted es fs k y finds)

@@ -19,6 +19,10 @@ pub edited_read : {A : Type 0} (xs : List A) (n i : ℕ) (f : A → A) (x : A) �
 edited_read xs zero i f x n_is h e = absurd (omega arith)
 edited_read xs (suc n) i f x n_is h e = let same : n ≡ i = omega arith in ap (λ k. edited_at xs k f) same ∙ edited_at_read xs i f x h e
 
+-- and so is a write of what it is equal to
+pub edited_put : {A : Type 0} (xs : List A) (n : ℕ) (f : A → A) (x y : A) → (0 < n) × (n ≤ length xs) → x ≡ get_or xs (n - 1) x → y ≡ f x → edited xs n f ≡ set xs (n - 1) y
+edited_put xs n f x y within e is = edited_read xs n (n - 1) f x (omega (arith, within.0)) (omega (arith, within.0, within.1)) e ∙ ap (set xs (n - 1)) (sym is)
+
 numbered_within_at : {A : Type 0} (xs : List A) (i : ℕ) (x : A) → slice_get xs i ≡ Some x → i < length xs
 numbered_within_at [] i x e = absurd cc
 numbered_within_at (y ∷ ys) zero x e = omega arith

@@ -14,6 +14,7 @@
 mod action;
 mod aggregation;
 mod applying;
+mod changing;
 mod checking;
 mod checking_changes;
 mod class;

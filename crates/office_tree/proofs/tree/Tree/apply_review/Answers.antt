@@ -1,0 +1,22 @@
+use Rattle.std.proofs.Common.{◌≡◌, ◌∙◌, ◌-◌, None, set, sym, ap, subst}
+use Rattle.office_tree.specs.Conditions.{first_of, conditions_of_review}
+use Rattle.office_tree.specs.Effects.{reviewed}
+use Rattle.office_tree.specs.Sound.{IsSound}
+use Rattle.office_tree.specs.Tree.{TreeState}
+use Rattle.office_tree.specs.contracts.tree.Tree.{the_view}
+use Rattle.office_tree.proofs.Amending.{IsSound-review, head_written, reviews_record}
+use Rattle.office_tree.proofs.tree.Tree.apply_review.Goals as goal
+
+-- what is written is the head as it was read, changed
+written : (c : goal.After-self-1) → reviewed (the_view c.self.inside) c.args.day c.args.record_no c.args.schedule c.args.by ≡ record (the_view c.self.inside) { records = set c.self.inside.records.items (c.args.record_no - 1) c.review_head.new.head }
+written c =
+    let there = reviews_record c.args.self.now c.args.day c.args.record_no c.args.schedule c.requires in
+    head_written (the_view c.self.inside) c.args.self.now c.args.record_no _ c.index_mut-head.result.now c.review_head.new.head c.self.view_is there c.index_mut-head.ensures.value c.review_head.ensures
+
+pub invariant_of-self : goal.invariant_of-self
+invariant_of-self c =
+    let accepted = subst (λ (t : TreeState). first_of (conditions_of_review t c.args.day c.args.record_no c.args.schedule) ≡ None) (sym c.self.view_is) c.requires in
+    subst (λ (t : TreeState). IsSound t) (written c) (IsSound-review (the_view c.self.inside) c.args.day c.args.record_no c.args.schedule c.args.by c.self.invariant accepted)
+
+pub returns-clause-ok : goal.returns-clause-ok
+returns-clause-ok c = sym (written c) ∙ ap (λ t. reviewed t c.args.day c.args.record_no c.args.schedule c.args.by) c.self.view_is
