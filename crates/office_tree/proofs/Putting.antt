@@ -1,5 +1,5 @@
 -- A thing put into a list by its number.
-use Rattle.std.proofs.Common.{◌≡◌, ℕ, zero, suc, ◌+◌, ◌-◌, ◌<◌, ◌≤◌, List, [], ◌∷◌, ◌++◌, length, set, Some, refl, sym, ap, ◌∙◌, arith}
+use Rattle.std.proofs.Common.{◌≡◌, ℕ, zero, suc, ◌+◌, ◌<◌, ◌≤◌, List, [], ◌∷◌, ◌++◌, length, set, Some, refl, ap, ◌∙◌, arith, length-append}
 use Rattle.std.specs.Prelude.{slice_get}
 use Rattle.office_tree.specs.Lists.{numbered, edited, edited_at, put, put_at}
 
@@ -60,13 +60,9 @@ pub length-put : {A : Type 0} (xs : List A) (n : ℕ) (x : A) → n ≤ length x
 length-put xs zero x h = refl
 length-put xs (suc n) x h = length-put_at xs n x (omega arith)
 
-length-push : {A : Type 0} (xs : List A) (x : A) → length (xs ++ x ∷ []) ≡ length xs + 1
-length-push [] x = refl
-length-push (y ∷ ys) x = let h = length-push ys x in omega (arith, h)
-
 -- a put of the next number makes the list one longer
 pub length-put_next : {A : Type 0} (xs : List A) (n : ℕ) (x : A) → length xs < n → length (put xs n x) ≡ length xs + 1
-length-put_next xs n x h = ap length (put_past xs n x h) ∙ length-push xs x
+length-put_next xs n x h = ap length (put_past xs n x h) ∙ length-append xs (x ∷ [])
 
 put_at_read : {A : Type 0} (xs : List A) (i : ℕ) (x : A) → i ≤ length xs → slice_get (put_at xs i x) i ≡ Some x
 put_at_read [] zero x h = refl

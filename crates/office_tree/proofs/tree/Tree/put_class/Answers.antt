@@ -1,10 +1,8 @@
 use Rattle.std.proofs.Common.{◌∙◌, sym, ap, subst}
-use Rattle.std.specs.FinMap.{FinMap}
 use Rattle.office_tree.specs.Rows.{put_class}
 use Rattle.office_tree.specs.Sound.{IsSound}
 use Rattle.office_tree.specs.Tree.{TreeState}
 use Rattle.office_tree.specs.contracts.tree.Tree.{the_view}
-use Rattle.office_tree.specs.declared.class.Class.{Class}
 use Rattle.office_tree.proofs.Inserting.{inserted}
 use Rattle.office_tree.proofs.tree.Tree.put_class.Goals as goal
 

@@ -1,10 +1,8 @@
 use Rattle.std.proofs.Common.{◌∙◌, sym, ap, subst}
-use Rattle.std.specs.FinMap.{FinMap}
 use Rattle.office_tree.specs.Rows.{put_schedule}
 use Rattle.office_tree.specs.Sound.{IsSound}
 use Rattle.office_tree.specs.Tree.{TreeState}
 use Rattle.office_tree.specs.contracts.tree.Tree.{the_view}
-use Rattle.office_tree.specs.declared.schedule.Schedule.{Schedule}
 use Rattle.office_tree.proofs.Inserting.{inserted}
 use Rattle.office_tree.proofs.tree.Tree.put_schedule.Goals as goal
 
