@@ -1,5 +1,5 @@
 -- The rows of a map after one is put in or taken away, and what is found among rows whose values are changed.
-use Rattle.std.proofs.Common.{◌≡◌, ℕ, Bool, true, false, cond, List, [], ◌∷◌, map, Option, Some, None, refl, sym, ap, ◌∙◌, subst}
+use Rattle.std.proofs.Common.{◌≡◌, Bool, true, false, cond, List, [], ◌∷◌, map, Option, Some, None, refl, sym, ap, ◌∙◌}
 use Rattle.std.specs.Prelude.{not}
 use Rattle.std.specs.declared.cmp.Ordering.{Ordering}
 use Rattle.std.specs.declared.cmp.Ordering.TheVariants.{Less, Equal, Greater}
@@ -28,8 +28,8 @@ module _ {K V : Type 0} {R : K → K → Ordering} (o : IsTotalOrder R) (same : 
       let others = λ (x : K). not (eq_by_cmp R k x) in
       same_entries R o same (entries (remove m k)) (where_key R others (entries m)) (entries_sorted (remove m k)) (is_sorted-where_key R others (entries m) (entries_sorted m))
       (λ q. sym (get-entries (remove m k) q) ∙ get-remove o m k q ∙ turned (eq_by_cmp R k q) (eq_by_cmp R q k) (get m q) ((eq_by_cmp_equiv o).symm k q)
-        ∙ ap (λ x. cond (others q) x None) (get-entries m q)
-        ∙ sym (find-where_key R others q (λ x t. ap (λ r. not (is_eq r)) (sym (alike_right o q x k t))) (entries m)))
+      ∙ ap (λ x. cond (others q) x None) (get-entries m q)
+      ∙ sym (find-where_key R others q (λ x t. ap (λ r. not (is_eq r)) (sym (alike_right o q x k t))) (entries m)))
 
   -- what is there already changes nothing when it is put in
   pub insert_same : (m : FinMap R V) (k : K) (v : V) → get m k ≡ Some v → insert m k v ≡ m

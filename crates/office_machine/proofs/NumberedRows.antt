@@ -1,7 +1,6 @@
 -- The rows of a numbered list after one is put in, and the list that they are of.
-use Rattle.std.proofs.Common.{◌≡◌, ℕ, zero, suc, ◌+◌, ◌<◌, ◌≤◌, List, [], ◌∷◌, length, map, Option, Some, None, refl, sym, ap, ◌∙◌, subst, arith}
-use Rattle.std.specs.declared.cmp.Ordering.{Ordering}
-use Rattle.std.specs.declared.cmp.Ordering.TheVariants.{Less, Equal, Greater}
+use Rattle.std.proofs.Common.{◌≡◌, ℕ, zero, suc, ◌+◌, ◌<◌, ◌≤◌, List, [], ◌∷◌, length, map, Option, Some, None, refl, sym, ap, ◌∙◌, arith}
+use Rattle.std.specs.declared.cmp.Ordering.TheVariants.{Equal, Greater}
 use Rattle.std.specs.Option.{option_map}
 use Rattle.std.specs.Ordering.{nat_cmp}
 use Rattle.std.specs.Cmp.{nat_cmp_is}
@@ -97,8 +96,15 @@ same_receipt (Some receipt) = refl
 -- the head that columns are of
 head_of : RecordRow → Record
 head_of row = record {
-  ref_text = row.ref_text; title = row.title; originated = row.originated; added = row.added; aggregation = row.aggregation;
-  class = row.class; schedule = row.schedule; length = row.size; digest = row.digest;
+  ref_text = row.ref_text;
+  title = row.title;
+  originated = row.originated;
+  added = row.added;
+  aggregation = row.aggregation;
+  class = row.class;
+  schedule = row.schedule;
+  length = row.size;
+  digest = row.digest;
   review = review_of row.reviewed row.reviewed_by;
   confirmation = confirmation_of row.conf_action row.conf_due row.conf_day row.conf_by;
   receipt = receipt_of row.receipt_day row.receipt_by;

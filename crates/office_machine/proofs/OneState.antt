@@ -1,19 +1,18 @@
 -- A state is known by its rows.
-use Rattle.std.proofs.Common.{◌≡◌, ℕ, Bool, true, false, List, length, Option, Some, None, refl, sym, ap, ◌∙◌, subst}
+use Rattle.std.proofs.Common.{◌≡◌, length, Option, Some, None, refl, sym, ap, ◌∙◌}
 use Rattle.std.specs.Option.{option_map}
-use Rattle.std.specs.Ordering.{nat_cmp}
 use Rattle.std.specs.Cmp.{nat_cmp_total}
 use Rattle.std.specs.Cmp.Lexicographic.{nat_list_cmp_total}
 use Rattle.std.specs.FinMap.{entries, get, same_map, same_entries_map, nat_cmp-IsAntisymmetric}
 use Rattle.std.specs.FinMap.Entries.{find}
 use Rattle.std.specs.FinSet.{same_set}
 use Rattle.office_tree.specs.Lists.{holds_of}
-use Rattle.office_tree.specs.Tree.{TreeState, code_cmp}
+use Rattle.office_tree.specs.Tree.{code_cmp}
 use Rattle.office_holds.specs.Holds.{HoldMap, HoldState, has_target}
 use Rattle.office_holds.specs.declared.target.Target.{Target}
 use Rattle.office_holds.specs.declared.target.Target.TheVariants as target
 use Rattle.office_machine.specs.Rows.{hold_row, rows_of, record_rows, targets_of}
-use Rattle.office_machine.specs.State.{Office, State}
+use Rattle.office_machine.specs.State.{State}
 use Rattle.office_machine.proofs.HoldRows.{codes_apart}
 use Rattle.office_machine.proofs.KeyedRows.{rows_by, rows_by-get}
 use Rattle.office_machine.proofs.NumberedRows.{same_numbered, same_heads, same_statuses}
@@ -57,7 +56,11 @@ one_state s t e f same =
     λ i. record {
       office = record {
         tree = record { schedules = schedules i; classes = classes i; aggregations = aggregations i; records = records i; statuses = statuses i };
-        holds = holds i; runs = runs i; entries = by i; certificates = certificates i; day = (same i).day;
+        holds = holds i;
+        runs = runs i;
+        entries = by i;
+        certificates = certificates i;
+        day = (same i).day;
       };
       contents = contents i;
     }

@@ -1,7 +1,6 @@
 -- Each write of a row makes of a state's rows those of the next.
-use Rattle.std.proofs.Common.{◌≡◌, ℕ, ◌+◌, ◌<◌, ◌≤◌, List, [], ◌∷◌, length, refl, sym, ap, ◌∙◌, subst, arith}
+use Rattle.std.proofs.Common.{◌≡◌, ◌+◌, ◌≤◌, List, [], ◌∷◌, length, refl, ap, ◌∙◌, arith}
 use Rattle.std.specs.List.{AllByRecursion}
-use Rattle.std.specs.Ordering.{nat_cmp}
 use Rattle.std.specs.Cmp.{nat_cmp_total}
 use Rattle.std.specs.Cmp.Lexicographic.{nat_list_cmp_total}
 use Rattle.std.specs.FinMap.{get, entries-insert, nat_cmp-IsAntisymmetric}
@@ -15,7 +14,7 @@ use Rattle.office_machine.specs.Writes.{CanFollow, CanPut, CanWrite, HasPlace, a
 use Rattle.office_machine.specs.declared.rows.RowWrite.{RowWrite}
 use Rattle.office_machine.specs.declared.rows.RowWrite.TheVariants as row_write
 use Rattle.office_machine.proofs.HoldRows.{codes_apart, hold_from-row, targets_of-gone, targets_of-hold, targets_of-put, with_target-row, without_target-row}
-use Rattle.office_machine.proofs.KeyedRows.{entries-remove, rows_by, rows_by-amended, rows_by-insert}
+use Rattle.office_machine.proofs.KeyedRows.{entries-remove, rows_by-amended, rows_by-insert}
 use Rattle.office_machine.proofs.NumberedRows.{length-record_rows, numbered_rows-put, record_rows-put}
 use Rattle.office_machine.proofs.SoundMaps.{entry_total}
 
