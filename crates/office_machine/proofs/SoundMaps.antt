@@ -50,7 +50,7 @@ apart : (b : Bool) → (b ≡ true → ⊥) → b ≡ false
 apart true h = absurd (h refl)
 apart false h = refl
 
-tied_same : {K : Type 0} {R : K → K → Ordering} → IsAntisymmetric R → (q k : K) → eq_by_cmp R q k ≡ true → q ≡ k
+pub tied_same : {K : Type 0} {R : K → K → Ordering} → IsAntisymmetric R → (q k : K) → eq_by_cmp R q k ≡ true → q ≡ k
 tied_same {R = R} same q k e = same q k ((Equal-is (R q k)).0 e)
 
 module _ {K V : Type 0} {R : K → K → Ordering} (o : IsTotalOrder R) (same : IsAntisymmetric R) where
