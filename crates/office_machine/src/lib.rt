@@ -12,6 +12,7 @@
 
 mod act;
 mod answer;
+mod applying;
 mod change;
 mod machine;
 mod deciding;

@@ -46,4 +46,18 @@ impl Machine {
             day: Day::first(),
         }
     }
+
+    /// The tree, by which its readings and checks are reached.
+    pub fn tree(&self) -> &Tree
+        ensures { result.now ≡ self.now.tree }
+    {
+        &self.tree
+    }
+
+    /// The office's day, before which no act may be.
+    pub fn day(&self) -> Day
+        ensures { result ≡ self.now.day }
+    {
+        self.day
+    }
 }
