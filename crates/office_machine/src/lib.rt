@@ -11,6 +11,8 @@
 #![tactic(auto)]
 
 mod act;
+#[cfg(test)]
+mod act_tests;
 mod answer;
 mod applying;
 mod change;

@@ -1,8 +1,12 @@
 //! The rows that a state stands for, and what each write makes of them.
 ghost use Rattle.std.specs.Prelude.{◌≡◌, List, length};
+ghost use Rattle.office_machine.specs.Acts.{IsDecidedFor, step, with_contents};
 ghost use Rattle.office_machine.specs.Rows.{rows_of, write_rows, all_row_writes};
-ghost use Rattle.office_machine.specs.State.{State};
-ghost use Rattle.office_machine.specs.Writes.{write, all_writes, CanWrite, HasPlace};
+ghost use Rattle.office_machine.specs.State.{State, Office, ByteMap};
+ghost use Rattle.office_machine.specs.Writes.{write, all_writes, all_office_writes, CanWrite, HasPlace};
+ghost use Rattle.office_machine.specs.declared.act.Act.{Act};
+ghost use Rattle.office_machine.specs.declared.change.Change.{Change};
+ghost use Rattle.office_machine.specs.declared.change.Decision.TheVariants.{Go};
 ghost use Rattle.office_machine.specs.declared.rows.RowWrite.{RowWrite};
 
 /// Two different states stand for different rows, where each record has a status.
@@ -15,4 +19,12 @@ pub fn law_of_one_state()
 pub fn law_of_writes()
     ensures each { (s : State) (w : RowWrite) → length s.office.tree.statuses ≡ length s.office.tree.records → HasPlace s.office w → rows_of (write w s) ≡ write_rows w (rows_of s) }
     ensures all { (s : State) (ws : List RowWrite) → length s.office.tree.statuses ≡ length s.office.tree.records → CanWrite s.office ws → rows_of (all_writes ws s) ≡ all_row_writes ws (rows_of s) }
+{}
+
+/// A change that was decided for an act leads, done in the office or in its rows, to what the act's
+/// step makes of them.
+pub fn law_of_changes()
+    ensures office { (s : Office) (a : Act) (change : Change) (contents : ByteMap) → IsDecidedFor s a (Go change) → all_office_writes change.writes.items s ≡ (step (with_contents s contents) a).1.office }
+    ensures rows { (s : Office) (a : Act) (change : Change) (contents : ByteMap) → length s.tree.statuses ≡ length s.tree.records → IsDecidedFor s a (Go change)
+        → all_row_writes change.writes.items (rows_of (with_contents s contents)) ≡ rows_of (step (with_contents s contents) a).1 }
 {}

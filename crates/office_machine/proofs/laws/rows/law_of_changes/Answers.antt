@@ -1,0 +1,5 @@
+use Rattle.office_machine.proofs.Changes.{office_changed, rows_changed}
+use Rattle.office_machine.proofs.laws.rows.law_of_changes.Goals as goal
+
+pub returns : goal.returns
+returns c = record { office = office_changed; rows = rows_changed }
