@@ -5,8 +5,8 @@ ghost use Rattle.office_tree.specs.Effects.{confirmed, reclassified, reviewed, w
 ghost use Rattle.office_tree.specs.Lists.{or_else};
 
 use crate::{
-    Action, Aggregation, Class, Classified, Code, Confirmation, Memory, Record, RecordNo, Review, Text,
-    Tree,
+    Action, Aggregation, Class, Classified, Code, Confirmation, Memory, Record, RecordNo, Review,
+    Text, Tree,
 };
 use office_days::{Day, DueDay};
 
@@ -39,12 +39,7 @@ fn put_schedule(head: &mut Record, schedule: Option<Code>)
 }
 
 /// The confirmation of the action at the due day, if there is one.
-fn confirmation_at(
-    due: Option<DueDay>,
-    day: Day,
-    action: Action,
-    by: Text,
-) -> Option<Confirmation>
+fn confirmation_at(due: Option<DueDay>, day: Day, action: Action, by: Text) -> Option<Confirmation>
     ensures { result ≡ option_map (λ due. record { action = action; due = due; day = day; by = by }) due }
 {
     due.map(|due| Confirmation {
@@ -112,11 +107,7 @@ impl Tree {
 
     /// Gives the aggregation or the record this class of its own, or takes its own away. It takes
     /// no memory, so it succeeds.
-    pub fn apply_reclassify(
-        &mut self,
-        what: Classified,
-        class: Option<Code>,
-    ) -> Result<(), Memory>
+    pub fn apply_reclassify(&mut self, what: Classified, class: Option<Code>) -> Result<(), Memory>
         requires { first_of (conditions_of_reclassify self.old what class) ≡ None }
         ensures succeeds { IsOk result }
         ensures ok { OnOk result (self.new ≡ reclassified self.old what class) }

@@ -1,11 +1,10 @@
-use Rattle.std.proofs.Common.{◌≡◌, ◌∙◌, ◌-◌, None, Option, List, ℕ, set, sym, ap, subst, false}
+use Rattle.std.proofs.Common.{◌≡◌, ◌∙◌, ◌-◌, None, Option, List, ℕ, set, sym, ap, subst}
 use Rattle.office_tree.specs.Conditions.{first_of, conditions_of_reclassify, lacks_classified}
 use Rattle.office_tree.specs.Effects.{reclassified}
 use Rattle.office_tree.specs.Sound.{IsSound}
 use Rattle.office_tree.specs.Tree.{TreeState}
 use Rattle.office_tree.specs.contracts.tree.Tree.{the_view}
 use Rattle.office_tree.specs.declared.classified.Classified.{Classified}
-use Rattle.office_tree.specs.declared.classified.Classified.TheVariants as classified
 use Rattle.office_tree.proofs.Accepting.{not_false}
 use Rattle.office_tree.proofs.Amending.{IsSound-reclassify, aggregation_written, head_written, reclassifies}
 use Rattle.office_tree.proofs.tree.Tree.apply_reclassify.Goals as goal
