@@ -37,6 +37,7 @@ impl Machine {
         if let Some(refusal) = self.dated(day, self.tree.check_add_schedule(code)) {
             return Ok(Decision::Stay(Answer::Refused(refusal)));
         }
+        self.tree.sound();
         let code = code.copy(alloc)?;
         let writes = two(alloc, RowWrite::Schedule { code, schedule }, RowWrite::Day { day })?;
         Ok(Decision::Go(Change { answer: Answer::Done, writes }))
