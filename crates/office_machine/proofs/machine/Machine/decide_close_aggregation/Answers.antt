@@ -29,4 +29,17 @@ returns-in-Some c = λ contents.
     refused_step (refusals_of_close_aggregation s c.args.day c.args.aggregation) c.in-Some.refusal (with_contents s contents) Done (with_office (with_contents s contents) (after_close_aggregation s c.args.day c.args.aggregation)) (sym (table p) ∙ c.in-Some.is)
 
 pub returns : goal.returns
-returns c = ?
+returns c =
+    let s = c.args.self.now in
+    let tree = ap (λ o. o.tree) c.self.view_is in
+    let accepted = sym (table (goal.at.returns c).After-dated) ∙ none_of c.dated.result c.in_default.not-Some in
+    let there : numbered s.tree.aggregations c.args.aggregation ≡ Some c.aggregation.result.now = ap (λ (t : TreeState). numbered t.aggregations c.args.aggregation) (sym tree) ∙ c.aggregation.ensures in
+    let writes = c.in_ok-writes.ensures ∙ ap (λ it. row_write.Aggregation c.args.aggregation (as_closed c.args.day it) ∷ row_write.Day c.args.day ∷ []) c.in_ok-closed.ensures in
+    closing_change s c.args.day c.args.aggregation c.aggregation.result.now (record { answer = Done; writes = c.in_ok-writes.writes }) (subst IsSound tree c.sound.ensures) accepted there refl writes
+
+pub aggregation-requires : goal.aggregation-requires
+aggregation-requires c =
+    let s = c.args.self.now in
+    let accepted = sym (table (goal.at.aggregation-requires c).After-dated) ∙ none_of c.dated.result c.in_default.not-Some in
+    let there = not_false (has_aggregation s.tree c.args.aggregation) (none_holds (refusals_of_close_aggregation s c.args.day c.args.aggregation) accepted).1.0 in
+    ap (λ (t : TreeState). has_aggregation t c.args.aggregation) (ap (λ o. o.tree) c.self.view_is) ∙ there
