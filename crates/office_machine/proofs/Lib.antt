@@ -2,6 +2,7 @@ pub mod Accepted
 pub mod Candidates
 pub mod Changes
 pub mod Contents
+pub mod DecidedTree
 pub mod Decisions
 pub mod HeldSteps
 pub mod HoldRows

@@ -1,13 +1,14 @@
 ghost use Rattle.std.specs.Prelude.{◌≡◌, List, [], ◌∷◌, Bool, IfOk};
+ghost use Rattle.std.specs.Option.{option_copied};
 ghost use Rattle.office_days.specs.declared.refusal.Refusal.{Refusal};
 ghost use Rattle.office_tree.specs.Conditions.{first_of};
 ghost use Rattle.office_machine.specs.Acts.{IsDecidedFor, IsDecidedTo, with_contents};
 ghost use Rattle.office_machine.specs.Conditions.{dated};
-ghost use Rattle.office_machine.specs.Steps.{step_add_schedule, step_close_aggregation};
+ghost use Rattle.office_machine.specs.Steps.{step_add_aggregation, step_add_class, step_add_schedule, step_close_aggregation, step_set_class_schedule};
 
 use crate::{Act, Answer, Change, Decision, Machine, RowWrite};
 use office_days::{Day, Refusal};
-use office_tree::{AggNo, Aggregation, Code, Memory, Schedule};
+use office_tree::{AggNo, Aggregation, Class, Code, Memory, Schedule, Text};
 use std::alloc::Global;
 
 /// Two writes in this order.
@@ -18,6 +19,16 @@ fn two(alloc: Global, first: RowWrite, second: RowWrite) -> Result<Vec<RowWrite>
     writes.push(first)?;
     writes.push(second)?;
     Ok(writes)
+}
+
+/// A second code that is equal to this one, if there is one.
+fn copied(alloc: Global, code: Option<&Code>) -> Result<Option<Code>, Memory>
+    ensures { IfOk result (λ c. c ≡ option_copied code.entry) }
+{
+    match code {
+        Some(code) => Ok(Some(code.copy(alloc)?)),
+        None => Ok(None),
+    }
 }
 
 impl Machine {
@@ -37,9 +48,67 @@ impl Machine {
         if let Some(refusal) = self.dated(day, self.tree.check_add_schedule(code)) {
             return Ok(Decision::Stay(Answer::Refused(refusal)));
         }
+        self.tree.sound();
         let code = code.copy(alloc)?;
         let writes = two(alloc, RowWrite::Schedule { code, schedule }, RowWrite::Day { day })?;
         Ok(Decision::Go(Change { answer: Answer::Done, writes }))
+    }
+
+    fn decide_add_class(&self, alloc: Global, day: Day, code: &Code, title: &Text, schedule: &Code) -> Result<Decision, Memory>
+        ensures { IfOk result (λ d. IsDecidedTo self.now (λ contents. step_add_class (with_contents self.now contents) day code.now (record { title = title.now; schedule = schedule.now })) d) }
+    {
+        if let Some(refusal) = self.dated(day, self.tree.check_add_class(code, schedule)) {
+            return Ok(Decision::Stay(Answer::Refused(refusal)));
+        }
+        self.tree.sound();
+        let code = code.copy(alloc)?;
+        let title = title.copy(alloc)?;
+        let schedule = schedule.copy(alloc)?;
+        let class = Class { title, schedule };
+        let writes = two(alloc, RowWrite::Class { code, class }, RowWrite::Day { day })?;
+        Ok(Decision::Go(Change { answer: Answer::Done, writes }))
+    }
+
+    fn decide_set_class_schedule(&self, alloc: Global, day: Day, class: &Code, schedule: &Code) -> Result<Decision, Memory>
+        ensures { IfOk result (λ d. IsDecidedTo self.now (λ contents. step_set_class_schedule (with_contents self.now contents) day class.now schedule.now) d) }
+    {
+        if let Some(refusal) = self.dated(day, self.tree.check_set_class_schedule(class, schedule)) {
+            return Ok(Decision::Stay(Answer::Refused(refusal)));
+        }
+        self.tree.sound();
+        let title = match self.tree.class(class) {
+            Some(it) => it.title.copy(alloc)?,
+            None => unreachable!(),
+        };
+        let code = class.copy(alloc)?;
+        let schedule = schedule.copy(alloc)?;
+        let class = Class { title, schedule };
+        let writes = two(alloc, RowWrite::Class { code, class }, RowWrite::Day { day })?;
+        Ok(Decision::Go(Change { answer: Answer::Done, writes }))
+    }
+
+    fn decide_add_aggregation(
+        &self,
+        alloc: Global,
+        day: Day,
+        ref_text: &Text,
+        title: &Text,
+        parent: Option<AggNo>,
+        class: Option<&Code>,
+    ) -> Result<Decision, Memory>
+        ensures { IfOk result (λ d. IsDecidedTo self.now (λ contents. step_add_aggregation (with_contents self.now contents) day ref_text.now title.now parent (option_copied class.entry)) d) }
+    {
+        if let Some(refusal) = self.dated(day, self.tree.check_add_aggregation(ref_text, parent, class)) {
+            return Ok(Decision::Stay(Answer::Refused(refusal)));
+        }
+        self.tree.sound();
+        let number = self.tree.aggregation_count() + 1;
+        let ref_text = ref_text.copy(alloc)?;
+        let title = title.copy(alloc)?;
+        let class = copied(alloc, class)?;
+        let aggregation = Aggregation { ref_text, title, parent, class, closed: None };
+        let writes = two(alloc, RowWrite::Aggregation { number, aggregation }, RowWrite::Day { day })?;
+        Ok(Decision::Go(Change { answer: Answer::Number(number), writes }))
     }
 
     fn decide_close_aggregation(&self, alloc: Global, day: Day, aggregation: AggNo) -> Result<Decision, Memory>
@@ -48,6 +117,7 @@ impl Machine {
         if let Some(refusal) = self.dated(day, self.tree.check_close_aggregation(aggregation)) {
             return Ok(Decision::Stay(Answer::Refused(refusal)));
         }
+        self.tree.sound();
         let mut closed = self.tree.aggregation(aggregation).copy(alloc)?;
         closed.closed = Some(day);
         let write = RowWrite::Aggregation { number: aggregation, aggregation: closed };
