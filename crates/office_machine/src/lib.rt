@@ -6,8 +6,8 @@
 //! goes through the ready records by number, one a step, and closes with its certificate. A run that
 //! is stopped and resumed ends as one that never stopped: that is a law of the definitions here.
 //!
-//! Today this crate has the definitions (`specs`), the types of answers and runs, and the laws; what
-//! decides and applies acts is not built yet.
+//! Today ten acts are decided and applied, in memory: all on schedules, classes, aggregations and
+//! records but the receipt. Holds and runs stand as definitions (`specs`) with their laws.
 #![tactic(auto)]
 
 mod act;
