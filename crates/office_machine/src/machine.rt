@@ -1,11 +1,9 @@
-ghost use Rattle.std.specs.Prelude.{◌≡◌, IfOk, OnOk, OnErr};
-ghost use Rattle.office_machine.specs.Acts.{IsDecidedFor};
+ghost use Rattle.std.specs.Prelude.{◌≡◌};
 ghost use Rattle.office_machine.specs.State.{empty_office};
-ghost use Rattle.office_machine.specs.Writes.{all_office_writes, CanWrite};
 
-use crate::{Act, Change, Decision};
+
 use office_days::Day;
-use office_tree::{Memory, Tree};
+use office_tree::Tree;
 use std::alloc::Global;
 use std::marker::Model;
 
