@@ -20,7 +20,7 @@ use Rattle.office_tree.proofs.Putting.{put_next, put-edited}
 use Rattle.office_machine.specs.Acts.{IsChangeTo, with_contents}
 use Rattle.office_machine.specs.Conditions.{dated, refusals_of_add_schedule, refusals_of_add_class, refusals_of_set_class_schedule, refusals_of_add_aggregation, refusals_of_close_aggregation}
 use Rattle.office_machine.specs.Effects.{with_tree}
-use Rattle.office_machine.specs.State.{Office, State, ByteMap, with_office}
+use Rattle.office_machine.specs.State.{Office, ByteMap, with_office}
 use Rattle.office_machine.specs.Steps.{stepped, step_add_schedule, step_add_class, step_set_class_schedule, step_add_aggregation, step_close_aggregation}
 use Rattle.office_machine.specs.Writes.{all_writes, write, CanWrite, CanPut}
 use Rattle.office_machine.specs.declared.answer.Answer.{Answer}

@@ -1,18 +1,18 @@
-ghost use Rattle.std.specs.Prelude.{◌≡◌, List, [], ◌∷◌, Bool, IfOk};
+ghost use Rattle.std.specs.Prelude.{◌≡◌, List, [], ◌∷◌, Bool, None, IfOk};
 ghost use Rattle.std.specs.Option.{option_copied};
 ghost use Rattle.office_days.specs.declared.refusal.Refusal.{Refusal};
 ghost use Rattle.office_tree.specs.Conditions.{first_of};
-ghost use Rattle.office_machine.specs.Acts.{IsDecidedFor, IsDecidedTo, with_contents};
+ghost use Rattle.office_machine.specs.Acts.{IsDecidedTo, with_contents};
 ghost use Rattle.office_machine.specs.Conditions.{dated};
 ghost use Rattle.office_machine.specs.Steps.{step_add_aggregation, step_add_class, step_add_schedule, step_close_aggregation, step_set_class_schedule};
 
-use crate::{Act, Answer, Change, Decision, Machine, RowWrite};
+use crate::{Answer, Change, Decision, Machine, RowWrite};
 use office_days::{Day, Refusal};
 use office_tree::{AggNo, Aggregation, Class, Code, Memory, Schedule, Text};
 use std::alloc::Global;
 
 /// Two writes in this order.
-fn two(alloc: Global, first: RowWrite, second: RowWrite) -> Result<Vec<RowWrite>, Memory>
+pub(crate) fn two(alloc: Global, first: RowWrite, second: RowWrite) -> Result<Vec<RowWrite>, Memory>
     ensures { IfOk result (λ writes. writes.items ≡ first ∷ second ∷ []) }
 {
     let mut writes = Vec::with_capacity(alloc, 2)?;
@@ -22,7 +22,7 @@ fn two(alloc: Global, first: RowWrite, second: RowWrite) -> Result<Vec<RowWrite>
 }
 
 /// A second code that is equal to this one, if there is one.
-fn copied(alloc: Global, code: Option<&Code>) -> Result<Option<Code>, Memory>
+pub(crate) fn copy_code(alloc: Global, code: Option<&Code>) -> Result<Option<Code>, Memory>
     ensures { IfOk result (λ c. c ≡ option_copied code.entry) }
 {
     match code {
@@ -31,9 +31,28 @@ fn copied(alloc: Global, code: Option<&Code>) -> Result<Option<Code>, Memory>
     }
 }
 
+/// An aggregation of these, open.
+fn open_aggregation(
+    alloc: Global,
+    ref_text: &Text,
+    title: &Text,
+    parent: Option<AggNo>,
+    class: Option<&Code>,
+) -> Result<Aggregation, Memory>
+    ensures { IfOk result (λ it. it ≡ record { ref_text = ref_text.now; title = title.now; parent = parent; class = option_copied class.entry; closed = None }) }
+{
+    Ok(Aggregation {
+        ref_text: ref_text.copy(alloc)?,
+        title: title.copy(alloc)?,
+        parent,
+        class: copy_code(alloc, class)?,
+        closed: None,
+    })
+}
+
 impl Machine {
     /// The refusal of an act of that day: the day's, where it is before the office's, else the other.
-    fn dated(&self, day: Day, refusal: Option<Refusal>) -> Option<Refusal>
+    pub(crate) fn dated(&self, day: Day, refusal: Option<Refusal>) -> Option<Refusal>
         ensures { (conditions : List (Refusal × Bool)) → refusal ≡ first_of conditions → result ≡ first_of (dated self.now day conditions) }
     {
         if day < self.day {
@@ -42,7 +61,14 @@ impl Machine {
         refusal
     }
 
-    fn decide_add_schedule(&self, alloc: Global, day: Day, code: &Code, schedule: Schedule) -> Result<Decision, Memory>
+    /// What is decided of a new schedule.
+    pub(crate) fn decide_add_schedule(
+        &self,
+        alloc: Global,
+        day: Day,
+        code: &Code,
+        schedule: Schedule,
+    ) -> Result<Decision, Memory>
         ensures { IfOk result (λ d. IsDecidedTo self.now (λ contents. step_add_schedule (with_contents self.now contents) day code.now schedule) d) }
     {
         if let Some(refusal) = self.dated(day, self.tree.check_add_schedule(code)) {
@@ -50,11 +76,26 @@ impl Machine {
         }
         self.tree.sound();
         let code = code.copy(alloc)?;
-        let writes = two(alloc, RowWrite::Schedule { code, schedule }, RowWrite::Day { day })?;
-        Ok(Decision::Go(Change { answer: Answer::Done, writes }))
+        let writes = two(
+            alloc,
+            RowWrite::Schedule { code, schedule },
+            RowWrite::Day { day },
+        )?;
+        Ok(Decision::Go(Change {
+            answer: Answer::Done,
+            writes,
+        }))
     }
 
-    fn decide_add_class(&self, alloc: Global, day: Day, code: &Code, title: &Text, schedule: &Code) -> Result<Decision, Memory>
+    /// What is decided of a new class.
+    pub(crate) fn decide_add_class(
+        &self,
+        alloc: Global,
+        day: Day,
+        code: &Code,
+        title: &Text,
+        schedule: &Code,
+    ) -> Result<Decision, Memory>
         ensures { IfOk result (λ d. IsDecidedTo self.now (λ contents. step_add_class (with_contents self.now contents) day code.now (record { title = title.now; schedule = schedule.now })) d) }
     {
         if let Some(refusal) = self.dated(day, self.tree.check_add_class(code, schedule)) {
@@ -65,14 +106,31 @@ impl Machine {
         let title = title.copy(alloc)?;
         let schedule = schedule.copy(alloc)?;
         let class = Class { title, schedule };
-        let writes = two(alloc, RowWrite::Class { code, class }, RowWrite::Day { day })?;
-        Ok(Decision::Go(Change { answer: Answer::Done, writes }))
+        let writes = two(
+            alloc,
+            RowWrite::Class { code, class },
+            RowWrite::Day { day },
+        )?;
+        Ok(Decision::Go(Change {
+            answer: Answer::Done,
+            writes,
+        }))
     }
 
-    fn decide_set_class_schedule(&self, alloc: Global, day: Day, class: &Code, schedule: &Code) -> Result<Decision, Memory>
+    /// What is decided of another schedule for a class.
+    pub(crate) fn decide_set_class_schedule(
+        &self,
+        alloc: Global,
+        day: Day,
+        class: &Code,
+        schedule: &Code,
+    ) -> Result<Decision, Memory>
         ensures { IfOk result (λ d. IsDecidedTo self.now (λ contents. step_set_class_schedule (with_contents self.now contents) day class.now schedule.now) d) }
     {
-        if let Some(refusal) = self.dated(day, self.tree.check_set_class_schedule(class, schedule)) {
+        if let Some(refusal) = self.dated(
+            day,
+            self.tree.check_set_class_schedule(class, schedule),
+        ) {
             return Ok(Decision::Stay(Answer::Refused(refusal)));
         }
         self.tree.sound();
@@ -83,11 +141,19 @@ impl Machine {
         let code = class.copy(alloc)?;
         let schedule = schedule.copy(alloc)?;
         let class = Class { title, schedule };
-        let writes = two(alloc, RowWrite::Class { code, class }, RowWrite::Day { day })?;
-        Ok(Decision::Go(Change { answer: Answer::Done, writes }))
+        let writes = two(
+            alloc,
+            RowWrite::Class { code, class },
+            RowWrite::Day { day },
+        )?;
+        Ok(Decision::Go(Change {
+            answer: Answer::Done,
+            writes,
+        }))
     }
 
-    fn decide_add_aggregation(
+    /// What is decided of a new aggregation.
+    pub(crate) fn decide_add_aggregation(
         &self,
         alloc: Global,
         day: Day,
@@ -98,20 +164,36 @@ impl Machine {
     ) -> Result<Decision, Memory>
         ensures { IfOk result (λ d. IsDecidedTo self.now (λ contents. step_add_aggregation (with_contents self.now contents) day ref_text.now title.now parent (option_copied class.entry)) d) }
     {
-        if let Some(refusal) = self.dated(day, self.tree.check_add_aggregation(ref_text, parent, class)) {
+        if let Some(refusal) = self.dated(
+            day,
+            self.tree.check_add_aggregation(ref_text, parent, class),
+        ) {
             return Ok(Decision::Stay(Answer::Refused(refusal)));
         }
         self.tree.sound();
         let number = self.tree.aggregation_count() + 1;
-        let ref_text = ref_text.copy(alloc)?;
-        let title = title.copy(alloc)?;
-        let class = copied(alloc, class)?;
-        let aggregation = Aggregation { ref_text, title, parent, class, closed: None };
-        let writes = two(alloc, RowWrite::Aggregation { number, aggregation }, RowWrite::Day { day })?;
-        Ok(Decision::Go(Change { answer: Answer::Number(number), writes }))
+        let aggregation = open_aggregation(alloc, ref_text, title, parent, class)?;
+        let writes = two(
+            alloc,
+            RowWrite::Aggregation {
+                number,
+                aggregation,
+            },
+            RowWrite::Day { day },
+        )?;
+        Ok(Decision::Go(Change {
+            answer: Answer::Number(number),
+            writes,
+        }))
     }
 
-    fn decide_close_aggregation(&self, alloc: Global, day: Day, aggregation: AggNo) -> Result<Decision, Memory>
+    /// What is decided of an aggregation's closing.
+    pub(crate) fn decide_close_aggregation(
+        &self,
+        alloc: Global,
+        day: Day,
+        aggregation: AggNo,
+    ) -> Result<Decision, Memory>
         ensures { IfOk result (λ d. IsDecidedTo self.now (λ contents. step_close_aggregation (with_contents self.now contents) day aggregation) d) }
     {
         if let Some(refusal) = self.dated(day, self.tree.check_close_aggregation(aggregation)) {
@@ -120,8 +202,14 @@ impl Machine {
         self.tree.sound();
         let mut closed = self.tree.aggregation(aggregation).copy(alloc)?;
         closed.closed = Some(day);
-        let write = RowWrite::Aggregation { number: aggregation, aggregation: closed };
+        let write = RowWrite::Aggregation {
+            number: aggregation,
+            aggregation: closed,
+        };
         let writes = two(alloc, write, RowWrite::Day { day })?;
-        Ok(Decision::Go(Change { answer: Answer::Done, writes }))
+        Ok(Decision::Go(Change {
+            answer: Answer::Done,
+            writes,
+        }))
     }
 }

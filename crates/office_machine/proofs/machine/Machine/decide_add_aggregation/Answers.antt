@@ -1,18 +1,15 @@
-use Rattle.std.proofs.Common.{◌≡◌, ◌∙◌, [], ◌∷◌, ℕ, suc, ◌+◌, length, sym, ap, subst, arith}
+use Rattle.std.proofs.Common.{◌≡◌, ◌∙◌, [], ◌∷◌, suc, ◌+◌, length, sym, ap, subst, arith}
 use Rattle.std.specs.Option.{option_copied}
 use Rattle.office_tree.specs.Conditions.{first_of, conditions_of_add_aggregation}
-use Rattle.office_tree.specs.Lists.{numbered}
 use Rattle.office_tree.specs.Sound.{IsSound}
-use Rattle.office_tree.specs.Tree.{TreeState, has_aggregation}
-use Rattle.office_tree.proofs.Accepting.{none_holds, not_false}
-use Rattle.office_tree.proofs.Keeping.{as_closed}
+use Rattle.office_tree.specs.Tree.{TreeState}
 use Rattle.office_machine.specs.Acts.{with_contents}
 use Rattle.office_machine.specs.Conditions.{refusals_of_add_aggregation}
 use Rattle.office_machine.specs.Effects.{after_add_aggregation}
 use Rattle.office_machine.specs.State.{with_office}
 use Rattle.office_machine.specs.declared.answer.Answer.TheVariants.{Number}
 use Rattle.office_machine.specs.declared.rows.RowWrite.TheVariants as row_write
-use Rattle.office_machine.proofs.DecidedTree.{none_of, new_aggregation, aggregation_change}
+use Rattle.office_machine.proofs.DecidedTree.{none_of, aggregation_change}
 use Rattle.office_machine.proofs.Decisions.{refused_step}
 use Rattle.office_machine.proofs.machine.Machine.decide_add_aggregation.Goals.{After-dated}
 use Rattle.office_machine.proofs.machine.Machine.decide_add_aggregation.Goals as goal
@@ -34,9 +31,7 @@ returns c =
     let tree = ap (λ o. o.tree) c.self.view_is in
     let accepted = sym (table (goal.at.returns c).After-dated) ∙ none_of c.dated.result c.in_default.not-Some in
     let count = c.aggregation_count-number.ensures.count ∙ ap (λ (t : TreeState). length t.aggregations) tree in
-    let ref_text = c.in_ok-ref_text.ensures in
-    let title = c.in_ok-title.ensures in
-    let class = c.in_ok-class.ensures in
-    let writes = c.in_ok-writes.ensures ∙ (λ i. row_write.Aggregation (count i + 1) (new_aggregation (ref_text i) (title i) c.args.parent (class i)) ∷ row_write.Day c.args.day ∷ []) in
+    let it = c.in_ok-aggregation.ensures in
+    let writes = c.in_ok-writes.ensures ∙ (λ i. row_write.Aggregation (count i + 1) (it i) ∷ row_write.Day c.args.day ∷ []) in
     let number : suc (length s.tree.aggregations) ≡ c.aggregation_count-number.result + 1 = omega (arith, count) in
     aggregation_change s c.args.day c.args.ref_text.now c.args.title.now c.args.parent (option_copied c.args.class) (record { answer = Number (c.aggregation_count-number.result + 1); writes = c.in_ok-writes.writes }) (subst IsSound tree c.sound.ensures) accepted (ap Number number) writes
