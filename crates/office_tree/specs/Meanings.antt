@@ -2,11 +2,11 @@
 -- Source: MoReq2010, its classification and disposal scheduling services; what is spent is own.
 use Rattle.std.specs.Prelude.{◌≡◌, ◌<◌, ◌≤ℤ◌, ◌⊎◌, ℕ, zero, suc, List, Option, Some, None, IsTrue, IsSome, ℤ}
 use Rattle.std.specs.Option.{option_and_then}
-use Rattle.office_tree.specs.Disposal.{is_ended}
-use Rattle.office_tree.specs.Lists.{numbered, holds_of}
+use Rattle.office_tree.specs.Lists.{numbered}
 use Rattle.office_tree.specs.Tree.{TreeState, status_of, has_record}
 use Rattle.office_tree.specs.declared.aggregation.Aggregation.{Aggregation}
 use Rattle.office_tree.specs.declared.head.Record.{Record}
+use Rattle.office_tree.specs.declared.status.Status.TheVariants.{Ended}
 
 -- the parent of an aggregation
 abbrev pub parent_of : List Aggregation → ℕ → Option ℕ
@@ -53,4 +53,4 @@ pub record IsLastAddition (records : List Record) (a : ℕ) (day : ℤ) : Type 0
 pub record IsSpent (tree : TreeState) (a : ℕ) : Type 0 where
   pub closed : (it : Aggregation) × (numbered tree.aggregations a ≡ Some it) × IsSome it.closed
   pub some_below : (r : ℕ) × IsTrue (has_record tree r) × Contains tree a r
-  pub all_ended : (r : ℕ) → IsTrue (has_record tree r) → Contains tree a r → IsTrue (holds_of (status_of tree r) is_ended)
+  pub all_ended : (r : ℕ) → IsTrue (has_record tree r) → Contains tree a r → status_of tree r ≡ Some Ended
