@@ -1,5 +1,6 @@
 pub mod Accepted
 pub mod Candidates
+pub mod Certifying
 pub mod Changes
 pub mod Contents
 pub mod DecidedTree

@@ -1,16 +1,17 @@
--- The lines of a certificate, and the columns of an entry's line, stay whole.
-use Rattle.std.proofs.Common.{◌≡◌, ◌≢◌, ℕ, List, [], ◌∷◌, ◌++◌, map, length, take, drop, codes, Option, Some, None, refl, sym, ap, subst, ◌∙◌, arith, ℤ}
+-- The lines of a certificate, and the columns of an entry's line, stay whole and can be parted again.
+use Rattle.std.proofs.Common.{◌≡◌, ◌≢◌, ◌==◌, ℕ, true, false, List, [], ◌∷◌, ◌++◌, map, length, take, drop, codes, Option, Some, None, refl, sym, ap, subst, ◌∙◌, append_assoc, arith, if◌then◌else◌, ℤ}
+use Rattle.std.proofs.lemmas.Bool.Decides.{nat_tests}
 use Rattle.std.specs.Fmt.{decimal}
 use Rattle.std.specs.List.{All, AllByRecursion, flat_map}
-use Rattle.std.proofs.lemmas.List.Elements.{All-nil, All-cons, All-append, All-head, All-tail, All-from_recursion, recursion_from_All}
+use Rattle.std.proofs.lemmas.List.Elements.{All-nil, All-cons, All-append, All-head, All-tail, All-weaker, All-from_recursion, recursion_from_All}
 use Rattle.office_tree.specs.Forms.{IsText, IsFormedAggregation, IsFormedRecord, IsFormedTree}
 use Rattle.office_tree.specs.Lists.{numbered}
 use Rattle.office_tree.specs.Tree.{TreeState}
 use Rattle.office_tree.specs.declared.aggregation.Aggregation.{Aggregation}
 use Rattle.office_tree.specs.declared.head.Record.{Record}
-use Rattle.office_proof.specs.Certificates.{tabbed, date_text, counted, entry_words, aggregation_words, made_of, certificate_lines}
+use Rattle.office_proof.specs.Certificates.{tabbed, lines_text, date_text, counted, entry_words, aggregation_words, made_of, certificate_lines}
 use Rattle.office_proof.specs.Forms.{IsFormedEntry}
-use Rattle.office_proof.specs.Meanings.{IsOneLine, IsOneColumn, entry_columns}
+use Rattle.office_proof.specs.Meanings.{IsOneLine, IsOneColumn, entry_columns, before_first, split_at}
 use Rattle.office_proof.specs.Outcomes.{is_ending, is_sending, is_skipping, outcome_word}
 use Rattle.office_proof.specs.declared.entry.Entry.{Entry}
 use Rattle.office_proof.specs.declared.outcome.Outcome.{Outcome}
@@ -126,3 +127,79 @@ pub entries_in_order : (tree : TreeState) (run : ℕ) (day : ℤ) (by : List ℕ
     → take (length entries) (drop 6 (certificate_lines tree run day by entries spent)) ≡ map (λ e. entry_words e (heads e.record_no)) entries
 unfolding certificate_lines
 entries_in_order tree run day by entries spent heads there = lines_of_entries tree heads entries _ there
+
+-- ---- a line for each spent aggregation
+
+-- after the lines of the entries comes the rest
+after_entries : (tree : TreeState) (heads : ℕ → Record) (entries : List Entry) (rest : List (List ℕ)) → All (λ e. numbered tree.records e.record_no ≡ Some (heads e.record_no)) entries
+    → drop (length entries) (flat_map (λ e. made_of (entry_words e) (numbered tree.records e.record_no)) entries ++ rest) ≡ rest
+after_entries tree heads [] rest there = refl
+after_entries tree heads (e ∷ es) rest there =
+    let more = flat_map (λ (e : Entry). made_of (entry_words e) (numbered tree.records e.record_no)) es in
+    let first = All-head (λ e. numbered tree.records e.record_no ≡ Some (heads e.record_no)) e es there in
+    let others = All-tail (λ e. numbered tree.records e.record_no ≡ Some (heads e.record_no)) e es there in
+    ap (λ (o : Option Record). drop (length (e ∷ es)) ((made_of (entry_words e) o ++ more) ++ rest)) first ∙ after_entries tree heads es rest others
+
+lines_of_spent : (tree : TreeState) (aggregations : ℕ → Aggregation) (spent : List ℕ) → All (λ a. numbered tree.aggregations a ≡ Some (aggregations a)) spent
+    → flat_map (λ a. made_of (aggregation_words a) (numbered tree.aggregations a)) spent ≡ map (λ a. aggregation_words a (aggregations a)) spent
+lines_of_spent tree aggregations [] there = refl
+lines_of_spent tree aggregations (a ∷ rest) there =
+    let more = flat_map (λ (a : ℕ). made_of (aggregation_words a) (numbered tree.aggregations a)) rest in
+    let first = All-head (λ a. numbered tree.aggregations a ≡ Some (aggregations a)) a rest there in
+    let others = All-tail (λ a. numbered tree.aggregations a ≡ Some (aggregations a)) a rest there in
+    ap (λ (o : Option Aggregation). made_of (aggregation_words a) o ++ more) first ∙ ap (λ lines. aggregation_words a (aggregations a) ∷ lines) (lines_of_spent tree aggregations rest others)
+
+pub spent_in_order : (tree : TreeState) (run : ℕ) (day : ℤ) (by : List ℕ) (entries : List Entry) (spent : List ℕ) (heads : ℕ → Record) (aggregations : ℕ → Aggregation) → All (λ e. numbered tree.records e.record_no ≡ Some (heads e.record_no)) entries → All (λ a. numbered tree.aggregations a ≡ Some (aggregations a)) spent
+    → drop (length entries) (drop 6 (certificate_lines tree run day by entries spent)) ≡ (codes "SPENT " ++ decimal (length spent)) ∷ map (λ a. aggregation_words a (aggregations a)) spent
+unfolding certificate_lines
+spent_in_order tree run day by entries spent heads aggregations there spent_there =
+    after_entries tree heads entries _ there ∙ ap (λ lines. (codes "SPENT " ++ decimal (length spent)) ∷ lines) (lines_of_spent tree aggregations spent spent_there)
+
+-- ---- the first lines
+
+pub head_told : (tree : TreeState) (run : ℕ) (day : ℤ) (by : List ℕ) (entries : List Entry) (spent : List ℕ)
+    → take 6 (certificate_lines tree run day by entries spent)
+    ≡ (codes "CERTIFICATE " ++ decimal run) ∷ (codes "DAY " ++ date_text day) ∷ (codes "BY " ++ by) ∷ (codes "ENDED " ++ counted is_ending entries) ∷ (codes "SENT " ++ counted is_sending entries) ∷ (codes "SKIPPED " ++ counted is_skipping entries) ∷ []
+unfolding certificate_lines
+head_told tree run day by entries spent = refl
+
+-- ---- parted again
+
+no_tab : (word : List ℕ) → IsOneColumn word → All (λ b. b ≢ 9) word
+no_tab word one = All-weaker (λ b. (b ≢ 9) × (b ≢ 10)) (λ b. b ≢ 9) (λ b p. p.0) word one
+
+same_byte : (v : ℕ) → (v == v) ≡ true
+same_byte v = grind (arith, nat_tests)
+
+other_byte : (b v : ℕ) → b ≢ v → (b == v) ≡ false
+other_byte b v h = grind (arith, nat_tests)
+
+split_word : (v : ℕ) (word rest : List ℕ) → All (λ b. b ≢ v) word → split_at v (word ++ v ∷ rest) ≡ word ∷ split_at v rest
+split_word v [] rest none = ap (λ t. if t then [] ∷ split_at v rest else before_first v (split_at v rest)) (same_byte v)
+split_word v (b ∷ bs) rest none =
+    let others = bs ++ v ∷ rest in
+    ap (λ t. if t then [] ∷ split_at v others else before_first b (split_at v others)) (other_byte b v (All-head (λ b. b ≢ v) b bs none)) ∙ ap (before_first b) (split_word v bs rest (All-tail (λ b. b ≢ v) b bs none))
+
+split_last : (v : ℕ) (word : List ℕ) → All (λ b. b ≢ v) word → split_at v word ≡ word ∷ []
+split_last v [] none = refl
+split_last v (b ∷ bs) none =
+    ap (λ t. if t then [] ∷ split_at v bs else before_first b (split_at v bs)) (other_byte b v (All-head (λ b. b ≢ v) b bs none)) ∙ ap (before_first b) (split_last v bs (All-tail (λ b. b ≢ v) b bs none))
+
+split_tabbed : (word : List ℕ) (words : List (List ℕ)) → All IsOneColumn (word ∷ words) → split_at 9 (tabbed (word ∷ words)) ≡ word ∷ words
+split_tabbed word [] one = split_last 9 word (no_tab word (All-head IsOneColumn word [] one))
+split_tabbed word (next ∷ words) one =
+    split_word 9 word (tabbed (next ∷ words)) (no_tab word (All-head IsOneColumn word (next ∷ words) one)) ∙ ap (λ ws. word ∷ ws) (split_tabbed next words (All-tail IsOneColumn word (next ∷ words) one))
+
+pub words_parted : (e : Entry) (head : Record) → IsFormedEntry e → IsFormedRecord head → split_at 9 (entry_words e head) ≡ entry_columns e head
+words_parted e head entry_formed head_formed = ap (split_at 9) (words_joined e head) ∙ split_tabbed _ _ (columns_whole e head entry_formed head_formed)
+
+split_lines : (lines : List (List ℕ)) → All IsOneLine lines → split_at 10 (lines_text lines) ≡ lines ++ [] ∷ []
+split_lines [] one = refl
+split_lines (line ∷ lines) one =
+    ap (split_at 10) (append_assoc line (10 ∷ []) (lines_text lines))
+    ∙ split_word 10 line (lines_text lines) (All-head IsOneLine line lines one)
+    ∙ ap (λ ls. line ∷ ls) (split_lines lines (All-tail IsOneLine line lines one))
+
+pub lines_parted_again : (tree : TreeState) (run : ℕ) (day : ℤ) (by : List ℕ) (entries : List Entry) (spent : List ℕ) → IsFormedTree tree → IsText by → All IsFormedEntry entries
+    → split_at 10 (lines_text (certificate_lines tree run day by entries spent)) ≡ certificate_lines tree run day by entries spent ++ [] ∷ []
+lines_parted_again tree run day by entries spent formed by_formed each = split_lines (certificate_lines tree run day by entries spent) (lines_whole tree run day by entries spent formed by_formed each)

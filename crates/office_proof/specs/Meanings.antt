@@ -1,6 +1,6 @@
--- What a line and a column of a certificate are, and which words stand in the line of an entry: the laws of `src/laws.rt`
--- say that no title, ref or name breaks them. Source: own.
-use Rattle.std.specs.Prelude.{◌≢◌, ℕ, List, [], ◌∷◌, codes}
+-- What a line and a column of a certificate are, how they are parted again, and which words stand in the line of an entry:
+-- the laws of `src/laws.rt` say that no title, ref or name breaks them. Source: own.
+use Rattle.std.specs.Prelude.{◌≢◌, ◌==◌, ℕ, List, [], ◌∷◌, codes, if◌then◌else◌}
 use Rattle.std.specs.Fmt.{decimal}
 use Rattle.std.specs.List.{All}
 use Rattle.std.specs.Option.{unwrap_or}
@@ -17,6 +17,16 @@ IsOneLine line = All (λ b. b ≢ 10) line
 -- no byte of it is a tab or a line feed
 abbrev pub IsOneColumn : List ℕ → Type 0
 IsOneColumn word = All (λ b. (b ≢ 9) × (b ≢ 10)) word
+
+-- the byte before the first of the words
+abbrev pub before_first : ℕ → List (List ℕ) → List (List ℕ)
+before_first b [] = []
+before_first b (word ∷ words) = (b ∷ word) ∷ words
+
+-- the words between the bytes of that value
+abbrev pub split_at : ℕ → List ℕ → List (List ℕ)
+split_at value [] = [] ∷ []
+split_at value (b ∷ bs) = if b == value then [] ∷ split_at value bs else before_first b (split_at value bs)
 
 -- the eleven words of the line of an entry and its record
 abbrev pub entry_columns : Entry → Record → List (List ℕ)

@@ -10,6 +10,8 @@ use Rattle.office_tree.specs.Meanings.{Contains, IsSpent}
 use Rattle.office_tree.specs.Sound.{IsSound}
 use Rattle.office_tree.specs.Tree.{TreeState, has_record, status_of}
 use Rattle.office_tree.specs.declared.aggregation.Aggregation.{Aggregation}
+use Rattle.office_tree.specs.declared.status.Status.{Status}
+use Rattle.office_tree.specs.declared.status.Status.TheVariants as status
 use Rattle.office_tree.proofs.Containing.{below_contains}
 
 -- the numbers after a number that pass a test
@@ -99,6 +101,13 @@ is_closed o one = ap (λ p. holds_of p (λ (it : Aggregation). is_some it.closed
 abbrev closed_at : TreeState → ℕ → Bool
 closed_at tree a = holds_of (numbered tree.aggregations a) (λ (it : Aggregation). is_some it.closed)
 
+ended_is : (o : Option Status) → holds_of o is_ended ≡ true → o ≡ Some status.Ended
+ended_is None h = absurd cc
+ended_is (Some status.Here) h = absurd cc
+ended_is (Some status.Sent) h = absurd cc
+ended_is (Some status.Received) h = absurd cc
+ended_is (Some status.Ended) h = refl
+
 -- whether the record is ended
 abbrev ended : TreeState → ℕ → Bool
 ended tree r = holds_of (status_of tree r) is_ended
@@ -130,7 +139,7 @@ spent_is tree a sound h =
     record {
       closed = closed_is (numbered tree.aggregations a) inner.0;
       some_below = some_below_is tree a sound (lt_holds 0 (length (records_below tree a)) inner.1);
-      all_ended = all_ended_is tree a sound outer.1;
+      all_ended = λ r has below. ended_is (status_of tree r) (all_ended_is tree a sound outer.1 r has below);
     }
 
 is_spent_where : (tree : TreeState) (a : ℕ) → IsSound tree → IsSpent tree a → is_spent tree a ≡ true
@@ -138,7 +147,7 @@ unfolding is_spent
 is_spent_where tree a sound h =
     let closed = is_closed (numbered tree.aggregations a) h.closed in
     let some_below = holds_lt 0 (length (records_below tree a)) (is_some_below tree a sound h.some_below) in
-    and_from (closed_at tree a && nat_lt 0 (length (records_below tree a))) (list_all (ended tree) (records_below tree a)) (and_from (closed_at tree a) (nat_lt 0 (length (records_below tree a))) closed some_below) (is_all_ended tree a sound h.all_ended)
+    and_from (closed_at tree a && nat_lt 0 (length (records_below tree a))) (list_all (ended tree) (records_below tree a)) (and_from (closed_at tree a) (nat_lt 0 (length (records_below tree a))) closed some_below) (is_all_ended tree a sound (λ r has below. ap (λ o. holds_of o is_ended) (h.all_ended r has below)))
 
 pub spent_where : (tree : TreeState) (a : ℕ) → IsSound tree → (IsTrue (is_spent tree a) ↔ IsSpent tree a)
 spent_where tree a sound = (spent_is tree a sound, is_spent_where tree a sound)

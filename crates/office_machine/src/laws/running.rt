@@ -1,18 +1,21 @@
-//! What a disposal run looks at and what it leaves alone.
+//! What a disposal run looks at, what it leaves alone, and what its certificate tells.
 ghost use Rattle.std.specs.Prelude.{◌≡◌, ◌≢◌, ◌↔◌, ◌≤◌, ℕ, List, [], ◌∷◌, map, length, slice_get, Some, None, IsTrue};
 ghost use Rattle.std.specs.FinMap.{get};
 ghost use Rattle.std.specs.List.{Contains};
 ghost use Rattle.std.specs.List.Sorted.{IsStrictlySortedBy};
 ghost use Rattle.std.specs.Ordering.{nat_cmp};
 ghost use Rattle.office_tree.specs.Disposal.{counts, is_below, is_spent};
+ghost use Rattle.office_tree.specs.Lists.{numbered};
 ghost use Rattle.office_tree.specs.Tree.{TreeState, has_aggregation, has_record, class_of, plan_of, start_of, due_of, status_of};
 ghost use Rattle.office_holds.specs.Holds.{is_held, least_covering};
+ghost use Rattle.office_proof.specs.Certificates.{certificate_text};
 ghost use Rattle.office_proof.specs.Outcomes.{is_ending};
 ghost use Rattle.office_proof.specs.declared.entry.Entry.{Entry};
 ghost use Rattle.office_machine.specs.Meanings.{IsCandidate};
-ghost use Rattle.office_machine.specs.Runs.{candidates, next_ready, with_outcomes, entries_of, spent_list};
+ghost use Rattle.office_machine.specs.Runs.{candidates, next_ready, with_outcomes, entries_of, spent_list, closed};
 ghost use Rattle.office_machine.specs.Sound.{IsSound};
 ghost use Rattle.office_machine.specs.State.{State, Office};
+ghost use Rattle.office_machine.specs.declared.run.Run.{Run};
 
 /// What comes of records in a run changes no record's class, plan, start, due day, hold or
 /// confirmation, whichever records are taken, and no other record's status and content.
@@ -53,4 +56,12 @@ pub fn law_of_listed_aggregations()
         × ((r : ℕ) × IsTrue (has_record tree r) × IsTrue (is_below tree a r)
         × ((entry : Entry) × Contains entries entry × (entry.record_no ≡ r) × IsTrue (is_ending entry.outcome))))) }
     ensures by_number { (tree : TreeState) (entries : List Entry) → IsStrictlySortedBy nat_cmp (spent_list tree entries) }
+{}
+
+/// When a run closes, its certificate is the text of its number, its day, who opened it, its entries by
+/// record number and the aggregations that are spent by it. No other certificate is changed.
+pub fn law_of_the_certificate()
+    ensures closed { (s : State) (run : ℕ) (it : Run) → numbered s.office.runs run ≡ Some it
+        → get (closed s run).office.certificates run ≡ Some (certificate_text s.office.tree run it.day it.by (entries_of s.office run) (spent_list s.office.tree (entries_of s.office run))) }
+    ensures others { (s : State) (run other : ℕ) → other ≢ run → get (closed s run).office.certificates other ≡ get s.office.certificates other }
 {}
