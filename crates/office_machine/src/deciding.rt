@@ -11,7 +11,7 @@ use office_tree::{AggNo, Aggregation, Code, Memory, Schedule};
 use std::alloc::Global;
 
 /// Two writes in this order.
-fn two(alloc: Global, first: RowWrite, second: RowWrite) -> Result<Vec<RowWrite>, Memory>
+pub(crate) fn two(alloc: Global, first: RowWrite, second: RowWrite) -> Result<Vec<RowWrite>, Memory>
     ensures { IfOk result (λ writes. writes.items ≡ first ∷ second ∷ []) }
 {
     let mut writes = Vec::with_capacity(alloc, 2)?;
@@ -22,7 +22,7 @@ fn two(alloc: Global, first: RowWrite, second: RowWrite) -> Result<Vec<RowWrite>
 
 impl Machine {
     /// The refusal of an act of that day: the day's, where it is before the office's, else the other.
-    fn dated(&self, day: Day, refusal: Option<Refusal>) -> Option<Refusal>
+    pub(crate) fn dated(&self, day: Day, refusal: Option<Refusal>) -> Option<Refusal>
         ensures { (conditions : List (Refusal × Bool)) → refusal ≡ first_of conditions → result ≡ first_of (dated self.now day conditions) }
     {
         if day < self.day {

@@ -15,6 +15,7 @@ mod answer;
 mod change;
 mod machine;
 mod deciding;
+mod deciding_records;
 mod disposing;
 pub mod laws;
 mod new_record;

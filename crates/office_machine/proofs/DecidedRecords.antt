@@ -1,0 +1,80 @@
+-- Decisions that write the row of one record or one aggregation, and the office's day.
+use Rattle.std.proofs.Common.{◌≡◌, ◌≤◌, ◌<◌, ◌+◌, ℕ, Bool, true, false, List, [], ◌∷◌, length, Option, Some, None, ℤ, refl, sym, ap, ◌∙◌, subst, arith}
+use Rattle.std.specs.Prelude.{not}
+use Rattle.office_days.specs.declared.refusal.Refusal.{Refusal}
+use Rattle.office_tree.specs.Conditions.{first_of, conditions_of_set_record_schedule, lacks_schedule}
+use Rattle.office_tree.specs.Effects.{with_head}
+use Rattle.office_tree.specs.Lists.{numbered, edited, put}
+use Rattle.office_tree.specs.Sound as tree
+use Rattle.office_tree.specs.Tree.{TreeState, has_record}
+use Rattle.office_tree.specs.declared.head.Record.{Record}
+use Rattle.office_tree.specs.declared.status.Status.{Status}
+use Rattle.office_tree.proofs.Accepting.{none_holds, neither, not_false}
+use Rattle.office_tree.proofs.Amending.{IsSound-set_record_schedule}
+use Rattle.office_tree.proofs.Places.{numbered_within}
+use Rattle.office_tree.proofs.Putting.{put-edited, put_same}
+use Rattle.office_machine.specs.Acts.{IsChangeTo, with_contents}
+use Rattle.office_machine.specs.Conditions.{dated, refusals_of_set_record_schedule}
+use Rattle.office_machine.specs.Effects.{with_tree}
+use Rattle.office_machine.specs.State.{Office, State, ByteMap, with_office}
+use Rattle.office_machine.specs.Steps.{stepped, step_set_record_schedule}
+use Rattle.office_machine.specs.Writes.{CanWrite, all_writes}
+use Rattle.office_machine.specs.declared.answer.Answer.TheVariants.{Done}
+use Rattle.office_machine.specs.declared.change.Change.{Change}
+use Rattle.office_machine.specs.declared.rows.RowWrite.{RowWrite}
+use Rattle.office_machine.specs.declared.rows.RowWrite.TheVariants as row_write
+use Rattle.office_machine.proofs.Accepted.{dated_accepted}
+use Rattle.office_machine.proofs.Decisions.{accepted_change}
+
+-- ---- what an accepted act says of the tree
+
+-- the tree's own conditions do not hold, where those of the dated table do not
+pub accepted_in : (s : Office) (day : ℤ) (conditions : List (Refusal × Bool)) (answer : Option Refusal) → answer ≡ first_of (dated s day conditions) → answer ≡ None → first_of conditions ≡ None
+accepted_in s day conditions answer is none = (dated_accepted s day conditions (sym is ∙ none)).1
+
+-- a record whose schedule may be set is there
+pub record_to_schedule : (t : TreeState) (r : ℕ) (schedule : Option (List ℕ)) → first_of (conditions_of_set_record_schedule t r schedule) ≡ None → has_record t r ≡ true
+record_to_schedule t r schedule accepted =
+    not_false (has_record t r) (neither (not (has_record t r)) (lacks_schedule t schedule) (none_holds (conditions_of_set_record_schedule t r schedule) accepted).0).0
+
+-- ---- the row of a record
+
+-- a row of a record that is there, and the day
+abbrev pub head_writes : ℕ → Record → Status → ℤ → List RowWrite
+head_writes r head status day = row_write.Record r head status ∷ row_write.Day day ∷ []
+
+-- the tree with the row put in is the tree with the head changed
+head_put : (t : TreeState) (r : ℕ) (edit : Record → Record) (old head : Record) (status : Status) → numbered t.records r ≡ Some old → numbered t.statuses r ≡ Some status → head ≡ edit old
+    → record t { records = put t.records r head; statuses = put t.statuses r status } ≡ with_head t r edit
+head_put t r edit old head status there standing is =
+    λ i. record t { records = (ap (put t.records r) is ∙ put-edited t.records r edit old there) i; statuses = put_same t.statuses r status standing i }
+
+pub head_changed : (s : Office) (day : ℤ) (r : ℕ) (edit : Record → Record) (old head : Record) (status : Status) (conditions : List (Refusal × Bool)) (change : Change)
+    → first_of conditions ≡ None → numbered s.tree.records r ≡ Some old → numbered s.tree.statuses r ≡ Some status → head ≡ edit old → tree.IsSound (with_head s.tree r edit)
+    → change.answer ≡ Done → change.writes.items ≡ head_writes r head status day
+    → IsChangeTo s (λ contents. stepped conditions (with_contents s contents) Done (with_office (with_contents s contents) (with_tree s day (with_head s.tree r edit)))) change
+head_changed s day r edit old head status conditions change accepted there standing is sound done written =
+    let puts = head_put s.tree r edit old head status there standing is in
+    let within = numbered_within s.tree.records r old there in
+    let last : r ≤ length s.tree.records + 1 = omega (arith, within.1) in
+    let fits : CanWrite s (head_writes r head status day) = ((within.0, last, subst tree.IsSound (sym puts) sound), (tt, tt)) in
+    let few : length change.writes.items ≤ 6 = rw written (omega arith) in
+    accepted_change s conditions Done (λ contents. with_office (with_contents s contents) (with_tree s day (with_head s.tree r edit))) change accepted (sym done) few
+    (subst (CanWrite s) (sym written) fits)
+    (λ contents. ap (λ ws. all_writes ws (with_contents s contents)) written ∙ ap (λ t. with_contents (with_tree s day t) contents) puts)
+
+-- what a decision reads of a record that is there: its head and its status
+pub record IsRead (t : TreeState) (r : ℕ) (old : Record) (status : Status) : Type 0 where
+  pub sound : tree.IsSound t
+  pub there : numbered t.records r ≡ Some old
+  pub standing : numbered t.statuses r ≡ Some status
+
+pub scheduled : (s : Office) (t : TreeState) (day : ℤ) (r : ℕ) (schedule : Option (List ℕ)) (old head : Record) (status : Status) (change : Change)
+    → t ≡ s.tree → first_of (dated s day (conditions_of_set_record_schedule t r schedule)) ≡ None → IsRead t r old status → head ≡ record old { schedule = schedule }
+    → change.answer ≡ Done → change.writes.items ≡ head_writes r head status day
+    → IsChangeTo s (λ contents. step_set_record_schedule (with_contents s contents) day r schedule) change
+scheduled s t day r schedule old head status change same table reads is done written =
+    let accepted = subst (λ (u : TreeState). first_of (dated s day (conditions_of_set_record_schedule u r schedule)) ≡ None) same table in
+    let read = subst (λ (u : TreeState). IsRead u r old status) same reads in
+    let sound = IsSound-set_record_schedule s.tree r schedule read.sound (dated_accepted s day (conditions_of_set_record_schedule s.tree r schedule) accepted).1 in
+    head_changed s day r (λ it. record it { schedule = schedule }) old head status (refusals_of_set_record_schedule s day r schedule) change accepted read.there read.standing is sound done written
