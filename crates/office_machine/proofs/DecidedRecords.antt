@@ -1,23 +1,26 @@
 -- Decisions that write the row of one record or one aggregation, and the office's day.
 use Rattle.std.proofs.Common.{◌≡◌, ◌≤◌, ◌<◌, ◌+◌, ℕ, Bool, true, false, List, [], ◌∷◌, length, Option, Some, None, ℤ, refl, sym, ap, ◌∙◌, subst, arith}
 use Rattle.std.specs.Prelude.{not}
+use Rattle.std.specs.Option.{option_map}
 use Rattle.office_days.specs.declared.refusal.Refusal.{Refusal}
-use Rattle.office_tree.specs.Conditions.{first_of, conditions_of_set_record_schedule, lacks_schedule}
+use Rattle.office_tree.specs.Conditions.{first_of, conditions_of_confirm, conditions_of_review, conditions_of_set_record_schedule, lacks_schedule}
 use Rattle.office_tree.specs.Effects.{with_head}
-use Rattle.office_tree.specs.Lists.{numbered, edited, put}
+use Rattle.office_tree.specs.Lists.{numbered, edited, or_else, put}
 use Rattle.office_tree.specs.Sound as tree
-use Rattle.office_tree.specs.Tree.{TreeState, has_record}
+use Rattle.office_tree.specs.Tree.{TreeState, due_of, has_record}
+use Rattle.office_tree.specs.declared.action.Action.{Action}
+use Rattle.office_tree.specs.declared.head.Confirmation.{Confirmation}
 use Rattle.office_tree.specs.declared.head.Record.{Record}
 use Rattle.office_tree.specs.declared.status.Status.{Status}
 use Rattle.office_tree.proofs.Accepting.{none_holds, neither, not_false}
-use Rattle.office_tree.proofs.Amending.{IsSound-set_record_schedule}
+use Rattle.office_tree.proofs.Amending.{IsSound-confirm, IsSound-review, IsSound-set_record_schedule}
 use Rattle.office_tree.proofs.Places.{numbered_within}
 use Rattle.office_tree.proofs.Putting.{put-edited, put_same}
 use Rattle.office_machine.specs.Acts.{IsChangeTo, with_contents}
-use Rattle.office_machine.specs.Conditions.{dated, refusals_of_set_record_schedule}
+use Rattle.office_machine.specs.Conditions.{dated, refusals_of_confirm, refusals_of_review, refusals_of_set_record_schedule}
 use Rattle.office_machine.specs.Effects.{with_tree}
 use Rattle.office_machine.specs.State.{Office, State, ByteMap, with_office}
-use Rattle.office_machine.specs.Steps.{stepped, step_set_record_schedule}
+use Rattle.office_machine.specs.Steps.{stepped, step_confirm, step_review, step_set_record_schedule}
 use Rattle.office_machine.specs.Writes.{CanWrite, all_writes}
 use Rattle.office_machine.specs.declared.answer.Answer.TheVariants.{Done}
 use Rattle.office_machine.specs.declared.change.Change.{Change}
@@ -36,6 +39,15 @@ accepted_in s day conditions answer is none = (dated_accepted s day conditions (
 pub record_to_schedule : (t : TreeState) (r : ℕ) (schedule : Option (List ℕ)) → first_of (conditions_of_set_record_schedule t r schedule) ≡ None → has_record t r ≡ true
 record_to_schedule t r schedule accepted =
     not_false (has_record t r) (neither (not (has_record t r)) (lacks_schedule t schedule) (none_holds (conditions_of_set_record_schedule t r schedule) accepted).0).0
+
+-- and one that may be confirmed
+pub record_to_confirm : (t : TreeState) (day : ℤ) (r : ℕ) (named : Action) → first_of (conditions_of_confirm t day r named) ≡ None → has_record t r ≡ true
+record_to_confirm t day r named accepted = not_false (has_record t r) (none_holds (conditions_of_confirm t day r named) accepted).0
+
+-- and one that may be reviewed
+pub record_to_review : (t : TreeState) (day : ℤ) (r : ℕ) (schedule : Option (List ℕ)) → first_of (conditions_of_review t day r schedule) ≡ None → has_record t r ≡ true
+record_to_review t day r schedule accepted =
+    not_false (has_record t r) (neither (not (has_record t r)) (lacks_schedule t schedule) (none_holds (conditions_of_review t day r schedule) accepted).0).0
 
 -- ---- the row of a record
 
@@ -78,3 +90,32 @@ scheduled s t day r schedule old head status change same table reads is done wri
     let read = subst (λ (u : TreeState). IsRead u r old status) same reads in
     let sound = IsSound-set_record_schedule s.tree r schedule read.sound (dated_accepted s day (conditions_of_set_record_schedule s.tree r schedule) accepted).1 in
     head_changed s day r (λ it. record it { schedule = schedule }) old head status (refusals_of_set_record_schedule s day r schedule) change accepted read.there read.standing is sound done written
+
+-- the confirmation of a record with that due day
+abbrev pub confirming : Action → ℤ → List ℕ → Option ℤ → Option Confirmation
+confirming named day by due = option_map (λ it. record { action = named; due = it; day = day; by = by }) due
+
+pub confirmed_on : (s : Office) (t : TreeState) (day : ℤ) (r : ℕ) (named : Action) (by : List ℕ) (old head : Record) (status : Status) (change : Change)
+    → t ≡ s.tree → first_of (dated s day (conditions_of_confirm t day r named)) ≡ None → IsRead t r old status
+    → head ≡ record old { confirmation = confirming named day by (due_of t r) }
+    → change.answer ≡ Done → change.writes.items ≡ head_writes r head status day
+    → IsChangeTo s (λ contents. step_confirm (with_contents s contents) day r named by) change
+confirmed_on s t day r named by old head status change same table reads is done written =
+    let accepted = subst (λ (u : TreeState). first_of (dated s day (conditions_of_confirm u day r named)) ≡ None) same table in
+    let read = subst (λ (u : TreeState). IsRead u r old status) same reads in
+    let head_is = subst (λ (u : TreeState). head ≡ record old { confirmation = confirming named day by (due_of u r) }) same is in
+    let sound = IsSound-confirm s.tree day r named by read.sound (dated_accepted s day (conditions_of_confirm s.tree day r named) accepted).1 in
+    head_changed s day r (λ it. record it { confirmation = confirming named day by (due_of s.tree r) }) old head status
+    (refusals_of_confirm s day r named) change accepted read.there read.standing head_is sound done written
+
+pub reviewed_on : (s : Office) (t : TreeState) (day : ℤ) (r : ℕ) (schedule : Option (List ℕ)) (by : List ℕ) (old head : Record) (status : Status) (change : Change)
+    → t ≡ s.tree → first_of (dated s day (conditions_of_review t day r schedule)) ≡ None → IsRead t r old status
+    → head ≡ record old { review = Some (record { day = day; by = by }); schedule = or_else schedule old.schedule }
+    → change.answer ≡ Done → change.writes.items ≡ head_writes r head status day
+    → IsChangeTo s (λ contents. step_review (with_contents s contents) day r schedule by) change
+reviewed_on s t day r schedule by old head status change same table reads is done written =
+    let accepted = subst (λ (u : TreeState). first_of (dated s day (conditions_of_review u day r schedule)) ≡ None) same table in
+    let read = subst (λ (u : TreeState). IsRead u r old status) same reads in
+    let sound = IsSound-review s.tree day r schedule by read.sound (dated_accepted s day (conditions_of_review s.tree day r schedule) accepted).1 in
+    head_changed s day r (λ it. record it { review = Some (record { day = day; by = by }); schedule = or_else schedule it.schedule }) old head status
+    (refusals_of_review s day r schedule) change accepted read.there read.standing is sound done written
