@@ -3,6 +3,7 @@ pub mod Candidates
 pub mod Certifying
 pub mod Changes
 pub mod Contents
+pub mod DecidedRecords
 pub mod DecidedTree
 pub mod Decisions
 pub mod HeldSteps

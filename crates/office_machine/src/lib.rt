@@ -18,6 +18,7 @@ mod applying;
 mod change;
 mod machine;
 mod deciding;
+mod deciding_records;
 mod disposing;
 pub mod laws;
 mod new_record;

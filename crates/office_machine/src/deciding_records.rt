@@ -1,0 +1,142 @@
+ghost use Rattle.std.specs.Prelude.{◌≡◌, IfOk};
+ghost use Rattle.std.specs.Option.{option_copied, option_map};
+ghost use Rattle.office_tree.specs.Lists.{or_else};
+ghost use Rattle.office_machine.specs.Acts.{IsDecidedTo, with_contents};
+ghost use Rattle.office_machine.specs.Steps.{step_confirm, step_reclassify, step_review, step_set_record_schedule};
+
+use crate::deciding::two;
+use crate::{Answer, Change, Decision, Machine, RowWrite};
+use office_days::{Day, DueDay};
+use office_tree::{Action, Classified, Code, Confirmation, Memory, RecordNo, Review, Text};
+use std::alloc::Global;
+
+/// A second code that is equal to this one, if there is one.
+fn copy_code(alloc: Global, code: Option<&Code>) -> Result<Option<Code>, Memory>
+    ensures { IfOk result (λ c. c ≡ option_copied code.entry) }
+{
+    match code {
+        Some(code) => Ok(Some(code.copy(alloc)?)),
+        None => Ok(None),
+    }
+}
+
+/// A second code that is equal to the first, if there is one, else to the other.
+fn first_code(alloc: Global, first: Option<&Code>, other: Option<&Code>) -> Result<Option<Code>, Memory>
+    ensures { IfOk result (λ c. c ≡ or_else (option_copied first.entry) (option_copied other.entry)) }
+{
+    match first {
+        Some(code) => Ok(Some(code.copy(alloc)?)),
+        None => copy_code(alloc, other),
+    }
+}
+
+/// The confirmation of an action on that day, for a record that is due.
+fn confirmed(alloc: Global, action: Action, due: Option<DueDay>, day: Day, by: &Text) -> Result<Option<Confirmation>, Memory>
+    ensures { IfOk result (λ c. c ≡ option_map (λ it. record { action = action; due = it; day = day; by = by.now }) due) }
+{
+    match due {
+        Some(due) => Ok(Some(Confirmation { action, due, day, by: by.copy(alloc)? })),
+        None => Ok(None),
+    }
+}
+
+impl Machine {
+    pub(crate) fn decide_set_record_schedule(
+        &self,
+        alloc: Global,
+        day: Day,
+        record_no: RecordNo,
+        schedule: Option<&Code>,
+    ) -> Result<Decision, Memory>
+        ensures { IfOk result (λ d. IsDecidedTo self.now (λ contents. step_set_record_schedule (with_contents self.now contents) day record_no (option_copied schedule.entry)) d) }
+    {
+        if let Some(refusal) = self.dated(day, self.tree.check_set_record_schedule(record_no, schedule)) {
+            return Ok(Decision::Stay(Answer::Refused(refusal)));
+        }
+        self.tree.sound();
+        let mut head = self.tree.record(record_no).copy(alloc)?;
+        head.schedule = copy_code(alloc, schedule)?;
+        let status = self.tree.status(record_no);
+        let write = RowWrite::Record { number: record_no, head, status };
+        let writes = two(alloc, write, RowWrite::Day { day })?;
+        Ok(Decision::Go(Change { answer: Answer::Done, writes }))
+    }
+
+    pub(crate) fn decide_confirm(
+        &self,
+        alloc: Global,
+        day: Day,
+        record_no: RecordNo,
+        action: Action,
+        by: &Text,
+    ) -> Result<Decision, Memory>
+        ensures { IfOk result (λ d. IsDecidedTo self.now (λ contents. step_confirm (with_contents self.now contents) day record_no action by.now) d) }
+    {
+        if let Some(refusal) = self.dated(day, self.tree.check_confirm(day, record_no, action)) {
+            return Ok(Decision::Stay(Answer::Refused(refusal)));
+        }
+        self.tree.sound();
+        let mut head = self.tree.record(record_no).copy(alloc)?;
+        head.confirmation = confirmed(alloc, action, self.tree.due_of(record_no), day, by)?;
+        let status = self.tree.status(record_no);
+        let write = RowWrite::Record { number: record_no, head, status };
+        let writes = two(alloc, write, RowWrite::Day { day })?;
+        Ok(Decision::Go(Change { answer: Answer::Done, writes }))
+    }
+
+    pub(crate) fn decide_review(
+        &self,
+        alloc: Global,
+        day: Day,
+        record_no: RecordNo,
+        schedule: Option<&Code>,
+        by: &Text,
+    ) -> Result<Decision, Memory>
+        ensures { IfOk result (λ d. IsDecidedTo self.now (λ contents. step_review (with_contents self.now contents) day record_no (option_copied schedule.entry) by.now) d) }
+    {
+        if let Some(refusal) = self.dated(day, self.tree.check_review(day, record_no, schedule)) {
+            return Ok(Decision::Stay(Answer::Refused(refusal)));
+        }
+        self.tree.sound();
+        let old = self.tree.record(record_no);
+        let mut head = old.copy(alloc)?;
+        head.review = Some(Review { day, by: by.copy(alloc)? });
+        head.schedule = first_code(alloc, schedule, old.schedule.as_ref())?;
+        let status = self.tree.status(record_no);
+        let write = RowWrite::Record { number: record_no, head, status };
+        let writes = two(alloc, write, RowWrite::Day { day })?;
+        Ok(Decision::Go(Change { answer: Answer::Done, writes }))
+    }
+
+    pub(crate) fn decide_reclassify(
+        &self,
+        alloc: Global,
+        day: Day,
+        target: Classified,
+        class: Option<&Code>,
+    ) -> Result<Decision, Memory>
+        ensures { IfOk result (λ d. IsDecidedTo self.now (λ contents. step_reclassify (with_contents self.now contents) day target (option_copied class.entry)) d) }
+    {
+        if let Some(refusal) = self.dated(day, self.tree.check_reclassify(target, class)) {
+            return Ok(Decision::Stay(Answer::Refused(refusal)));
+        }
+        self.tree.sound();
+        match target {
+            Classified::Aggregation(number) => {
+                let mut aggregation = self.tree.aggregation(number).copy(alloc)?;
+                aggregation.class = copy_code(alloc, class)?;
+                let write = RowWrite::Aggregation { number, aggregation };
+                let writes = two(alloc, write, RowWrite::Day { day })?;
+                Ok(Decision::Go(Change { answer: Answer::Done, writes }))
+            }
+            Classified::Record(number) => {
+                let mut head = self.tree.record(number).copy(alloc)?;
+                head.class = copy_code(alloc, class)?;
+                let status = self.tree.status(number);
+                let write = RowWrite::Record { number, head, status };
+                let writes = two(alloc, write, RowWrite::Day { day })?;
+                Ok(Decision::Go(Change { answer: Answer::Done, writes }))
+            }
+        }
+    }
+}
