@@ -20,7 +20,7 @@ use Rattle.office_holds.specs.Holds.{HoldMap, HoldState, is_in_force, hold_cover
 use Rattle.office_holds.specs.declared.target.Target.TheVariants as target
 use Rattle.office_machine.specs.Conditions.{refusals_of_reclassify}
 use Rattle.office_machine.specs.Meanings.{IsAccepted}
-use Rattle.office_machine.specs.Worked.{filing_day, with_hold, base_office, class_held, twice_held, once_held, free_again, finance_held}
+use Rattle.office_machine.specs.Worked.{filing_day, with_hold, base_office, class_held, twice_held, once_held, free_again, both_held, one_left, finance_held}
 use Rattle.office_machine.proofs.WorkedBase.{finance_there, legal_there}
 use Rattle.office_machine.proofs.WorkedMaps.{no_entries, entries_inserted, entries_amended}
 
@@ -62,6 +62,18 @@ one_lifted = entries_amended twice_held.holds (codes "H-2") _ on_both (λ hold. 
 one_emptied : entries free_again.holds ≡ (codes "H-2", lifted) ∷ (codes "H-9", emptied) ∷ []
 one_emptied = entries_amended once_held.holds (codes "H-9") _ one_lifted (without_target (target.Class (codes "LEG"))) (on_class (codes "LEG")) refl
 
+abbrev on_classes : HoldState
+on_classes = with_target (target.Class (codes "FIN")) (on_class (codes "LEG"))
+
+abbrev in_part : HoldState
+in_part = without_target (target.Class (codes "LEG")) on_classes
+
+on_two_classes : entries both_held.holds ≡ (codes "H-9", on_classes) ∷ []
+on_two_classes = entries_amended class_held.holds (codes "H-9") _ on_legal (with_target (target.Class (codes "FIN"))) (on_class (codes "LEG")) refl
+
+on_one_class : entries one_left.holds ≡ (codes "H-9", in_part) ∷ []
+on_one_class = entries_amended both_held.holds (codes "H-9") _ on_two_classes (without_target (target.Class (codes "LEG"))) on_classes refl
+
 -- ---- which records each of them covers
 
 -- by its three kinds of targets
@@ -97,6 +109,22 @@ class_covers_no_other = covering (on_class (codes "LEG")) 1 1 (codes "FIN") fals
 
 emptied_covers_none : hold_covers emptied 2 (2 ∷ []) (Some (codes "LEG")) ≡ false
 emptied_covers_none = covering emptied 2 2 (codes "LEG") false false false (contains-empty nat_cmp 2) (contains-empty nat_cmp 2) class_taken_off
+
+finance_in : contains on_classes.classes (codes "FIN") ≡ true
+finance_in = contains-insert nat_list_cmp_total (set.insert set.empty (codes "LEG")) (codes "FIN") (codes "FIN")
+
+legal_in : contains on_classes.classes (codes "LEG") ≡ true
+legal_in = contains-insert nat_list_cmp_total (set.insert set.empty (codes "LEG")) (codes "FIN") (codes "LEG") ∙ class_is_in
+
+finance_kept : contains in_part.classes (codes "FIN") ≡ true
+finance_kept = contains-remove nat_list_cmp_total on_classes.classes (codes "LEG") (codes "FIN") ∙ finance_in
+
+legal_taken_off : contains in_part.classes (codes "LEG") ≡ false
+legal_taken_off = contains-remove nat_list_cmp_total on_classes.classes (codes "LEG") (codes "LEG")
+
+-- what a hold on classes alone covers
+by_class : (hold : HoldState) (r : ℕ) (class : List ℕ) (b : Bool) → contains hold.records r ≡ false → contains hold.aggregations r ≡ false → contains hold.classes class ≡ b → hold_covers hold r (r ∷ []) (Some class) ≡ (is_in_force hold && b)
+by_class hold r class b e f g = covering hold r r class false false b e f g
 
 -- ---- by the entries of the holds
 
@@ -137,6 +165,22 @@ least_after_lifting = least_where once_held.holds once_held.tree 2 _ one_lifted 
 pub free_after_taking_off : is_held free_again.holds free_again.tree 2 ≡ false
 unfolding above_in chain class_in
 free_after_taking_off = held_where free_again.holds free_again.tree 2 _ one_emptied ∙ (λ i. emptied_covers_none i || false)
+
+pub held_by_both : (is_held both_held.holds both_held.tree 1 ≡ true) × (is_held both_held.holds both_held.tree 2 ≡ true)
+unfolding above_in chain class_in
+held_by_both =
+    let none : (r : ℕ) → contains (set.empty {R = nat_cmp}) r ≡ false = contains-empty nat_cmp in (
+      held_where both_held.holds both_held.tree 1 _ on_two_classes ∙ ap (λ b. b || false) (by_class on_classes 1 (codes "FIN") true (none 1) (none 1) finance_in),
+      held_where both_held.holds both_held.tree 2 _ on_two_classes ∙ ap (λ b. b || false) (by_class on_classes 2 (codes "LEG") true (none 2) (none 2) legal_in),
+    )
+
+pub held_by_one : (is_held one_left.holds one_left.tree 1 ≡ true) × (is_held one_left.holds one_left.tree 2 ≡ false)
+unfolding above_in chain class_in
+held_by_one =
+    let none : (r : ℕ) → contains (set.empty {R = nat_cmp}) r ≡ false = contains-empty nat_cmp in (
+      held_where one_left.holds one_left.tree 1 _ on_one_class ∙ ap (λ b. b || false) (by_class in_part 1 (codes "FIN") true (none 1) (none 1) finance_kept),
+      held_where one_left.holds one_left.tree 2 _ on_one_class ∙ ap (λ b. b || false) (by_class in_part 2 (codes "LEG") false (none 2) (none 2) legal_taken_off),
+    )
 
 -- ---- leaving a held class
 

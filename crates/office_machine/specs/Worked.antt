@@ -135,6 +135,13 @@ once_held = after_lift_hold twice_held filing_day (codes "H-2")
 abbrev pub free_again : Office
 free_again = after_hold_off once_held filing_day (codes "H-9") (target.Class (codes "LEG"))
 
+-- a hold on both classes, and then one of them taken off it
+abbrev pub both_held : Office
+both_held = after_hold_on class_held filing_day (codes "H-9") (target.Class (codes "FIN"))
+
+abbrev pub one_left : Office
+one_left = after_hold_off both_held filing_day (codes "H-9") (target.Class (codes "LEG"))
+
 -- a hold on the class FIN
 abbrev pub finance_held : Office
 finance_held = after_hold_on (with_hold base_office (codes "H-9")) filing_day (codes "H-9") (target.Class (codes "FIN"))

@@ -22,7 +22,7 @@ ghost use Rattle.office_machine.specs.Meanings.{IsAccepted, IsHeldIn};
 ghost use Rattle.office_machine.specs.Runs.{spent_list};
 ghost use Rattle.office_machine.specs.State.{Office, State, empty_office, first_day};
 ghost use Rattle.office_machine.specs.Steps.{step_add_record};
-ghost use Rattle.office_machine.specs.Worked.{filing_day, filing_due, day_before_due, with_yearly, with_class, class_titled, classed_office, with_root, rooted_office, first_filed, second_filed, base_office, confirmed_office, sent_office, with_record, AsksFor, opening, first_step, second_step, twice_held, once_held, free_again, finance_held, ended_office, child_closed, both_closed, ending_entry, twice_added};
+ghost use Rattle.office_machine.specs.Worked.{filing_day, filing_due, day_before_due, with_yearly, with_class, class_titled, classed_office, with_root, rooted_office, first_filed, second_filed, base_office, confirmed_office, sent_office, with_record, AsksFor, opening, first_step, second_step, twice_held, once_held, free_again, both_held, one_left, finance_held, ended_office, child_closed, both_closed, ending_entry, twice_added};
 ghost use Rattle.office_machine.specs.declared.answer.Answer.TheVariants.{Number, Same, RunClosed, Refused};
 ghost use Rattle.office_machine.specs.declared.new_record.NewRecord.{NewRecord};
 
@@ -108,14 +108,17 @@ pub fn law_of_a_repeated_record()
 
 /// A hold on a class holds the records of that class and no others. Of two holds that cover a record
 /// the one whose code is first in byte order is told, and once that is lifted, the other; once its
-/// class is taken off that one too, nothing holds the record. An aggregation may not leave a class
-/// that a hold has as a target, and may be given the class that it has.
+/// class is taken off that one too, nothing holds the record. Of a hold on two classes from which one
+/// is taken off the other one still holds its records. An aggregation may not leave a class that a hold
+/// has as a target, and may be given the class that it has.
 pub fn law_of_a_held_class()
     ensures held { is_held twice_held.holds twice_held.tree 2 ≡ true }
     ensures not_held { is_held twice_held.holds twice_held.tree 1 ≡ false }
     ensures least { least_covering twice_held.holds twice_held.tree 2 ≡ Some (codes "H-2") }
     ensures after_lifting { least_covering once_held.holds once_held.tree 2 ≡ Some (codes "H-9") }
     ensures after_taking_off { is_held free_again.holds free_again.tree 2 ≡ false }
+    ensures both_classes { (is_held both_held.holds both_held.tree 1 ≡ true) × (is_held both_held.holds both_held.tree 2 ≡ true) }
+    ensures one_class_left { (is_held one_left.holds one_left.tree 1 ≡ true) × (is_held one_left.holds one_left.tree 2 ≡ false) }
     ensures leaving { first_of (refusals_of_reclassify finance_held filing_day (classified.Aggregation 1) (Some (codes "LEG"))) ≡ Some HeldClass }
     ensures staying { IsAccepted (refusals_of_reclassify finance_held filing_day (classified.Aggregation 1) (Some (codes "FIN"))) }
 {}
