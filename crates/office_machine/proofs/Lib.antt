@@ -11,6 +11,7 @@ pub mod OpenRun
 pub mod Places
 pub mod Resuming
 pub mod Rising
+pub mod SameRecords
 pub mod SoundEmpty
 pub mod SoundHeads
 pub mod SoundHolds
