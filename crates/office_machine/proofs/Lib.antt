@@ -1,6 +1,7 @@
 pub mod Accepted
 pub mod Candidates
 pub mod Contents
+pub mod DecidedAdditions
 pub mod DecidedRecords
 pub mod Decisions
 pub mod HeldSteps

@@ -10,10 +10,6 @@ drop_there [] i x e = absurd cc
 drop_there (y ∷ ys) zero x e = let same : y ≡ x = cc in ap (λ z. z ∷ ys) same
 drop_there (y ∷ ys) (suc i) x e = drop_there ys i x e
 
--- before any is tested
-pub none_tested : {A : Type 0} (test : A → Bool) (xs : List A) → number_passing test 1 xs ≡ number_passing test (0 + 1) (drop 0 xs)
-none_tested test xs = refl
-
 -- one that passes is the first
 pub first_passes : {A : Type 0} (test : A → Bool) (xs : List A) (i n : ℕ) (x : A) → n ≡ i + 1 → numbered xs n ≡ Some x → test x ≡ true → number_passing test n (drop i xs) ≡ Some n
 first_passes test xs i n x n_is there passes =
@@ -26,10 +22,3 @@ first_later test xs i n x n_is there fails =
     let further : suc i ≡ i + 1 = omega arith in
     ap (number_passing test n) (drop_there xs i x (sym (numbered_at xs n i n_is) ∙ there))
     ∙ (ap (λ b. cond b (Some n) (number_passing test (suc n) (drop (suc i) xs))) fails ∙ (λ j. number_passing test (more j) (drop (further j) xs)))
-
--- where all are passed over there is none
-pub none_passes : {A : Type 0} (test : A → Bool) (xs : List A) (i n : ℕ) → length xs ≤ i → number_passing test n (drop i xs) ≡ None
-none_passes test [] zero n h = refl
-none_passes test [] (suc i) n h = refl
-none_passes test (x ∷ xs) zero n h = absurd (omega arith)
-none_passes test (x ∷ xs) (suc i) n h = none_passes test xs i n (omega arith)
