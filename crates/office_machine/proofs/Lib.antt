@@ -3,6 +3,7 @@ pub mod Candidates
 pub mod Contents
 pub mod DecidedAdditions
 pub mod DecidedRecords
+pub mod DecidedTree
 pub mod Decisions
 pub mod HeldSteps
 pub mod LeastHolds

@@ -1,13 +1,14 @@
-ghost use Rattle.std.specs.Prelude.{◌≡◌, List, [], ◌∷◌, Bool, IfOk};
+ghost use Rattle.std.specs.Prelude.{◌≡◌, List, [], ◌∷◌, Bool, None, IfOk};
+ghost use Rattle.std.specs.Option.{option_copied};
 ghost use Rattle.office_days.specs.declared.refusal.Refusal.{Refusal};
 ghost use Rattle.office_tree.specs.Conditions.{first_of};
-ghost use Rattle.office_machine.specs.Acts.{IsDecidedFor, IsDecidedTo, with_contents};
+ghost use Rattle.office_machine.specs.Acts.{IsDecidedTo, with_contents};
 ghost use Rattle.office_machine.specs.Conditions.{dated};
-ghost use Rattle.office_machine.specs.Steps.{step_add_schedule, step_close_aggregation};
+ghost use Rattle.office_machine.specs.Steps.{step_add_aggregation, step_add_class, step_add_schedule, step_close_aggregation, step_set_class_schedule};
 
-use crate::{Act, Answer, Change, Decision, Machine, RowWrite};
+use crate::{Answer, Change, Decision, Machine, RowWrite};
 use office_days::{Day, Refusal};
-use office_tree::{AggNo, Aggregation, Code, Memory, Schedule};
+use office_tree::{AggNo, Aggregation, Class, Code, Memory, Schedule, Text};
 use std::alloc::Global;
 
 /// Two writes in this order.
@@ -18,6 +19,35 @@ pub(crate) fn two(alloc: Global, first: RowWrite, second: RowWrite) -> Result<Ve
     writes.push(first)?;
     writes.push(second)?;
     Ok(writes)
+}
+
+/// A second code that is equal to this one, if there is one.
+pub(crate) fn copy_code(alloc: Global, code: Option<&Code>) -> Result<Option<Code>, Memory>
+    ensures { IfOk result (λ c. c ≡ option_copied code.entry) }
+{
+    match code {
+        Some(code) => Ok(Some(code.copy(alloc)?)),
+        None => Ok(None),
+    }
+}
+
+/// An aggregation of these, open.
+fn open_aggregation(
+    alloc: Global,
+    ref_text: &Text,
+    title: &Text,
+    parent: Option<AggNo>,
+    class: Option<&Code>,
+) -> Result<Aggregation, Memory>
+    ensures { IfOk result (λ it. it ≡ record { ref_text = ref_text.now; title = title.now; parent = parent; class = option_copied class.entry; closed = None }) }
+{
+    Ok(Aggregation {
+        ref_text: ref_text.copy(alloc)?,
+        title: title.copy(alloc)?,
+        parent,
+        class: copy_code(alloc, class)?,
+        closed: None,
+    })
 }
 
 impl Machine {
@@ -31,27 +61,155 @@ impl Machine {
         refusal
     }
 
-    fn decide_add_schedule(&self, alloc: Global, day: Day, code: &Code, schedule: Schedule) -> Result<Decision, Memory>
+    /// What is decided of a new schedule.
+    pub(crate) fn decide_add_schedule(
+        &self,
+        alloc: Global,
+        day: Day,
+        code: &Code,
+        schedule: Schedule,
+    ) -> Result<Decision, Memory>
         ensures { IfOk result (λ d. IsDecidedTo self.now (λ contents. step_add_schedule (with_contents self.now contents) day code.now schedule) d) }
     {
         if let Some(refusal) = self.dated(day, self.tree.check_add_schedule(code)) {
             return Ok(Decision::Stay(Answer::Refused(refusal)));
         }
+        self.tree.sound();
         let code = code.copy(alloc)?;
-        let writes = two(alloc, RowWrite::Schedule { code, schedule }, RowWrite::Day { day })?;
-        Ok(Decision::Go(Change { answer: Answer::Done, writes }))
+        let writes = two(
+            alloc,
+            RowWrite::Schedule { code, schedule },
+            RowWrite::Day { day },
+        )?;
+        Ok(Decision::Go(Change {
+            answer: Answer::Done,
+            writes,
+        }))
     }
 
-    fn decide_close_aggregation(&self, alloc: Global, day: Day, aggregation: AggNo) -> Result<Decision, Memory>
+    /// What is decided of a new class.
+    pub(crate) fn decide_add_class(
+        &self,
+        alloc: Global,
+        day: Day,
+        code: &Code,
+        title: &Text,
+        schedule: &Code,
+    ) -> Result<Decision, Memory>
+        ensures { IfOk result (λ d. IsDecidedTo self.now (λ contents. step_add_class (with_contents self.now contents) day code.now (record { title = title.now; schedule = schedule.now })) d) }
+    {
+        if let Some(refusal) = self.dated(day, self.tree.check_add_class(code, schedule)) {
+            return Ok(Decision::Stay(Answer::Refused(refusal)));
+        }
+        self.tree.sound();
+        let code = code.copy(alloc)?;
+        let title = title.copy(alloc)?;
+        let schedule = schedule.copy(alloc)?;
+        let class = Class { title, schedule };
+        let writes = two(
+            alloc,
+            RowWrite::Class { code, class },
+            RowWrite::Day { day },
+        )?;
+        Ok(Decision::Go(Change {
+            answer: Answer::Done,
+            writes,
+        }))
+    }
+
+    /// What is decided of another schedule for a class.
+    pub(crate) fn decide_set_class_schedule(
+        &self,
+        alloc: Global,
+        day: Day,
+        class: &Code,
+        schedule: &Code,
+    ) -> Result<Decision, Memory>
+        ensures { IfOk result (λ d. IsDecidedTo self.now (λ contents. step_set_class_schedule (with_contents self.now contents) day class.now schedule.now) d) }
+    {
+        if let Some(refusal) = self.dated(
+            day,
+            self.tree.check_set_class_schedule(class, schedule),
+        ) {
+            return Ok(Decision::Stay(Answer::Refused(refusal)));
+        }
+        self.tree.sound();
+        let title = match self.tree.class(class) {
+            Some(it) => it.title.copy(alloc)?,
+            None => unreachable!(),
+        };
+        let code = class.copy(alloc)?;
+        let schedule = schedule.copy(alloc)?;
+        let class = Class { title, schedule };
+        let writes = two(
+            alloc,
+            RowWrite::Class { code, class },
+            RowWrite::Day { day },
+        )?;
+        Ok(Decision::Go(Change {
+            answer: Answer::Done,
+            writes,
+        }))
+    }
+
+    /// What is decided of a new aggregation.
+    pub(crate) fn decide_add_aggregation(
+        &self,
+        alloc: Global,
+        day: Day,
+        ref_text: &Text,
+        title: &Text,
+        parent: Option<AggNo>,
+        class: Option<&Code>,
+    ) -> Result<Decision, Memory>
+        ensures { IfOk result (λ d. IsDecidedTo self.now (λ contents. step_add_aggregation (with_contents self.now contents) day ref_text.now title.now parent (option_copied class.entry)) d) }
+    {
+        if let Some(refusal) = self.dated(
+            day,
+            self.tree.check_add_aggregation(ref_text, parent, class),
+        ) {
+            return Ok(Decision::Stay(Answer::Refused(refusal)));
+        }
+        self.tree.sound();
+        let number = self.tree.aggregation_count() + 1;
+        let aggregation = open_aggregation(alloc, ref_text, title, parent, class)?;
+        let writes = two(
+            alloc,
+            RowWrite::Aggregation {
+                number,
+                aggregation,
+            },
+            RowWrite::Day { day },
+        )?;
+        Ok(Decision::Go(Change {
+            answer: Answer::Number(number),
+            writes,
+        }))
+    }
+
+    /// What is decided of an aggregation's closing.
+    pub(crate) fn decide_close_aggregation(
+        &self,
+        alloc: Global,
+        day: Day,
+        aggregation: AggNo,
+    ) -> Result<Decision, Memory>
         ensures { IfOk result (λ d. IsDecidedTo self.now (λ contents. step_close_aggregation (with_contents self.now contents) day aggregation) d) }
     {
         if let Some(refusal) = self.dated(day, self.tree.check_close_aggregation(aggregation)) {
             return Ok(Decision::Stay(Answer::Refused(refusal)));
         }
+        self.tree.sound();
         let mut closed = self.tree.aggregation(aggregation).copy(alloc)?;
         closed.closed = Some(day);
-        let write = RowWrite::Aggregation { number: aggregation, aggregation: closed };
+        let write = RowWrite::Aggregation {
+            number: aggregation,
+            aggregation: closed,
+        };
         let writes = two(alloc, write, RowWrite::Day { day })?;
-        Ok(Decision::Go(Change { answer: Answer::Done, writes }))
+        Ok(Decision::Go(Change {
+            answer: Answer::Done,
+            writes,
+        }))
     }
 }

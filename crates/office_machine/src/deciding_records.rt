@@ -7,7 +7,7 @@ ghost use Rattle.office_machine.specs.Conditions.{is_same_record, same_record};
 ghost use Rattle.office_machine.specs.Effects.{new_head};
 ghost use Rattle.office_machine.specs.Steps.{step_add_record, step_confirm, step_reclassify, step_review, step_set_record_schedule};
 
-use crate::deciding::two;
+use crate::deciding::{copy_code, two};
 use crate::{Answer, Change, Decision, Machine, NewRecord, RowWrite};
 use office_days::{Day, DueDay};
 use office_proof::digest_of;
@@ -15,16 +15,6 @@ use office_tree::{
     Action, Classified, Code, Confirmation, Memory, Record, RecordNo, Review, Status, Text,
 };
 use std::alloc::Global;
-
-/// A second code that is equal to this one, if there is one.
-fn copy_code(alloc: Global, code: Option<&Code>) -> Result<Option<Code>, Memory>
-    ensures { IfOk result (λ c. c ≡ option_copied code.entry) }
-{
-    match code {
-        Some(code) => Ok(Some(code.copy(alloc)?)),
-        None => Ok(None),
-    }
-}
 
 /// A second code that is equal to the first, if there is one, else to the other.
 fn first_code(alloc: Global, first: Option<&Code>, other: Option<&Code>) -> Result<Option<Code>, Memory>
@@ -103,6 +93,7 @@ impl Machine {
         None
     }
 
+    /// What is decided of a new record, which may have been added before.
     pub(crate) fn decide_add_record(&self, alloc: Global, day: Day, new: &NewRecord) -> Result<Decision, Memory>
         ensures { IfOk result (λ d. IsDecidedTo self.now (λ contents. step_add_record (with_contents self.now contents) day new.now) d) }
     {
@@ -126,6 +117,7 @@ impl Machine {
         Ok(Decision::Go(Change { answer: Answer::Number(number), writes }))
     }
 
+    /// What is decided of a record's own schedule, set or taken away.
     pub(crate) fn decide_set_record_schedule(
         &self,
         alloc: Global,
@@ -147,6 +139,7 @@ impl Machine {
         Ok(Decision::Go(Change { answer: Answer::Done, writes }))
     }
 
+    /// What is decided of a confirmation of a record's disposal.
     pub(crate) fn decide_confirm(
         &self,
         alloc: Global,
@@ -169,6 +162,7 @@ impl Machine {
         Ok(Decision::Go(Change { answer: Answer::Done, writes }))
     }
 
+    /// What is decided of a record's review.
     pub(crate) fn decide_review(
         &self,
         alloc: Global,
@@ -193,6 +187,7 @@ impl Machine {
         Ok(Decision::Go(Change { answer: Answer::Done, writes }))
     }
 
+    /// What is decided of an own class of an aggregation or a record, set or taken away.
     pub(crate) fn decide_reclassify(
         &self,
         alloc: Global,

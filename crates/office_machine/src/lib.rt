@@ -14,6 +14,7 @@ mod act;
 mod answer;
 mod change;
 mod machine;
+mod decide;
 mod deciding;
 mod deciding_records;
 mod disposing;
