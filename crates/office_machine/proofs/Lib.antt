@@ -3,6 +3,7 @@ pub mod Candidates
 pub mod Certifying
 pub mod Changes
 pub mod Contents
+pub mod DecidedAdditions
 pub mod DecidedRecords
 pub mod DecidedTree
 pub mod Decisions
@@ -19,6 +20,7 @@ pub mod Places
 pub mod Resuming
 pub mod Rising
 pub mod RowWrites
+pub mod SameRecords
 pub mod SoundEmpty
 pub mod SoundHeads
 pub mod SoundHolds

@@ -1,24 +1,20 @@
-ghost use Rattle.std.specs.Prelude.{◌≡◌, IfOk};
+ghost use Rattle.std.specs.Prelude.{◌≡◌, IfOk, [], ◌∷◌, ◌++◌};
 ghost use Rattle.std.specs.Option.{option_copied, option_map};
+ghost use Rattle.sha2.specs.Sha256.{sha256};
 ghost use Rattle.office_tree.specs.Lists.{or_else};
 ghost use Rattle.office_machine.specs.Acts.{IsDecidedTo, with_contents};
-ghost use Rattle.office_machine.specs.Steps.{step_confirm, step_reclassify, step_review, step_set_record_schedule};
+ghost use Rattle.office_machine.specs.Conditions.{is_same_record, same_record};
+ghost use Rattle.office_machine.specs.Effects.{new_head};
+ghost use Rattle.office_machine.specs.Steps.{step_add_record, step_confirm, step_reclassify, step_review, step_set_record_schedule};
 
-use crate::deciding::two;
-use crate::{Answer, Change, Decision, Machine, RowWrite};
+use crate::deciding::{copy_code, two};
+use crate::{Answer, Change, Decision, Machine, NewRecord, RowWrite};
 use office_days::{Day, DueDay};
-use office_tree::{Action, Classified, Code, Confirmation, Memory, RecordNo, Review, Text};
+use office_proof::digest_of;
+use office_tree::{
+    Action, Classified, Code, Confirmation, Memory, Record, RecordNo, Review, Status, Text,
+};
 use std::alloc::Global;
-
-/// A second code that is equal to this one, if there is one.
-fn copy_code(alloc: Global, code: Option<&Code>) -> Result<Option<Code>, Memory>
-    ensures { IfOk result (λ c. c ≡ option_copied code.entry) }
-{
-    match code {
-        Some(code) => Ok(Some(code.copy(alloc)?)),
-        None => Ok(None),
-    }
-}
 
 /// A second code that is equal to the first, if there is one, else to the other.
 fn first_code(alloc: Global, first: Option<&Code>, other: Option<&Code>) -> Result<Option<Code>, Memory>
@@ -40,7 +36,88 @@ fn confirmed(alloc: Global, action: Action, due: Option<DueDay>, day: Day, by: &
     }
 }
 
+/// The writes and then one more.
+fn then(mut writes: Vec<RowWrite>, last: RowWrite) -> Result<Vec<RowWrite>, Memory>
+    ensures { IfOk result (λ all. all.items ≡ writes.items ++ last ∷ []) }
+{
+    writes.push(last)?;
+    Ok(writes)
+}
+
+/// Whether the record is the one that is asked for, where its content has that digest.
+fn is_same(new: &NewRecord, digest: [u8; 32], head: &Record) -> bool
+    requires { digest ≡ sha256 new.now.content.items }
+    ensures { result ≡ is_same_record new.now head.now }
+{
+    new.ref_text == head.ref_text
+        && new.title == head.title
+        && new.originated == head.originated
+        && new.aggregation == head.aggregation
+        && new.content.len() == head.length as usize
+        && digest == head.digest
+}
+
+/// The head of a new record, where its content has that digest.
+fn new_head(alloc: Global, day: Day, new: &NewRecord, digest: [u8; 32]) -> Result<Record, Memory>
+    requires { digest ≡ sha256 new.now.content.items }
+    ensures { IfOk result (λ head. head ≡ new_head day new.now) }
+{
+    Ok(Record {
+        ref_text: new.ref_text.copy(alloc)?,
+        title: new.title.copy(alloc)?,
+        originated: new.originated,
+        added: day,
+        aggregation: new.aggregation,
+        class: copy_code(alloc, new.class.as_ref())?,
+        schedule: copy_code(alloc, new.schedule.as_ref())?,
+        length: new.content.len() as u32,
+        digest,
+        review: None,
+        confirmation: None,
+        receipt: None,
+    })
+}
+
 impl Machine {
+    /// The record that was added before with all that is asked now, where its content has that digest.
+    fn same_record(&self, new: &NewRecord, digest: [u8; 32]) -> Option<RecordNo>
+        requires { digest ≡ sha256 new.now.content.items }
+        ensures { result ≡ same_record self.now new.now }
+    {
+        for before in 0..self.tree.record_count() {
+            let record_no = before + 1;
+            if is_same(new, digest, self.tree.record(record_no)) {
+                return Some(record_no);
+            }
+        }
+        None
+    }
+
+    /// What is decided of a new record, which may have been added before.
+    pub(crate) fn decide_add_record(&self, alloc: Global, day: Day, new: &NewRecord) -> Result<Decision, Memory>
+        ensures { IfOk result (λ d. IsDecidedTo self.now (λ contents. step_add_record (with_contents self.now contents) day new.now) d) }
+    {
+        let digest = digest_of(&new.content);
+        if let Some(record_no) = self.same_record(new, digest) {
+            return Ok(Decision::Stay(Answer::Same(record_no)));
+        }
+        let class = new.class.as_ref();
+        let schedule = new.schedule.as_ref();
+        let check = self.tree.check_add_record(&new.ref_text, new.aggregation, class, schedule);
+        if let Some(refusal) = self.dated(day, check) {
+            return Ok(Decision::Stay(Answer::Refused(refusal)));
+        }
+        self.tree.sound();
+        let number = self.tree.record_count() + 1;
+        let head = new_head(alloc, day, new, digest)?;
+        let bytes = Vec::from_slice(alloc, &new.content)?;
+        let write = RowWrite::Record { number, head, status: Status::Here };
+        let writes = two(alloc, write, RowWrite::Content { number, bytes })?;
+        let writes = then(writes, RowWrite::Day { day })?;
+        Ok(Decision::Go(Change { answer: Answer::Number(number), writes }))
+    }
+
+    /// What is decided of a record's own schedule, set or taken away.
     pub(crate) fn decide_set_record_schedule(
         &self,
         alloc: Global,
@@ -62,6 +139,7 @@ impl Machine {
         Ok(Decision::Go(Change { answer: Answer::Done, writes }))
     }
 
+    /// What is decided of a confirmation of a record's disposal.
     pub(crate) fn decide_confirm(
         &self,
         alloc: Global,
@@ -84,6 +162,7 @@ impl Machine {
         Ok(Decision::Go(Change { answer: Answer::Done, writes }))
     }
 
+    /// What is decided of a record's review.
     pub(crate) fn decide_review(
         &self,
         alloc: Global,
@@ -108,6 +187,7 @@ impl Machine {
         Ok(Decision::Go(Change { answer: Answer::Done, writes }))
     }
 
+    /// What is decided of an own class of an aggregation or a record, set or taken away.
     pub(crate) fn decide_reclassify(
         &self,
         alloc: Global,

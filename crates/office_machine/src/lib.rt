@@ -17,6 +17,7 @@ mod answer;
 mod applying;
 mod change;
 mod machine;
+mod decide;
 mod deciding;
 mod deciding_records;
 mod disposing;
