@@ -180,12 +180,12 @@ pub same_table : (s : Office) (day : ℤ) (what : Classified) (class : Option (L
 same_table s day what class none =
     let leaves = ap (λ (holds : HoldMap). would_leave_held_class holds s.tree what class) (sym none) ∙ leaves_no_held s.tree what class in
     ap (λ (b : Bool). first_of (dated s day (
-      (NoSuch, lacks_classified s.tree what || lacks_class s.tree class)
-      ∷ (NeedsClass, is_root s.tree what && is_none class)
-      ∷ (HeldClass, b)
-      ∷ (Ended, holds_of (classified_status s.tree what) is_ended)
-      ∷ (InTransfer, holds_of (classified_status s.tree what) is_in_transfer)
-      ∷ []))) leaves
+    (NoSuch, lacks_classified s.tree what || lacks_class s.tree class)
+    ∷ (NeedsClass, is_root s.tree what && is_none class)
+    ∷ (HeldClass, b)
+    ∷ (Ended, holds_of (classified_status s.tree what) is_ended)
+    ∷ (InTransfer, holds_of (classified_status s.tree what) is_in_transfer)
+    ∷ []))) leaves
 
 -- what may be reclassified is there
 pub there_to_reclassify : (t : TreeState) (what : Classified) (class : Option (List ℕ)) → first_of (conditions_of_reclassify t what class) ≡ None → lacks_classified t what ≡ false

@@ -49,8 +49,16 @@ numbered_rows xs = numbered_from 0 xs
 -- a record's columns: its head's, its status, and each of the three groups that it may have
 abbrev pub record_row : Record → Status → RecordRow
 record_row head status = record {
-  ref_text = head.ref_text; title = head.title; originated = head.originated; added = head.added; aggregation = head.aggregation;
-  size = head.length; digest = head.digest; status = status; class = head.class; schedule = head.schedule;
+  ref_text = head.ref_text;
+  title = head.title;
+  originated = head.originated;
+  added = head.added;
+  aggregation = head.aggregation;
+  size = head.length;
+  digest = head.digest;
+  status = status;
+  class = head.class;
+  schedule = head.schedule;
   reviewed = option_map (λ review. review.day) head.review;
   reviewed_by = option_map (λ review. review.by) head.review;
   conf_action = option_map (λ confirmation. confirmation.action) head.confirmation;

@@ -7,23 +7,69 @@ use office_tree::{Action, AggNo, Classified, Code, RecordNo, Text, Trigger};
 #[derive(Drop)]
 pub enum Act {
     /// Adds a disposal schedule under a new code.
-    AddSchedule { day: Day, code: Code, trigger: Trigger, period: Period, offset: Offset, action: Action },
+    AddSchedule {
+        day: Day,
+        code: Code,
+        trigger: Trigger,
+        period: Period,
+        offset: Offset,
+        action: Action,
+    },
     /// Adds a class under a new code.
-    AddClass { day: Day, code: Code, title: Text, schedule: Code },
+    AddClass {
+        day: Day,
+        code: Code,
+        title: Text,
+        schedule: Code,
+    },
     /// Gives a class another schedule.
-    SetClassSchedule { day: Day, class: Code, schedule: Code },
+    SetClassSchedule {
+        day: Day,
+        class: Code,
+        schedule: Code,
+    },
     /// Adds an open aggregation, which gets the next number.
-    AddAggregation { day: Day, ref_text: Text, title: Text, parent: Option<AggNo>, class: Option<Code> },
+    AddAggregation {
+        day: Day,
+        ref_text: Text,
+        title: Text,
+        parent: Option<AggNo>,
+        class: Option<Code>,
+    },
     /// Closes an aggregation for good.
-    CloseAggregation { day: Day, aggregation: AggNo },
+    CloseAggregation {
+        day: Day,
+        aggregation: AggNo,
+    },
     /// Adds a record with its content, which gets the next number.
-    AddRecord { day: Day, record: NewRecord },
+    AddRecord {
+        day: Day,
+        record: NewRecord,
+    },
     /// Gives a record an own schedule, or takes it away.
-    SetRecordSchedule { day: Day, record_no: RecordNo, schedule: Option<Code> },
+    SetRecordSchedule {
+        day: Day,
+        record_no: RecordNo,
+        schedule: Option<Code>,
+    },
     /// Gives an aggregation or a record an own class, or takes it away.
-    Reclassify { day: Day, target: Classified, class: Option<Code> },
+    Reclassify {
+        day: Day,
+        target: Classified,
+        class: Option<Code>,
+    },
     /// Confirms that a due record may be disposed of as its plan says.
-    Confirm { day: Day, record_no: RecordNo, action: Action, by: Text },
+    Confirm {
+        day: Day,
+        record_no: RecordNo,
+        action: Action,
+        by: Text,
+    },
     /// Records that a due record was reviewed, and gives it an own schedule where one is named.
-    Review { day: Day, record_no: RecordNo, schedule: Option<Code>, by: Text },
+    Review {
+        day: Day,
+        record_no: RecordNo,
+        schedule: Option<Code>,
+        by: Text,
+    },
 }

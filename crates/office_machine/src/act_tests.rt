@@ -36,21 +36,58 @@ fn act(rt: &HostRuntime, office: &mut Machine, act: Act) -> Result<Answer, Fail>
     }
 }
 
-fn add_schedule(rt: &HostRuntime, on: &str, name: &str, trigger: Trigger, years: u32, action: Action) -> Result<Act, Fail> {
+fn add_schedule(
+    rt: &HostRuntime,
+    on: &str,
+    name: &str,
+    trigger: Trigger,
+    years: u32,
+    action: Action,
+) -> Result<Act, Fail> {
     let period = Period::new(Unit::Years, years).ok_or("no period")?;
-    Ok(Act::AddSchedule { day: day(on)?, code: code(rt, name)?, trigger, period, offset: Offset::AnyDay, action })
+    Ok(Act::AddSchedule {
+        day: day(on)?,
+        code: code(rt, name)?,
+        trigger,
+        period,
+        offset: Offset::AnyDay,
+        action,
+    })
 }
 
 fn add_class(rt: &HostRuntime, on: &str, name: &str, schedule: &str) -> Result<Act, Fail> {
-    Ok(Act::AddClass { day: day(on)?, code: code(rt, name)?, title: text(rt, name)?, schedule: code(rt, schedule)? })
+    Ok(Act::AddClass {
+        day: day(on)?,
+        code: code(rt, name)?,
+        title: text(rt, name)?,
+        schedule: code(rt, schedule)?,
+    })
 }
 
-fn add_aggregation(rt: &HostRuntime, on: &str, name: &str, parent: Option<AggNo>, class: &str) -> Result<Act, Fail> {
+fn add_aggregation(
+    rt: &HostRuntime,
+    on: &str,
+    name: &str,
+    parent: Option<AggNo>,
+    class: &str,
+) -> Result<Act, Fail> {
     let class = code_or_none(rt, class)?;
-    Ok(Act::AddAggregation { day: day(on)?, ref_text: text(rt, name)?, title: text(rt, name)?, parent, class })
+    Ok(Act::AddAggregation {
+        day: day(on)?,
+        ref_text: text(rt, name)?,
+        title: text(rt, name)?,
+        parent,
+        class,
+    })
 }
 
-fn add_record(rt: &HostRuntime, on: &str, name: &str, aggregation: AggNo, bytes: &[u8]) -> Result<Act, Fail> {
+fn add_record(
+    rt: &HostRuntime,
+    on: &str,
+    name: &str,
+    aggregation: AggNo,
+    bytes: &[u8],
+) -> Result<Act, Fail> {
     let record = NewRecord {
         ref_text: text(rt, name)?,
         title: text(rt, name)?,
@@ -60,41 +97,102 @@ fn add_record(rt: &HostRuntime, on: &str, name: &str, aggregation: AggNo, bytes:
         schedule: None,
         content: Vec::from_slice(rt.alloc(), bytes)?,
     };
-    Ok(Act::AddRecord { day: day(on)?, record })
+    Ok(Act::AddRecord {
+        day: day(on)?,
+        record,
+    })
 }
 
 fn confirm(rt: &HostRuntime, on: &str, record_no: RecordNo, action: Action) -> Result<Act, Fail> {
-    Ok(Act::Confirm { day: day(on)?, record_no, action, by: text(rt, "registrar")? })
+    Ok(Act::Confirm {
+        day: day(on)?,
+        record_no,
+        action,
+        by: text(rt, "registrar")?,
+    })
 }
 
 fn review(rt: &HostRuntime, on: &str, record_no: RecordNo, schedule: &str) -> Result<Act, Fail> {
     let schedule = code_or_none(rt, schedule)?;
-    Ok(Act::Review { day: day(on)?, record_no, schedule, by: text(rt, "registrar")? })
+    Ok(Act::Review {
+        day: day(on)?,
+        record_no,
+        schedule,
+        by: text(rt, "registrar")?,
+    })
 }
 
 /// An act that must be answered so.
 fn told(rt: &HostRuntime, office: &mut Machine, asked: Act, answer: Answer) -> Result<(), Fail> {
-    if act(rt, office, asked)? == answer { Ok(()) } else { Err(Fail::new("another answer")) }
+    if act(rt, office, asked)? == answer {
+        Ok(())
+    } else {
+        Err(Fail::new("another answer"))
+    }
 }
 
 /// One yearly schedule, two classes, an aggregation of each, and three records, all on one day.
 fn base_office(rt: &HostRuntime) -> Result<Machine, Fail> {
     let on = "2024-01-02";
     let mut office = Machine::new(rt.alloc());
-    told(rt, &mut office, add_schedule(rt, on, "D1", Trigger::Added, 1, Action::Destroy)?, Answer::Done)?;
-    told(rt, &mut office, add_class(rt, on, "FIN", "D1")?, Answer::Done)?;
-    told(rt, &mut office, add_class(rt, on, "LEG", "D1")?, Answer::Done)?;
-    told(rt, &mut office, add_aggregation(rt, on, "A", None, "FIN")?, Answer::Number(1))?;
-    told(rt, &mut office, add_aggregation(rt, on, "B", None, "LEG")?, Answer::Number(2))?;
-    told(rt, &mut office, add_record(rt, on, "r1", 1, b"abc")?, Answer::Number(1))?;
-    told(rt, &mut office, add_record(rt, on, "r2", 2, b"")?, Answer::Number(2))?;
-    told(rt, &mut office, add_record(rt, on, "r3", 1, b"abc")?, Answer::Number(3))?;
+    told(
+        rt,
+        &mut office,
+        add_schedule(rt, on, "D1", Trigger::Added, 1, Action::Destroy)?,
+        Answer::Done,
+    )?;
+    told(
+        rt,
+        &mut office,
+        add_class(rt, on, "FIN", "D1")?,
+        Answer::Done,
+    )?;
+    told(
+        rt,
+        &mut office,
+        add_class(rt, on, "LEG", "D1")?,
+        Answer::Done,
+    )?;
+    told(
+        rt,
+        &mut office,
+        add_aggregation(rt, on, "A", None, "FIN")?,
+        Answer::Number(1),
+    )?;
+    told(
+        rt,
+        &mut office,
+        add_aggregation(rt, on, "B", None, "LEG")?,
+        Answer::Number(2),
+    )?;
+    told(
+        rt,
+        &mut office,
+        add_record(rt, on, "r1", 1, b"abc")?,
+        Answer::Number(1),
+    )?;
+    told(
+        rt,
+        &mut office,
+        add_record(rt, on, "r2", 2, b"")?,
+        Answer::Number(2),
+    )?;
+    told(
+        rt,
+        &mut office,
+        add_record(rt, on, "r3", 1, b"abc")?,
+        Answer::Number(3),
+    )?;
     Ok(office)
 }
 
 /// The due day of a record that is there.
 fn due(office: &Machine, record_no: RecordNo) -> Option<DueDay> {
-    if office.tree.has_record(record_no) { office.tree.due_of(record_no) } else { None }
+    if office.tree.has_record(record_no) {
+        office.tree.due_of(record_no)
+    } else {
+        None
+    }
 }
 
 /// The number of a due day, from the text of a day.
@@ -106,13 +204,22 @@ fn due_on(text: &str) -> Result<Option<DueDay>, Fail> {
 fn a_confirmation_is_for_the_plan_on_its_day(rt: HostRuntime) -> Result<(), Fail> {
     let mut office = base_office(&rt)?;
     let early = confirm(&rt, "2025-01-01", 1, Action::Destroy)?;
-    assert_eq!(rt; act(&rt, &mut office, early)?, Answer::Refused(Refusal::NotDue));
+    assert_eq!(rt;
+        act(&rt, &mut office, early)?,
+        Answer::Refused(Refusal::NotDue)
+    );
     let other = confirm(&rt, "2025-01-02", 1, Action::Transfer)?;
-    assert_eq!(rt; act(&rt, &mut office, other)?, Answer::Refused(Refusal::WrongAction));
+    assert_eq!(rt;
+        act(&rt, &mut office, other)?,
+        Answer::Refused(Refusal::WrongAction)
+    );
     let right = confirm(&rt, "2025-01-02", 1, Action::Destroy)?;
     assert_eq!(rt; act(&rt, &mut office, right)?, Answer::Done);
     let late = add_class(&rt, "2025-01-01", "NEW", "D1")?;
-    assert_eq!(rt; act(&rt, &mut office, late)?, Answer::Refused(Refusal::DayBack));
+    assert_eq!(rt;
+        act(&rt, &mut office, late)?,
+        Answer::Refused(Refusal::DayBack)
+    );
     Ok(())
 }
 
@@ -121,13 +228,30 @@ fn a_class_with_another_schedule_moves_its_records(rt: HostRuntime) -> Result<()
     let mut office = base_office(&rt)?;
     assert_eq!(rt; due(&office, 1), due_on("2025-01-02")?);
     let on = "2025-01-02";
-    assert_eq!(rt; act(&rt, &mut office, confirm(&rt, on, 1, Action::Destroy)?)?, Answer::Done);
-    assert_eq!(rt; act(&rt, &mut office, add_schedule(&rt, on, "D10", Trigger::Added, 10, Action::Destroy)?)?, Answer::Done);
-    let moved = Act::SetClassSchedule { day: day(on)?, class: code(&rt, "FIN")?, schedule: code(&rt, "D10")? };
+    assert_eq!(rt;
+        act(&rt, &mut office, confirm(&rt, on, 1, Action::Destroy)?)?,
+        Answer::Done
+    );
+    assert_eq!(rt;
+        act(
+            &rt,
+            &mut office,
+            add_schedule(&rt, on, "D10", Trigger::Added, 10, Action::Destroy)?
+        )?,
+        Answer::Done
+    );
+    let moved = Act::SetClassSchedule {
+        day: day(on)?,
+        class: code(&rt, "FIN")?,
+        schedule: code(&rt, "D10")?,
+    };
     assert_eq!(rt; act(&rt, &mut office, moved)?, Answer::Done);
     assert_eq!(rt; due(&office, 1), due_on("2034-01-02")?);
     assert_eq!(rt; due(&office, 2), due_on("2025-01-02")?);
-    assert_eq!(rt; act(&rt, &mut office, confirm(&rt, on, 1, Action::Destroy)?)?, Answer::Refused(Refusal::NotDue));
+    assert_eq!(rt;
+        act(&rt, &mut office, confirm(&rt, on, 1, Action::Destroy)?)?,
+        Answer::Refused(Refusal::NotDue)
+    );
     Ok(())
 }
 
@@ -137,9 +261,15 @@ fn a_record_asked_for_again_is_told_and_changes_nothing(rt: HostRuntime) -> Resu
     let again = add_record(&rt, "0001-01-01", "r1", 1, b"abc")?;
     assert_eq!(rt; act(&rt, &mut office, again)?, Answer::Same(1));
     let other = add_record(&rt, "2024-01-02", "r1", 1, b"abd")?;
-    assert_eq!(rt; act(&rt, &mut office, other)?, Answer::Refused(Refusal::Exists));
+    assert_eq!(rt;
+        act(&rt, &mut office, other)?,
+        Answer::Refused(Refusal::Exists)
+    );
     let back = add_class(&rt, "2024-01-01", "NEW", "D1")?;
-    assert_eq!(rt; act(&rt, &mut office, back)?, Answer::Refused(Refusal::DayBack));
+    assert_eq!(rt;
+        act(&rt, &mut office, back)?,
+        Answer::Refused(Refusal::DayBack)
+    );
     Ok(())
 }
 
@@ -147,9 +277,15 @@ fn a_record_asked_for_again_is_told_and_changes_nothing(rt: HostRuntime) -> Resu
 fn of_several_refusals_the_least_is_told(rt: HostRuntime) -> Result<(), Fail> {
     let mut office = base_office(&rt)?;
     let back = add_aggregation(&rt, "2024-01-01", "A", None, "FIN")?;
-    assert_eq!(rt; act(&rt, &mut office, back)?, Answer::Refused(Refusal::DayBack));
+    assert_eq!(rt;
+        act(&rt, &mut office, back)?,
+        Answer::Refused(Refusal::DayBack)
+    );
     let on = "2024-01-02";
-    let closed = Act::CloseAggregation { day: day(on)?, aggregation: 1 };
+    let closed = Act::CloseAggregation {
+        day: day(on)?,
+        aggregation: 1,
+    };
     assert_eq!(rt; act(&rt, &mut office, closed)?, Answer::Done);
     let rows = [
         ("A", Some(1), "NON", Refusal::Exists),
@@ -160,7 +296,11 @@ fn of_several_refusals_the_least_is_told(rt: HostRuntime) -> Result<(), Fail> {
     ];
     for (name, parent, class, refusal) in rows {
         let asked = add_aggregation(&rt, on, name, parent, class)?;
-        assert_eq!(rt; act(&rt, &mut office, asked)?, Answer::Refused(refusal), "at {name} {class}");
+        assert_eq!(rt;
+            act(&rt, &mut office, asked)?,
+            Answer::Refused(refusal),
+            "at {name} {class}"
+        );
     }
     Ok(())
 }
@@ -170,20 +310,49 @@ fn a_reviewed_record_waits_for_its_next_review(rt: HostRuntime) -> Result<(), Fa
     let mut office = base_office(&rt)?;
     let on = "2024-01-02";
     let period = Period::new(Unit::Months, 6).ok_or("no period")?;
-    let half_yearly = Act::AddSchedule { day: day(on)?, code: code(&rt, "RV")?, trigger: Trigger::Review, period, offset: Offset::AnyDay, action: Action::Review };
+    let half_yearly = Act::AddSchedule {
+        day: day(on)?,
+        code: code(&rt, "RV")?,
+        trigger: Trigger::Review,
+        period,
+        offset: Offset::AnyDay,
+        action: Action::Review,
+    };
     assert_eq!(rt; act(&rt, &mut office, half_yearly)?, Answer::Done);
-    let own = Act::SetRecordSchedule { day: day(on)?, record_no: 1, schedule: Some(code(&rt, "RV")?) };
+    let own = Act::SetRecordSchedule {
+        day: day(on)?,
+        record_no: 1,
+        schedule: Some(code(&rt, "RV")?),
+    };
     assert_eq!(rt; act(&rt, &mut office, own)?, Answer::Done);
     assert_eq!(rt; due(&office, 1), due_on("2024-07-02")?);
-    assert_eq!(rt; act(&rt, &mut office, review(&rt, "2024-07-01", 1, "-")?)?, Answer::Refused(Refusal::NotDue));
-    assert_eq!(rt; act(&rt, &mut office, review(&rt, "2024-07-02", 1, "-")?)?, Answer::Done);
+    assert_eq!(rt;
+        act(&rt, &mut office, review(&rt, "2024-07-01", 1, "-")?)?,
+        Answer::Refused(Refusal::NotDue)
+    );
+    assert_eq!(rt;
+        act(&rt, &mut office, review(&rt, "2024-07-02", 1, "-")?)?,
+        Answer::Done
+    );
     assert_eq!(rt; due(&office, 1), due_on("2025-01-02")?);
     let on = "2025-01-02";
-    assert_eq!(rt; act(&rt, &mut office, confirm(&rt, on, 1, Action::Destroy)?)?, Answer::Refused(Refusal::WrongAction));
-    assert_eq!(rt; act(&rt, &mut office, confirm(&rt, on, 1, Action::Review)?)?, Answer::Refused(Refusal::WrongAction));
-    assert_eq!(rt; act(&rt, &mut office, review(&rt, on, 1, "D1")?)?, Answer::Done);
+    assert_eq!(rt;
+        act(&rt, &mut office, confirm(&rt, on, 1, Action::Destroy)?)?,
+        Answer::Refused(Refusal::WrongAction)
+    );
+    assert_eq!(rt;
+        act(&rt, &mut office, confirm(&rt, on, 1, Action::Review)?)?,
+        Answer::Refused(Refusal::WrongAction)
+    );
+    assert_eq!(rt;
+        act(&rt, &mut office, review(&rt, on, 1, "D1")?)?,
+        Answer::Done
+    );
     assert_eq!(rt; due(&office, 1), due_on("2025-01-02")?);
-    assert_eq!(rt; act(&rt, &mut office, confirm(&rt, on, 1, Action::Destroy)?)?, Answer::Done);
+    assert_eq!(rt;
+        act(&rt, &mut office, confirm(&rt, on, 1, Action::Destroy)?)?,
+        Answer::Done
+    );
     Ok(())
 }
 
@@ -191,15 +360,40 @@ fn a_reviewed_record_waits_for_its_next_review(rt: HostRuntime) -> Result<(), Fa
 fn an_aggregation_given_another_class_takes_its_records_along(rt: HostRuntime) -> Result<(), Fail> {
     let mut office = base_office(&rt)?;
     let on = "2024-01-02";
-    assert_eq!(rt; act(&rt, &mut office, add_schedule(&rt, on, "K", Trigger::Added, 0, Action::Keep)?)?, Answer::Done);
-    assert_eq!(rt; act(&rt, &mut office, add_class(&rt, on, "PER", "K")?)?, Answer::Done);
-    let root = Act::Reclassify { day: day(on)?, target: Classified::Aggregation(1), class: None };
-    assert_eq!(rt; act(&rt, &mut office, root)?, Answer::Refused(Refusal::NeedsClass));
-    let moved = Act::Reclassify { day: day(on)?, target: Classified::Aggregation(1), class: Some(code(&rt, "PER")?) };
+    assert_eq!(rt;
+        act(
+            &rt,
+            &mut office,
+            add_schedule(&rt, on, "K", Trigger::Added, 0, Action::Keep)?
+        )?,
+        Answer::Done
+    );
+    assert_eq!(rt;
+        act(&rt, &mut office, add_class(&rt, on, "PER", "K")?)?,
+        Answer::Done
+    );
+    let root = Act::Reclassify {
+        day: day(on)?,
+        target: Classified::Aggregation(1),
+        class: None,
+    };
+    assert_eq!(rt;
+        act(&rt, &mut office, root)?,
+        Answer::Refused(Refusal::NeedsClass)
+    );
+    let moved = Act::Reclassify {
+        day: day(on)?,
+        target: Classified::Aggregation(1),
+        class: Some(code(&rt, "PER")?),
+    };
     assert_eq!(rt; act(&rt, &mut office, moved)?, Answer::Done);
     assert_eq!(rt; (due(&office, 1), due(&office, 3)), (None, None));
     assert_eq!(rt; due(&office, 2), due_on("2025-01-02")?);
-    let own = Act::Reclassify { day: day(on)?, target: Classified::Record(1), class: Some(code(&rt, "LEG")?) };
+    let own = Act::Reclassify {
+        day: day(on)?,
+        target: Classified::Record(1),
+        class: Some(code(&rt, "LEG")?),
+    };
     assert_eq!(rt; act(&rt, &mut office, own)?, Answer::Done);
     assert_eq!(rt; due(&office, 1), due_on("2025-01-02")?);
     Ok(())

@@ -14,8 +14,15 @@ impl Machine {
         match write {
             RowWrite::Schedule { code, schedule } => self.tree.put_schedule(code, schedule),
             RowWrite::Class { code, class } => self.tree.put_class(code, class),
-            RowWrite::Aggregation { number, aggregation } => self.tree.put_aggregation(number, aggregation),
-            RowWrite::Record { number, head, status } => self.tree.put_record(number, head, status),
+            RowWrite::Aggregation {
+                number,
+                aggregation,
+            } => self.tree.put_aggregation(number, aggregation),
+            RowWrite::Record {
+                number,
+                head,
+                status,
+            } => self.tree.put_record(number, head, status),
             _ => unreachable!(),
         }
     }

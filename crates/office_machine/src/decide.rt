@@ -13,7 +13,14 @@ impl Machine {
         ensures { IfOk result (λ d. IsDecidedFor self.now act.now d) }
     {
         match act {
-            Act::AddSchedule { day, code, trigger, period, offset, action } => {
+            Act::AddSchedule {
+                day,
+                code,
+                trigger,
+                period,
+                offset,
+                action,
+            } => {
                 let schedule = Schedule {
                     trigger: *trigger,
                     period: *period,
@@ -22,19 +29,55 @@ impl Machine {
                 };
                 self.decide_add_schedule(alloc, *day, code, schedule)
             }
-            Act::AddClass { day, code, title, schedule } => self.decide_add_class(alloc, *day, code, title, schedule),
-            Act::SetClassSchedule { day, class, schedule } => self.decide_set_class_schedule(alloc, *day, class, schedule),
-            Act::AddAggregation { day, ref_text, title, parent, class } => {
+            Act::AddClass {
+                day,
+                code,
+                title,
+                schedule,
+            } => self.decide_add_class(alloc, *day, code, title, schedule),
+            Act::SetClassSchedule {
+                day,
+                class,
+                schedule,
+            } => self.decide_set_class_schedule(alloc, *day, class, schedule),
+            Act::AddAggregation {
+                day,
+                ref_text,
+                title,
+                parent,
+                class,
+            } => {
                 self.decide_add_aggregation(alloc, *day, ref_text, title, *parent, class.as_ref())
             }
-            Act::CloseAggregation { day, aggregation } => self.decide_close_aggregation(alloc, *day, *aggregation),
+            Act::CloseAggregation { day, aggregation } => self.decide_close_aggregation(
+                alloc,
+                *day,
+                *aggregation,
+            ),
             Act::AddRecord { day, record } => self.decide_add_record(alloc, *day, record),
-            Act::SetRecordSchedule { day, record_no, schedule } => {
-                self.decide_set_record_schedule(alloc, *day, *record_no, schedule.as_ref())
-            }
-            Act::Reclassify { day, target, class } => self.decide_reclassify(alloc, *day, *target, class.as_ref()),
-            Act::Confirm { day, record_no, action, by } => self.decide_confirm(alloc, *day, *record_no, *action, by),
-            Act::Review { day, record_no, schedule, by } => self.decide_review(alloc, *day, *record_no, schedule.as_ref(), by),
+            Act::SetRecordSchedule {
+                day,
+                record_no,
+                schedule,
+            } => { self.decide_set_record_schedule(alloc, *day, *record_no, schedule.as_ref()) }
+            Act::Reclassify { day, target, class } => self.decide_reclassify(
+                alloc,
+                *day,
+                *target,
+                class.as_ref(),
+            ),
+            Act::Confirm {
+                day,
+                record_no,
+                action,
+                by,
+            } => self.decide_confirm(alloc, *day, *record_no, *action, by),
+            Act::Review {
+                day,
+                record_no,
+                schedule,
+                by,
+            } => self.decide_review(alloc, *day, *record_no, schedule.as_ref(), by),
         }
     }
 }

@@ -17,7 +17,11 @@ use office_tree::{
 use std::alloc::Global;
 
 /// A second code that is equal to the first, if there is one, else to the other.
-fn first_code(alloc: Global, first: Option<&Code>, other: Option<&Code>) -> Result<Option<Code>, Memory>
+fn first_code(
+    alloc: Global,
+    first: Option<&Code>,
+    other: Option<&Code>,
+) -> Result<Option<Code>, Memory>
     ensures { IfOk result (λ c. c ≡ or_else (option_copied first.entry) (option_copied other.entry)) }
 {
     match first {
@@ -27,11 +31,22 @@ fn first_code(alloc: Global, first: Option<&Code>, other: Option<&Code>) -> Resu
 }
 
 /// The confirmation of an action on that day, for a record that is due.
-fn confirmed(alloc: Global, action: Action, due: Option<DueDay>, day: Day, by: &Text) -> Result<Option<Confirmation>, Memory>
+fn confirmed(
+    alloc: Global,
+    action: Action,
+    due: Option<DueDay>,
+    day: Day,
+    by: &Text,
+) -> Result<Option<Confirmation>, Memory>
     ensures { IfOk result (λ c. c ≡ option_map (λ it. record { action = action; due = it; day = day; by = by.now }) due) }
 {
     match due {
-        Some(due) => Ok(Some(Confirmation { action, due, day, by: by.copy(alloc)? })),
+        Some(due) => Ok(Some(Confirmation {
+            action,
+            due,
+            day,
+            by: by.copy(alloc)?,
+        })),
         None => Ok(None),
     }
 }
@@ -94,7 +109,12 @@ impl Machine {
     }
 
     /// What is decided of a new record, which may have been added before.
-    pub(crate) fn decide_add_record(&self, alloc: Global, day: Day, new: &NewRecord) -> Result<Decision, Memory>
+    pub(crate) fn decide_add_record(
+        &self,
+        alloc: Global,
+        day: Day,
+        new: &NewRecord,
+    ) -> Result<Decision, Memory>
         ensures { IfOk result (λ d. IsDecidedTo self.now (λ contents. step_add_record (with_contents self.now contents) day new.now) d) }
     {
         let digest = digest_of(&new.content);
@@ -103,7 +123,9 @@ impl Machine {
         }
         let class = new.class.as_ref();
         let schedule = new.schedule.as_ref();
-        let check = self.tree.check_add_record(&new.ref_text, new.aggregation, class, schedule);
+        let check = self
+            .tree
+            .check_add_record(&new.ref_text, new.aggregation, class, schedule);
         if let Some(refusal) = self.dated(day, check) {
             return Ok(Decision::Stay(Answer::Refused(refusal)));
         }
@@ -111,10 +133,17 @@ impl Machine {
         let number = self.tree.record_count() + 1;
         let head = new_head(alloc, day, new, digest)?;
         let bytes = Vec::from_slice(alloc, &new.content)?;
-        let write = RowWrite::Record { number, head, status: Status::Here };
+        let write = RowWrite::Record {
+            number,
+            head,
+            status: Status::Here,
+        };
         let writes = two(alloc, write, RowWrite::Content { number, bytes })?;
         let writes = then(writes, RowWrite::Day { day })?;
-        Ok(Decision::Go(Change { answer: Answer::Number(number), writes }))
+        Ok(Decision::Go(Change {
+            answer: Answer::Number(number),
+            writes,
+        }))
     }
 
     /// What is decided of a record's own schedule, set or taken away.
@@ -127,16 +156,26 @@ impl Machine {
     ) -> Result<Decision, Memory>
         ensures { IfOk result (λ d. IsDecidedTo self.now (λ contents. step_set_record_schedule (with_contents self.now contents) day record_no (option_copied schedule.entry)) d) }
     {
-        if let Some(refusal) = self.dated(day, self.tree.check_set_record_schedule(record_no, schedule)) {
+        if let Some(refusal) = self.dated(
+            day,
+            self.tree.check_set_record_schedule(record_no, schedule),
+        ) {
             return Ok(Decision::Stay(Answer::Refused(refusal)));
         }
         self.tree.sound();
         let mut head = self.tree.record(record_no).copy(alloc)?;
         head.schedule = copy_code(alloc, schedule)?;
         let status = self.tree.status(record_no);
-        let write = RowWrite::Record { number: record_no, head, status };
+        let write = RowWrite::Record {
+            number: record_no,
+            head,
+            status,
+        };
         let writes = two(alloc, write, RowWrite::Day { day })?;
-        Ok(Decision::Go(Change { answer: Answer::Done, writes }))
+        Ok(Decision::Go(Change {
+            answer: Answer::Done,
+            writes,
+        }))
     }
 
     /// What is decided of a confirmation of a record's disposal.
@@ -157,9 +196,16 @@ impl Machine {
         let mut head = self.tree.record(record_no).copy(alloc)?;
         head.confirmation = confirmed(alloc, action, self.tree.due_of(record_no), day, by)?;
         let status = self.tree.status(record_no);
-        let write = RowWrite::Record { number: record_no, head, status };
+        let write = RowWrite::Record {
+            number: record_no,
+            head,
+            status,
+        };
         let writes = two(alloc, write, RowWrite::Day { day })?;
-        Ok(Decision::Go(Change { answer: Answer::Done, writes }))
+        Ok(Decision::Go(Change {
+            answer: Answer::Done,
+            writes,
+        }))
     }
 
     /// What is decided of a record's review.
@@ -179,12 +225,22 @@ impl Machine {
         self.tree.sound();
         let old = self.tree.record(record_no);
         let mut head = old.copy(alloc)?;
-        head.review = Some(Review { day, by: by.copy(alloc)? });
+        head.review = Some(Review {
+            day,
+            by: by.copy(alloc)?,
+        });
         head.schedule = first_code(alloc, schedule, old.schedule.as_ref())?;
         let status = self.tree.status(record_no);
-        let write = RowWrite::Record { number: record_no, head, status };
+        let write = RowWrite::Record {
+            number: record_no,
+            head,
+            status,
+        };
         let writes = two(alloc, write, RowWrite::Day { day })?;
-        Ok(Decision::Go(Change { answer: Answer::Done, writes }))
+        Ok(Decision::Go(Change {
+            answer: Answer::Done,
+            writes,
+        }))
     }
 
     /// What is decided of an own class of an aggregation or a record, set or taken away.
@@ -205,17 +261,30 @@ impl Machine {
             Classified::Aggregation(number) => {
                 let mut aggregation = self.tree.aggregation(number).copy(alloc)?;
                 aggregation.class = copy_code(alloc, class)?;
-                let write = RowWrite::Aggregation { number, aggregation };
+                let write = RowWrite::Aggregation {
+                    number,
+                    aggregation,
+                };
                 let writes = two(alloc, write, RowWrite::Day { day })?;
-                Ok(Decision::Go(Change { answer: Answer::Done, writes }))
+                Ok(Decision::Go(Change {
+                    answer: Answer::Done,
+                    writes,
+                }))
             }
             Classified::Record(number) => {
                 let mut head = self.tree.record(number).copy(alloc)?;
                 head.class = copy_code(alloc, class)?;
                 let status = self.tree.status(number);
-                let write = RowWrite::Record { number, head, status };
+                let write = RowWrite::Record {
+                    number,
+                    head,
+                    status,
+                };
                 let writes = two(alloc, write, RowWrite::Day { day })?;
-                Ok(Decision::Go(Change { answer: Answer::Done, writes }))
+                Ok(Decision::Go(Change {
+                    answer: Answer::Done,
+                    writes,
+                }))
             }
         }
     }

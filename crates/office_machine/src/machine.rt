@@ -1,7 +1,6 @@
 ghost use Rattle.std.specs.Prelude.{◌≡◌};
 ghost use Rattle.office_machine.specs.State.{empty_office};
 
-
 use office_days::Day;
 use office_tree::Tree;
 use std::alloc::Global;
@@ -25,12 +24,12 @@ impl Model for Machine {
     ghost coded = { Prim.hlevel (codes, map.code) };
 
     ghost view = { λ m. record {
-        tree = m.tree;
-        holds = map.empty;
-        runs = [];
-        entries = map.empty;
-        certificates = map.empty;
-        day = m.day;
+      tree = m.tree;
+      holds = map.empty;
+      runs = [];
+      entries = map.empty;
+      certificates = map.empty;
+      day = m.day;
     } };
 }
 

@@ -3,7 +3,9 @@ use crate::Run;
 use office_days::{Day, DueDay};
 use office_holds::Target;
 use office_proof::{Entry, RunNo};
-use office_tree::{Action, AggNo, Aggregation, Class, Code, Record, RecordNo, Schedule, Status, Text};
+use office_tree::{
+    Action, AggNo, Aggregation, Class, Code, Record, RecordNo, Schedule, Status, Text,
+};
 
 /// The columns of a record: those of its review, its confirmation and its receipt stand each by
 /// itself, as they do in a table, where nothing but a check keeps a group of them together.
@@ -42,19 +44,56 @@ pub struct HoldRow {
 /// the removal of a content or of a target.
 #[derive(Drop)]
 pub enum RowWrite {
-    Schedule { code: Code, schedule: Schedule },
-    Class { code: Code, class: Class },
-    Aggregation { number: AggNo, aggregation: Aggregation },
+    Schedule {
+        code: Code,
+        schedule: Schedule,
+    },
+    Class {
+        code: Code,
+        class: Class,
+    },
+    Aggregation {
+        number: AggNo,
+        aggregation: Aggregation,
+    },
     /// A record's head, with its status beside it.
-    Record { number: RecordNo, head: Record, status: Status },
-    Content { number: RecordNo, bytes: Vec<u8> },
-    ContentGone { number: RecordNo },
-    Hold { code: Code, hold: HoldRow },
-    Target { hold: Code, target: Target },
-    TargetGone { hold: Code, target: Target },
-    Run { number: RunNo, run: Run },
-    Entry { entry: Entry },
-    Certificate { run: RunNo, text: String },
+    Record {
+        number: RecordNo,
+        head: Record,
+        status: Status,
+    },
+    Content {
+        number: RecordNo,
+        bytes: Vec<u8>,
+    },
+    ContentGone {
+        number: RecordNo,
+    },
+    Hold {
+        code: Code,
+        hold: HoldRow,
+    },
+    Target {
+        hold: Code,
+        target: Target,
+    },
+    TargetGone {
+        hold: Code,
+        target: Target,
+    },
+    Run {
+        number: RunNo,
+        run: Run,
+    },
+    Entry {
+        entry: Entry,
+    },
+    Certificate {
+        run: RunNo,
+        text: String,
+    },
     /// The office's day.
-    Day { day: Day },
+    Day {
+        day: Day,
+    },
 }
