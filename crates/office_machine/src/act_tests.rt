@@ -1,4 +1,6 @@
 //! Lists of acts worked out by hand: each is decided and, where it is a change, made.
+ghost use Rattle.std.specs.Prelude.{◌≤◌, length, IfOk};
+
 use crate::{Act, Answer, Decision, Machine, NewRecord};
 use office_days::{Day, DueDay, Offset, Period, Refusal, Unit};
 use office_tree::{Action, AggNo, Classified, Code, RecordNo, Text, Trigger};
@@ -81,6 +83,16 @@ fn add_aggregation(
     })
 }
 
+/// The bytes of a content that the office takes.
+fn content(rt: &HostRuntime, bytes: &[u8]) -> Result<Vec<u8>, Fail>
+    ensures { IfOk result (λ all. length all.items ≤ 262_144) }
+{
+    if bytes.len() > 262_144 {
+        return Err(Fail::new("too long"));
+    }
+    Ok(Vec::from_slice(rt.alloc(), bytes)?)
+}
+
 fn add_record(
     rt: &HostRuntime,
     on: &str,
@@ -95,7 +107,7 @@ fn add_record(
         aggregation,
         class: None,
         schedule: None,
-        content: Vec::from_slice(rt.alloc(), bytes)?,
+        content: content(rt, bytes)?,
     };
     Ok(Act::AddRecord {
         day: day(on)?,
