@@ -15,5 +15,5 @@ pub mod Putting
 pub mod Reading
 pub mod Refs
 pub mod ScheduleLemmas
-pub mod Spending
+pub mod SpentAggregations
 pub mod Walk

@@ -108,7 +108,7 @@ impl Tree {
     }
 
     /// Whether the aggregation is there and closed.
-    fn is_closed(&self, aggregation: AggNo) -> bool
+    pub(crate) fn is_closed(&self, aggregation: AggNo) -> bool
         ensures { result ≡ is_closed self.now.aggregations aggregation }
     {
         if !self.has_aggregation(aggregation) {

@@ -16,7 +16,7 @@ fn same_action(one: Action, other: Action) -> bool
 }
 
 /// Whether a status is given that is ended.
-fn is_ended(status: Option<Status>) -> bool
+pub(crate) fn is_ended(status: Option<Status>) -> bool
     ensures { result ≡ holds_of status is_ended }
 {
     matches!(status, Some(Status::Ended))
@@ -31,7 +31,7 @@ fn is_in_transfer(status: Option<Status>) -> bool
 
 impl Tree {
     /// How far the record's disposal has come, if the record is there.
-    fn status_of(&self, record_no: RecordNo) -> Option<Status>
+    pub(crate) fn status_of(&self, record_no: RecordNo) -> Option<Status>
         ensures { result ≡ status_of self.now record_no }
     {
         if record_no == 0 {

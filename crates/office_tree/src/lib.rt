@@ -29,6 +29,7 @@ mod memory;
 mod placing;
 mod schedule;
 mod scheduling;
+mod spending;
 mod status;
 mod text;
 mod tree;

@@ -1,5 +1,5 @@
 -- An aggregation is spent where it is closed, a record lies below it, and all records below it are ended.
-use Rattle.std.proofs.Common.{◌≡◌, ◌↔◌, inl, inr, ℕ, zero, suc, ◌+◌, ◌<◌, ◌≤◌, nat_lt, nat_le, Bool, true, false, cond, ◌&&◌, IsTrue, IsSome, List, ◌∷◌, filter, length, Option, Some, None, refl, ap, ◌∙◌, arith}
+use Rattle.std.proofs.Common.{◌≡◌, ◌↔◌, inl, inr, ℕ, zero, suc, ◌+◌, ◌-◌, ◌<◌, ◌≤◌, nat_lt, nat_le, Bool, true, false, cond, ◌&&◌, ◌||◌, IsTrue, IsSome, List, ◌∷◌, filter, length, Option, Some, None, refl, ap, sym, ◌∙◌, arith}
 use Rattle.std.proofs.lemmas.Bool.{and_parts, and_from, cases_lt}
 use Rattle.std.proofs.lemmas.Bool.Decides.{nat_tests}
 use Rattle.std.specs.List.{list_all}
@@ -70,6 +70,67 @@ all_passing test good zero from h = refl
 all_passing test good (suc count) from h =
     step_all test good from count (test (suc from)) refl (h (suc from) (omega arith) (omega arith)) (all_passing test good count (suc from) (λ r low high. h r (omega (arith, low)) (omega (arith, high))))
 
+-- ---- going through the numbers
+
+-- one passes, here or before, and all that pass from here on are good
+abbrev pub ended_and_some : (ℕ → Bool) → (ℕ → Bool) → Bool → ℕ → ℕ → Bool
+ended_and_some test good some from count = (some || nat_lt 0 (length (passing test from count))) && list_all good (passing test from count)
+
+count_left : (from count : ℕ) → from < count → count - from ≡ suc (count - suc from)
+count_left from count h = omega (arith, h)
+
+other_of : (passes some : Bool) (rest : List ℕ) (good : ℕ → Bool) (n : ℕ) → passes ≡ false → (some || nat_lt 0 (length (cond passes (n ∷ rest) rest))) && list_all good (cond passes (n ∷ rest) rest) ≡ (some || nat_lt 0 (length rest)) && list_all good rest
+other_of true some rest good n is = absurd cc
+other_of false some rest good n is = refl
+
+or_more : (some : Bool) (n : ℕ) → some || nat_lt 0 (suc n) ≡ true
+or_more true n = refl
+or_more false n = grind (arith, nat_tests)
+
+good_of : (passes some : Bool) (rest : List ℕ) (good : ℕ → Bool) (n : ℕ) → passes ≡ true → good n ≡ true
+    → (some || nat_lt 0 (length (cond passes (n ∷ rest) rest))) && list_all good (cond passes (n ∷ rest) rest) ≡ (true || nat_lt 0 (length rest)) && list_all good rest
+good_of true some rest good n passes is = ap (λ b. b && (good n && list_all good rest)) (or_more some (length rest)) ∙ ap (λ b. b && list_all good rest) is
+good_of false some rest good n passes is = absurd cc
+
+bad_of : (passes some : Bool) (rest : List ℕ) (good : ℕ → Bool) (n : ℕ) → passes ≡ true → good n ≡ false
+    → (some || nat_lt 0 (length (cond passes (n ∷ rest) rest))) && list_all good (cond passes (n ∷ rest) rest) ≡ false
+bad_of true some rest good n passes is = ap (λ b. b && (good n && list_all good rest)) (or_more some (length rest)) ∙ ap (λ b. b && list_all good rest) is
+bad_of false some rest good n passes is = absurd cc
+
+-- the next number does not pass
+pub other_next : (test good : ℕ → Bool) (some : Bool) (from count n : ℕ) → n ≡ suc from → from < count → test n ≡ false
+    → ended_and_some test good some from (count - from) ≡ ended_and_some test good some n (count - n)
+other_next test good some from count n same h is =
+    ap (λ k. ended_and_some test good some from k) (count_left from count h)
+    ∙ other_of (test (suc from)) some (passing test (suc from) (count - suc from)) good (suc from) (ap test (sym same) ∙ is)
+    ∙ ap (λ k. ended_and_some test good some k (count - k)) (sym same)
+
+-- the next number passes and is good
+pub good_next : (test good : ℕ → Bool) (some : Bool) (from count n : ℕ) → n ≡ suc from → from < count → test n ≡ true → good n ≡ true
+    → ended_and_some test good some from (count - from) ≡ ended_and_some test good true n (count - n)
+good_next test good some from count n same h is fine =
+    ap (λ k. ended_and_some test good some from k) (count_left from count h)
+    ∙ good_of (test (suc from)) some (passing test (suc from) (count - suc from)) good (suc from) (ap test (sym same) ∙ is) (ap good (sym same) ∙ fine)
+    ∙ ap (λ k. ended_and_some test good true k (count - k)) (sym same)
+
+-- the next number passes and is not good
+pub bad_next : (test good : ℕ → Bool) (some : Bool) (from count n : ℕ) → n ≡ suc from → from < count → test n ≡ true → good n ≡ false
+    → ended_and_some test good some from (count - from) ≡ false
+bad_next test good some from count n same h is bad =
+    ap (λ k. ended_and_some test good some from k) (count_left from count h)
+    ∙ bad_of (test (suc from)) some (passing test (suc from) (count - suc from)) good (suc from) (ap test (sym same) ∙ is) (ap good (sym same) ∙ bad)
+
+none_left : (from count : ℕ) → from ≡ count → count - from ≡ 0
+none_left from count h = omega (arith, h)
+
+some_is : (some : Bool) → (some || false) && true ≡ some
+some_is true = refl
+some_is false = refl
+
+-- no number is left
+pub no_next : (test good : ℕ → Bool) (some : Bool) (from count : ℕ) → from ≡ count → ended_and_some test good some from (count - from) ≡ some
+no_next test good some from count h = ap (λ k. ended_and_some test good some from k) (none_left from count h) ∙ some_is some
+
 -- ---- a spent aggregation
 
 lt_holds : (m n : ℕ) → nat_lt m n ≡ true → m < n
@@ -109,7 +170,7 @@ ended_is (Some status.Received) h = absurd cc
 ended_is (Some status.Ended) h = refl
 
 -- whether the record is ended
-abbrev ended : TreeState → ℕ → Bool
+abbrev pub ended : TreeState → ℕ → Bool
 ended tree r = holds_of (status_of tree r) is_ended
 
 some_below_is : (tree : TreeState) (a : ℕ) → IsSound tree → 0 < length (records_below tree a) → (r : ℕ) × IsTrue (has_record tree r) × Contains tree a r
@@ -151,3 +212,21 @@ is_spent_where tree a sound h =
 
 pub spent_where : (tree : TreeState) (a : ℕ) → IsSound tree → (IsTrue (is_spent tree a) ↔ IsSpent tree a)
 spent_where tree a sound = (spent_is tree a sound, is_spent_where tree a sound)
+
+and_after : (b m n : Bool) → b ≡ true → (b && m) && n ≡ m && n
+and_after true m n is = refl
+and_after false m n is = absurd cc
+
+and_never : (b m n : Bool) → b ≡ false → (b && m) && n ≡ false
+and_never true m n is = absurd cc
+and_never false m n is = refl
+
+-- a closed aggregation is spent where a record lies below it and all records below it are ended
+pub spent_closed : (tree : TreeState) (a : ℕ) → closed_at tree a ≡ true → is_spent tree a ≡ (nat_lt 0 (length (records_below tree a)) && list_all (ended tree) (records_below tree a))
+unfolding is_spent
+spent_closed tree a is = and_after (closed_at tree a) (nat_lt 0 (length (records_below tree a))) (list_all (ended tree) (records_below tree a)) is
+
+-- an open aggregation is not spent
+pub spent_open : (tree : TreeState) (a : ℕ) → closed_at tree a ≡ false → is_spent tree a ≡ false
+unfolding is_spent
+spent_open tree a is = and_never (closed_at tree a) (nat_lt 0 (length (records_below tree a))) (list_all (ended tree) (records_below tree a)) is
