@@ -31,6 +31,8 @@ mod schedule;
 mod scheduling;
 mod spending;
 mod status;
+#[cfg(test)]
+mod tests;
 mod text;
 mod tree;
 mod trigger;

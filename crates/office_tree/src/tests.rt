@@ -1,10 +1,5 @@
 //! What is spent, in a tree worked out by hand.
-ghost use Rattle.std.specs.Prelude.{◌≡◌, IsTrue};
-ghost use Rattle.office_tree.specs.Tree.{has_record};
-
-use crate::{
-    Action, AggNo, Class, Code, Record, RecordNo, Schedule, Status, Text, Tree, Trigger,
-};
+use crate::{Action, AggNo, Class, Code, Record, RecordNo, Schedule, Status, Text, Tree, Trigger};
 use office_days::{Day, Offset, Period, Unit};
 use std::test::Fail;
 
@@ -63,7 +58,12 @@ fn add_aggregation(
     Ok(tree.apply_add_aggregation(ref_text, text(rt, name)?, parent, class)?)
 }
 
-fn add_record(rt: &HostRuntime, tree: &mut Tree, name: &str, aggregation: AggNo) -> Result<(), Fail> {
+fn add_record(
+    rt: &HostRuntime,
+    tree: &mut Tree,
+    name: &str,
+    aggregation: AggNo,
+) -> Result<(), Fail> {
     let ref_text = text(rt, name)?;
     if tree
         .check_add_record(&ref_text, aggregation, None, None)
@@ -96,44 +96,40 @@ fn close(tree: &mut Tree, aggregation: AggNo) -> Result<(), Fail> {
 }
 
 /// Puts the record in again as one that is ended.
-fn end(rt: &HostRuntime, tree: &mut Tree, record_no: RecordNo) -> Result<(), Fail>
-    requires { IsTrue (has_record tree.old record_no) }
-{
+fn end(rt: &HostRuntime, tree: &mut Tree, record_no: RecordNo) -> Result<(), Fail> {
+    if !tree.has_record(record_no) {
+        return Err(Fail::new("no record"));
+    }
     let head = tree.record(record_no).copy(rt.alloc())?;
     tree.sound();
     Ok(tree.put_record(record_no, head, Status::Ended)?)
 }
 
-/// Whether the aggregation is there and spent.
-fn spent(tree: &Tree, aggregation: AggNo) -> bool {
-    tree.has_aggregation(aggregation) && tree.spent(aggregation)
-}
-
-fn end_all(rt: &HostRuntime, tree: &mut Tree) -> Result<(), Fail> {
-    for record_no in [1, 2] {
-        if !tree.has_record(record_no) {
-            return Err(Fail::new("no record"));
-        }
-        end(rt, tree, record_no)?;
-    }
-    Ok(())
+/// Which of the aggregations 1, 2 and 3 are there and spent.
+fn spent(tree: &Tree) -> [bool; 3] {
+    [1, 2, 3].map(|aggregation| tree.has_aggregation(aggregation) && tree.spent(aggregation))
 }
 
 #[test]
-fn what_is_closed_is_spent_once_all_records_below_it_are_ended(rt: HostRuntime) -> Result<(), Fail> {
+fn what_is_closed_is_spent_once_all_records_below_it_are_ended(
+    rt: HostRuntime,
+) -> Result<(), Fail> {
     let mut tree = Tree::new(rt.alloc());
     add_class(&rt, &mut tree)?;
     add_aggregation(&rt, &mut tree, "A", None, Some(code(&rt, "FIN")?))?;
     add_aggregation(&rt, &mut tree, "A/1", Some(1), None)?;
     add_aggregation(&rt, &mut tree, "A/2", Some(1), None)?;
     add_record(&rt, &mut tree, "A/1/1", 2)?;
-    assert!(rt; !spent(&tree, 1) && !spent(&tree, 2));
+    add_record(&rt, &mut tree, "A/1/2", 2)?;
+    assert_eq!(rt; spent(&tree), [false, false, false]);
     close(&mut tree, 2)?;
     close(&mut tree, 3)?;
-    assert!(rt; !spent(&tree, 2) && !spent(&tree, 3));
-    end_record(&rt, &mut tree)?;
-    assert!(rt; !spent(&tree, 1) && spent(&tree, 2) && !spent(&tree, 3));
+    assert_eq!(rt; spent(&tree), [false, false, false]);
+    end(&rt, &mut tree, 2)?;
+    assert_eq!(rt; spent(&tree), [false, false, false]);
+    end(&rt, &mut tree, 1)?;
+    assert_eq!(rt; spent(&tree), [false, true, false]);
     close(&mut tree, 1)?;
-    assert!(rt; spent(&tree, 1) && spent(&tree, 2) && !spent(&tree, 3));
+    assert_eq!(rt; spent(&tree), [true, true, false]);
     Ok(())
 }
