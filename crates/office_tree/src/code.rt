@@ -1,4 +1,4 @@
-ghost use Rattle.std.specs.Prelude.{◌≡◌, true, IfOk, Some, nat_eq, refl};
+ghost use Rattle.std.specs.Prelude.{◌≡◌, true, IfOk, IsOk, None, Some, nat_eq, refl};
 ghost use Rattle.std.specs.Cmp.{partial_equiv_from_equiv};
 ghost use Rattle.std.specs.Cmp.Lexicographic.{pointwise, slice_cmp, nat_list_eq_equiv, nat_list_cmp_total, texts_ties, texts_po};
 ghost use Rattle.std.specs.List.{list_all};
@@ -48,7 +48,8 @@ fn is_code(text: &str) -> bool
 impl Code {
     /// The code that a text is; `None` where it is none, and then no memory is asked for.
     pub fn read(alloc: Global, text: &str) -> Result<Option<Code>, Memory>
-        ensures { IfOk result (λ c. c ≡ code_named text.now) }
+        ensures value { IfOk result (λ c. c ≡ code_named text.now) }
+        ensures none { code_named text.now ≡ None → IsOk result }
     {
         if !is_code(text) {
             return Ok(None);

@@ -1,4 +1,5 @@
-ghost use Rattle.std.specs.Prelude.{◌≡◌, ◌+◌, ◌<◌, ◌≤◌, OnOk, OnErr, IsOk, length, vec_len, vec_capacity};
+ghost use Rattle.std.specs.Prelude.{◌≡◌, ◌+◌, ◌<◌, ◌≤◌, OnOk, OnErr, IsOk, IsTrue, length, vec_len, vec_capacity};
+ghost use Rattle.std.specs.FinMap.{contains_key};
 ghost use Rattle.office_tree.specs.Lists.{put};
 ghost use Rattle.office_tree.specs.Rows.{put_aggregation, put_class, put_record, put_schedule};
 ghost use Rattle.office_tree.specs.Sound.{IsSound};
@@ -23,21 +24,25 @@ fn put_row<T: Drop>(rows: &mut Vec<T>, number: u32, row: T) -> Result<(), Memory
 }
 
 impl Tree {
-    /// Puts a schedule under its code, in place of what was there or as a new one.
+    /// Puts a schedule under its code, in place of what was there, which needs no memory, or as a
+    /// new one.
     pub fn put_schedule(&mut self, code: Code, schedule: Schedule) -> Result<(), Memory>
         requires { IsSound (put_schedule self.old code schedule) }
         ensures ok { OnOk result (self.new ≡ put_schedule self.old code schedule) }
         ensures err { OnErr result (self.new ≡ self.old) }
+        ensures in_place { IsTrue (contains_key self.old.schedules code) → IsOk result }
     {
         self.schedules.insert(code, schedule)?;
         Ok(())
     }
 
-    /// Puts a class under its code, in place of what was there or as a new one.
+    /// Puts a class under its code, in place of what was there, which needs no memory, or as a new
+    /// one.
     pub fn put_class(&mut self, code: Code, class: Class) -> Result<(), Memory>
         requires { IsSound (put_class self.old code class) }
         ensures ok { OnOk result (self.new ≡ put_class self.old code class) }
         ensures err { OnErr result (self.new ≡ self.old) }
+        ensures in_place { IsTrue (contains_key self.old.classes code) → IsOk result }
     {
         self.classes.insert(code, class)?;
         Ok(())

@@ -1,4 +1,4 @@
-ghost use Rattle.std.specs.Prelude.{◌≡◌, true, IfOk, nat_eq};
+ghost use Rattle.std.specs.Prelude.{◌≡◌, true, IfOk, IsOk, None, nat_eq};
 ghost use Rattle.std.specs.Cmp.{partial_equiv_from_equiv};
 ghost use Rattle.std.specs.Cmp.Lexicographic.{pointwise, nat_list_eq_equiv};
 ghost use Rattle.std.specs.List.{list_all};
@@ -47,7 +47,8 @@ impl Text {
     /// The text with these bytes; `None` where they do not have that form, and then no memory is
     /// asked for.
     pub fn read(alloc: Global, text: &str) -> Result<Option<Text>, Memory>
-        ensures { IfOk result (λ t. t ≡ text_named text.now) }
+        ensures value { IfOk result (λ t. t ≡ text_named text.now) }
+        ensures none { text_named text.now ≡ None → IsOk result }
     {
         if !is_text(text) {
             return Ok(None);

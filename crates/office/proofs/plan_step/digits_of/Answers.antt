@@ -15,5 +15,5 @@ unreachable-requires c =
     let long = decimal_nonempty c.args.number (fits-64 c.args.number c.ranges.number.fits) in
     let is : is_text text ≡ true = rw same (is_text-decimal c.args.number c.ranges.number.fits long (subst (λ (bs : List ℕ). is_utf8 bs ≡ true) same utf8)) in
     let named : text_named text ≡ Some text = ap (λ (b : Bool). cond b (Some text) None) is in
-    let none : text_named text ≡ None = sym c.in_ok-text.ensures ∙ c.in-None.is in
+    let none : text_named text ≡ None = sym c.in_ok-text.ensures.value ∙ c.in-None.is in
     cc

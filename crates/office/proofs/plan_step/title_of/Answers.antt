@@ -12,5 +12,5 @@ unreachable-requires c =
     let same : text ≡ c.args.code.now = c.text.ensures.value in
     let is : is_text text ≡ true = rw same (is_text-code c.args.code.now c.text.ensures.code (subst (λ (bs : List ℕ). is_utf8 bs ≡ true) same utf8)) in
     let named : text_named text ≡ Some text = ap (λ (b : Bool). cond b (Some text) None) is in
-    let none : text_named text ≡ None = sym c.in_ok-text.ensures ∙ c.in-None.is in
+    let none : text_named text ≡ None = sym c.in_ok-text.ensures.value ∙ c.in-None.is in
     cc
