@@ -5,23 +5,19 @@ ghost use Rattle.office_holds.specs.Effects.{held_off, held_on, lifted_hold, pla
 ghost use Rattle.office_holds.specs.Forms.{FitsHoldLimits};
 ghost use Rattle.office_holds.specs.Rows.{put_hold};
 
-use crate::{Hold, HoldRow, Holds, Target};
+use crate::storing::{lift_in, put_in, put_target_in, take_target_in};
+use crate::{HoldRow, Holds, Target};
 use office_days::Day;
 use office_tree::{Code, Memory, Text};
 
 impl Holds {
     /// Places a hold of a new code on that day, without targets.
-    pub fn place(
-        &mut self,
-        code: Code,
-        day: Day,
-        reason: Text,
-        by: Text,
-    ) -> Result<(), Memory>
+    pub fn place(&mut self, code: Code, day: Day, reason: Text, by: Text) -> Result<(), Memory>
         requires { first_of (conditions_of_place_hold self.old code) ≡ None }
         ensures ok { OnOk result (self.new ≡ placed_hold self.old day code reason by) }
         ensures err { OnErr result (self.new ≡ self.old) }
     {
+        self.sound();
         let row = HoldRow {
             reason,
             placed: day,
@@ -37,6 +33,7 @@ impl Holds {
         ensures ok { OnOk result (self.new ≡ held_on self.old code.now target) }
         ensures err { OnErr result (self.new ≡ self.old) }
     {
+        self.sound();
         self.put_target(code, target)
     }
 
@@ -53,9 +50,7 @@ impl Holds {
         requires { first_of (conditions_of_lift_hold self.old code.now) ≡ None }
         ensures { self.new ≡ lifted_hold self.old day code.now }
     {
-        if let Some(hold) = self.by_code.get_mut(code) {
-            hold.lift(day);
-        }
+        lift_in(&mut self.by_code, code, day);
     }
 
     /// Puts the columns of a hold in under its code, in place of what was there or as a new hold; the
@@ -65,13 +60,7 @@ impl Holds {
         ensures ok { OnOk result (self.new ≡ put_hold self.old code row) }
         ensures err { OnErr result (self.new ≡ self.old) }
     {
-        if let Some(hold) = self.by_code.get_mut(&code) {
-            hold.set_row(row);
-            return Ok(());
-        }
-        let hold = Hold::new(self.alloc, row);
-        self.by_code.insert(code, hold)?;
-        Ok(())
+        put_in(&mut self.by_code, self.alloc, code, row)
     }
 
     /// Puts a target on the hold of that code, if it is there.
@@ -80,18 +69,13 @@ impl Holds {
         ensures ok { OnOk result (self.new ≡ held_on self.old code.now target) }
         ensures err { OnErr result (self.new ≡ self.old) }
     {
-        match self.by_code.get_mut(code) {
-            Some(hold) => hold.put(target),
-            None => Ok(()),
-        }
+        put_target_in(&mut self.by_code, code, target)
     }
 
     /// Takes a target off the hold of that code, if it is there. It takes no memory.
     pub fn take_target(&mut self, code: &Code, target: &Target)
         ensures { self.new ≡ held_off self.old code.now target.now }
     {
-        if let Some(hold) = self.by_code.get_mut(code) {
-            hold.take(target);
-        }
+        take_target_in(&mut self.by_code, code, target);
     }
 }

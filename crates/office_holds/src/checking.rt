@@ -1,6 +1,7 @@
-ghost use Rattle.std.specs.Prelude.{◌≡◌};
+ghost use Rattle.std.specs.Prelude.{◌≡◌, nat_le};
+ghost use Rattle.std.specs.FinMap.{len};
 ghost use Rattle.std.specs.Option.{option_copied};
-ghost use Rattle.office_tree.specs.Conditions.{IsLeastOf};
+ghost use Rattle.office_tree.specs.Conditions.{IsLeastOf, first_of};
 ghost use Rattle.office_holds.specs.Conditions.{conditions_of_hold_off, conditions_of_hold_on, conditions_of_leaving_class, conditions_of_lift_hold, conditions_of_place_hold};
 
 use crate::{Holds, Target};
@@ -8,16 +9,23 @@ use office_days::Refusal;
 use office_tree::{Classified, Code, Tree};
 
 impl Holds {
+    /// Whether there are as many holds as the office takes, lifted ones counted.
+    fn is_full(&self) -> bool
+        ensures { result ≡ nat_le 1_000 (len self.now) }
+    {
+        self.by_code.len() >= 1_000
+    }
+
     /// Why a new hold of that code is refused: the code is there, or there are 1,000 holds, lifted
     /// ones counted.
     pub fn check_place(&self, code: &Code) -> Option<Refusal>
         ensures first { result ≡ first_of (conditions_of_place_hold self.now code.now) }
         ensures least { IsLeastOf (conditions_of_place_hold self.now code.now) result }
     {
-        if self.by_code.contains_key(code) {
+        if self.hold(code).is_some() {
             return Some(Refusal::Exists);
         }
-        if self.by_code.len() >= 1_000 {
+        if self.is_full() {
             return Some(Refusal::Full);
         }
         None
@@ -29,7 +37,7 @@ impl Holds {
         ensures first { result ≡ first_of (conditions_of_hold_on self.now code.now target.now) }
         ensures least { IsLeastOf (conditions_of_hold_on self.now code.now target.now) result }
     {
-        let Some(hold) = self.by_code.get(code) else {
+        let Some(hold) = self.hold(code) else {
             return Some(Refusal::NoSuch);
         };
         if hold.has(target) {
@@ -50,7 +58,7 @@ impl Holds {
         ensures first { result ≡ first_of (conditions_of_hold_off self.now code.now target.now) }
         ensures least { IsLeastOf (conditions_of_hold_off self.now code.now target.now) result }
     {
-        let Some(hold) = self.by_code.get(code) else {
+        let Some(hold) = self.hold(code) else {
             return Some(Refusal::NoSuch);
         };
         if !hold.has(target) {
@@ -67,7 +75,7 @@ impl Holds {
         ensures first { result ≡ first_of (conditions_of_lift_hold self.now code.now) }
         ensures least { IsLeastOf (conditions_of_lift_hold self.now code.now) result }
     {
-        let Some(hold) = self.by_code.get(code) else {
+        let Some(hold) = self.hold(code) else {
             return Some(Refusal::NoSuch);
         };
         if hold.is_lifted() {

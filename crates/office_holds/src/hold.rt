@@ -1,11 +1,15 @@
-ghost use Rattle.std.specs.Prelude.{◌≡◌, ◌<◌, ◌^◌, Some, OnOk, OnErr};
-ghost use Rattle.std.specs.FinSet as set;
+ghost use Rattle.std.specs.Prelude.{◌≡◌, ◌&&◌, nat_le, Some, None, OnOk, OnErr};
+ghost use Rattle.std.specs.FinSet.{contains};
 ghost use Rattle.std.specs.Option.{is_some};
 ghost use Rattle.office_holds.specs.Conditions.{target_count};
 ghost use Rattle.office_holds.specs.Effects.{with_target, without_target};
-ghost use Rattle.office_holds.specs.Holds.{has_target, hold_covers};
+ghost use Rattle.office_holds.specs.Holds.{has_target, hold_covers, is_in_force};
 ghost use Rattle.office_holds.specs.Rows.{hold_from, hold_row};
 
+use crate::sets::{
+    count_codes, count_numbers, has_any, has_code, has_number, put_code, put_number, take_code,
+    take_number,
+};
 use crate::{HoldRow, Target};
 use office_days::Day;
 use office_tree::{AggNo, Code, Memory, RecordNo};
@@ -89,9 +93,9 @@ impl Hold {
         ensures { result ≡ has_target self.now target.now }
     {
         match target {
-            Target::Class(code) => self.classes.contains(code),
-            Target::Aggregation(number) => self.aggregations.contains(number),
-            Target::Record(number) => self.records.contains(number),
+            Target::Class(code) => has_code(&self.classes, code),
+            Target::Aggregation(number) => has_number(&self.aggregations, *number),
+            Target::Record(number) => has_number(&self.records, *number),
         }
     }
 
@@ -99,7 +103,10 @@ impl Hold {
     pub(crate) fn is_full(&self) -> bool
         ensures { result ≡ nat_le 1_000 (target_count self.now) }
     {
-        self.classes.len() + self.aggregations.len() + self.records.len() >= 1_000
+        let room = 1_000_usize
+            .saturating_sub(count_codes(&self.classes))
+            .saturating_sub(count_numbers(&self.aggregations));
+        count_numbers(&self.records) >= room
     }
 
     /// Puts a target in. Where an allocation is refused, the hold is as it was.
@@ -108,17 +115,10 @@ impl Hold {
         ensures err { OnErr result (self.new ≡ self.old) }
     {
         match target {
-            Target::Class(code) => {
-                self.classes.insert(code)?;
-            }
-            Target::Aggregation(number) => {
-                self.aggregations.insert(number)?;
-            }
-            Target::Record(number) => {
-                self.records.insert(number)?;
-            }
+            Target::Class(code) => put_code(&mut self.classes, code),
+            Target::Aggregation(number) => put_number(&mut self.aggregations, number),
+            Target::Record(number) => put_number(&mut self.records, number),
         }
-        Ok(())
     }
 
     /// Takes a target out.
@@ -126,16 +126,17 @@ impl Hold {
         ensures { self.new ≡ without_target target.now self.old }
     {
         match target {
-            Target::Class(code) => {
-                self.classes.remove(code);
-            }
-            Target::Aggregation(number) => {
-                self.aggregations.remove(number);
-            }
-            Target::Record(number) => {
-                self.records.remove(number);
-            }
+            Target::Class(code) => take_code(&mut self.classes, code),
+            Target::Aggregation(number) => take_number(&mut self.aggregations, *number),
+            Target::Record(number) => take_number(&mut self.records, *number),
         }
+    }
+
+    /// Whether it is in force and has the class as a target.
+    pub(crate) fn binds_class(&self, class: &Code) -> bool
+        ensures { result ≡ (is_in_force self.now && contains self.now.classes class.now) }
+    {
+        self.row.lifted.is_none() && has_code(&self.classes, class)
     }
 
     /// Whether it covers a record that these aggregations contain and that has this class.
@@ -145,19 +146,12 @@ impl Hold {
         if self.row.lifted.is_some() {
             return false;
         }
-        if self.records.contains(&record_no) {
+        if has_number(&self.records, record_no) {
             return true;
         }
         if has_any(&self.aggregations, above) {
             return true;
         }
-        self.classes.contains(class)
+        has_code(&self.classes, class)
     }
-}
-
-/// Whether one of the numbers is in the set.
-fn has_any(set: &BTreeSet<AggNo>, numbers: &[AggNo]) -> bool
-    ensures { result ≡ list_any (λ n. tree_set.contains nat_cmp set.now n) numbers.now }
-{
-    numbers.iter().any(|n| set.contains(n))
 }

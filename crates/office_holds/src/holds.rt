@@ -6,6 +6,7 @@ ghost use Rattle.office_holds.specs.Forms.{FitsHoldLimits};
 ghost use Rattle.office_holds.specs.Holds.{is_held, least_covering};
 
 use crate::Hold;
+use crate::finding::{any_covers, first_covering};
 use office_tree::{Code, RecordNo, Tree};
 use std::alloc::Global;
 use std::collections::BTreeMap;

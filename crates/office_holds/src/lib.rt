@@ -9,10 +9,14 @@
 
 mod changing;
 mod checking;
+mod finding;
 mod hold;
 mod holds;
 pub mod laws;
+mod leaving;
 mod row;
+mod sets;
+mod storing;
 mod target;
 
 pub use hold::Hold;
