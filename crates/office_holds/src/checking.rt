@@ -75,13 +75,11 @@ impl Holds {
         ensures first { result ≡ first_of (conditions_of_lift_hold self.now code.now) }
         ensures least { IsLeastOf (conditions_of_lift_hold self.now code.now) result }
     {
-        let Some(hold) = self.hold(code) else {
-            return Some(Refusal::NoSuch);
-        };
-        if hold.is_lifted() {
-            return Some(Refusal::Lifted);
+        match self.hold(code) {
+            Some(hold) if hold.is_lifted() => Some(Refusal::Lifted),
+            Some(_) => None,
+            None => Some(Refusal::NoSuch),
         }
-        None
     }
 
     /// Why an aggregation or a record is not reclassified, as far as the holds tell: its class would

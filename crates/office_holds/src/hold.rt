@@ -136,14 +136,14 @@ impl Hold {
     pub(crate) fn binds_class(&self, class: &Code) -> bool
         ensures { result ≡ (is_in_force self.now && contains self.now.classes class.now) }
     {
-        self.row.lifted.is_none() && has_code(&self.classes, class)
+        !self.is_lifted() && has_code(&self.classes, class)
     }
 
     /// Whether it covers a record that these aggregations contain and that has this class.
     pub(crate) fn covers(&self, record_no: RecordNo, above: &[AggNo], class: &Code) -> bool
         ensures { result ≡ hold_covers self.now record_no above.now (Some class.now) }
     {
-        if self.row.lifted.is_some() {
+        if self.is_lifted() {
             return false;
         }
         if has_number(&self.records, record_no) {

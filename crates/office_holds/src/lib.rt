@@ -18,6 +18,8 @@ mod row;
 mod sets;
 mod storing;
 mod target;
+#[cfg(test)]
+mod tests;
 
 pub use hold::Hold;
 pub use holds::Holds;

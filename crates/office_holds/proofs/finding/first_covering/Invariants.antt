@@ -1,4 +1,4 @@
-use Rattle.std.proofs.Common.{◌≡◌, Some, map, filter, slice_get}
+use Rattle.std.proofs.Common.{◌≡◌, Some}
 use Rattle.office_holds.specs.Holds.{hold_covers}
 use Rattle.office_holds.proofs.Entries.{first_passing}
 use Rattle.office_holds.proofs.finding.first_covering.Given as goal

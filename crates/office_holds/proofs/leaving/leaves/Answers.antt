@@ -1,4 +1,4 @@
-use Rattle.std.proofs.Common.{◌≡◌, ap, sym, ◌∙◌, not, ◌&&◌, map, List, ℕ}
+use Rattle.std.proofs.Common.{ap, sym, ◌∙◌, not, ◌&&◌, map, List, ℕ}
 use Rattle.std.specs.FinMap.{from_entries}
 use Rattle.std.specs.FinSet.{contains}
 use Rattle.std.specs.List.{list_any}

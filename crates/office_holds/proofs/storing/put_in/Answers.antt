@@ -1,4 +1,4 @@
-use Rattle.std.proofs.Common.{ℕ, List, Some, None, ap, sym, ◌∙◌}
+use Rattle.std.proofs.Common.{ℕ, List, ap, sym, ◌∙◌}
 use Rattle.std.specs.FinMap.{from_entries, insert}
 use Rattle.std.specs.BTreeMap.{BTreeMap}
 use Rattle.std.specs.Option.{is_some}

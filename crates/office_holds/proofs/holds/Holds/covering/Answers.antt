@@ -1,4 +1,4 @@
-use Rattle.std.proofs.Common.{◌≡◌, ap, sym, ◌∙◌, Some, map, filter, slice_get, List, ℕ}
+use Rattle.std.proofs.Common.{ap, sym, ◌∙◌, Some, map, filter, slice_get, List, ℕ}
 use Rattle.office_tree.specs.Tree.{above, class_of}
 use Rattle.office_tree.proofs.Maps.{entries_of_ordered}
 use Rattle.office_holds.specs.Holds.{HoldState, hold_covers, covers_in, least_covering}

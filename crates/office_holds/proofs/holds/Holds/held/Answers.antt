@@ -1,4 +1,4 @@
-use Rattle.std.proofs.Common.{◌≡◌, ap, sym, ◌∙◌, Some, map, List, ℕ}
+use Rattle.std.proofs.Common.{ap, sym, ◌∙◌, Some, map, List, ℕ}
 use Rattle.std.specs.List.{list_any}
 use Rattle.office_tree.specs.Tree.{above, class_of}
 use Rattle.office_tree.proofs.Maps.{entries_of_ordered}
