@@ -2,10 +2,11 @@
 use Rattle.std.proofs.Common.{◌≡◌, ℕ, ◌+◌, ◌-◌, ◌<◌, ◌≤◌, ◌≤ℤ◌, ℤ, List, Bool, true, false, cond, ◌&&◌, ◌||◌, not, Option, Some, None, refl, sym, ap, subst, ◌∙◌, ◌⊎◌, inl, inr, arith}
 use Rattle.std.specs.Prelude.{IsSome, IfSome, nat_le}
 use Rattle.std.specs.Ordering.{nat_cmp, eq_by_cmp}
+use Rattle.std.specs.Option.{is_some}
 use Rattle.std.specs.declared.cmp.Ordering.{Ordering}
 use Rattle.std.specs.Cmp.{IsTotalOrder, Equal-is, nat_cmp_total}
 use Rattle.std.specs.Cmp.Lexicographic.{nat_list_cmp_total}
-use Rattle.std.specs.FinMap.{FinMap, get, len, IsAntisymmetric, slice_cmp-IsAntisymmetric, nat_cmp-IsAntisymmetric}
+use Rattle.std.specs.FinMap.{FinMap, empty, get, insert, len, len-empty, get-empty, IsAntisymmetric, slice_cmp-IsAntisymmetric, nat_cmp-IsAntisymmetric}
 use Rattle.std.specs.FinSet as set
 use Rattle.std.specs.FinSet.{FinSet, contains, contains-empty, contains-insert, contains-remove}
 use Rattle.std.specs.Int.Signed.{≤ℤ_refl}
@@ -22,6 +23,8 @@ use Rattle.office_holds.specs.Conditions.{target_count, has_all_targets, conditi
 use Rattle.office_holds.specs.Effects.{new_hold, placed_hold, with_target, without_target, held_on, held_off, lifted_hold}
 use Rattle.office_holds.specs.Forms.{IsFormedHold, AreFormedHolds, FitsHoldLimits, IsFormedTarget}
 use Rattle.office_holds.specs.Holds.{HoldMap, HoldState}
+use Rattle.office_holds.specs.Rows.{hold_from, put_hold}
+use Rattle.office_holds.specs.declared.row.HoldRow.{HoldRow}
 use Rattle.office_holds.specs.Sound.{TargetsAreThere, TargetsStand, NoHoldIsAfter}
 use Rattle.office_holds.specs.declared.target.Target.{Target}
 use Rattle.office_holds.specs.declared.target.Target.TheVariants as target
@@ -224,6 +227,12 @@ has_room holds code hold is room = below (target_count hold) 1_000 (sym (ap (λ 
 abbrev HasFewTargets : List ℕ → HoldState → Type 0
 HasFewTargets code hold = target_count hold ≤ 1_000
 
+pub FitsHoldLimits-empty : FitsHoldLimits empty
+FitsHoldLimits-empty = record {
+  holds_few = let none = len-empty code_cmp HoldState in omega (arith, none);
+  targets_few = λ code hold is. let none = get-empty {X = HoldState} code_cmp code in absurd cc;
+}
+
 module _ (holds : HoldMap) (fits : FitsHoldLimits holds) where
   pub FitsHoldLimits-placed_hold : (day : ℤ) (code reason by : List ℕ) → first_of (conditions_of_place_hold holds code) ≡ None → FitsHoldLimits (placed_hold holds day code reason by)
   FitsHoldLimits-placed_hold day code reason by none =
@@ -245,6 +254,18 @@ module _ (holds : HoldMap) (fits : FitsHoldLimits holds) where
 
   pub FitsHoldLimits-lifted_hold : (day : ℤ) (code : List ℕ) → FitsHoldLimits (lifted_hold holds day code)
   FitsHoldLimits-lifted_hold day code = amended_fits code (λ hold. record hold { lifted = Some day }) (λ hold is. fits.targets_few code hold is)
+
+none_of : {A : Type 0} (o : Option A) → is_some o ≡ false → o ≡ None
+none_of None e = refl
+none_of (Some x) e = absurd cc
+
+abbrev placed_row : ℤ → List ℕ → List ℕ → HoldRow
+placed_row day reason by = record { reason = reason; placed = day; placed_by = by; lifted = None }
+
+-- the columns of a new hold put in under a free code place it
+pub placed_by_put : (holds : HoldMap) (day : ℤ) (code reason by : List ℕ) → first_of (conditions_of_place_hold holds code) ≡ None → put_hold holds code (placed_row day reason by) ≡ placed_hold holds day code reason by
+placed_by_put holds day code reason by none =
+    ap (λ o. insert holds code (hold_from (placed_row day reason by) o)) (none_of (get holds code) (none_holds (conditions_of_place_hold holds code) none).0)
 
 -- ---- the days
 

@@ -63,7 +63,7 @@ kept_or_there_at (x ∷ xs) zero (suc j) f = inl refl
 kept_or_there_at (x ∷ xs) (suc i) zero f = inl refl
 kept_or_there_at (x ∷ xs) (suc i) (suc j) f = elim (kept_or_there_at xs i j f) [ inl kept ↦ inl kept | inr there ↦ inr (ap suc there) ]
 
-kept_or_there : {A : Type 0} (xs : List A) (a b : ℕ) (f : A → A) → (numbered (edited xs a f) b ≡ numbered xs b) ⊎ (a ≡ b)
+pub kept_or_there : {A : Type 0} (xs : List A) (a b : ℕ) (f : A → A) → (numbered (edited xs a f) b ≡ numbered xs b) ⊎ (a ≡ b)
 kept_or_there xs zero b f = inl refl
 kept_or_there xs (suc a) zero f = inl refl
 kept_or_there xs (suc a) (suc b) f = elim (kept_or_there_at xs a b f) [ inl kept ↦ inl kept | inr there ↦ inr (ap suc there) ]

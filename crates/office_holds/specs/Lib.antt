@@ -3,4 +3,5 @@ pub mod Effects
 pub mod Forms
 pub mod Holds
 pub mod Meanings
+pub mod Rows
 pub mod Sound

@@ -5,12 +5,23 @@
 //! where one of its targets is the record, an aggregation that contains it at any height, or the
 //! record's class. A record is **held** while at least one hold covers it. A hold blocks destruction,
 //! and not the sending of a copy.
-//!
-//! Today this crate has the definitions (`specs`), the type of a target, and the laws of holds; the
-//! register of holds in code is not built yet.
 #![tactic(auto)]
 
+mod changing;
+mod checking;
+mod finding;
+mod hold;
+mod holds;
 pub mod laws;
+mod leaving;
+mod row;
+mod sets;
+mod storing;
 mod target;
+#[cfg(test)]
+mod tests;
 
+pub use hold::Hold;
+pub use holds::Holds;
+pub use row::HoldRow;
 pub use target::Target;

@@ -1,0 +1,81 @@
+ghost use Rattle.std.specs.Prelude.{◌≡◌, OnOk, OnErr, None};
+ghost use Rattle.office_tree.specs.Conditions.{first_of};
+ghost use Rattle.office_holds.specs.Conditions.{conditions_of_hold_off, conditions_of_hold_on, conditions_of_lift_hold, conditions_of_place_hold};
+ghost use Rattle.office_holds.specs.Effects.{held_off, held_on, lifted_hold, placed_hold};
+ghost use Rattle.office_holds.specs.Forms.{FitsHoldLimits};
+ghost use Rattle.office_holds.specs.Rows.{put_hold};
+
+use crate::storing::{lift_in, put_in, put_target_in, take_target_in};
+use crate::{HoldRow, Holds, Target};
+use office_days::Day;
+use office_tree::{Code, Memory, Text};
+
+impl Holds {
+    /// Places a hold of a new code on that day, without targets.
+    pub fn place(&mut self, code: Code, day: Day, reason: Text, by: Text) -> Result<(), Memory>
+        requires { first_of (conditions_of_place_hold self.old code) ≡ None }
+        ensures ok { OnOk result (self.new ≡ placed_hold self.old day code reason by) }
+        ensures err { OnErr result (self.new ≡ self.old) }
+    {
+        self.sound();
+        let row = HoldRow {
+            reason,
+            placed: day,
+            placed_by: by,
+            lifted: None,
+        };
+        self.put(code, row)
+    }
+
+    /// Puts a target on a hold.
+    pub fn cover(&mut self, code: &Code, target: Target) -> Result<(), Memory>
+        requires { first_of (conditions_of_hold_on self.old code.now target) ≡ None }
+        ensures ok { OnOk result (self.new ≡ held_on self.old code.now target) }
+        ensures err { OnErr result (self.new ≡ self.old) }
+    {
+        self.sound();
+        self.put_target(code, target)
+    }
+
+    /// Takes a target off a hold. It takes no memory.
+    pub fn uncover(&mut self, code: &Code, target: &Target)
+        requires { first_of (conditions_of_hold_off self.old code.now target.now) ≡ None }
+        ensures { self.new ≡ held_off self.old code.now target.now }
+    {
+        self.take_target(code, target)
+    }
+
+    /// Lifts a hold on that day; its targets stay on record. It takes no memory.
+    pub fn lift(&mut self, code: &Code, day: Day)
+        requires { first_of (conditions_of_lift_hold self.old code.now) ≡ None }
+        ensures { self.new ≡ lifted_hold self.old day code.now }
+    {
+        lift_in(&mut self.by_code, code, day);
+    }
+
+    /// Puts the columns of a hold in under its code, in place of what was there or as a new hold; the
+    /// targets of a hold that is there stay, and then it takes no memory.
+    pub fn put(&mut self, code: Code, row: HoldRow) -> Result<(), Memory>
+        requires { FitsHoldLimits (put_hold self.old code row) }
+        ensures ok { OnOk result (self.new ≡ put_hold self.old code row) }
+        ensures err { OnErr result (self.new ≡ self.old) }
+    {
+        put_in(&mut self.by_code, self.alloc, code, row)
+    }
+
+    /// Puts a target on the hold of that code, if it is there.
+    pub fn put_target(&mut self, code: &Code, target: Target) -> Result<(), Memory>
+        requires { FitsHoldLimits (held_on self.old code.now target) }
+        ensures ok { OnOk result (self.new ≡ held_on self.old code.now target) }
+        ensures err { OnErr result (self.new ≡ self.old) }
+    {
+        put_target_in(&mut self.by_code, code, target)
+    }
+
+    /// Takes a target off the hold of that code, if it is there. It takes no memory.
+    pub fn take_target(&mut self, code: &Code, target: &Target)
+        ensures { self.new ≡ held_off self.old code.now target.now }
+    {
+        take_target_in(&mut self.by_code, code, target);
+    }
+}

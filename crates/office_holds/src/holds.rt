@@ -1,0 +1,80 @@
+ghost use Rattle.std.specs.Prelude.{◌≡◌, IsTrue};
+ghost use Rattle.std.specs.FinMap.{empty, get};
+ghost use Rattle.std.specs.Option.{option_copied};
+ghost use Rattle.office_tree.specs.Tree.{has_record};
+ghost use Rattle.office_holds.specs.Forms.{FitsHoldLimits};
+ghost use Rattle.office_holds.specs.Holds.{is_held, least_covering};
+
+use crate::Hold;
+use crate::finding::{any_covers, first_covering};
+use office_tree::{Code, RecordNo, Tree};
+use std::alloc::Global;
+use std::collections::BTreeMap;
+use std::marker::Model;
+
+/// The register of holds by their codes, in which lifted holds stay. Contracts see a `HoldMap`, which
+/// has at most 1,000 holds, each with at most 1,000 targets.
+#[derive(Drop)]
+pub struct Holds {
+    pub(crate) by_code: BTreeMap<Code, Hold>,
+    pub(crate) alloc: Global,
+}
+
+impl Model for Holds {
+    ghost use Rattle.std.specs.Coded.{codes};
+    ghost use Rattle.std.specs.FinMap as map;
+    ghost use Rattle.office_holds.specs.Forms.{FitsHoldLimits};
+    ghost use Rattle.office_holds.specs.Holds.{HoldMap};
+
+    ghost Value = { HoldMap };
+
+    ghost coded = { Prim.hlevel (codes, map.code) };
+
+    ghost view = { λ h. map.from_entries h.by_code.entries };
+
+    ghost invariant = { λ h. FitsHoldLimits (map.from_entries h.by_code.entries) };
+}
+
+impl Holds {
+    /// A register with no hold in it.
+    pub fn new(alloc: Global) -> Holds
+        ensures { result ≡ empty }
+    {
+        Holds {
+            by_code: BTreeMap::new(alloc),
+            alloc,
+        }
+    }
+
+    /// The hold of that code, lifted or not.
+    pub fn hold(&self, code: &Code) -> Option<&Hold>
+        ensures { option_copied result ≡ get self.now code.now }
+    {
+        self.by_code.get(code)
+    }
+
+    /// Whether at least one hold covers the record.
+    pub fn held(&self, tree: &Tree, record_no: RecordNo) -> bool
+        requires { IsTrue (has_record tree.now record_no) }
+        ensures { result ≡ is_held self.now tree.now record_no }
+    {
+        let above = tree.above(record_no);
+        any_covers(&self.by_code, record_no, &above, tree.class_of(record_no))
+    }
+
+    /// The least code, in byte order, of the holds that cover the record; `None` where it is not held.
+    pub fn covering(&self, tree: &Tree, record_no: RecordNo) -> Option<&Code>
+        requires { IsTrue (has_record tree.now record_no) }
+        ensures { option_copied result ≡ least_covering self.now tree.now record_no }
+    {
+        let above = tree.above(record_no);
+        first_covering(&self.by_code, record_no, &above, tree.class_of(record_no))
+    }
+
+    /// Tells in proofs that the holds are within their limits; a call does nothing.
+    pub fn sound(&self)
+        ensures { FitsHoldLimits self.now }
+    {
+        let _ = &self.by_code;
+    }
+}

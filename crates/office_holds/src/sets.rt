@@ -1,0 +1,75 @@
+ghost use Rattle.std.specs.Prelude.{◌≡◌, ◌<◌, ◌^◌, OnOk, OnErr};
+ghost use Rattle.std.specs.FinSet as set;
+ghost use Rattle.std.specs.List.{list_any};
+ghost use Rattle.std.specs.Ordering.{nat_cmp};
+ghost use Rattle.office_tree.specs.Tree.{code_cmp};
+
+use office_tree::{Code, Memory};
+use std::collections::BTreeSet;
+
+/// Whether the set has the code.
+pub(crate) fn has_code(codes: &BTreeSet<Code>, code: &Code) -> bool
+    ensures { result ≡ set.contains (set.from_list {R = code_cmp} codes.now.keys) code.now }
+{
+    codes.contains(code)
+}
+
+/// Whether the set has the number.
+pub(crate) fn has_number(numbers: &BTreeSet<u32>, number: u32) -> bool
+    ensures { result ≡ set.contains (set.from_list {R = nat_cmp} numbers.now.keys) number }
+{
+    numbers.contains(&number)
+}
+
+/// How many codes the set has.
+pub(crate) fn count_codes(codes: &BTreeSet<Code>) -> usize
+    ensures { result ≡ set.len (set.from_list {R = code_cmp} codes.now.keys) }
+{
+    codes.len()
+}
+
+/// How many numbers the set has.
+pub(crate) fn count_numbers(numbers: &BTreeSet<u32>) -> usize
+    ensures { result ≡ set.len (set.from_list {R = nat_cmp} numbers.now.keys) }
+{
+    numbers.len()
+}
+
+/// Puts a code into the set.
+pub(crate) fn put_code(codes: &mut BTreeSet<Code>, code: Code) -> Result<(), Memory>
+    ensures ok { OnOk result (set.from_list {R = code_cmp} codes.new.keys ≡ set.insert (set.from_list codes.old.keys) code) }
+    ensures err { OnErr result (codes.new.keys ≡ codes.old.keys) }
+{
+    codes.insert(code)?;
+    Ok(())
+}
+
+/// Puts a number into the set.
+pub(crate) fn put_number(numbers: &mut BTreeSet<u32>, number: u32) -> Result<(), Memory>
+    ensures ok { OnOk result (set.from_list {R = nat_cmp} numbers.new.keys ≡ set.insert (set.from_list numbers.old.keys) number) }
+    ensures err { OnErr result (numbers.new.keys ≡ numbers.old.keys) }
+{
+    numbers.insert(number)?;
+    Ok(())
+}
+
+/// Takes a code out of the set.
+pub(crate) fn take_code(codes: &mut BTreeSet<Code>, code: &Code)
+    ensures { set.from_list {R = code_cmp} codes.new.keys ≡ set.remove (set.from_list codes.old.keys) code.now }
+{
+    codes.remove(code);
+}
+
+/// Takes a number out of the set.
+pub(crate) fn take_number(numbers: &mut BTreeSet<u32>, number: u32)
+    ensures { set.from_list {R = nat_cmp} numbers.new.keys ≡ set.remove (set.from_list numbers.old.keys) number }
+{
+    numbers.remove(&number);
+}
+
+/// Whether the set has one of the numbers.
+pub(crate) fn has_any(numbers: &BTreeSet<u32>, these: &[u32]) -> bool
+    ensures { result ≡ list_any (set.contains (set.from_list {R = nat_cmp} numbers.now.keys)) these.now }
+{
+    these.iter().any(|&number| has_number(numbers, number))
+}
