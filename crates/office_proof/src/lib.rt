@@ -13,9 +13,11 @@ mod certificate;
 mod digest;
 mod entry;
 pub mod laws;
+mod lines;
 mod outcome;
 #[cfg(test)]
 mod tests;
+mod words;
 
 pub use certificate::{certificate_text, entry_line};
 pub use digest::digest_of;
