@@ -1,3 +1,7 @@
+pub mod Assembling
 pub mod CertificateLines
 pub mod Columns
+pub mod Counts
+pub mod DateBytes
 pub mod Digests
+pub mod Texts

@@ -39,6 +39,10 @@ entry_words e head = tabbed (
     codes "ENTRY" ∷ decimal e.record_no ∷ outcome_word e.outcome ∷ head.ref_text ∷ e.class ∷ e.schedule ∷ date_text e.due
     ∷ unwrap_or e.hold (codes "-") ∷ e.confirmed_by ∷ decimal head.length ∷ encode_lower head.digest ∷ [])
 
+-- the line of an entry, ended by a line feed
+abbrev pub entry_line : Entry → Record → List ℕ
+entry_line e head = entry_words e head ++ 10 ∷ []
+
 -- the line of a spent aggregation: number and ref
 abbrev pub aggregation_words : ℕ → Aggregation → List ℕ
 aggregation_words a it = tabbed (codes "AGGREGATION" ∷ decimal a ∷ it.ref_text ∷ [])

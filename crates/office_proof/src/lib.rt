@@ -6,16 +6,20 @@
 //! number, and the aggregations that are spent, and ends with the SHA-256 of all that stands above.
 //!
 //! Today this crate has the types, the definitions (`specs`) and laws of what these mean, the words of
-//! outcomes and the digest of a content; the code that writes entries and certificates is not built yet.
+//! outcomes, the digest of a content, the line of an entry and the text of a certificate.
 #![tactic(auto)]
 
+mod certificate;
 mod digest;
 mod entry;
 pub mod laws;
+mod lines;
 mod outcome;
 #[cfg(test)]
 mod tests;
+mod words;
 
+pub use certificate::{certificate_text, entry_line};
 pub use digest::digest_of;
 pub use entry::{Entry, RunNo};
 pub use outcome::Outcome;

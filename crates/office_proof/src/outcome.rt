@@ -1,5 +1,5 @@
 ghost use Rattle.std.specs.Prelude.{◌≡◌};
-ghost use Rattle.office_proof.specs.Outcomes.{outcome_named, outcome_word};
+ghost use Rattle.office_proof.specs.Outcomes.{is_ending, is_sending, is_skipping, outcome_named, outcome_word};
 
 /// What a disposal run did with a record.
 #[derive(Clone, Copy, PartialEq, Eq, Debug)]
@@ -38,5 +38,25 @@ impl Outcome {
             Outcome::Sent => "sent",
             Outcome::Skipped => "skipped",
         }
+    }
+    /// Whether the record is ended by it.
+    pub(crate) fn is_ending(self) -> bool
+        ensures { result ≡ is_ending self }
+    {
+        matches!(self, Outcome::Destroyed | Outcome::Transferred)
+    }
+
+    /// Whether a copy may be sent.
+    pub(crate) fn is_sending(self) -> bool
+        ensures { result ≡ is_sending self }
+    {
+        matches!(self, Outcome::Sent)
+    }
+
+    /// Whether a hold kept the record.
+    pub(crate) fn is_skipping(self) -> bool
+        ensures { result ≡ is_skipping self }
+    {
+        matches!(self, Outcome::Skipped)
     }
 }
