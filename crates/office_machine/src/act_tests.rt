@@ -350,18 +350,10 @@ fn a_review_gives_a_schedule_by_which_the_record_is_confirmed(rt: HostRuntime) -
 fn an_aggregation_given_another_class_takes_its_records_along(rt: HostRuntime) -> Result<(), Fail> {
     let mut office = base_office(&rt)?;
     let on = "2024-01-02";
-    assert_eq!(rt;
-        act(
-            &rt,
-            &mut office,
-            add_schedule(&rt, on, "K", Trigger::Added, 0, Action::Keep)?
-        )?,
-        Answer::Done
-    );
-    assert_eq!(rt;
-        act(&rt, &mut office, add_class(&rt, on, "PER", "K")?)?,
-        Answer::Done
-    );
+    let kept = add_schedule(&rt, on, "K", Trigger::Added, 0, Action::Keep)?;
+    told(&rt, &mut office, kept, Answer::Done)?;
+    let personal = add_class(&rt, on, "PER", "K")?;
+    told(&rt, &mut office, personal, Answer::Done)?;
     let root = Act::Reclassify {
         day: day(on)?,
         target: Classified::Aggregation(1),
