@@ -7,13 +7,24 @@ use crate::output::Io;
 use crate::words::{Words, read_words};
 use clap::error::ErrorKind;
 use office_days::{Day, Refusal};
+use std::alloc::AllocGlobal;
 use std::io;
 use std::io::Write;
+use std::process::Abort;
 use std::test::Fail;
 
+/// Each row's words must be answered as it says.
+fn all_answered(rt: &(impl Abort + AllocGlobal), rows: &[([&str; 4], Result<&str, Refusal>)]) {
+    for &([unit, count, offset, day], want) in rows {
+        let mut out = Vec::new(rt.alloc());
+        let answer = due_to(unit, count, offset, day, &mut out);
+        assert_eq!(rt; answer, Ok(want.err()), "{count} {unit} {offset} {day}");
+        assert_eq!(rt; out.as_slice(), want.unwrap_or("").as_bytes());
+    }
+}
+
 #[test]
-fn due_days_worked_out_by_hand(rt: HostRuntime) -> Result<(), Fail> {
-    let (text, number) = (Err(Refusal::BadText), Err(Refusal::BadNumber));
+fn due_days_worked_out_by_hand(rt: HostRuntime) {
     let rows = [
         // 29 February and years
         (["years", "1", "none", "2020-02-29"], Ok("2021-02-28\n")),
@@ -39,6 +50,14 @@ fn due_days_worked_out_by_hand(rt: HostRuntime) -> Result<(), Fail> {
             ["years", "00000000000000000000007", "none", "2017-06-30"],
             Ok("2024-06-30\n"),
         ),
+    ];
+    all_answered(&rt, &rows);
+}
+
+#[test]
+fn what_is_no_due_day(rt: HostRuntime) {
+    let (text, number) = (Err(Refusal::BadText), Err(Refusal::BadNumber));
+    let rows = [
         // a count over the limit, however long, unless a text is bad too
         (["years", "501", "none", "2017-06-30"], number),
         (
@@ -55,13 +74,7 @@ fn due_days_worked_out_by_hand(rt: HostRuntime) -> Result<(), Fail> {
         (["years", "7", "none", "3000-01-01"], text),
         (["years", "7", "none", "0000-12-31"], text),
     ];
-    for ([unit, count, offset, day], want) in rows {
-        let mut out = Vec::new(rt.alloc());
-        let answer = due_to(unit, count, offset, day, &mut out);
-        assert_eq!(rt; answer, Ok(want.err()), "{count} {unit} {offset} {day}");
-        assert_eq!(rt; out.as_slice(), want.unwrap_or("").as_bytes());
-    }
-    Ok(())
+    all_answered(&rt, &rows);
 }
 
 #[test]

@@ -53,3 +53,25 @@ IsDecidedTo s next (decision.Go change) = IsChangeTo s next change
 -- and right for an act: it is that one's step, whatever the contents
 abbrev pub IsDecidedFor : Office → Act → Decision → Type 0
 IsDecidedFor s a d = IsDecidedTo s (λ contents. step (with_contents s contents) a) d
+
+-- an act on schedules and classes
+abbrev pub IsOnSchedules : Act → Type 0
+IsOnSchedules (act.AddSchedule day code trigger period offset action) = Unit {0}
+IsOnSchedules (act.AddClass day code title schedule) = Unit {0}
+IsOnSchedules (act.SetClassSchedule day class schedule) = Unit {0}
+IsOnSchedules _ = ⊥
+
+-- an act on aggregations, or on an own class of one or of a record
+abbrev pub IsOnAggregations : Act → Type 0
+IsOnAggregations (act.AddAggregation day ref_text title parent class) = Unit {0}
+IsOnAggregations (act.CloseAggregation day a) = Unit {0}
+IsOnAggregations (act.Reclassify day what class) = Unit {0}
+IsOnAggregations _ = ⊥
+
+-- a new record, or an act on a record's own schedule, confirmation or review
+abbrev pub IsOnRecords : Act → Type 0
+IsOnRecords (act.AddRecord day new) = Unit {0}
+IsOnRecords (act.SetRecordSchedule day r schedule) = Unit {0}
+IsOnRecords (act.Confirm day r named by) = Unit {0}
+IsOnRecords (act.Review day r schedule by) = Unit {0}
+IsOnRecords _ = ⊥

@@ -1,6 +1,4 @@
 //! Lists of acts worked out by hand: each is decided and, where it is a change, made.
-ghost use Rattle.std.specs.Prelude.{◌≤◌, length, IfOk};
-
 use crate::{Act, Answer, Decision, Machine, NewRecord};
 use office_days::{Day, DueDay, Offset, Period, Refusal, Unit};
 use office_tree::{Action, AggNo, Classified, Code, RecordNo, Text, Trigger};
@@ -83,16 +81,6 @@ fn add_aggregation(
     })
 }
 
-/// The bytes of a content that the office takes.
-fn content(rt: &HostRuntime, bytes: &[u8]) -> Result<Vec<u8>, Fail>
-    ensures { IfOk result (λ all. length all.items ≤ 262_144) }
-{
-    if bytes.len() > 262_144 {
-        return Err(Fail::new("too long"));
-    }
-    Ok(Vec::from_slice(rt.alloc(), bytes)?)
-}
-
 fn add_record(
     rt: &HostRuntime,
     on: &str,
@@ -100,15 +88,17 @@ fn add_record(
     aggregation: AggNo,
     bytes: &[u8],
 ) -> Result<Act, Fail> {
-    let record = NewRecord {
-        ref_text: text(rt, name)?,
-        title: text(rt, name)?,
-        originated: day("2024-01-02")?,
+    let content = Vec::from_slice(rt.alloc(), bytes)?;
+    let record = NewRecord::new(
+        text(rt, name)?,
+        text(rt, name)?,
+        day("2024-01-02")?,
         aggregation,
-        class: None,
-        schedule: None,
-        content: content(rt, bytes)?,
-    };
+        None,
+        None,
+        content,
+    );
+    let record = record.ok_or("too long")?;
     Ok(Act::AddRecord {
         day: day(on)?,
         record,
@@ -143,58 +133,35 @@ fn told(rt: &HostRuntime, office: &mut Machine, asked: Act, answer: Answer) -> R
     }
 }
 
+/// A yearly schedule and two classes that have it.
+fn classes_of_the_base(rt: &HostRuntime, office: &mut Machine, on: &str) -> Result<(), Fail> {
+    let yearly = add_schedule(rt, on, "D1", Trigger::Added, 1, Action::Destroy)?;
+    told(rt, office, yearly, Answer::Done)?;
+    let finance = add_class(rt, on, "FIN", "D1")?;
+    told(rt, office, finance, Answer::Done)?;
+    let legal = add_class(rt, on, "LEG", "D1")?;
+    told(rt, office, legal, Answer::Done)
+}
+
+/// An aggregation of each class, two records in the one and one in the other.
+fn records_of_the_base(rt: &HostRuntime, office: &mut Machine, on: &str) -> Result<(), Fail> {
+    let of_finance = add_aggregation(rt, on, "A", None, "FIN")?;
+    told(rt, office, of_finance, Answer::Number(1))?;
+    let of_legal = add_aggregation(rt, on, "B", None, "LEG")?;
+    told(rt, office, of_legal, Answer::Number(2))?;
+    let first = add_record(rt, on, "r1", 1, b"abc")?;
+    told(rt, office, first, Answer::Number(1))?;
+    let second = add_record(rt, on, "r2", 2, b"")?;
+    told(rt, office, second, Answer::Number(2))?;
+    let third = add_record(rt, on, "r3", 1, b"abc")?;
+    told(rt, office, third, Answer::Number(3))
+}
+
 /// One yearly schedule, two classes, an aggregation of each, and three records, all on one day.
 fn base_office(rt: &HostRuntime) -> Result<Machine, Fail> {
-    let on = "2024-01-02";
     let mut office = Machine::new(rt.alloc());
-    told(
-        rt,
-        &mut office,
-        add_schedule(rt, on, "D1", Trigger::Added, 1, Action::Destroy)?,
-        Answer::Done,
-    )?;
-    told(
-        rt,
-        &mut office,
-        add_class(rt, on, "FIN", "D1")?,
-        Answer::Done,
-    )?;
-    told(
-        rt,
-        &mut office,
-        add_class(rt, on, "LEG", "D1")?,
-        Answer::Done,
-    )?;
-    told(
-        rt,
-        &mut office,
-        add_aggregation(rt, on, "A", None, "FIN")?,
-        Answer::Number(1),
-    )?;
-    told(
-        rt,
-        &mut office,
-        add_aggregation(rt, on, "B", None, "LEG")?,
-        Answer::Number(2),
-    )?;
-    told(
-        rt,
-        &mut office,
-        add_record(rt, on, "r1", 1, b"abc")?,
-        Answer::Number(1),
-    )?;
-    told(
-        rt,
-        &mut office,
-        add_record(rt, on, "r2", 2, b"")?,
-        Answer::Number(2),
-    )?;
-    told(
-        rt,
-        &mut office,
-        add_record(rt, on, "r3", 1, b"abc")?,
-        Answer::Number(3),
-    )?;
+    classes_of_the_base(rt, &mut office, "2024-01-02")?;
+    records_of_the_base(rt, &mut office, "2024-01-02")?;
     Ok(office)
 }
 
@@ -317,26 +284,31 @@ fn of_several_refusals_the_least_is_told(rt: HostRuntime) -> Result<(), Fail> {
     Ok(())
 }
 
-#[test]
-fn a_reviewed_record_waits_for_its_next_review(rt: HostRuntime) -> Result<(), Fail> {
-    let mut office = base_office(&rt)?;
+/// The base office, with a half-yearly review as the first record's own schedule.
+fn office_with_reviews(rt: &HostRuntime) -> Result<Machine, Fail> {
+    let mut office = base_office(rt)?;
     let on = "2024-01-02";
-    let period = Period::new(Unit::Months, 6).ok_or("no period")?;
     let half_yearly = Act::AddSchedule {
         day: day(on)?,
-        code: code(&rt, "RV")?,
+        code: code(rt, "RV")?,
         trigger: Trigger::Review,
-        period,
+        period: Period::new(Unit::Months, 6).ok_or("no period")?,
         offset: Offset::AnyDay,
         action: Action::Review,
     };
-    assert_eq!(rt; act(&rt, &mut office, half_yearly)?, Answer::Done);
+    told(rt, &mut office, half_yearly, Answer::Done)?;
     let own = Act::SetRecordSchedule {
         day: day(on)?,
         record_no: 1,
-        schedule: Some(code(&rt, "RV")?),
+        schedule: Some(code(rt, "RV")?),
     };
-    assert_eq!(rt; act(&rt, &mut office, own)?, Answer::Done);
+    told(rt, &mut office, own, Answer::Done)?;
+    Ok(office)
+}
+
+#[test]
+fn a_reviewed_record_waits_for_its_next_review(rt: HostRuntime) -> Result<(), Fail> {
+    let mut office = office_with_reviews(&rt)?;
     assert_eq!(rt; due(&office, 1), due_on("2024-07-02")?);
     assert_eq!(rt;
         act(&rt, &mut office, review(&rt, "2024-07-01", 1, "-")?)?,
@@ -347,15 +319,21 @@ fn a_reviewed_record_waits_for_its_next_review(rt: HostRuntime) -> Result<(), Fa
         Answer::Done
     );
     assert_eq!(rt; due(&office, 1), due_on("2025-01-02")?);
+    Ok(())
+}
+
+#[test]
+fn a_review_gives_a_schedule_by_which_the_record_is_confirmed(rt: HostRuntime) -> Result<(), Fail> {
+    let mut office = office_with_reviews(&rt)?;
+    let reviewed = review(&rt, "2024-07-02", 1, "-")?;
+    told(&rt, &mut office, reviewed, Answer::Done)?;
     let on = "2025-01-02";
-    assert_eq!(rt;
-        act(&rt, &mut office, confirm(&rt, on, 1, Action::Destroy)?)?,
-        Answer::Refused(Refusal::WrongAction)
-    );
-    assert_eq!(rt;
-        act(&rt, &mut office, confirm(&rt, on, 1, Action::Review)?)?,
-        Answer::Refused(Refusal::WrongAction)
-    );
+    for action in [Action::Destroy, Action::Review] {
+        assert_eq!(rt;
+            act(&rt, &mut office, confirm(&rt, on, 1, action)?)?,
+            Answer::Refused(Refusal::WrongAction)
+        );
+    }
     assert_eq!(rt;
         act(&rt, &mut office, review(&rt, on, 1, "D1")?)?,
         Answer::Done
@@ -372,18 +350,10 @@ fn a_reviewed_record_waits_for_its_next_review(rt: HostRuntime) -> Result<(), Fa
 fn an_aggregation_given_another_class_takes_its_records_along(rt: HostRuntime) -> Result<(), Fail> {
     let mut office = base_office(&rt)?;
     let on = "2024-01-02";
-    assert_eq!(rt;
-        act(
-            &rt,
-            &mut office,
-            add_schedule(&rt, on, "K", Trigger::Added, 0, Action::Keep)?
-        )?,
-        Answer::Done
-    );
-    assert_eq!(rt;
-        act(&rt, &mut office, add_class(&rt, on, "PER", "K")?)?,
-        Answer::Done
-    );
+    let kept = add_schedule(&rt, on, "K", Trigger::Added, 0, Action::Keep)?;
+    told(&rt, &mut office, kept, Answer::Done)?;
+    let personal = add_class(&rt, on, "PER", "K")?;
+    told(&rt, &mut office, personal, Answer::Done)?;
     let root = Act::Reclassify {
         day: day(on)?,
         target: Classified::Aggregation(1),

@@ -1,5 +1,5 @@
 ghost use Rattle.std.specs.Prelude.{IfOk};
-ghost use Rattle.office_machine.specs.Acts.{IsDecidedFor};
+ghost use Rattle.office_machine.specs.Acts.{IsDecidedFor, IsOnAggregations, IsOnRecords, IsOnSchedules};
 
 use crate::{Act, Decision, Machine};
 use office_tree::{Memory, Schedule};
@@ -8,8 +8,27 @@ use std::alloc::Global;
 impl Machine {
     /// What is decided of an act: its refusal, or the change that is to be made. The office stays
     /// as it is, and the contents of records are not asked for.
-    #[tactic(auto, unfolding(crate::specs::Acts::step))]
     pub fn decide(&self, alloc: Global, act: &Act) -> Result<Decision, Memory>
+        ensures { IfOk result (λ d. IsDecidedFor self.now act.now d) }
+    {
+        match act {
+            Act::AddSchedule { .. } | Act::AddClass { .. } | Act::SetClassSchedule { .. } => {
+                self.decide_on_schedules(alloc, act)
+            }
+            Act::AddAggregation { .. } | Act::CloseAggregation { .. } | Act::Reclassify { .. } => {
+                self.decide_on_aggregations(alloc, act)
+            }
+            Act::AddRecord { .. }
+            | Act::SetRecordSchedule { .. }
+            | Act::Confirm { .. }
+            | Act::Review { .. } => self.decide_on_records(alloc, act),
+        }
+    }
+
+    /// What is decided of an act on schedules and classes.
+    #[tactic(auto, unfolding(crate::specs::Acts::step))]
+    fn decide_on_schedules(&self, alloc: Global, act: &Act) -> Result<Decision, Memory>
+        requires { IsOnSchedules act.now }
         ensures { IfOk result (λ d. IsDecidedFor self.now act.now d) }
     {
         match act {
@@ -40,6 +59,17 @@ impl Machine {
                 class,
                 schedule,
             } => self.decide_set_class_schedule(alloc, *day, class, schedule),
+            _ => unreachable!(),
+        }
+    }
+
+    /// What is decided of an act on aggregations, or of an own class of one or of a record.
+    #[tactic(auto, unfolding(crate::specs::Acts::step))]
+    fn decide_on_aggregations(&self, alloc: Global, act: &Act) -> Result<Decision, Memory>
+        requires { IsOnAggregations act.now }
+        ensures { IfOk result (λ d. IsDecidedFor self.now act.now d) }
+    {
+        match act {
             Act::AddAggregation {
                 day,
                 ref_text,
@@ -54,18 +84,29 @@ impl Machine {
                 *day,
                 *aggregation,
             ),
-            Act::AddRecord { day, record } => self.decide_add_record(alloc, *day, record),
-            Act::SetRecordSchedule {
-                day,
-                record_no,
-                schedule,
-            } => { self.decide_set_record_schedule(alloc, *day, *record_no, schedule.as_ref()) }
             Act::Reclassify { day, target, class } => self.decide_reclassify(
                 alloc,
                 *day,
                 *target,
                 class.as_ref(),
             ),
+            _ => unreachable!(),
+        }
+    }
+
+    /// What is decided of a new record, or of a record's own schedule, confirmation or review.
+    #[tactic(auto, unfolding(crate::specs::Acts::step))]
+    fn decide_on_records(&self, alloc: Global, act: &Act) -> Result<Decision, Memory>
+        requires { IsOnRecords act.now }
+        ensures { IfOk result (λ d. IsDecidedFor self.now act.now d) }
+    {
+        match act {
+            Act::AddRecord { day, record } => self.decide_add_record(alloc, *day, record),
+            Act::SetRecordSchedule {
+                day,
+                record_no,
+                schedule,
+            } => { self.decide_set_record_schedule(alloc, *day, *record_no, schedule.as_ref()) }
             Act::Confirm {
                 day,
                 record_no,
@@ -78,6 +119,7 @@ impl Machine {
                 schedule,
                 by,
             } => self.decide_review(alloc, *day, *record_no, schedule.as_ref(), by),
+            _ => unreachable!(),
         }
     }
 }
