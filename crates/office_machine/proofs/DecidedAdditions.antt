@@ -13,10 +13,10 @@ use Rattle.office_tree.specs.declared.status.Status.{Status}
 use Rattle.office_tree.specs.declared.status.Status.TheVariants.{Here}
 use Rattle.office_tree.proofs.Keeping.{IsSound-add_record}
 use Rattle.office_tree.proofs.Putting.{put_next}
-use Rattle.office_machine.specs.Acts.{IsChangeTo, with_contents}
+use Rattle.office_machine.specs.Acts.{IsChangeTo}
 use Rattle.office_machine.specs.Conditions.{dated, refusals_of_add_record, same_record}
 use Rattle.office_machine.specs.Effects.{new_head, with_new_record, with_tree}
-use Rattle.office_machine.specs.State.{Office, State, ByteMap}
+use Rattle.office_machine.specs.State.{with_contents, Office, State, ByteMap}
 use Rattle.office_machine.specs.Steps.{by_same_record, step_add_record}
 use Rattle.office_machine.specs.Writes.{CanWrite, all_writes}
 use Rattle.office_machine.specs.declared.answer.Answer.{Answer}

@@ -27,10 +27,10 @@ use Rattle.office_tree.proofs.Places.{numbered_within}
 use Rattle.office_tree.proofs.Putting.{put-edited, put_same}
 use Rattle.office_holds.specs.Conditions.{classified_class, would_leave_held_class}
 use Rattle.office_holds.specs.Holds.{HoldMap, HoldState, is_held_class, is_in_force}
-use Rattle.office_machine.specs.Acts.{IsChangeTo, with_contents}
+use Rattle.office_machine.specs.Acts.{IsChangeTo}
 use Rattle.office_machine.specs.Conditions.{dated, refusals_of_confirm, refusals_of_reclassify, refusals_of_review, refusals_of_set_record_schedule}
 use Rattle.office_machine.specs.Effects.{with_tree}
-use Rattle.office_machine.specs.State.{Office, State, ByteMap, with_office}
+use Rattle.office_machine.specs.State.{with_contents, Office, State, ByteMap, with_office}
 use Rattle.office_machine.specs.Steps.{stepped, step_confirm, step_reclassify, step_review, step_set_record_schedule}
 use Rattle.office_machine.specs.Writes.{CanWrite, all_writes}
 use Rattle.office_machine.specs.declared.answer.Answer.TheVariants.{Done}

@@ -74,6 +74,10 @@ target_status tree (target.Class code) = None
 target_status tree (target.Aggregation a) = None
 target_status tree (target.Record r) = status_of tree r
 
+-- what the tree tells of a target: it is not there; it is an ended record
+abbrev pub conditions_of_target : TreeState → Target → List (Refusal × Bool)
+conditions_of_target tree target = (NoSuch, lacks_target tree target) ∷ (Ended, holds_of (target_status tree target) is_ended) ∷ []
+
 -- the hold has that target; no such hold or target; the hold has 1,000 targets; it is lifted; the target is an ended record
 abbrev pub refusals_of_hold_on : Office → ℤ → List ℕ → Target → List (Refusal × Bool)
 refusals_of_hold_on s day code target = dated s day (
@@ -97,11 +101,11 @@ abbrev pub refusals_of_review : Office → ℤ → ℕ → Option (List ℕ) →
 refusals_of_review s day r schedule = dated s day (conditions_of_review s.tree day r schedule)
 
 -- there are 10,000 runs; a run is open
+abbrev pub conditions_of_open_run : Office → List (Refusal × Bool)
+conditions_of_open_run s = (Full, nat_le 10_000 (length s.runs)) ∷ (RunOpen, is_some (open_run s)) ∷ []
+
 abbrev pub refusals_of_open_run : Office → ℤ → List (Refusal × Bool)
-refusals_of_open_run s day = dated s day (
-    (Full, nat_le 10_000 (length s.runs))
-    ∷ (RunOpen, is_some (open_run s))
-    ∷ [])
+refusals_of_open_run s day = dated s day (conditions_of_open_run s)
 
 -- no run is open
 abbrev pub refusals_of_run_step : Office → List (Refusal × Bool)

@@ -2,8 +2,11 @@ pub mod Acts
 pub mod Conditions
 pub mod Disposing
 pub mod Effects
+pub mod Forms
+pub mod Lesser
 pub mod Meanings
 pub mod Rows
+pub mod RunWrites
 pub mod Runs
 pub mod Sound
 pub mod State

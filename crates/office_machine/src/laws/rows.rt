@@ -1,8 +1,8 @@
 //! The rows that a state stands for, and what each write makes of them.
 ghost use Rattle.std.specs.Prelude.{◌≡◌, List, length};
-ghost use Rattle.office_machine.specs.Acts.{IsDecidedFor, step, with_contents};
+ghost use Rattle.office_machine.specs.Acts.{IsDecidedFor, step};
 ghost use Rattle.office_machine.specs.Rows.{rows_of, write_rows, all_row_writes};
-ghost use Rattle.office_machine.specs.State.{State, Office, ByteMap};
+ghost use Rattle.office_machine.specs.State.{State, Office, ByteMap, with_contents};
 ghost use Rattle.office_machine.specs.Writes.{write, all_writes, all_office_writes, CanWrite, HasPlace};
 ghost use Rattle.office_machine.specs.declared.act.Act.{Act};
 ghost use Rattle.office_machine.specs.declared.change.Change.{Change};
