@@ -5,6 +5,7 @@ pub mod Effects
 pub mod Forms
 pub mod Lesser
 pub mod Meanings
+pub mod Readings
 pub mod Rows
 pub mod RunWrites
 pub mod Runs

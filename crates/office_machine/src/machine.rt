@@ -1,14 +1,20 @@
 ghost use Rattle.std.specs.Prelude.{◌≡◌, IfOk, OnErr, OnOk, false};
+ghost use Rattle.std.specs.FinMap.{get};
+ghost use Rattle.std.specs.Option.{option_map};
+ghost use Rattle.std.specs.String.{string_bytes};
 ghost use Rattle.office_machine.specs.Acts.{CanBeMade, IsDecidedFor, IsFeasible, KeepsHeld, may_release};
+ghost use Rattle.office_machine.specs.Readings.{IsDueList, all_entries_of, ending_entry, record_view};
 ghost use Rattle.office_machine.specs.Runs.{next_in_run};
 ghost use Rattle.office_machine.specs.Sound.{IsSoundOffice};
 ghost use Rattle.office_machine.specs.State.{empty_office};
 ghost use Rattle.office_machine.specs.Writes.{all_office_writes};
 
 use crate::parts::Parts;
-use crate::{Act, Change, Decision};
+use crate::{Act, Change, Decision, RecordView};
+use crate::due_list::due_list;
 use office_days::Day;
 use office_holds::Holds;
+use office_proof::{Entry, RunNo};
 use office_tree::{Memory, RecordNo, Tree};
 use std::alloc::Global;
 use std::marker::Model;
@@ -74,6 +80,42 @@ impl Machine {
     {
         self.sound();
         self.parts.next_in_run()
+    }
+
+    /// What is told of the record; `None` where it is not there.
+    pub fn record(&self, alloc: Global, record_no: RecordNo) -> Result<Option<RecordView>, Memory>
+        ensures { IfOk result (λ view. view ≡ record_view self.now record_no) }
+    {
+        self.parts.view(alloc, record_no)
+    }
+
+    /// The entry that ended the record; `None` where it is not ended or not there.
+    pub fn entry_of(&self, alloc: Global, record_no: RecordNo) -> Result<Option<Entry>, Memory>
+        ensures { IfOk result (λ entry. entry ≡ ending_entry self.now record_no) }
+    {
+        self.parts.entry_that_ended(alloc, record_no)
+    }
+
+    /// All entries, by run, then record.
+    pub fn entries(&self, alloc: Global) -> Result<Vec<Entry>, Memory>
+        ensures { IfOk result (λ all. all.items ≡ all_entries_of self.now) }
+    {
+        self.parts.all_entries(alloc)
+    }
+
+    /// The text of the certificate of that run; `None` where it is not closed or not there.
+    pub fn certificate(&self, alloc: Global, run: RunNo) -> Result<Option<String>, Memory>
+        ensures { IfOk result (λ text. option_map (λ it. string_bytes it) text ≡ get self.now.certificates run) }
+    {
+        self.parts.certificate(alloc, run)
+    }
+
+    /// The due list of the day: the records that are here and due on it or before it, by due day, then
+    /// number.
+    pub fn due_list(&self, alloc: Global, day: Day) -> Result<Vec<RecordNo>, Memory>
+        ensures { IfOk result (λ list. IsDueList self.now.tree day list.items) }
+    {
+        due_list(alloc, &self.parts.tree, day)
     }
 
     /// The tree, by which its readings and checks are reached.
