@@ -12,7 +12,9 @@ pub mod HoldRows
 pub mod KeyedRows
 pub mod LeastHolds
 pub mod Listing
+pub mod NextReady
 pub mod NumberedRows
+pub mod OfficeSound
 pub mod OneState
 pub mod OneStep
 pub mod OpenRun
