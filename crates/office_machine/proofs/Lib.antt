@@ -18,6 +18,7 @@ pub mod OfficeSound
 pub mod OneState
 pub mod OneStep
 pub mod OpenRun
+pub mod OpenedRuns
 pub mod Places
 pub mod Resuming
 pub mod Rising
