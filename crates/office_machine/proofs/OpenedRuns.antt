@@ -28,4 +28,4 @@ opening_change s day by change accepted same writes =
     accepted_change s (refusals_of_open_run s day) (Number (suc (length s.runs))) (λ contents. with_office (with_contents s contents) (after_open_run s day by)) change accepted same
     (let n = ap length writes in omega (arith, n)) (subst (CanWrite s) (sym writes) (can_open s day by))
     (λ contents. ap (λ ws. all_writes ws (with_contents s contents)) writes
-        ∙ ap (λ (runs : List Run). with_contents (record s { runs = runs; day = day }) contents) (put_next s.runs (new_run day by)))
+    ∙ ap (λ (runs : List Run). with_contents (record s { runs = runs; day = day }) contents) (put_next s.runs (new_run day by)))
