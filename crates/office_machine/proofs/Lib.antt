@@ -12,10 +12,13 @@ pub mod HoldRows
 pub mod KeyedRows
 pub mod LeastHolds
 pub mod Listing
+pub mod NextReady
 pub mod NumberedRows
+pub mod OfficeSound
 pub mod OneState
 pub mod OneStep
 pub mod OpenRun
+pub mod OpenedRuns
 pub mod Places
 pub mod Resuming
 pub mod Rising
