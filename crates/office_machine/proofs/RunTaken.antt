@@ -2,6 +2,7 @@
 use Rattle.std.proofs.Common.{◌≡◌, ◌≤◌, ℕ, List, [], ◌∷◌, length, Option, Some, refl, sym, ap, ◌∙◌, subst, arith, true}
 use Rattle.std.proofs.lemmas.Bool.Decides.{nat_tests}
 use Rattle.std.specs.Prelude.{IsSome, IsTrue}
+use Rattle.std.specs.FinMap.{insert, remove}
 use Rattle.std.specs.Option.{is_none, is_some, unwrap_or, option_and_then}
 use Rattle.office_days.specs.declared.refusal.Refusal.TheVariants.{NoRun}
 use Rattle.office_tree.specs.Disposal.{confirmation_of}
@@ -32,6 +33,7 @@ use Rattle.office_machine.specs.declared.rows.RowWrite.{RowWrite}
 use Rattle.office_machine.specs.declared.rows.RowWrite.TheVariants as row_write
 use Rattle.office_machine.specs.declared.run.Run.{Run}
 use Rattle.office_machine.proofs.Accepted.{tree_sound}
+use Rattle.office_machine.proofs.SoundRuns.{open_there}
 use Rattle.office_machine.proofs.SoundTaken as sound_taken
 
 -- ---- what is so of a record that a step takes from a sound office
@@ -43,22 +45,26 @@ taken_from : (s : Office) (run r : ℕ) → IsSoundOffice s → next_ready s run
 unfolding IsSoundOffice
 taken_from s run r (contents, sound) next = (contents, sound_taken.taken (with_contents s contents) run r sound next)
 
+sound_tree : (s : Office) → IsSoundOffice s → tree.IsSound s.tree
+unfolding IsSoundOffice
+sound_tree s (contents, sound) = tree_sound (with_contents s contents) sound
+
 record_there : (t : TreeState) (r : ℕ) (head : Record) → numbered t.records r ≡ Some head → has_record t r ≡ true
 record_there t r head there = let within = numbered_within t.records r head there in grind (arith, nat_tests)
 
 -- it is there
 pub taken_there : (s : Office) (run r : ℕ) → IsSoundOffice s → next_ready s run ≡ Some r → IsTrue (has_record s.tree r)
-taken_there s run r sound next = let (contents, head, was, confirmation, o, t) = taken_from s run r sound next in record_there s.tree r head t.there
+taken_there s run r sound next = let (contents, (head, was, confirmation, o, t)) = taken_from s run r sound next in record_there s.tree r head t.there
 
 -- it has a confirmation
 pub taken_confirmed : (s : Office) (run r : ℕ) → IsSoundOffice s → next_ready s run ≡ Some r → IsSome (confirmation_of s.tree r)
 taken_confirmed s run r sound next =
-    let (contents, head, was, confirmation, o, t) = taken_from s run r sound next in
+    let (contents, (head, was, confirmation, o, t)) = taken_from s run r sound next in
     ap is_some (ap (option_and_then (λ (x : Record). x.confirmation)) t.there ∙ t.confirmed)
 
 -- and something comes of it
 pub taken_comes : (s : Office) (run r : ℕ) → IsSoundOffice s → next_ready s run ≡ Some r → IsSome (outcome_of s r)
-taken_comes s run r sound next = let (contents, head, was, confirmation, o, t) = taken_from s run r sound next in ap is_some t.comes
+taken_comes s run r sound next = let (contents, (head, was, confirmation, o, t)) = taken_from s run r sound next in ap is_some t.comes
 
 -- ---- the writes can be done
 
@@ -102,15 +108,74 @@ with_outcome s run r o = record {
   contents = contents_with s.contents r o;
 }
 
--- a put of the head that is there, of another status and of the run with its cursor at the record
-wrote : (s : State) (run r : ℕ) (o : Outcome) (head : Record) (was : Status) (it : Run) → numbered s.office.tree.records r ≡ Some head → numbered s.office.tree.statuses r ≡ Some was → numbered s.office.runs run ≡ Some it
-    → all_writes (taking_writes o (entry_of s.office run r o) head it) s ≡ with_outcome s run r (Some o)
-wrote s run r o head was it there standing opened = by_outcome o
-  where
-    heads = put_same s.office.tree.records r head there
-    runs = put-edited s.office.runs run (λ (x : Run). record x { cursor = r }) it opened
-    by_outcome : (o : Outcome) → all_writes (taking_writes o (entry_of s.office run r o) head it) s ≡ with_outcome s run r (Some o)
-    by_outcome outcome.Sent = ?
-    by_outcome outcome.Skipped = ?
-    by_outcome outcome.Destroyed = ?
-    by_outcome outcome.Transferred = ?
+-- the state with those statuses, an entry, the cursor at the record and those contents
+abbrev with_changes : State → ℕ → ℕ → List Status → Outcome → ByteMap → State
+with_changes s run r statuses o contents = record {
+  office = record (s.office) {
+    tree = record (s.office.tree) { statuses = statuses };
+    entries = insert s.office.entries (run, r) (entry_of s.office run r o);
+    runs = with_cursor s.office.runs run r;
+  };
+  contents = contents;
+}
+
+-- where the head, the status and the run are put at their places
+module _ (s : State) (run r : ℕ) (head : Record) (was : Status) (it : Run) (there : numbered s.office.tree.records r ≡ Some head) (standing : numbered s.office.tree.statuses r ≡ Some was) (opened : numbered s.office.runs run ≡ Some it) where
+  head_put : put s.office.tree.records r head ≡ s.office.tree.records
+  head_put = put_same s.office.tree.records r head there
+
+  status_put : (now : Status) → put s.office.tree.statuses r now ≡ edited s.office.tree.statuses r (λ _. now)
+  status_put now = put-edited s.office.tree.statuses r (λ _. now) was standing
+
+  run_put : put s.office.runs run (record it { cursor = r }) ≡ with_cursor s.office.runs run r
+  run_put = put-edited s.office.runs run (λ (x : Run). record x { cursor = r }) it opened
+
+  -- an entry, a status and a cursor, whatever becomes of the content
+  changed : (o : Outcome) (now : Status) (contents : ByteMap)
+      → record { office = record (s.office) { tree = put_record s.office.tree r head now; entries = insert s.office.entries (run, r) (entry_of s.office run r o); runs = put s.office.runs run (record it { cursor = r }) }; contents = contents }
+      ≡ with_changes s run r (edited s.office.tree.statuses r (λ _. now)) o contents
+  changed o now contents = λ i. record {
+    office = record (s.office) {
+      tree = record (s.office.tree) { records = head_put i; statuses = status_put now i };
+      entries = insert s.office.entries (run, r) (entry_of s.office run r o);
+      runs = run_put i;
+    };
+    contents = contents;
+  }
+
+  wrote : (o : Outcome) → all_writes (taking_writes o (entry_of s.office run r o) head it) s ≡ with_outcome s run r (Some o)
+  wrote outcome.Sent = changed outcome.Sent status.Sent s.contents
+  wrote outcome.Skipped = λ i. record s { office = record (s.office) { entries = insert s.office.entries (run, r) (entry_of s.office run r outcome.Skipped); runs = run_put i } }
+  wrote outcome.Destroyed = changed outcome.Destroyed status.Ended (remove s.contents r)
+  wrote outcome.Transferred = changed outcome.Transferred status.Ended (remove s.contents r)
+
+-- ---- the step
+
+-- a step of the open run that takes a record
+step_takes : (s : State) (run r : ℕ) (o : Outcome) → open_run s.office ≡ Some run → next_ready s.office run ≡ Some r → outcome_of s.office r ≡ Some o → step_run_step s ≡ (Step r o, with_outcome s run r (Some o))
+unfolding run_step with_outcomes
+step_takes s run r o opened next comes =
+    ap (λ at. stepped ((NoRun, is_none at) ∷ []) s (answer_in s.office at) (step_of s at)) opened
+    ∙ ap (λ found. (answer_at s.office run found, step_at s run found)) next
+    ∙ ap (λ out. (Step r (unwrap_or out outcome.Skipped), with_outcome s run r out)) comes
+
+-- the writes of a record that is taken are right for the step that takes it
+pub taken : (s : Office) (run r : ℕ) (o : Outcome) (head : Record) (it : Run) (change : Change) → IsSoundOffice s → open_run s ≡ Some run → next_ready s run ≡ Some r → outcome_of s r ≡ Some o → numbered s.tree.records r ≡ Some head → numbered s.runs run ≡ Some it
+    → change.answer ≡ Step r o → change.writes.items ≡ taking_writes o (entry_of s run r o) head it → IsChangeTo s (λ contents. step_run_step (with_contents s contents)) change
+taken s run r o head it change sound opened next comes there at answer writes =
+    let (kept, (same, was, confirmation, out, t)) = taken_from s run r sound next in
+    let step = λ (contents : ByteMap). step_takes (with_contents s contents) run r o opened next comes in
+    record {
+      answered = λ contents. ap (λ (p : Answer × State). p.0) (step contents) ∙ sym answer;
+      few = subst (λ (ws : List RowWrite). length ws ≤ 6) (sym writes) (few_writes o (entry_of s run r o) head it);
+      fits = subst (CanWrite s) (sym writes) (can_write s run r o head it (sound_tree s sound) there at);
+      leads = λ contents. ap (λ ws. all_writes ws (with_contents s contents)) writes ∙ wrote (with_contents s contents) run r head was it there t.status at o ∙ sym (ap (λ (p : Answer × State). p.1) (step contents));
+    }
+
+-- and so are those that are told for each head and run that are there
+pub taken_change : (s : Office) (run r : ℕ) (o : Outcome) (change : Change) → IsSoundOffice s → open_run s ≡ Some run → next_ready s run ≡ Some r → outcome_of s r ≡ Some o → change.answer ≡ Step r o
+    → ((head : Record) (it : Run) → numbered s.tree.records r ≡ Some head → numbered s.runs run ≡ Some it → change.writes.items ≡ taking_writes o (entry_of s run r o) head it) → IsChangeTo s (λ contents. step_run_step (with_contents s contents)) change
+taken_change s run r o change sound opened next comes answer writes =
+    let (kept, (head, was, confirmation, out, t)) = taken_from s run r sound next in
+    let (it, at, going, last) = open_there s run opened in
+    taken s run r o head it change sound opened next comes t.there at answer (writes head it t.there at)
