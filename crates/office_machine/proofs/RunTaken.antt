@@ -1,5 +1,5 @@
 -- What a step of a run writes of the record that it takes, and that these writes lead to what the step makes of the office.
-use Rattle.std.proofs.Common.{◌≡◌, ◌≤◌, ℕ, List, [], ◌∷◌, length, Option, Some, refl, sym, ap, ◌∙◌, subst, arith, true}
+use Rattle.std.proofs.Common.{◌≡◌, ◌≤◌, ℕ, List, [], ◌∷◌, length, Option, Some, sym, ap, ◌∙◌, subst, arith, true}
 use Rattle.std.proofs.lemmas.Bool.Decides.{nat_tests}
 use Rattle.std.specs.Prelude.{IsSome, IsTrue}
 use Rattle.std.specs.FinMap.{insert, remove}
@@ -20,7 +20,7 @@ use Rattle.office_proof.specs.declared.outcome.Outcome.{Outcome}
 use Rattle.office_proof.specs.declared.outcome.Outcome.TheVariants as outcome
 use Rattle.office_machine.specs.Acts.{IsChangeTo}
 use Rattle.office_machine.specs.Disposing.{entry_of, outcome_of}
-use Rattle.office_machine.specs.RunWrites.{outcome_writes, taking_writes}
+use Rattle.office_machine.specs.RunWrites.{taking_writes}
 use Rattle.office_machine.specs.Runs.{open_run, next_ready, run_step, step_at, step_of, with_outcomes, statuses_with, contents_with, entries_with, with_cursor}
 use Rattle.office_machine.specs.Sound.{IsSoundOffice}
 use Rattle.office_machine.specs.State.{State, Office, ByteMap, with_contents}
@@ -30,7 +30,6 @@ use Rattle.office_machine.specs.declared.answer.Answer.{Answer}
 use Rattle.office_machine.specs.declared.answer.Answer.TheVariants.{Step}
 use Rattle.office_machine.specs.declared.change.Change.{Change}
 use Rattle.office_machine.specs.declared.rows.RowWrite.{RowWrite}
-use Rattle.office_machine.specs.declared.rows.RowWrite.TheVariants as row_write
 use Rattle.office_machine.specs.declared.run.Run.{Run}
 use Rattle.office_machine.proofs.Accepted.{tree_sound}
 use Rattle.office_machine.proofs.SoundRuns.{open_there}

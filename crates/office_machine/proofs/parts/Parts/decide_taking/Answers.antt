@@ -1,4 +1,4 @@
-use Rattle.std.proofs.Common.{◌≡◌, ◌∙◌, Some, sym, refl}
+use Rattle.std.proofs.Common.{◌∙◌, sym, refl}
 use Rattle.office_machine.specs.Disposing.{outcome_of}
 use Rattle.office_machine.proofs.RunTaken.{taken_there, taken_confirmed, taken_comes, taken_change}
 use Rattle.office_machine.proofs.SoundMaps.{some_is}
