@@ -23,6 +23,7 @@ pub mod Places
 pub mod Resuming
 pub mod Rising
 pub mod RowWrites
+pub mod RunTaken
 pub mod SameRecords
 pub mod SoundEmpty
 pub mod SoundHeads
