@@ -9,6 +9,7 @@ pub mod DecidedTree
 pub mod Decisions
 pub mod HeldSteps
 pub mod HoldRows
+pub mod KeptHolds
 pub mod KeyedRows
 pub mod LeastHolds
 pub mod Listing
@@ -34,6 +35,7 @@ pub mod SoundSchedules
 pub mod SoundSteps
 pub mod SoundTaken
 pub mod SoundTree
+pub mod StepSound
 pub mod WorkedBase
 pub mod WorkedClosing
 pub mod WorkedConfirming
