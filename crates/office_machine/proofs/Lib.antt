@@ -7,6 +7,7 @@ pub mod DecidedAdditions
 pub mod DecidedRecords
 pub mod DecidedTree
 pub mod Decisions
+pub mod Feasible
 pub mod HeldSteps
 pub mod HoldRows
 pub mod KeptHolds
@@ -14,6 +15,7 @@ pub mod KeyedRows
 pub mod LeastHolds
 pub mod Listing
 pub mod NumberedRows
+pub mod OfficeChanges
 pub mod OneState
 pub mod OneStep
 pub mod OpenRun
