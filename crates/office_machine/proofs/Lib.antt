@@ -7,13 +7,16 @@ pub mod DecidedAdditions
 pub mod DecidedRecords
 pub mod DecidedTree
 pub mod Decisions
+pub mod Feasible
 pub mod HeldSteps
 pub mod HoldRows
+pub mod KeptHolds
 pub mod KeyedRows
 pub mod LeastHolds
 pub mod Listing
 pub mod NextReady
 pub mod NumberedRows
+pub mod OfficeChanges
 pub mod OfficeSound
 pub mod OneState
 pub mod OneStep
@@ -38,6 +41,7 @@ pub mod SoundSchedules
 pub mod SoundSteps
 pub mod SoundTaken
 pub mod SoundTree
+pub mod StepSound
 pub mod WorkedBase
 pub mod WorkedClosing
 pub mod WorkedConfirming
