@@ -20,6 +20,7 @@ pub mod Places
 pub mod Resuming
 pub mod Rising
 pub mod RowWrites
+pub mod RunEntries
 pub mod SameRecords
 pub mod SoundEmpty
 pub mod SoundHeads
@@ -34,6 +35,7 @@ pub mod SoundSchedules
 pub mod SoundSteps
 pub mod SoundTaken
 pub mod SoundTree
+pub mod SpentByEntries
 pub mod WorkedBase
 pub mod WorkedClosing
 pub mod WorkedConfirming
