@@ -26,6 +26,7 @@ pub mod Places
 pub mod Resuming
 pub mod Rising
 pub mod RowWrites
+pub mod RunEntries
 pub mod RunTaken
 pub mod SameRecords
 pub mod SoundEmpty
@@ -41,6 +42,7 @@ pub mod SoundSchedules
 pub mod SoundSteps
 pub mod SoundTaken
 pub mod SoundTree
+pub mod SpentByEntries
 pub mod StepSound
 pub mod WorkedBase
 pub mod WorkedClosing

@@ -1,9 +1,11 @@
-ghost use Rattle.std.specs.Prelude.{◌≡◌, ◌==◌, filter, map, IfOk, IsSome};
+ghost use Rattle.std.specs.Prelude.{◌≡◌, ◌==◌, ◌&&◌, filter, map, IfOk, IsSome, IsTrue};
 ghost use Rattle.std.specs.FinMap.{from_entries, values};
 ghost use Rattle.std.specs.List.{list_any};
 ghost use Rattle.std.specs.String.{string_bytes};
+ghost use Rattle.office_tree.specs.Disposal.{is_spent, records_below};
 ghost use Rattle.office_tree.specs.Lists.{numbered};
-ghost use Rattle.office_machine.specs.Runs.{certificate_of, ended_below, spent_list};
+ghost use Rattle.office_tree.specs.Tree.{has_aggregation};
+ghost use Rattle.office_machine.specs.Runs.{certificate_of, ended_below, is_ended_in, spent_list};
 ghost use Rattle.office_machine.specs.State.{entry_cmp};
 
 use crate::parts::Parts;
@@ -51,6 +53,14 @@ fn any_ended_below(tree: &Tree, aggregation: AggNo, entries: &[&Entry]) -> bool
         .any(|entry| ended_below(tree, aggregation, entry))
 }
 
+/// Whether the aggregation is spent and has a record below that one of the entries ended.
+fn is_spent_by(tree: &Tree, aggregation: AggNo, entries: &[&Entry]) -> bool
+    requires { IsTrue (has_aggregation tree.now aggregation) }
+    ensures { result ≡ (is_spent tree.now aggregation && list_any (is_ended_in (map (λ entry. entry.now) entries.now)) (records_below tree.now aggregation)) }
+{
+    any_ended_below(tree, aggregation, entries) && tree.spent(aggregation)
+}
+
 /// The aggregations, by number, that are spent and have a record below that one of the entries ended.
 fn spent_list(alloc: Global, tree: &Tree, entries: &[&Entry]) -> Result<Vec<AggNo>, Memory>
     ensures { IfOk result (λ spent. spent.items ≡ spent_list tree.now (map (λ entry. entry.now) entries.now)) }
@@ -58,7 +68,7 @@ fn spent_list(alloc: Global, tree: &Tree, entries: &[&Entry]) -> Result<Vec<AggN
     let mut spent = Vec::new(alloc);
     for before in 0..tree.aggregation_count() {
         let aggregation = before + 1;
-        if any_ended_below(tree, aggregation, entries) && tree.spent(aggregation) {
+        if is_spent_by(tree, aggregation, entries) {
             spent.push(aggregation)?;
         }
     }
