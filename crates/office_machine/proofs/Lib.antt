@@ -34,6 +34,7 @@ pub mod SoundSchedules
 pub mod SoundSteps
 pub mod SoundTaken
 pub mod SoundTree
+pub mod Stored
 pub mod WorkedBase
 pub mod WorkedClosing
 pub mod WorkedConfirming
