@@ -1,6 +1,6 @@
 -- What a change leads to, in the office and in its rows.
 use Rattle.std.proofs.Common.{◌≡◌, List, [], ◌∷◌, length, refl, sym, ap, ◌∙◌}
-use Rattle.office_machine.specs.Acts.{IsChangeTo, IsDecidedFor, step}
+use Rattle.office_machine.specs.Acts.{IsDecidedFor, step}
 use Rattle.office_machine.specs.Rows.{rows_of, all_row_writes}
 use Rattle.office_machine.specs.State.{State, Office, ByteMap, with_contents}
 use Rattle.office_machine.specs.Writes.{write, all_writes, all_office_writes}

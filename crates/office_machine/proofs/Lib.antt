@@ -44,6 +44,7 @@ pub mod SoundTaken
 pub mod SoundTree
 pub mod SpentByEntries
 pub mod StepSound
+pub mod Stored
 pub mod WorkedBase
 pub mod WorkedClosing
 pub mod WorkedConfirming

@@ -9,9 +9,10 @@ use Rattle.std.specs.FinSet.{same_set}
 use Rattle.office_tree.specs.Lists.{holds_of}
 use Rattle.office_tree.specs.Tree.{code_cmp}
 use Rattle.office_holds.specs.Holds.{HoldMap, HoldState, has_target}
+use Rattle.office_holds.specs.Rows.{hold_row}
 use Rattle.office_holds.specs.declared.target.Target.{Target}
 use Rattle.office_holds.specs.declared.target.Target.TheVariants as target
-use Rattle.office_machine.specs.Rows.{hold_row, rows_of, record_rows, targets_of}
+use Rattle.office_machine.specs.Rows.{rows_of, record_rows, targets_of}
 use Rattle.office_machine.specs.State.{State}
 use Rattle.office_machine.proofs.HoldRows.{codes_apart}
 use Rattle.office_machine.proofs.KeyedRows.{rows_by, rows_by-get}

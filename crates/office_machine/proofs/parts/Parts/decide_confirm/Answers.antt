@@ -1,4 +1,4 @@
-use Rattle.std.proofs.Common.{◌≡◌, ◌∙◌, sym, ap, refl, arith}
+use Rattle.std.proofs.Common.{◌∙◌, sym, ap, refl}
 use Rattle.office_tree.specs.Conditions.{first_of, conditions_of_confirm}
 use Rattle.office_tree.specs.Tree.{TreeState}
 use Rattle.office_machine.specs.Conditions.{refusals_of_confirm}

@@ -1,4 +1,4 @@
-use Rattle.std.proofs.Common.{◌≡◌, ◌∙◌, Some, sym, ap, refl, arith}
+use Rattle.std.proofs.Common.{◌∙◌, Some, sym, ap, refl}
 use Rattle.std.specs.Option.{option_copied}
 use Rattle.office_tree.specs.Conditions.{first_of, conditions_of_review}
 use Rattle.office_tree.specs.Lists.{or_else}

@@ -1,4 +1,4 @@
-use Rattle.std.proofs.Common.{◌≡◌, ◌∙◌, ◌+◌, Some, sym, ap, refl, arith}
+use Rattle.std.proofs.Common.{◌∙◌, ◌+◌, sym, ap, refl}
 use Rattle.office_tree.specs.Lists.{numbered}
 use Rattle.office_tree.specs.Tree.{TreeState}
 use Rattle.office_machine.specs.Conditions.{is_same_record}
