@@ -4,6 +4,8 @@ pub mod Certifying
 pub mod Changes
 pub mod Contents
 pub mod DecidedAdditions
+pub mod DecidedClasses
+pub mod DecidedHolds
 pub mod DecidedRecords
 pub mod DecidedTree
 pub mod Decisions
@@ -13,6 +15,7 @@ pub mod HoldRows
 pub mod KeptHolds
 pub mod KeyedRows
 pub mod LeastHolds
+pub mod LesserRefusals
 pub mod Listing
 pub mod NextReady
 pub mod NumberedRows
