@@ -11,8 +11,6 @@
 #![tactic(auto)]
 
 mod act;
-#[cfg(test)]
-mod act_tests;
 mod answer;
 mod applying;
 mod certificate;
@@ -39,8 +37,6 @@ mod run;
 mod running;
 mod storing;
 mod taking;
-#[cfg(test)]
-mod tests;
 
 pub use act::Act;
 pub use answer::Answer;
