@@ -12,5 +12,6 @@ pub mod Runs
 pub mod Sound
 pub mod State
 pub mod Steps
+pub mod Tables
 pub mod Worked
 pub mod Writes

@@ -36,6 +36,7 @@ mod rows;
 mod run;
 mod running;
 mod storing;
+mod tables;
 mod taking;
 
 pub use act::Act;
@@ -46,3 +47,4 @@ pub use new_record::NewRecord;
 pub use record_view::RecordView;
 pub use rows::{RecordRow, RowWrite};
 pub use run::Run;
+pub use tables::Tables;
