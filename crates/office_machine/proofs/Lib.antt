@@ -4,6 +4,8 @@ pub mod Certifying
 pub mod Changes
 pub mod Contents
 pub mod DecidedAdditions
+pub mod DecidedClasses
+pub mod DecidedHolds
 pub mod DecidedRecords
 pub mod DecidedTree
 pub mod Decisions
@@ -11,6 +13,7 @@ pub mod HeldSteps
 pub mod HoldRows
 pub mod KeyedRows
 pub mod LeastHolds
+pub mod LesserRefusals
 pub mod Listing
 pub mod NumberedRows
 pub mod OneState

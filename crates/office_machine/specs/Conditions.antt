@@ -50,14 +50,17 @@ abbrev pub refusals_of_set_record_schedule : Office → ℤ → ℕ → Option (
 refusals_of_set_record_schedule s day r schedule = dated s day (conditions_of_set_record_schedule s.tree r schedule)
 
 -- no such target or class; a root and no class given; a held class would be left; the record is ended; it is sent or received
-abbrev pub refusals_of_reclassify : Office → ℤ → Classified → Option (List ℕ) → List (Refusal × Bool)
-refusals_of_reclassify s day what class = dated s day (
+abbrev pub conditions_of_reclassifying : Office → Classified → Option (List ℕ) → List (Refusal × Bool)
+conditions_of_reclassifying s what class =
     (NoSuch, lacks_classified s.tree what || lacks_class s.tree class)
     ∷ (NeedsClass, is_root s.tree what && is_none class)
     ∷ (HeldClass, would_leave_held_class s.holds s.tree what class)
     ∷ (Ended, holds_of (classified_status s.tree what) is_ended)
     ∷ (InTransfer, holds_of (classified_status s.tree what) is_in_transfer)
-    ∷ [])
+    ∷ []
+
+abbrev pub refusals_of_reclassify : Office → ℤ → Classified → Option (List ℕ) → List (Refusal × Bool)
+refusals_of_reclassify s day what class = dated s day (conditions_of_reclassifying s what class)
 
 abbrev pub refusals_of_place_hold : Office → ℤ → List ℕ → List (Refusal × Bool)
 refusals_of_place_hold s day code = dated s day (conditions_of_place_hold s.holds code)
@@ -79,14 +82,17 @@ abbrev pub conditions_of_target : TreeState → Target → List (Refusal × Bool
 conditions_of_target tree target = (NoSuch, lacks_target tree target) ∷ (Ended, holds_of (target_status tree target) is_ended) ∷ []
 
 -- the hold has that target; no such hold or target; the hold has 1,000 targets; it is lifted; the target is an ended record
-abbrev pub refusals_of_hold_on : Office → ℤ → List ℕ → Target → List (Refusal × Bool)
-refusals_of_hold_on s day code target = dated s day (
+abbrev pub conditions_of_covering : Office → List ℕ → Target → List (Refusal × Bool)
+conditions_of_covering s code target =
     (Exists, holds_target s.holds code target)
     ∷ (NoSuch, is_none (get s.holds code) || lacks_target s.tree target)
     ∷ (Full, has_all_targets s.holds code)
     ∷ (Lifted, is_lifted s.holds code)
     ∷ (Ended, holds_of (target_status s.tree target) is_ended)
-    ∷ [])
+    ∷ []
+
+abbrev pub refusals_of_hold_on : Office → ℤ → List ℕ → Target → List (Refusal × Bool)
+refusals_of_hold_on s day code target = dated s day (conditions_of_covering s code target)
 
 abbrev pub refusals_of_hold_off : Office → ℤ → List ℕ → Target → List (Refusal × Bool)
 refusals_of_hold_off s day code target = dated s day (conditions_of_hold_off s.holds code target)

@@ -32,6 +32,7 @@ fn target_status(tree: &Tree, target: &Target) -> Option<Status>
     let Target::Record(number) = target else {
         return None;
     };
+    tree.sound();
     if !tree.has_record(*number) {
         return None;
     }
