@@ -1,5 +1,5 @@
 -- What is right of the changes by which an own class of an aggregation or of a record is set or taken away.
-use Rattle.std.proofs.Common.{◌≡◌, ◌+◌, ◌≤◌, ℕ, List, [], ◌∷◌, length, Option, Some, None, ℤ, true, sym, ap, subst, ◌∙◌, arith}
+use Rattle.std.proofs.Common.{◌≡◌, ℕ, List, [], ◌∷◌, Option, Some, None, ℤ, sym, ap, subst, ◌∙◌, arith}
 use Rattle.office_tree.specs.Conditions.{first_of}
 use Rattle.office_tree.specs.Effects.{reclassified}
 use Rattle.office_tree.specs.Lists.{numbered, edited, put}

@@ -11,7 +11,7 @@ use Rattle.office_holds.specs.Conditions.{conditions_of_hold_off, conditions_of_
 use Rattle.office_holds.specs.Effects.{held_off, held_on, lifted_hold, placed_hold}
 use Rattle.office_holds.specs.Forms.{FitsHoldLimits}
 use Rattle.office_holds.specs.Holds.{HoldMap, HoldState}
-use Rattle.office_holds.specs.Rows.{hold_from, hold_row, put_hold}
+use Rattle.office_holds.specs.Rows.{hold_from, put_hold}
 use Rattle.office_holds.specs.declared.row.HoldRow.{HoldRow}
 use Rattle.office_holds.specs.declared.target.Target.{Target}
 use Rattle.office_holds.proofs.Keeping.{FitsHoldLimits-held_on, FitsHoldLimits-lifted_hold, FitsHoldLimits-placed_hold, placed_by_put}
@@ -27,8 +27,6 @@ use Rattle.office_machine.specs.declared.rows.RowWrite.{RowWrite}
 use Rattle.office_machine.specs.declared.rows.RowWrite.TheVariants as row_write
 use Rattle.office_machine.proofs.Accepted.{accepted_of, dated_accepted}
 use Rattle.office_machine.proofs.Decisions.{accepted_change}
-
--- ---- a row of a hold or of a target
 
 -- a row that is put into the holds, and the day
 put_change : (s : Office) (day : ℤ) (conditions : List (Refusal × Bool)) (after : HoldMap) (row : RowWrite) (change : Change) → first_of (dated s day conditions) ≡ None → Done ≡ change.answer → change.writes.items ≡ row ∷ row_write.Day day ∷ [] → CanPut s row

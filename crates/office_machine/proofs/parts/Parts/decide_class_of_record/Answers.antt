@@ -1,4 +1,4 @@
-use Rattle.std.proofs.Common.{◌≡◌, Some, sym, ap, refl, subst}
+use Rattle.std.proofs.Common.{◌≡◌, Some, ap, refl, subst}
 use Rattle.std.specs.Option.{option_copied}
 use Rattle.office_tree.specs.Lists.{numbered}
 use Rattle.office_tree.specs.Sound.{IsSound}

@@ -1,8 +1,6 @@
-use Rattle.std.proofs.Common.{◌≡◌, ◌∙◌, [], ◌∷◌, Some, sym, ap, refl, subst}
-use Rattle.std.specs.FinMap.{get}
+use Rattle.std.proofs.Common.{◌≡◌, ◌∙◌, [], ◌∷◌, sym, ap, refl}
 use Rattle.office_tree.specs.Conditions.{first_of}
 use Rattle.office_holds.specs.Conditions.{conditions_of_hold_off}
-use Rattle.office_holds.specs.Forms.{FitsHoldLimits}
 use Rattle.office_holds.specs.Holds.{HoldMap}
 use Rattle.office_machine.specs.Conditions.{refusals_of_hold_off}
 use Rattle.office_machine.specs.Effects.{after_hold_off}

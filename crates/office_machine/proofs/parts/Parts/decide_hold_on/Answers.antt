@@ -1,9 +1,7 @@
-use Rattle.std.proofs.Common.{◌≡◌, ◌∙◌, [], ◌∷◌, Some, sym, ap, refl, subst}
-use Rattle.std.specs.FinMap.{get}
+use Rattle.std.proofs.Common.{◌≡◌, ◌∙◌, [], ◌∷◌, sym, ap, refl, subst}
 use Rattle.office_tree.specs.Conditions.{first_of}
 use Rattle.office_holds.specs.Conditions.{conditions_of_hold_on}
 use Rattle.office_holds.specs.Forms.{FitsHoldLimits}
-use Rattle.office_holds.specs.Holds.{HoldMap}
 use Rattle.office_machine.specs.Conditions.{conditions_of_covering, conditions_of_target, refusals_of_hold_on}
 use Rattle.office_machine.specs.Effects.{after_hold_on}
 use Rattle.office_machine.specs.Lesser.{lesser}

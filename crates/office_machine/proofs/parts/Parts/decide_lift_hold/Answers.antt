@@ -10,7 +10,7 @@ use Rattle.office_machine.specs.Effects.{after_lift_hold}
 use Rattle.office_machine.specs.State.{with_contents, with_office}
 use Rattle.office_machine.specs.declared.answer.Answer.TheVariants.{Done}
 use Rattle.office_machine.specs.declared.rows.RowWrite.TheVariants as row_write
-use Rattle.office_machine.proofs.DecidedHolds.{hold_there, lifted_row, lifting_change}
+use Rattle.office_machine.proofs.DecidedHolds.{hold_there, lifting_change}
 use Rattle.office_machine.proofs.Decisions.{refused_step}
 use Rattle.office_machine.proofs.parts.Parts.decide_lift_hold.Goals.{After-dated}
 use Rattle.office_machine.proofs.parts.Parts.decide_lift_hold.Goals as goal

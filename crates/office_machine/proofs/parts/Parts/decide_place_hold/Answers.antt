@@ -1,5 +1,4 @@
-use Rattle.std.proofs.Common.{◌≡◌, ◌∙◌, [], ◌∷◌, Some, sym, ap, refl, subst}
-use Rattle.std.specs.FinMap.{get}
+use Rattle.std.proofs.Common.{◌≡◌, ◌∙◌, [], ◌∷◌, sym, ap, refl, subst}
 use Rattle.office_tree.specs.Conditions.{first_of}
 use Rattle.office_holds.specs.Conditions.{conditions_of_place_hold}
 use Rattle.office_holds.specs.Forms.{FitsHoldLimits}
