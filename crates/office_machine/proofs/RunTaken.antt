@@ -1,5 +1,5 @@
 -- What a step of a run writes of the record that it takes, and that these writes lead to what the step makes of the office.
-use Rattle.std.proofs.Common.{◌≡◌, ◌≤◌, ℕ, List, [], ◌∷◌, length, Option, Some, sym, ap, ◌∙◌, subst, arith, true}
+use Rattle.std.proofs.Common.{◌≡◌, ◌≤◌, ℕ, List, [], ◌∷◌, length, Some, sym, ap, ◌∙◌, subst, arith, true}
 use Rattle.std.proofs.lemmas.Bool.Decides.{nat_tests}
 use Rattle.std.specs.Prelude.{IsSome, IsTrue}
 use Rattle.std.specs.FinMap.{insert, remove}
@@ -21,23 +21,25 @@ use Rattle.office_proof.specs.declared.outcome.Outcome.TheVariants as outcome
 use Rattle.office_machine.specs.Acts.{IsChangeTo}
 use Rattle.office_machine.specs.Disposing.{entry_of, outcome_of}
 use Rattle.office_machine.specs.RunWrites.{taking_writes}
-use Rattle.office_machine.specs.Runs.{open_run, next_ready, run_step, step_at, step_of, with_outcomes, statuses_with, contents_with, entries_with, with_cursor}
+use Rattle.office_machine.specs.Runs.{open_run, next_ready, run_step, step_at, step_of, with_outcomes, with_cursor}
 use Rattle.office_machine.specs.Sound.{IsSoundOffice}
 use Rattle.office_machine.specs.State.{State, Office, ByteMap, with_contents}
 use Rattle.office_machine.specs.Steps.{stepped, step_run_step, answer_in, answer_at}
-use Rattle.office_machine.specs.Writes.{CanWrite, all_writes}
+use Rattle.office_machine.specs.Writes.{CanFollow, CanWrite, all_writes}
 use Rattle.office_machine.specs.declared.answer.Answer.{Answer}
 use Rattle.office_machine.specs.declared.answer.Answer.TheVariants.{Step}
 use Rattle.office_machine.specs.declared.change.Change.{Change}
 use Rattle.office_machine.specs.declared.rows.RowWrite.{RowWrite}
+use Rattle.office_machine.specs.declared.rows.RowWrite.TheVariants as row_write
 use Rattle.office_machine.specs.declared.run.Run.{Run}
 use Rattle.office_machine.proofs.Accepted.{tree_sound}
 use Rattle.office_machine.proofs.SoundRuns.{open_there}
+use Rattle.office_machine.proofs.SoundSteps.{with_outcome}
 use Rattle.office_machine.proofs.SoundTaken as sound_taken
 
 -- ---- what is so of a record that a step takes from a sound office
 
-abbrev pub TakenFrom : Office → ℕ → ℕ → Type 0
+abbrev TakenFrom : Office → ℕ → ℕ → Type 0
 TakenFrom s run r = (contents : ByteMap) × sound_taken.Taken (with_contents s contents) run r
 
 taken_from : (s : Office) (run r : ℕ) → IsSoundOffice s → next_ready s run ≡ Some r → TakenFrom s run r
@@ -72,21 +74,18 @@ sound_status : (t : TreeState) (r : ℕ) (head : Record) (now : Status) → tree
 sound_status t r head now sound there =
     let within = numbered_within t.records r head there in
     let many : r ≤ length t.statuses = omega (arith, within.1, sound.statuses) in
-    let kept : tree.IsSound (record t { statuses = put t.statuses r now }) =
-        record { limits = sound.limits; forest = sound.forest; names = sound.names; closed = sound.closed; statuses = length-put t.statuses r now many ∙ sound.statuses } in
+    let long = length-put t.statuses r now many ∙ sound.statuses in
+    let kept : tree.IsSound (record t { statuses = put t.statuses r now }) = record { limits = sound.limits; forest = sound.forest; names = sound.names; closed = sound.closed; statuses = long } in
     subst (λ (records : List Record). tree.IsSound (record t { records = records; statuses = put t.statuses r now })) (sym (put_same t.records r head there)) kept
 
+status_follows : (s : Office) (r : ℕ) (head : Record) (now : Status) → tree.IsSound s.tree → numbered s.tree.records r ≡ Some head → CanFollow s (row_write.Record r head now)
+status_follows s r head now sound there = let within = numbered_within s.tree.records r head there in (within.0, within.1, sound_status s.tree r head now sound there)
+
 can_write : (s : Office) (run r : ℕ) (o : Outcome) (head : Record) (it : Run) → tree.IsSound s.tree → numbered s.tree.records r ≡ Some head → numbered s.runs run ≡ Some it → CanWrite s (taking_writes o (entry_of s run r o) head it)
-can_write s run r outcome.Sent head it sound there opened =
-    let (low, high) = numbered_within s.tree.records r head there in
-    (tt, ((low, high, sound_status s.tree r head status.Sent sound there), (numbered_within s.runs run it opened, tt)))
+can_write s run r outcome.Sent head it sound there opened = (tt, (status_follows s r head status.Sent sound there, (numbered_within s.runs run it opened, tt)))
 can_write s run r outcome.Skipped head it sound there opened = (tt, (numbered_within s.runs run it opened, tt))
-can_write s run r outcome.Destroyed head it sound there opened =
-    let (low, high) = numbered_within s.tree.records r head there in
-    (tt, ((low, high, sound_status s.tree r head status.Ended sound there), (tt, (numbered_within s.runs run it opened, tt))))
-can_write s run r outcome.Transferred head it sound there opened =
-    let (low, high) = numbered_within s.tree.records r head there in
-    (tt, ((low, high, sound_status s.tree r head status.Ended sound there), (tt, (numbered_within s.runs run it opened, tt))))
+can_write s run r outcome.Destroyed head it sound there opened = (tt, (status_follows s r head status.Ended sound there, (tt, (numbered_within s.runs run it opened, tt))))
+can_write s run r outcome.Transferred head it sound there opened = (tt, (status_follows s r head status.Ended sound there, (tt, (numbered_within s.runs run it opened, tt))))
 
 few_writes : (o : Outcome) (entry : Entry) (head : Record) (it : Run) → length (taking_writes o entry head it) ≤ 6
 few_writes outcome.Sent entry head it = omega arith
@@ -96,25 +95,10 @@ few_writes outcome.Transferred entry head it = omega arith
 
 -- ---- what they lead to
 
--- the state with the outcome of one record and its entry, and the cursor at it
-abbrev with_outcome : State → ℕ → ℕ → Option Outcome → State
-with_outcome s run r o = record {
-  office = record (s.office) {
-    tree = record (s.office.tree) { statuses = statuses_with s.office.tree.statuses r o };
-    entries = entries_with s.office.entries run r (entry_of s.office run r) o;
-    runs = with_cursor s.office.runs run r;
-  };
-  contents = contents_with s.contents r o;
-}
-
--- the state with those statuses, an entry, the cursor at the record and those contents
-abbrev with_changes : State → ℕ → ℕ → List Status → Outcome → ByteMap → State
-with_changes s run r statuses o contents = record {
-  office = record (s.office) {
-    tree = record (s.office.tree) { statuses = statuses };
-    entries = insert s.office.entries (run, r) (entry_of s.office run r o);
-    runs = with_cursor s.office.runs run r;
-  };
+-- the state with an entry, and with that tree and those runs and contents
+abbrev with_changes : State → ℕ → ℕ → TreeState → Outcome → List Run → ByteMap → State
+with_changes s run r t o runs contents = record {
+  office = record (s.office) { tree = t; entries = insert s.office.entries (run, r) (entry_of s.office run r o); runs = runs };
   contents = contents;
 }
 
@@ -129,22 +113,15 @@ module _ (s : State) (run r : ℕ) (head : Record) (was : Status) (it : Run) (th
   run_put : put s.office.runs run (record it { cursor = r }) ≡ with_cursor s.office.runs run r
   run_put = put-edited s.office.runs run (λ (x : Run). record x { cursor = r }) it opened
 
-  -- an entry, a status and a cursor, whatever becomes of the content
+  -- a status beside the entry and the cursor, whatever becomes of the content
   changed : (o : Outcome) (now : Status) (contents : ByteMap)
-      → record { office = record (s.office) { tree = put_record s.office.tree r head now; entries = insert s.office.entries (run, r) (entry_of s.office run r o); runs = put s.office.runs run (record it { cursor = r }) }; contents = contents }
-      ≡ with_changes s run r (edited s.office.tree.statuses r (λ _. now)) o contents
-  changed o now contents = λ i. record {
-    office = record (s.office) {
-      tree = record (s.office.tree) { records = head_put i; statuses = status_put now i };
-      entries = insert s.office.entries (run, r) (entry_of s.office run r o);
-      runs = run_put i;
-    };
-    contents = contents;
-  }
+      → with_changes s run r (put_record s.office.tree r head now) o (put s.office.runs run (record it { cursor = r })) contents
+      ≡ with_changes s run r (record (s.office.tree) { statuses = edited s.office.tree.statuses r (λ _. now) }) o (with_cursor s.office.runs run r) contents
+  changed o now contents = λ i. with_changes s run r (record (s.office.tree) { records = head_put i; statuses = status_put now i }) o (run_put i) contents
 
   wrote : (o : Outcome) → all_writes (taking_writes o (entry_of s.office run r o) head it) s ≡ with_outcome s run r (Some o)
   wrote outcome.Sent = changed outcome.Sent status.Sent s.contents
-  wrote outcome.Skipped = λ i. record s { office = record (s.office) { entries = insert s.office.entries (run, r) (entry_of s.office run r outcome.Skipped); runs = run_put i } }
+  wrote outcome.Skipped = λ i. with_changes s run r s.office.tree outcome.Skipped (run_put i) s.contents
   wrote outcome.Destroyed = changed outcome.Destroyed status.Ended (remove s.contents r)
   wrote outcome.Transferred = changed outcome.Transferred status.Ended (remove s.contents r)
 
