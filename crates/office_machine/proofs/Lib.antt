@@ -29,6 +29,7 @@ pub mod Places
 pub mod Resuming
 pub mod Rising
 pub mod RowWrites
+pub mod RunClosing
 pub mod RunEntries
 pub mod RunTaken
 pub mod SameRecords

@@ -1,5 +1,5 @@
 -- The aggregations that are spent by entries: what an aggregation is tested for, and the list of those that pass.
-use Rattle.std.proofs.Common.{◌≡◌, ℕ, suc, ◌+◌, ◌-◌, ◌<◌, ◌≤◌, Bool, true, false, cond, ◌&&◌, List, [], ◌∷◌, ◌++◌, filter, length, refl, sym, ap, ◌∙◌, append_assoc, append-nil, arith}
+use Rattle.std.proofs.Common.{◌≡◌, ℕ, suc, ◌-◌, ◌<◌, Bool, true, false, cond, ◌&&◌, List, [], ◌∷◌, ◌++◌, filter, length, refl, sym, ap, ◌∙◌, append_assoc, append-nil, arith}
 use Rattle.std.proofs.lemmas.Bool.{and_parts, and_from, and_right}
 use Rattle.std.specs.Cmp.{both_ways}
 use Rattle.std.specs.List.{list_any}
@@ -27,11 +27,8 @@ any_is_ended tree entries a h =
 
 ended_is_any : (tree : TreeState) (entries : List Entry) (a : ℕ) → HasEndedBelow tree entries a → list_any (ended_below tree a) entries ≡ true
 ended_is_any tree entries a (r, there, below, (e, listed, same, ending)) =
-    is_any (ended_below tree a) entries e listed (
-      and_from (is_ending e.outcome && has_record tree e.record_no) (is_below tree a e.record_no)
-        (and_from (is_ending e.outcome) (has_record tree e.record_no) ending (ap (has_record tree) same ∙ there))
-        (ap (is_below tree a) same ∙ below)
-    )
+    let first = and_from (is_ending e.outcome) (has_record tree e.record_no) ending (ap (has_record tree) same ∙ there) in
+    is_any (ended_below tree a) entries e listed (and_from (is_ending e.outcome && has_record tree e.record_no) (is_below tree a e.record_no) first (ap (is_below tree a) same ∙ below))
 
 -- an entry ended a record that is there and below exactly where a record below is one that an entry ended
 pub any_ended : (tree : TreeState) (entries : List Entry) (a : ℕ) → list_any (ended_below tree a) entries ≡ list_any (is_ended_in entries) (records_below tree a)

@@ -1,5 +1,4 @@
-use Rattle.std.proofs.Common.{◌≡◌, ◌+◌, ◌++◌, ◌<◌, [], length, map, suc, ap, ◌∙◌, sym, add-one, arith}
-use Rattle.office_proof.specs.declared.entry.Entry.{Entry}
+use Rattle.std.proofs.Common.{◌≡◌, ◌+◌, ◌++◌, ◌<◌, length, map, ap, ◌∙◌, sym, add-one, arith}
 use Rattle.office_machine.specs.Runs.{spent_list}
 use Rattle.office_machine.proofs.SpentByEntries.{spent_after, spent_at_first, spent_next, unspent_next, spent_at_last}
 use Rattle.office_machine.proofs.closing.spent_list.Goals as goal
