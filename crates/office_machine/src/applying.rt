@@ -6,7 +6,7 @@ ghost use Rattle.office_machine.specs.Writes.{all_office_writes, write_office, C
 
 use crate::parts::Parts;
 use crate::storing::{put_certificate, put_entry};
-use crate::{Change, Run, RowWrite};
+use crate::{Change, RowWrite, Run};
 use office_proof::RunNo;
 use office_tree::{Memory, Record, RecordNo, Status, Tree, put_row};
 
