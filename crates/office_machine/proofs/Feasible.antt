@@ -9,7 +9,7 @@ use Rattle.office_machine.specs.declared.act.Act.{Act}
 use Rattle.office_machine.specs.declared.change.Decision.{Decision}
 use Rattle.office_machine.specs.declared.change.Decision.TheVariants.{Stay, Go}
 use Rattle.office_machine.proofs.KeptHolds.{kept_step}
-use Rattle.office_machine.proofs.OfficeChanges.{office_changed}
+use Rattle.office_machine.proofs.Changes.{office_changed}
 use Rattle.office_machine.proofs.SoundEmpty.{sound_empty}
 use Rattle.office_machine.proofs.StepSound.{sound_step}
 

@@ -19,7 +19,6 @@ pub mod LesserRefusals
 pub mod Listing
 pub mod NextReady
 pub mod NumberedRows
-pub mod OfficeChanges
 pub mod OfficeSound
 pub mod OneState
 pub mod OneStep

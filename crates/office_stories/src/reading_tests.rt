@@ -48,9 +48,9 @@ fn the_due_list_goes_by_due_day_and_then_by_number(rt: HostRuntime) -> Result<()
         ],
     )?;
     let early = office.due_list(rt.alloc(), day("2024-02-01")?)?;
-    assert_eq!(rt; early.as_slice(), [3]);
+    assert_eq!(rt; early.as_slice(), [3].as_slice());
     let all = office.due_list(rt.alloc(), day("2025-01-02")?)?;
-    assert_eq!(rt; all.as_slice(), [3, 1, 2]);
+    assert_eq!(rt; all.as_slice(), [3, 1, 2].as_slice());
     Ok(())
 }
 
