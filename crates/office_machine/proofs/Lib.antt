@@ -9,6 +9,7 @@ pub mod DecidedHolds
 pub mod DecidedRecords
 pub mod DecidedTree
 pub mod Decisions
+pub mod DueLists
 pub mod Feasible
 pub mod HeldSteps
 pub mod HoldRows
