@@ -1,37 +1,26 @@
 -- Decisions that write the row of one record or one aggregation, and the office's day.
-use Rattle.std.proofs.Common.{◌≡◌, ◌≤◌, ◌<◌, ◌+◌, ℕ, Bool, true, false, ◌&&◌, ◌||◌, map, List, [], ◌∷◌, length, Option, Some, None, ℤ, refl, sym, ap, ◌∙◌, subst, arith}
+use Rattle.std.proofs.Common.{◌≡◌, ◌≤◌, ◌+◌, ℕ, Bool, true, List, [], ◌∷◌, length, Option, Some, None, ℤ, sym, ap, ◌∙◌, subst, arith}
 use Rattle.std.specs.Prelude.{not}
-use Rattle.std.specs.FinMap.{empty}
-use Rattle.std.specs.FinSet.{contains}
-use Rattle.std.specs.List.{list_any}
-use Rattle.std.specs.Option.{is_none, option_map}
-use Rattle.std.specs.Str.{bytes_eq}
+use Rattle.std.specs.Option.{option_map}
 use Rattle.office_days.specs.declared.refusal.Refusal.{Refusal}
-use Rattle.office_days.specs.declared.refusal.Refusal.TheVariants.{NoSuch, NeedsClass, HeldClass, Ended, InTransfer}
-use Rattle.office_tree.specs.Conditions.{classified_status, first_of, is_root, lacks_class, lacks_classified, conditions_of_confirm, conditions_of_reclassify, conditions_of_review, conditions_of_set_record_schedule, lacks_schedule}
-use Rattle.office_tree.specs.Disposal.{is_ended, is_in_transfer}
-use Rattle.office_tree.specs.Effects.{reclassified, with_head}
-use Rattle.office_tree.specs.Lists.{holds_of, numbered, edited, or_else, put}
+use Rattle.office_tree.specs.Conditions.{first_of, conditions_of_confirm, conditions_of_review, conditions_of_set_record_schedule, lacks_schedule}
+use Rattle.office_tree.specs.Effects.{with_head}
+use Rattle.office_tree.specs.Lists.{numbered, or_else, put}
 use Rattle.office_tree.specs.Sound as tree
-use Rattle.office_tree.specs.Tree.{TreeState, code_cmp, due_of, has_aggregation, has_record}
+use Rattle.office_tree.specs.Tree.{TreeState, due_of, has_record}
 use Rattle.office_tree.specs.declared.action.Action.{Action}
-use Rattle.office_tree.specs.declared.aggregation.Aggregation.{Aggregation}
-use Rattle.office_tree.specs.declared.classified.Classified.{Classified}
-use Rattle.office_tree.specs.declared.classified.Classified.TheVariants as classified
 use Rattle.office_tree.specs.declared.head.Confirmation.{Confirmation}
 use Rattle.office_tree.specs.declared.head.Record.{Record}
 use Rattle.office_tree.specs.declared.status.Status.{Status}
 use Rattle.office_tree.proofs.Accepting.{none_holds, neither, not_false}
-use Rattle.office_tree.proofs.Amending.{IsSound-confirm, IsSound-reclassify, IsSound-review, IsSound-set_record_schedule}
+use Rattle.office_tree.proofs.Amending.{IsSound-confirm, IsSound-review, IsSound-set_record_schedule}
 use Rattle.office_tree.proofs.Places.{numbered_within}
 use Rattle.office_tree.proofs.Putting.{put-edited, put_same}
-use Rattle.office_holds.specs.Conditions.{classified_class, would_leave_held_class}
-use Rattle.office_holds.specs.Holds.{HoldMap, HoldState, is_held_class, is_in_force}
 use Rattle.office_machine.specs.Acts.{IsChangeTo}
-use Rattle.office_machine.specs.Conditions.{dated, refusals_of_confirm, refusals_of_reclassify, refusals_of_review, refusals_of_set_record_schedule}
+use Rattle.office_machine.specs.Conditions.{dated, refusals_of_confirm, refusals_of_review, refusals_of_set_record_schedule}
 use Rattle.office_machine.specs.Effects.{with_tree}
-use Rattle.office_machine.specs.State.{with_contents, Office, State, ByteMap, with_office}
-use Rattle.office_machine.specs.Steps.{stepped, step_confirm, step_reclassify, step_review, step_set_record_schedule}
+use Rattle.office_machine.specs.State.{with_contents, Office, with_office}
+use Rattle.office_machine.specs.Steps.{stepped, step_confirm, step_review, step_set_record_schedule}
 use Rattle.office_machine.specs.Writes.{CanWrite, all_writes}
 use Rattle.office_machine.specs.declared.answer.Answer.TheVariants.{Done}
 use Rattle.office_machine.specs.declared.change.Change.{Change}
@@ -39,7 +28,6 @@ use Rattle.office_machine.specs.declared.rows.RowWrite.{RowWrite}
 use Rattle.office_machine.specs.declared.rows.RowWrite.TheVariants as row_write
 use Rattle.office_machine.proofs.Accepted.{dated_accepted}
 use Rattle.office_machine.proofs.Decisions.{accepted_change}
-use Rattle.office_machine.proofs.WorkedMaps.{no_entries}
 
 -- ---- what an accepted act says of the tree
 
@@ -131,4 +119,3 @@ reviewed_on s t day r schedule by old head status change same table reads is don
     let sound = IsSound-review s.tree day r schedule by read.sound (dated_accepted s day (conditions_of_review s.tree day r schedule) accepted).1 in
     head_changed s day r (λ it. record it { review = Some (record { day = day; by = by }); schedule = or_else schedule it.schedule }) old head status
     (refusals_of_review s day r schedule) change accepted read.there read.standing is sound done written
-

@@ -1,5 +1,5 @@
 -- What is decided of an act in a sound office can be made there, and keeps what is held.
-use Rattle.std.proofs.Common.{◌≡◌, ℕ, false, sym, ap, subst}
+use Rattle.std.proofs.Common.{◌≡◌, false, sym, subst}
 use Rattle.office_machine.specs.Acts.{CanBeMade, IsDecidedFor, IsFeasible, KeepsHeld, may_release, step}
 use Rattle.office_machine.specs.Forms.{IsFormedAct}
 use Rattle.office_machine.specs.Meanings.{IsHeldIn}

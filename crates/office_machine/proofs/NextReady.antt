@@ -1,5 +1,5 @@
 -- The least ready record above a run's cursor, looked for number by number.
-use Rattle.std.proofs.Common.{◌≡◌, ◌≤◌, ◌<◌, ◌+◌, ◌-◌, ℕ, suc, Bool, true, false, cond, ◌∷◌, length, find, Option, Some, None, ℤ, pos, unwrap_or, option_map, ap, ◌∙◌, arith}
+use Rattle.std.proofs.Common.{◌≡◌, ◌<◌, ◌+◌, ◌-◌, ℕ, suc, Bool, true, false, cond, ◌∷◌, length, find, Option, Some, ℤ, pos, unwrap_or, option_map, ap, ◌∙◌, arith}
 use Rattle.office_tree.specs.Lists.{numbered, numbers_after}
 use Rattle.office_machine.specs.Disposing.{is_ready}
 use Rattle.office_machine.specs.Runs.{next_ready}

@@ -1,6 +1,5 @@
 -- One step of the office for an act, and what a decision on it is. Source: own.
 use Rattle.std.specs.Prelude.{◌≡◌, ◌≤◌, ℕ, Bool, true, false, List, [], ◌∷◌, length}
-use Rattle.office_tree.specs.declared.class.Class.{Class}
 use Rattle.office_machine.specs.Meanings.{IsHeldIn}
 use Rattle.office_machine.specs.Sound.{IsSoundOffice}
 use Rattle.office_machine.specs.State.{State, Office, ByteMap, with_contents}

@@ -1,5 +1,5 @@
 -- What a row write makes of the office. Source: own.
-use Rattle.std.specs.Prelude.{◌<◌, ◌≤◌, ◌+◌, ℕ, List, [], ◌∷◌, length, Option, Some, None, IsSome}
+use Rattle.std.specs.Prelude.{◌<◌, ◌≤◌, ◌+◌, List, [], ◌∷◌, length, IsSome}
 use Rattle.std.specs.FinMap.{get, insert, remove}
 use Rattle.std.specs.String.{string_bytes}
 use Rattle.office_tree.specs.Lists.{put}

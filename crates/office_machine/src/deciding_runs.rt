@@ -50,11 +50,7 @@ impl Parts {
             cursor: 0,
             is_closed: false,
         };
-        let writes = two(
-            alloc,
-            RowWrite::Run { number, run },
-            RowWrite::Day { day },
-        )?;
+        let writes = two(alloc, RowWrite::Run { number, run }, RowWrite::Day { day })?;
         Ok(Decision::Go(Change {
             answer: Answer::Number(number),
             writes,

@@ -9,9 +9,9 @@ ghost use Rattle.office_machine.specs.Sound.{IsSoundOffice};
 ghost use Rattle.office_machine.specs.State.{empty_office};
 ghost use Rattle.office_machine.specs.Writes.{all_office_writes};
 
+use crate::due_list::due_list;
 use crate::parts::Parts;
 use crate::{Act, Change, Decision, RecordView};
-use crate::due_list::due_list;
 use office_days::Day;
 use office_holds::Holds;
 use office_proof::{Entry, RunNo};

@@ -1,11 +1,18 @@
 //! The acts that the words of a story ask for.
-use crate::asked::Asked;
 use office_days::{Day, Offset, Period, Unit};
 use office_holds::Target;
 use office_machine::{Act, NewRecord};
 use office_tree::{Action, AggNo, Classified, Code, RecordNo, Text, Trigger};
 use std::alloc::Global;
 use std::test::Fail;
+
+/// The word at that place, or a hyphen where there are fewer.
+pub(crate) fn word<'a>(words: &[&'a str], at: usize) -> &'a str {
+    match words.get(at) {
+        Some(word) => word,
+        None => "-",
+    }
+}
 
 /// The day of that text.
 pub(crate) fn day(text: &str) -> Result<Day, Fail> {
@@ -30,19 +37,33 @@ fn code_or_none(alloc: Global, word: &str) -> Result<Option<Code>, Fail> {
     Ok(Some(code(alloc, word)?))
 }
 
-fn schedule(
-    alloc: Global,
-    day: Day,
-    name: &str,
-    trigger: Trigger,
-    unit: Unit,
-    count: u32,
-    action: Action,
-) -> Result<Act, Fail> {
-    let period = Period::new(unit, count).ok_or("no period")?;
+/// The number of that text.
+fn number(text: &str) -> Result<u32, Fail> {
+    match text.parse::<u32>() {
+        Ok(number) => Ok(number),
+        Err(_) => Err(Fail::new("no number")),
+    }
+}
+
+/// The action of that word.
+fn action_of(text: &str) -> Result<Action, Fail> {
+    Ok(Action::read(text).ok_or("no action")?)
+}
+
+/// The period of that many units.
+fn period(unit: &str, count: &str) -> Result<Period, Fail> {
+    let unit = Unit::read(unit).ok_or("no unit")?;
+    Ok(Period::new(unit, number(count)?).ok_or("no period")?)
+}
+
+/// A new schedule, from its code, trigger, unit, count and action.
+fn schedule(alloc: Global, day: Day, words: &[&str]) -> Result<Act, Fail> {
+    let trigger = Trigger::read(word(words, 3)).ok_or("no trigger")?;
+    let period = period(word(words, 4), word(words, 5))?;
+    let action = action_of(word(words, 6))?;
     Ok(Act::AddSchedule {
         day,
-        code: code(alloc, name)?,
+        code: code(alloc, word(words, 2))?,
         trigger,
         period,
         offset: Offset::AnyDay,
@@ -83,14 +104,19 @@ fn aggregation(
     })
 }
 
-/// A new record, originated on 2024-01-02, without an own class or schedule.
+/// A new record with the bytes of that content, none where it is a hyphen; it is originated on 2024-01-02, without an own class or schedule.
 fn new_record(
     alloc: Global,
     name: &str,
     aggregation: AggNo,
     content: &str,
 ) -> Result<NewRecord, Fail> {
-    let content = Vec::from_slice(alloc, content.as_bytes())?;
+    let bytes = if content == "-" {
+        b""
+    } else {
+        content.as_bytes()
+    };
+    let content = Vec::from_slice(alloc, bytes)?;
     let ref_text = text(alloc, name)?;
     let title = text(alloc, name)?;
     let originated = day("2024-01-02")?;
@@ -190,92 +216,85 @@ fn open_run(alloc: Global, day: Day) -> Result<Act, Fail> {
     })
 }
 
-/// The act on schedules, classes or aggregations that is asked for.
-fn filing_act(alloc: Global, day: Day, asked: Asked) -> Result<Act, Fail> {
-    match asked {
-        Asked::Schedule(name, trigger, years, action) => {
-            schedule(alloc, day, name, trigger, Unit::Years, years, action)
-        }
-        Asked::HalfYearlyReview(name) => {
-            schedule(
-                alloc,
-                day,
-                name,
-                Trigger::Review,
-                Unit::Months,
-                6,
-                Action::Review,
-            )
-        }
-        Asked::MonthAfterLast(name) => {
-            schedule(
-                alloc,
-                day,
-                name,
-                Trigger::LastAddition,
-                Unit::Days,
-                30,
-                Action::Destroy,
-            )
-        }
-        Asked::Class(name, of) => class(alloc, day, name, of),
-        Asked::ClassSchedule(name, of) => class_schedule(alloc, day, name, of),
-        Asked::Root(name, class) => aggregation(alloc, day, name, None, class),
-        Asked::Child(name, parent, class) => aggregation(alloc, day, name, Some(parent), class),
-        Asked::Close(aggregation) => Ok(Act::CloseAggregation { day, aggregation }),
-        _ => Err(Fail::new("no act of filing")),
+/// A class, an aggregation or a record by its kind and its code or number.
+fn target(alloc: Global, kind: &str, name: &str) -> Result<Target, Fail> {
+    match kind {
+        "class" => Ok(Target::Class(code(alloc, name)?)),
+        "aggregation" => Ok(Target::Aggregation(number(name)?)),
+        "record" => Ok(Target::Record(number(name)?)),
+        _ => Err(Fail::new("no target")),
     }
 }
 
-/// The act on records that is asked for.
-fn record_act(alloc: Global, day: Day, asked: Asked) -> Result<Act, Fail> {
-    match asked {
-        Asked::Record(name, aggregation, content) => {
-            add_record(alloc, day, name, aggregation, content)
-        }
-        Asked::OwnSchedule(record_no, name) => own_schedule(alloc, day, record_no, name),
-        Asked::ClassOfAggregation(number, class) => {
-            reclassify(alloc, day, Classified::Aggregation(number), class)
-        }
-        Asked::ClassOfRecord(number, class) => {
-            reclassify(alloc, day, Classified::Record(number), class)
-        }
-        Asked::Confirm(record_no, action) => confirm(alloc, day, record_no, action),
-        Asked::Review(record_no, name) => review(alloc, day, record_no, name),
-        _ => filing_act(alloc, day, asked),
+/// An aggregation or a record by its kind and number.
+fn classified(kind: &str, name: &str) -> Result<Classified, Fail> {
+    match kind {
+        "aggregation" => Ok(Classified::Aggregation(number(name)?)),
+        "record" => Ok(Classified::Record(number(name)?)),
+        _ => Err(Fail::new("no aggregation or record")),
     }
 }
 
-/// The act on the targets of a hold that is asked for.
-fn target_act(alloc: Global, day: Day, asked: Asked) -> Result<Act, Fail> {
-    match asked {
-        Asked::HoldClass(name, class) => {
-            let target = Target::Class(code(alloc, class)?);
-            hold_on(alloc, day, name, target)
-        }
-        Asked::HoldAggregation(name, number) => {
-            hold_on(alloc, day, name, Target::Aggregation(number))
-        }
-        Asked::HoldRecord(name, number) => hold_on(alloc, day, name, Target::Record(number)),
-        Asked::FreeClass(name, class) => {
-            let target = Target::Class(code(alloc, class)?);
-            hold_off(alloc, day, name, target)
-        }
-        Asked::FreeAggregation(name, number) => {
-            hold_off(alloc, day, name, Target::Aggregation(number))
-        }
-        Asked::FreeRecord(name, number) => hold_off(alloc, day, name, Target::Record(number)),
-        _ => record_act(alloc, day, asked),
+/// An aggregation in a parent.
+fn child(alloc: Global, day: Day, name: &str, parent: &str, class: &str) -> Result<Act, Fail> {
+    let parent = number(parent)?;
+    aggregation(alloc, day, name, Some(parent), class)
+}
+
+fn close(day: Day, name: &str) -> Result<Act, Fail> {
+    let aggregation = number(name)?;
+    Ok(Act::CloseAggregation { day, aggregation })
+}
+
+/// The act on schedules, classes or aggregations that the words ask for.
+fn filing_act(alloc: Global, day: Day, words: &[&str]) -> Result<Act, Fail> {
+    let name = word(words, 2);
+    let second = word(words, 3);
+    match word(words, 1) {
+        "add-schedule" => schedule(alloc, day, words),
+        "add-class" => class(alloc, day, name, second),
+        "set-class-schedule" => class_schedule(alloc, day, name, second),
+        "add-root" => aggregation(alloc, day, name, None, second),
+        "add-child" => child(alloc, day, name, second, word(words, 4)),
+        "close-aggregation" => close(day, name),
+        _ => Err(Fail::new("no such act")),
     }
 }
 
-/// The act that is asked for on that day.
-pub(crate) fn act_of(alloc: Global, day: Day, asked: Asked) -> Result<Act, Fail> {
-    match asked {
-        Asked::Hold(name) => place_hold(alloc, day, name),
-        Asked::Lift(name) => lift_hold(alloc, day, name),
-        Asked::OpenRun => open_run(alloc, day),
-        Asked::RunStep => Ok(Act::RunStep),
-        _ => target_act(alloc, day, asked),
+/// The act on a record's content or own schedule that the words ask for.
+fn record_act(alloc: Global, day: Day, words: &[&str]) -> Result<Act, Fail> {
+    let first = word(words, 2);
+    let second = word(words, 3);
+    match word(words, 1) {
+        "add-record" => add_record(alloc, day, first, number(second)?, word(words, 4)),
+        "set-record-schedule" => own_schedule(alloc, day, number(first)?, second),
+        "confirm" => confirm(alloc, day, number(first)?, action_of(second)?),
+        "review" => review(alloc, day, number(first)?, second),
+        _ => filing_act(alloc, day, words),
+    }
+}
+
+/// The act on a target that the words ask for.
+fn target_act(alloc: Global, day: Day, words: &[&str]) -> Result<Act, Fail> {
+    let first = word(words, 2);
+    let second = word(words, 3);
+    let third = word(words, 4);
+    match word(words, 1) {
+        "reclassify" => reclassify(alloc, day, classified(first, second)?, third),
+        "hold-on" => hold_on(alloc, day, first, target(alloc, second, third)?),
+        "hold-off" => hold_off(alloc, day, first, target(alloc, second, third)?),
+        _ => record_act(alloc, day, words),
+    }
+}
+
+/// The act that the words ask for.
+pub(crate) fn act_of(alloc: Global, words: &[&str]) -> Result<Act, Fail> {
+    let on = day(word(words, 0))?;
+    match word(words, 1) {
+        "place-hold" => place_hold(alloc, on, word(words, 2)),
+        "lift-hold" => lift_hold(alloc, on, word(words, 2)),
+        "open-run" => open_run(alloc, on),
+        "run-step" => Ok(Act::RunStep),
+        _ => target_act(alloc, on, words),
     }
 }

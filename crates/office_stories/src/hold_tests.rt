@@ -1,12 +1,8 @@
 //! Holds and their targets.
-use crate::asked::Asked;
 use crate::base::base_office;
 use crate::telling::told;
-use office_days::Refusal;
-use office_machine::Answer::{Done, Number, Refused, Same, Step};
 use office_machine::Machine;
-use office_proof::Outcome;
-use office_tree::{Action, RecordNo};
+use office_tree::RecordNo;
 use std::test::Fail;
 
 /// The least code of the holds that cover a record, or a hyphen where it is not held.
@@ -27,22 +23,23 @@ fn is_held(office: &Machine, record_no: RecordNo) -> bool {
 
 #[test]
 fn the_least_hold_in_byte_order_is_told(rt: HostRuntime) -> Result<(), Fail> {
-    let mut office = base_office(&rt)?;
-    let names = ["H-10", "H-2", "Z", "a"];
-    for name in ["H-2", "H-10", "Z", "a"] {
-        told(
-            &rt,
-            &mut office,
-            "2024-01-02",
-            &[
-                (Asked::Hold(name), Done),
-                (Asked::HoldRecord(name, 1), Done),
-            ],
-        )?;
-    }
-    for name in names {
+    let mut office = base_office(
+        &rt,
+        "
+        2024-01-02 place-hold H-2 = done
+        2024-01-02 place-hold H-10 = done
+        2024-01-02 place-hold Z = done
+        2024-01-02 place-hold a = done
+        2024-01-02 hold-on a record 1 = done
+        2024-01-02 hold-on Z record 1 = done
+        2024-01-02 hold-on H-2 record 1 = done
+        2024-01-02 hold-on H-10 record 1 = done
+        ",
+    )?;
+    for name in ["H-10", "H-2", "Z", "a"] {
         assert_eq!(rt; covering(&office, 1), name);
-        told(&rt, &mut office, "2024-01-02", &[(Asked::Lift(name), Done)])?;
+        let line = format!(in rt.alloc(); "2024-01-02 lift-hold {name} = done")?;
+        told(&rt, &mut office, line.as_str())?;
     }
     assert_eq!(rt; covering(&office, 1), "-");
     assert_eq!(rt; is_held(&office, 1), false);
@@ -51,23 +48,17 @@ fn the_least_hold_in_byte_order_is_told(rt: HostRuntime) -> Result<(), Fail> {
 
 #[test]
 fn a_held_class_is_not_left(rt: HostRuntime) -> Result<(), Fail> {
-    let mut office = base_office(&rt)?;
-    told(
+    let office = base_office(
         &rt,
-        &mut office,
-        "2024-01-02",
-        &[
-            (Asked::Hold("H-9"), Done),
-            (Asked::HoldClass("H-9", "FIN"), Done),
-            (Asked::ClassOfRecord(1, "LEG"), Refused(Refusal::HeldClass)),
-            (Asked::ClassOfRecord(1, "FIN"), Done),
-            (Asked::ClassOfRecord(1, "-"), Done),
-            (
-                Asked::ClassOfAggregation(1, "LEG"),
-                Refused(Refusal::HeldClass),
-            ),
-            (Asked::ClassOfAggregation(1, "FIN"), Done),
-        ],
+        "
+        2024-01-02 place-hold H-9 = done
+        2024-01-02 hold-on H-9 class FIN = done
+        2024-01-02 reclassify record 1 LEG = refused 11
+        2024-01-02 reclassify record 1 FIN = done
+        2024-01-02 reclassify record 1 - = done
+        2024-01-02 reclassify aggregation 1 LEG = refused 11
+        2024-01-02 reclassify aggregation 1 FIN = done
+        ",
     )?;
     assert_eq!(rt; covering(&office, 1), "H-9");
     assert_eq!(rt; covering(&office, 2), "-");
@@ -76,16 +67,13 @@ fn a_held_class_is_not_left(rt: HostRuntime) -> Result<(), Fail> {
 
 #[test]
 fn a_held_aggregation_may_get_another_class_and_stays_held(rt: HostRuntime) -> Result<(), Fail> {
-    let mut office = base_office(&rt)?;
-    told(
+    let office = base_office(
         &rt,
-        &mut office,
-        "2024-01-02",
-        &[
-            (Asked::Hold("H-9"), Done),
-            (Asked::HoldAggregation("H-9", 1), Done),
-            (Asked::ClassOfAggregation(1, "LEG"), Done),
-        ],
+        "
+        2024-01-02 place-hold H-9 = done
+        2024-01-02 hold-on H-9 aggregation 1 = done
+        2024-01-02 reclassify aggregation 1 LEG = done
+        ",
     )?;
     assert_eq!(rt; is_held(&office, 1), true);
     Ok(())
@@ -93,42 +81,38 @@ fn a_held_aggregation_may_get_another_class_and_stays_held(rt: HostRuntime) -> R
 
 #[test]
 fn of_a_lifted_hold_the_least_refusal_is_told(rt: HostRuntime) -> Result<(), Fail> {
-    let mut office = base_office(&rt)?;
-    told(
+    base_office(
         &rt,
-        &mut office,
-        "2024-01-02",
-        &[
-            (Asked::Hold("H-1"), Done),
-            (Asked::Hold("H-1"), Refused(Refusal::Exists)),
-            (Asked::HoldRecord("H-1", 1), Done),
-            (Asked::FreeRecord("H-1", 2), Refused(Refusal::NoSuch)),
-            (Asked::HoldClass("H-1", "NON"), Refused(Refusal::NoSuch)),
-            (Asked::Lift("H-1"), Done),
-            (Asked::Lift("H-1"), Refused(Refusal::Lifted)),
-            (Asked::Lift("H-2"), Refused(Refusal::NoSuch)),
-            (Asked::HoldRecord("H-1", 99), Refused(Refusal::NoSuch)),
-            (Asked::HoldRecord("H-1", 1), Refused(Refusal::Exists)),
-            (Asked::HoldRecord("H-1", 2), Refused(Refusal::Lifted)),
-            (Asked::FreeRecord("H-1", 1), Refused(Refusal::Lifted)),
-        ],
-    )
+        "
+        2024-01-02 place-hold H-1 = done
+        2024-01-02 place-hold H-1 = refused 4
+        2024-01-02 hold-on H-1 record 1 = done
+        2024-01-02 hold-off H-1 record 2 = refused 5
+        2024-01-02 hold-on H-1 class NON = refused 5
+        2024-01-02 lift-hold H-1 = done
+        2024-01-02 lift-hold H-1 = refused 12
+        2024-01-02 lift-hold H-2 = refused 5
+        2024-01-02 hold-on H-1 record 99 = refused 5
+        2024-01-02 hold-on H-1 record 1 = refused 4
+        2024-01-02 hold-on H-1 record 2 = refused 12
+        2024-01-02 hold-off H-1 record 1 = refused 12
+        ",
+    )?;
+    Ok(())
 }
 
 #[test]
-fn a_destroyed_record_gets_no_hold(rt: HostRuntime) -> Result<(), Fail> {
-    let mut office = base_office(&rt)?;
-    told(
+fn a_destroyed_record_gets_no_hold_and_is_told_again(rt: HostRuntime) -> Result<(), Fail> {
+    base_office(
         &rt,
-        &mut office,
-        "2025-01-02",
-        &[
-            (Asked::Confirm(1, Action::Destroy), Done),
-            (Asked::OpenRun, Number(1)),
-            (Asked::RunStep, Step(1, Outcome::Destroyed)),
-            (Asked::Hold("H-1"), Done),
-            (Asked::HoldRecord("H-1", 1), Refused(Refusal::Ended)),
-            (Asked::Record("r1", 1, "abc"), Same(1)),
-        ],
-    )
+        "
+        2025-01-02 confirm 1 destroy = done
+        2025-01-02 open-run = number 1
+        2025-01-02 run-step = step 1 destroyed
+        2025-01-02 place-hold H-1 = done
+        2025-01-02 hold-on H-1 record 1 = refused 13
+        2025-01-02 add-record r1 1 abc = same 1
+        ",
+    )?;
+    Ok(())
 }

@@ -1,79 +1,54 @@
 //! A thousand holds, and a thousand targets of one hold.
-use crate::asked::Asked;
+use crate::base::new_office;
 use crate::telling::told;
-use office_days::Refusal;
-use office_machine::Answer::{Done, Number, Refused};
-use office_machine::Machine;
-use office_tree::{Action, Trigger};
 use std::test::Fail;
-
-/// A hold under that letter and number is placed.
-fn hold(rt: &HostRuntime, office: &mut Machine, number: u32) -> Result<(), Fail> {
-    let name = format!(in rt.alloc(); "H{number}")?;
-    let lines = [(Asked::Hold(name.as_str()), Done)];
-    told(rt, office, "2024-01-02", &lines)
-}
-
-/// A class under that letter and number is added, and becomes a target of the hold H.
-fn held_class(rt: &HostRuntime, office: &mut Machine, number: u32) -> Result<(), Fail> {
-    let name = format!(in rt.alloc(); "C{number}")?;
-    let lines = [
-        (Asked::Class(name.as_str(), "D1"), Done),
-        (Asked::HoldClass("H", name.as_str()), Done),
-    ];
-    told(rt, office, "2024-01-02", &lines)
-}
 
 #[test]
 fn there_are_no_more_than_1000_holds_lifted_ones_counted(rt: HostRuntime) -> Result<(), Fail> {
-    let mut office = Machine::new(rt.alloc());
+    let mut office = new_office(&rt, "")?;
     for number in 1..1_001 {
-        hold(&rt, &mut office, number)?;
+        let line = format!(in rt.alloc(); "2024-01-02 place-hold H{number} = done")?;
+        told(&rt, &mut office, line.as_str())?;
     }
     told(
         &rt,
         &mut office,
-        "2024-01-02",
-        &[
-            (Asked::Hold("H"), Refused(Refusal::Full)),
-            (Asked::Hold("H1000"), Refused(Refusal::Exists)),
-            (Asked::Lift("H1"), Done),
-            (Asked::Hold("H"), Refused(Refusal::Full)),
-        ],
+        "
+        2024-01-02 place-hold H = refused 6
+        2024-01-02 place-hold H1000 = refused 4
+        2024-01-02 lift-hold H1 = done
+        2024-01-02 place-hold H = refused 6
+        ",
     )
 }
 
 #[test]
 fn a_hold_has_no_more_than_1000_targets(rt: HostRuntime) -> Result<(), Fail> {
-    let mut office = Machine::new(rt.alloc());
-    told(
+    let mut office = new_office(
         &rt,
-        &mut office,
-        "2024-01-02",
-        &[
-            (
-                Asked::Schedule("D1", Trigger::Added, 1, Action::Destroy),
-                Done,
-            ),
-            (Asked::Hold("H"), Done),
-        ],
+        "
+        2024-01-02 add-schedule D1 added years 1 destroy = done
+        2024-01-02 place-hold H = done
+        ",
     )?;
     for number in 1..1_001 {
-        held_class(&rt, &mut office, number)?;
+        let lines = format!(in rt.alloc();
+            "2024-01-02 add-class C{number} D1 = done\n2024-01-02 hold-on H class C{number} = done"
+        )?;
+        told(&rt, &mut office, lines.as_str())?;
     }
     told(
         &rt,
         &mut office,
-        "2024-01-02",
-        &[
-            (Asked::Root("A", "C1"), Number(1)),
-            (Asked::HoldAggregation("H", 1), Refused(Refusal::Full)),
-            (Asked::HoldClass("H", "C1"), Refused(Refusal::Exists)),
-            (Asked::HoldAggregation("H", 2), Refused(Refusal::NoSuch)),
-            (Asked::FreeClass("H", "C1"), Done),
-            (Asked::HoldAggregation("H", 1), Done),
-            (Asked::FreeAggregation("H", 1), Done),
-            (Asked::FreeAggregation("H", 1), Refused(Refusal::NoSuch)),
-        ],
+        "
+        2024-01-02 add-root A C1 = number 1
+        2024-01-02 hold-on H aggregation 1 = refused 6
+        2024-01-02 hold-on H class C1 = refused 4
+        2024-01-02 hold-on H aggregation 2 = refused 5
+        2024-01-02 hold-off H class C1 = done
+        2024-01-02 hold-on H aggregation 1 = done
+        2024-01-02 hold-off H aggregation 1 = done
+        2024-01-02 hold-off H aggregation 1 = refused 5
+        ",
     )
 }

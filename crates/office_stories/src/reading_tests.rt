@@ -1,12 +1,8 @@
 //! What is read of an office between acts.
 use crate::acts::day;
-use crate::asked::Asked;
 use crate::base::base_office;
-use crate::telling::told;
-use office_machine::Answer::{Done, Number, Step};
 use office_machine::{Machine, RecordView};
-use office_proof::Outcome;
-use office_tree::{Action, Status};
+use office_tree::Status;
 use std::test::Fail;
 
 /// What is told of a record, which must be there.
@@ -16,7 +12,7 @@ fn view(rt: &HostRuntime, office: &Machine, record_no: u32) -> Result<RecordView
 
 #[test]
 fn a_record_is_told_with_what_the_office_says_of_it_now(rt: HostRuntime) -> Result<(), Fail> {
-    let office = base_office(&rt)?;
+    let office = base_office(&rt, "")?;
     let first = view(&rt, &office, 1)?;
     assert_eq!(rt; first.number, 1);
     assert_eq!(rt; first.ref_text.text(), "r1");
@@ -37,15 +33,12 @@ fn a_record_is_told_with_what_the_office_says_of_it_now(rt: HostRuntime) -> Resu
 
 #[test]
 fn the_due_list_goes_by_due_day_and_then_by_number(rt: HostRuntime) -> Result<(), Fail> {
-    let mut office = base_office(&rt)?;
-    told(
+    let office = base_office(
         &rt,
-        &mut office,
-        "2024-03-01",
-        &[
-            (Asked::MonthAfterLast("L"), Done),
-            (Asked::OwnSchedule(3, "L"), Done),
-        ],
+        "
+        2024-03-01 add-schedule L last-addition days 30 destroy = done
+        2024-03-01 set-record-schedule 3 L = done
+        ",
     )?;
     let early = office.due_list(rt.alloc(), day("2024-02-01")?)?;
     assert_eq!(rt; early.as_slice(), [3].as_slice());
@@ -56,28 +49,23 @@ fn the_due_list_goes_by_due_day_and_then_by_number(rt: HostRuntime) -> Result<()
 
 #[test]
 fn an_ended_record_has_the_entry_that_ended_it(rt: HostRuntime) -> Result<(), Fail> {
-    let mut office = base_office(&rt)?;
-    told(
+    let office = base_office(
         &rt,
-        &mut office,
-        "2025-01-02",
-        &[
-            (Asked::Confirm(1, Action::Destroy), Done),
-            (Asked::Confirm(3, Action::Destroy), Done),
-            (Asked::Hold("H"), Done),
-            (Asked::HoldRecord("H", 3), Done),
-            (Asked::OpenRun, Number(1)),
-            (Asked::RunStep, Step(1, Outcome::Destroyed)),
-            (Asked::RunStep, Step(3, Outcome::Skipped)),
-        ],
+        "
+        2025-01-02 confirm 1 destroy = done
+        2025-01-02 confirm 3 destroy = done
+        2025-01-02 place-hold H = done
+        2025-01-02 hold-on H record 3 = done
+        2025-01-02 open-run = number 1
+        2025-01-02 run-step = step 1 destroyed
+        2025-01-02 run-step = step 3 skipped
+        ",
     )?;
     let ending = office.entry_of(rt.alloc(), 1)?.ok_or("no entry")?;
     assert_eq!(rt; (ending.run, ending.record_no), (1, 1));
     assert!(rt; office.entry_of(rt.alloc(), 3)?.is_none());
-    let entries = office.entries(rt.alloc())?;
-    assert_eq!(rt; entries.len(), 2);
+    assert_eq!(rt; office.entries(rt.alloc())?.len(), 2);
     assert_eq!(rt; view(&rt, &office, 1)?.status, Status::Ended);
-    assert!(rt; view(&rt, &office, 3)?.counts);
     assert!(rt; office.certificate(rt.alloc(), 1)?.is_none());
     Ok(())
 }
