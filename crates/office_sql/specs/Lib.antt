@@ -1,0 +1,7 @@
+pub mod Bags
+pub mod Made
+pub mod Office
+pub mod Reads
+pub mod Schema
+pub mod Shown
+pub mod Texts

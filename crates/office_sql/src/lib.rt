@@ -1,0 +1,28 @@
+//! The SQL of the office: its eleven STRICT tables, and each statement that puts a row in, takes one
+//! away, makes a table or reads one whole.
+//!
+//! Every function here is one call of `sqlite` and speaks of rows column by column, not of what they
+//! mean to the office: that is for the store above. A put says which rows it takes out: those that share
+//! one of the table's keys with the new one.
+#![tactic(auto)]
+
+mod finding;
+mod making;
+mod putting;
+mod putting_records;
+mod reading;
+mod removing;
+
+pub use finding::found;
+pub use putting::{
+    put_certificates, put_classes, put_contents, put_holds, put_office, put_runs, put_schedules,
+    put_targets,
+};
+pub use putting_records::{
+    FixedColumns, OptionalColumns, put_aggregations, put_entries, put_records,
+};
+pub use reading::{
+    all_aggregations, all_certificates, all_classes, all_contents, all_entries, all_holds,
+    all_office, all_records, all_runs, all_schedules, all_targets,
+};
+pub use removing::{remove_content, remove_target};
