@@ -1,16 +1,16 @@
 -- DELETE by a key.
-use Rattle.std.proofs.Common.{◌≡◌, ◌≢◌, ◌⊎◌, inl, inr, ℕ, ℤ, List, [], ◌∷◌, ◌++◌, map, filter, slice_get, nat_le, ◌^◌, Bool, true, false, not, ◌||◌, cond, Option, None, Some, Ok, Err, Result, refl, sym, ap, subst, ◌∙◌, IsTrue, is_eq, IsPermutation, All}
+use Rattle.std.proofs.Common.{◌≡◌, ◌≢◌, ◌⊎◌, inl, inr, ℕ, ℤ, List, [], ◌∷◌, ◌++◌, map, filter, slice_get, nat_le, ◌^◌, Bool, true, false, not, ◌||◌, cond, Option, None, Some, Ok, refl, sym, ap, subst, ◌∙◌, IsTrue, is_eq, IsPermutation, All}
 use Rattle.std.specs.List.{AllByRecursion, list_all, flat_map}
 use Rattle.std.proofs.lemmas.Cmp.{tied_itself}
 use Rattle.std.proofs.lemmas.List.Sorted.{IsPermutation-map, IsPermutation-sym, All-permutation}
 use Rattle.std.proofs.lemmas.List.Elements.{All-from_recursion, recursion_from_All}
 use Rattle.sqlite_value.specs.declared.value.Value.TheVariants.{Null, Int}
-use Rattle.sqlite_value.specs.Order.{Row, column, value_cmp}
+use Rattle.sqlite_value.specs.Order.{Row, value_cmp}
 use Rattle.sqlite_value.proofs.OrderLemmas.{value_cmp_total}
 use Rattle.sqlite_trees.specs.Tree.{Trees, rowid, has_rowid}
 use Rattle.sqlite_trees.specs.View.{is_int, IsShaped}
 use Rattle.sqlite_trees.specs.declared.store.Shape.TheVariants as shape
-use Rattle.sqlite_sql.specs.Term.{Term, Env, holds, eval_all}
+use Rattle.sqlite_sql.specs.Term.{Term, Env, holds}
 use Rattle.sqlite_sql.specs.Query.{IsAnswer, Output, output}
 use Rattle.sqlite_sql.specs.Program.{overlay}
 use Rattle.sqlite_rules.specs.Lists.{Has}
@@ -41,7 +41,7 @@ use Rattle.office_sql.specs.Schema.{office_schema}
 use Rattle.office_sql.proofs.Replace.{went, same_value}
 use Rattle.sqlite_value.specs.Keys.{first_key, later}
 use Rattle.office_sql.specs.Schema.{contents, targets, at}
-use Rattle.office_sql.specs.Shown.{target_row}
+use Rattle.office_sql.specs.Shown.{content_row, target_row}
 use Rattle.office_sql.proofs.RemoveTexts.{remove_contents_is, remove_targets_is}
 use Rattle.office_sql.specs.Texts.{ids_where, is_param, remove_contents, remove_targets}
 use Rattle.office_sql.proofs.BagLemmas.{named, without_named, same_tests, is_equal, filter_same_on}
@@ -129,13 +129,16 @@ module _ (table : Table) (db next : Trees) (p : Row → Bool) (left : next table
   fewer_rows keys key tests =
       ap (map (shown table)) (left ∙ filter_same_on _ _ (db table.tree) (λ r h. ap not (tests r))) ∙ sym (filter-map (λ s. not (share keys s key)) (shown table) (db table.tree))
 
+-- what a text does that takes the rows that share a key with this one out of a table of the office, on these parameters
+abbrev pub Takes : List ℕ → Table → List (List ℕ) → Row → Row → Type 1
+Takes sql table keys params row = (old new : State) (count : ℕ) → IsOffice old.now → Executes sql params old new (Ok count) → Removed table keys row old.now new.now
+
 -- a statement that removes the rows of the office that have a key
 module _ (place : ℕ) (table : Table) (found_at : slice_get office_schema.tables place ≡ Some table)
     (idle : (olds news : List Row) → works office_schema Enforced 0 table.tree olds news ≡ []) (low : nat_le (2 ^ 31) table.tree ≡ false)
     (sql : List ℕ) (filters : List Term) (known : (command_of (understood office_schema sql) ≡ Delete place (record { lets = []; body = ids_where table.tree filters })) × IsPlain (understood office_schema sql)) where
-  pub removes : (keys : List (List ℕ)) (params key : Row) (old after : State) → IsOffice old.now → ((r : Row) → list_all (holds (params ∷ r ∷ [])) filters ≡ share keys (shown table r) key)
-      → (count : ℕ) → Executes sql params old after (Ok count) → Removed table keys key old.now after.now
-  removes keys params key old after office tests count h =
+  pub removes : (keys : List (List ℕ)) (params key : Row) → ((r : Row) → list_all (holds (params ∷ r ∷ [])) filters ≡ share keys (shown table r) key) → Takes sql table keys params key
+  removes keys params key tests old after count office h =
       let command = Delete place (record { lets = []; body = ids_where table.tree filters }) in
       let w = runs_as sql params old after office_schema office.schema command known.0 known.1 count h in
       let text = statement_of sql (understood office_schema sql) in
@@ -166,14 +169,12 @@ pub or_false : (b : Bool) → b ≡ (b || false)
 or_false true = refl
 or_false false = refl
 
-pub removes_content : (num : ℤ) (old after : State) → IsOffice old.now → (count : ℕ) → Executes remove_contents (Int num ∷ []) old after (Ok count) → Removed (at 9 contents) ((0 ∷ []) ∷ []) (Int num ∷ []) old.now after.now
+-- the content of that number, whatever its bytes
+pub removes_content : (num : ℤ) → Takes remove_contents (at 9 contents) ((0 ∷ []) ∷ []) (Int num ∷ []) (content_row num [])
 unfolding first_key
-removes_content num old after office count h =
-    removes 5 (at 9 contents) refl (λ olds news. refl) refl remove_contents (is_param 0 0 ∷ []) remove_contents_is ((0 ∷ []) ∷ []) (Int num ∷ []) (Int num ∷ []) old after office (λ r. or_false _) count h
+removes_content num = removes 5 (at 9 contents) refl (λ olds news. refl) refl remove_contents (is_param 0 0 ∷ []) remove_contents_is ((0 ∷ []) ∷ []) (Int num ∷ []) (content_row num []) (λ r. or_false _)
 
-pub removes_target : (hold kind target : List ℕ) (old after : State) → IsOffice old.now → (count : ℕ) → Executes remove_targets (target_row hold kind target) old after (Ok count)
-    → Removed (at 12 targets) ((0 ∷ 1 ∷ 2 ∷ []) ∷ []) (target_row hold kind target) old.now after.now
+pub removes_target : (hold kind target : List ℕ) → Takes remove_targets (at 12 targets) ((0 ∷ 1 ∷ 2 ∷ []) ∷ []) (target_row hold kind target) (target_row hold kind target)
 unfolding first_key
-removes_target hold kind target old after office count h =
-    removes 7 (at 12 targets) refl (λ olds news. refl) refl remove_targets (is_param 1 0 ∷ is_param 2 1 ∷ is_param 3 2 ∷ []) remove_targets_is ((0 ∷ 1 ∷ 2 ∷ []) ∷ []) (target_row hold kind target) (target_row hold kind target) old after office
-    (λ r. or_false _) count h
+removes_target hold kind target =
+    removes 7 (at 12 targets) refl (λ olds news. refl) refl remove_targets (is_param 1 0 ∷ is_param 2 1 ∷ is_param 3 2 ∷ []) remove_targets_is ((0 ∷ 1 ∷ 2 ∷ []) ∷ []) (target_row hold kind target) (target_row hold kind target) (λ r. or_false _)

@@ -1,5 +1,5 @@
 -- What the database of an office is between calls and inside a transaction, and what a put or a removal does to it. Source: own.
-use Rattle.std.specs.Prelude.{◌≡◌, ◌≢◌, ℕ, false, List, filter, not, Result, OnOk, OnErr, IsTrue}
+use Rattle.std.specs.Prelude.{◌≡◌, ◌≢◌, ◌⊎◌, ℕ, pos, neg_ℤ, false, List, [], ◌∷◌, filter, not, Result, OnOk, OnErr, IsTrue}
 use Rattle.std.specs.List.{AllByRecursion}
 use Rattle.sqlite_value.specs.Order.{Row}
 use Rattle.sqlite_trees.specs.Tree.{Trees}
@@ -49,3 +49,8 @@ pub record Removed (table : Table) (keys : List (List ℕ)) (row : Row) (old new
   pub office : IsOffice new
   pub removed : rows_of table new.trees ≡ filter (λ r. not (share keys r row)) (rows_of table old.trees)
   pub others : AllByRecursion (λ t. t.tree ≢ table.tree → new.trees t.tree ≡ old.trees t.tree) office_schema.tables
+
+-- each of them is done, one after the other
+abbrev pub AreDone : {X : Type 0} → (X → Database → Database → Type 0) → List X → Database → Database → Type 0
+AreDone Does [] old new = new ≡ old
+AreDone Does (x ∷ xs) old new = (mid : Database) × Does x old mid × AreDone Does xs mid new

@@ -8,6 +8,7 @@ ghost use Rattle.office_sql.specs.Shown.{aggregation_row, entry_row, record_row}
 use sqlite::{Alter, Error, Transaction, params};
 
 /// The columns of a record that are always there. A digest is its 64 lower-case hexadecimal digits.
+#[derive(Clone, Copy)]
 pub struct FixedColumns<'a> {
     pub num: u32,
     pub ref_text: &'a str,
@@ -21,6 +22,7 @@ pub struct FixedColumns<'a> {
 }
 
 /// The columns of a record that may be null.
+#[derive(Clone, Copy)]
 pub struct OptionalColumns<'a> {
     pub class: Option<&'a str>,
     pub schedule: Option<&'a str>,
