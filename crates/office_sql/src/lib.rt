@@ -6,6 +6,7 @@
 //! one of the table's keys with the new one.
 #![tactic(auto)]
 
+mod creating;
 mod finding;
 mod making;
 mod putting;
@@ -13,6 +14,7 @@ mod putting_records;
 mod reading;
 mod removing;
 
+pub use creating::create_all;
 pub use finding::found;
 pub use putting::{
     put_certificates, put_classes, put_contents, put_holds, put_office, put_runs, put_schedules,
