@@ -1,17 +1,17 @@
 -- The row of `office`, put into tables that have none.
-use Rattle.std.proofs.Common.{◌≡◌, ◌≢◌, ℕ, zero, suc, pos, neg_ℤ, ◌<◌, List, [], ◌∷◌, length, map, filter, not, rules, Ok, Err, Result, OnOk, OnErr, IsErr, IsTrue, ap, subst, sym, ◌∙◌, refl, arith, IsPermutation}
-use Rattle.std.specs.List.{AllByRecursion, swap}
+use Rattle.std.proofs.Common.{◌≡◌, ◌≢◌, ℕ, zero, suc, ◌<◌, List, [], ◌∷◌, length, map, filter, not, rules, Ok, Err, Result, subst, sym, ◌∙◌, refl, arith, IsPermutation}
+use Rattle.std.specs.List.{swap}
 use Rattle.std.proofs.lemmas.List.Sorted.{IsPermutation-keeps}
 use Rattle.sqlite_trees.specs.View.{IsShaped}
 use Rattle.sqlite_trees.specs.declared.store.Shape.TheVariants as shape
 use Rattle.sqlite_schema.specs.declared.schema.Table.{Table}
 use Rattle.sqlite_keyed.proofs.ListLemmas.{all_weaker, all_both}
 use Rattle.sqlite.specs.Effect.{Database}
-use Rattle.sqlite.specs.State.{State, KeepsCommit}
+use Rattle.sqlite.specs.State.{State}
 use Rattle.sqlite.specs.declared.error.Error.{Error}
 use Rattle.office_sql.specs.Schema.{no_schema, office_schema, office, at}
 use Rattle.office_sql.specs.Bags.{shown, rows_of, share}
-use Rattle.office_sql.specs.Office.{IsOffice, Wrote, IsInside, GoesInside, IsNewOffice, first_row}
+use Rattle.office_sql.specs.Office.{IsOffice, Wrote, GoesInside, IsNewOffice, first_row}
 use Rattle.office_sql.specs.Made.{MakesInside, AreAllMade}
 use Rattle.office_sql.proofs.Inside.{early, quiet_then}
 

@@ -12,8 +12,8 @@ use sqlite::{Alter, Connection, Error, Transaction};
 /// The first day there is, by its number.
 const FIRST_DAY: i32 = -719_162;
 
-/// Makes the office's tables and puts its row in, in one transaction: where it fails, none of it is there
-/// while the connection stays open.
+/// Makes the office's tables and puts its row in, in one transaction: all of it or, where it fails and
+/// the connection is still open, nothing.
 pub fn create_all<S: Alter>(conn: &mut Connection<S>) -> Result<(), Error>
     requires { conn.old.in_transaction ≡ false }
     ensures creates { Creates (state S.Store conn.old) (state S.Store conn.new) result }
