@@ -2,8 +2,8 @@
 //! away, makes a table or reads one whole.
 //!
 //! Every function here is one call of `sqlite`, but for `create_all`, and speaks of rows column by
-//! column, not of what they mean to the office: that is for the store above. A put says which rows it takes out: those that share
-//! one of the table's keys with the new one.
+//! column, not of what they mean to the office: that is for the store above. A put says which rows it
+//! takes out: those that share one of the table's keys with the new one.
 #![tactic(auto)]
 
 mod creating;
