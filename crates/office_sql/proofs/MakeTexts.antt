@@ -1,8 +1,9 @@
+-- Each text makes its table under the schema that it finds.
 use Rattle.std.proofs.Common.{refl}
 use Rattle.sqlite.specs.Listing.{understood}
 use Rattle.sqlite_tied.specs.Compute.{everything}
 use Rattle.office_sql.specs.Made.{Makes}
-use Rattle.office_sql.specs.Schema.{no_schema, office_text, schedules_text, classes_text, aggregations_text, records_text, contents_text, holds_text, targets_text, runs_text, entries_text, certificates_text, office, schedules, classes, aggregations, records, contents, holds, targets, runs, entries, certificates, with_office, with_schedules, with_classes, with_aggregations, with_records, with_contents, with_holds, with_targets, with_runs, with_entries, with_certificates}
+use Rattle.office_sql.specs.Schema.{no_schema, office_text, schedules_text, classes_text, aggregations_text, records_text, contents_text, holds_text, targets_text, runs_text, entries_text, certificates_text, office, schedules, classes, aggregations, records, contents, holds, targets, runs, entries, certificates, with_office, with_schedules, with_classes, with_aggregations, with_records, with_contents, with_holds, with_targets, with_runs, with_entries}
 use Rattle.office_sql.proofs.SchemaLemmas.{office_defined, schedules_defined, classes_defined, aggregations_defined, records_defined, contents_defined, holds_defined, targets_defined, runs_defined, entries_defined, certificates_defined}
 
 pub makes_office : Makes no_schema office_text office

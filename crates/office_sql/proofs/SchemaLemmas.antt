@@ -1,9 +1,8 @@
+-- The tables that the texts define.
 use Rattle.std.proofs.Common.{◌≡◌, Ok, refl}
 use Rattle.sqlite.specs.Compile.{table_defined_by}
 use Rattle.sqlite_tied.specs.Compute.{everything}
-use Rattle.sqlite.specs.Change.{created}
-use Rattle.office_sql.specs.Schema.{no_schema, office_schema, office_text, schedules_text, classes_text, aggregations_text, records_text, contents_text, holds_text, targets_text, runs_text, entries_text, certificates_text, office, schedules, classes, aggregations, records, contents, holds, targets, runs, entries, certificates}
-
+use Rattle.office_sql.specs.Schema.{office_text, schedules_text, classes_text, aggregations_text, records_text, contents_text, holds_text, targets_text, runs_text, entries_text, certificates_text, office, schedules, classes, aggregations, records, contents, holds, targets, runs, entries, certificates}
 
 pub office_defined : table_defined_by office_text ≡ Ok office
 unfolding everything
@@ -48,7 +47,3 @@ entries_defined = refl
 pub certificates_defined : table_defined_by certificates_text ≡ Ok certificates
 unfolding everything
 certificates_defined = refl
-
-
-pub all_created : (created (created (created (created (created (created (created (created (created (created (created no_schema office) schedules) classes) aggregations) records) contents) holds) targets) runs) entries) certificates) ≡ office_schema
-all_created = refl

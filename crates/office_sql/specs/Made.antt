@@ -1,5 +1,7 @@
 -- What a text that makes a table does. Source: own.
 use Rattle.std.specs.Prelude.{◌≡◌, ℕ, [], false, List, Ok, Result, IsTrue, OnOk, OnErr}
+use Rattle.std.specs.List.{AllByRecursion}
+use Rattle.sqlite_trees.specs.Tree.{Trees}
 use Rattle.sqlite_schema.specs.declared.schema.Schema.{Schema}
 use Rattle.sqlite_schema.specs.declared.schema.Table.{Table}
 use Rattle.sqlite_schema.specs.declared.command.Command.TheVariants.{CreateTable}
@@ -12,6 +14,7 @@ use Rattle.sqlite.specs.Does.{lacks_sequence}
 use Rattle.sqlite.specs.Listing.{understood}
 use Rattle.sqlite.specs.Given.{IsPlain}
 use Rattle.sqlite.proofs.Callers.{command_of, statement_of}
+use Rattle.office_sql.specs.Schema.{office_schema}
 
 -- under this schema the text makes this table
 pub record Makes (s : Schema) (text : List ℕ) (table : Table) : Type 0 where
@@ -34,9 +37,16 @@ pub record MakesInside {X : Type 0} (Changes : Database → Database → Type 0)
   pub err : HasCleanDisk new → IsTrue old.is_open → IsTrue old.in_transaction → old.now.schema ≡ before → OnErr result (KeepsCommit old new)
   pub survives : Survives old new (λ _. ⊥)
 
--- one and then the other
-abbrev pub InTurn : (Database → Database → Type 0) → (Database → Database → Type 0) → Database → Database → Type 0
-InTurn P Q old new = (mid : Database) × P old mid × Q mid new
+-- none of these tables has a row
+abbrev pub AreEmpty : List Table → Trees → Type 0
+AreEmpty tables trees = AllByRecursion (λ t. trees t.tree ≡ []) tables
 
-abbrev pub AreMade : Table → Table → Table → Database → Database → Type 0
-AreMade a b c = InTurn (InTurn (IsMade a) (IsMade b)) (IsMade c)
+-- the schema is the later one, and where the tables of the earlier had no row, its tables have none
+pub record Grows (earlier later : Schema) (old new : Database) : Type 0 where
+  pub schema : new.schema ≡ later
+  pub empty : AreEmpty earlier.tables old.trees → AreEmpty later.tables new.trees
+
+-- the eleven tables are there, and none has a row
+pub record AreAllMade (old new : Database) : Type 0 where
+  pub schema : new.schema ≡ office_schema
+  pub empty : AreEmpty office_schema.tables new.trees

@@ -1,5 +1,5 @@
 -- The tables of the office, as their texts define them. Source: own.
-use Rattle.std.specs.Prelude.{ℕ, Bool, true, false, List, [], ◌∷◌, Option, Some, None, codes}
+use Rattle.std.specs.Prelude.{ℕ, true, false, List, [], ◌∷◌, Some, None, codes}
 use Rattle.sqlite_value.specs.declared.value.Value.TheVariants.{Null, Text as Words}
 use Rattle.sqlite_value.specs.declared.keys.Collation.TheVariants.{Binary}
 use Rattle.sqlite_value.specs.Keys.{plain}
@@ -12,7 +12,7 @@ use Rattle.sqlite_sql.specs.declared.ops.BinaryOp.TheVariants.{Compare, Or}
 use Rattle.sqlite_sql.specs.declared.ops.CompareOp.TheVariants.{Eq}
 use Rattle.sqlite_catalog.specs.Listing.{automatic}
 use Rattle.sqlite_catalog.specs.Change.{created}
-use Rattle.sqlite_sql.specs.Term.{Term, lit, col, op1, op2, case}
+use Rattle.sqlite_sql.specs.Term.{Term, lit, col, op2}
 
 abbrev pub may : List ℕ → Kind → Column
 may name kind = record { name = name; kind = kind; is_strict = true; not_null = false; default = Null; collation = Binary }
@@ -184,4 +184,3 @@ with_entries = created with_runs entries
 
 abbrev pub with_certificates : Schema
 with_certificates = created with_entries certificates
-

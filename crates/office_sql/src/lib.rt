@@ -1,11 +1,12 @@
 //! The SQL of the office: its eleven STRICT tables, and each statement that puts a row in, takes one
 //! away, makes a table or reads one whole.
 //!
-//! Every function here is one call of `sqlite` and speaks of rows column by column, not of what they
-//! mean to the office: that is for the store above. A put says which rows it takes out: those that share
-//! one of the table's keys with the new one.
+//! Every function here is one call of `sqlite`, but for `create_all`, and speaks of rows column by
+//! column, not of what they mean to the office: that is for the store above. A put says which rows it
+//! takes out: those that share one of the table's keys with the new one.
 #![tactic(auto)]
 
+mod creating;
 mod finding;
 mod making;
 mod putting;
@@ -13,6 +14,7 @@ mod putting_records;
 mod reading;
 mod removing;
 
+pub use creating::create_all;
 pub use finding::found;
 pub use putting::{
     put_certificates, put_classes, put_contents, put_holds, put_office, put_runs, put_schedules,

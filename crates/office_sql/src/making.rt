@@ -1,8 +1,8 @@
 //! The eleven tables, made one after another.
 ghost use Rattle.std.specs.Prelude.{◌≡◌};
 ghost use Rattle.sqlite.specs.Held.{state};
-ghost use Rattle.office_sql.specs.Made.{IsMade, MakesInside};
-ghost use Rattle.office_sql.specs.Schema.{aggregations, certificates, classes, contents, entries, holds, no_schema, office, records, runs, schedules, targets, with_aggregations, with_classes, with_contents, with_entries, with_holds, with_office, with_records, with_runs, with_schedules, with_targets};
+ghost use Rattle.office_sql.specs.Made.{AreAllMade, Grows, IsMade, MakesInside};
+ghost use Rattle.office_sql.specs.Schema.{aggregations, certificates, classes, contents, entries, holds, no_schema, office, records, runs, schedules, targets, with_aggregations, with_certificates, with_classes, with_contents, with_entries, with_holds, with_office, with_records, with_runs, with_schedules, with_targets};
 
 use sqlite::{Alter, Error, Transaction};
 
@@ -125,4 +125,54 @@ fn create_certificates<S: Alter>(tx: &mut Transaction<'_, S>) -> Result<(), Erro
         &[],
     )?;
     Ok(())
+}
+
+/// The tables of what an office disposes by.
+fn create_plans<S: Alter>(tx: &mut Transaction<'_, S>) -> Result<(), Error>
+    ensures same_reference { tx.new.conn.ghost_name ≡ tx.old.conn.ghost_name }
+    ensures made { MakesInside (Grows no_schema with_classes) no_schema (state S.Store tx.old.conn.now) (state S.Store tx.new.conn.now) result }
+{
+    create_office(tx)?;
+    create_schedules(tx)?;
+    create_classes(tx)
+}
+
+/// The tables of what it keeps.
+fn create_holdings<S: Alter>(tx: &mut Transaction<'_, S>) -> Result<(), Error>
+    ensures same_reference { tx.new.conn.ghost_name ≡ tx.old.conn.ghost_name }
+    ensures made { MakesInside (Grows with_classes with_contents) with_classes (state S.Store tx.old.conn.now) (state S.Store tx.new.conn.now) result }
+{
+    create_aggregations(tx)?;
+    create_records(tx)?;
+    create_contents(tx)
+}
+
+/// The tables of what stays disposal.
+fn create_stays<S: Alter>(tx: &mut Transaction<'_, S>) -> Result<(), Error>
+    ensures same_reference { tx.new.conn.ghost_name ≡ tx.old.conn.ghost_name }
+    ensures made { MakesInside (Grows with_contents with_targets) with_contents (state S.Store tx.old.conn.now) (state S.Store tx.new.conn.now) result }
+{
+    create_holds(tx)?;
+    create_targets(tx)
+}
+
+/// The tables of what was disposed of.
+fn create_disposals<S: Alter>(tx: &mut Transaction<'_, S>) -> Result<(), Error>
+    ensures same_reference { tx.new.conn.ghost_name ≡ tx.old.conn.ghost_name }
+    ensures made { MakesInside (Grows with_targets with_certificates) with_targets (state S.Store tx.old.conn.now) (state S.Store tx.new.conn.now) result }
+{
+    create_runs(tx)?;
+    create_entries(tx)?;
+    create_certificates(tx)
+}
+
+/// Makes the eleven tables, with no row in any.
+pub(crate) fn create_tables<S: Alter>(tx: &mut Transaction<'_, S>) -> Result<(), Error>
+    ensures same_reference { tx.new.conn.ghost_name ≡ tx.old.conn.ghost_name }
+    ensures made { MakesInside AreAllMade no_schema (state S.Store tx.old.conn.now) (state S.Store tx.new.conn.now) result }
+{
+    create_plans(tx)?;
+    create_holdings(tx)?;
+    create_stays(tx)?;
+    create_disposals(tx)
 }
