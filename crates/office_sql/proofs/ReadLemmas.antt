@@ -1,5 +1,5 @@
 -- A query of a whole table, by its key.
-use Rattle.std.proofs.Common.{◌≡◌, ℕ, ◌+◌, ◌<◌, List, [], ◌∷◌, map, length, get_or, slice_index_or, nat_le, false, ◌^◌, refl, sym, ap, ap₂, subst, ◌∙◌, IsPermutation, IsSorted, IsSortedByKey, All, is_lt, drop, Ordering, Result, IfOk, OnOk, arith}
+use Rattle.std.proofs.Common.{◌≡◌, ◌⊎◌, inl, inr, ℕ, ◌+◌, ◌<◌, List, [], ◌∷◌, map, length, get_or, slice_index_or, nat_le, false, ◌^◌, refl, sym, ap, ap₂, subst, ◌∙◌, IsPermutation, IsSorted, IsSortedByKey, All, is_lt, drop, Ordering, Result, IfOk, OnOk, arith}
 use Rattle.std.proofs.lemmas.List.{length-map}
 use Rattle.std.proofs.Math.ListN.{get_or-map}
 use Rattle.std.proofs.lemmas.List.Sorted.{IsPermutation-map, All-permutation}
@@ -19,7 +19,8 @@ use Rattle.sqlite_keyed.proofs.ListLemmas.{map-map, map_same, all_of, all_map}
 use Rattle.sqlite.specs.Command.TheVariants.{Select}
 use Rattle.sqlite.specs.Clock.{timed}
 use Rattle.sqlite.specs.Listing.{understood, reads_listing}
-use Rattle.sqlite.specs.State.{State, HasCleanDisk, Shown, ShowsRows, IsUnchanged, Survives, CommitsShowing}
+use Rattle.sqlite.specs.State.{State, HasCleanDisk, Shown, ShowsRows, FailsToQuery, FailsToShow, IsNotRun, IsUnchanged, IsRolledBack, Survives, CommitsShowing}
+use Rattle.sqlite.specs.declared.error.Error.{Error}
 use Rattle.sqlite.proofs.StateLemmas.{survives_weaker}
 use Rattle.sqlite.proofs.Callers.{IsPlain, command_of, reads_as, never_commits}
 use Rattle.office_sql.specs.Schema.{office_schema}
@@ -85,6 +86,17 @@ module _ (sql : List ℕ) (params : Row) (plain : IsPlain (understood office_sch
       let none = (subst IsPlain h.1.is here).0 in
       let it = subst (ShowsRows old new sql h.0 (timed params h.0.formats h.1.now) rows) none h.2 in
       it.3
+
+  -- one that fails changes nothing, or undoes the transaction
+  pub fails_same : (e : Error) → FailsToQuery sql params old new e → IsUnchanged old new ⊎ IsRolledBack old new
+  unfolding FailsToQuery IsNotRun
+  fails_same e (inl (inl h)) = inl h.1
+  fails_same e (inl (inr h)) = inr h.3
+  fails_same e (inr h) =
+      let here = subst (λ s. IsPlain (understood s sql)) (sym has) plain in
+      let none = (subst IsPlain h.1.is here).0 in
+      let it = subst (FailsToShow old new sql h.0 (timed params h.0.formats h.1.now) e) none h.2 in
+      inl it.3
 
   pub query_quiet : Survives old new (CommitsShowing sql params old) → Survives old new (λ _. ⊥)
   query_quiet s = survives_weaker old new _ _ (λ _ db. never_commits sql params old db (subst (λ s. IsPlain (understood s sql)) (sym has) plain)) s

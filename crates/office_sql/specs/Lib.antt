@@ -1,5 +1,6 @@
 pub mod Bags
 pub mod Made
+pub mod Names
 pub mod Office
 pub mod Reads
 pub mod Schema

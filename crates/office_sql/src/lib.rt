@@ -6,6 +6,7 @@
 //! one of the table's keys with the new one.
 #![tactic(auto)]
 
+mod content;
 mod finding;
 mod making;
 mod putting;
@@ -13,7 +14,8 @@ mod putting_records;
 mod reading;
 mod removing;
 
-pub use finding::found;
+pub use content::content_of;
+pub use finding::{found, has_any_table};
 pub use putting::{
     put_certificates, put_classes, put_contents, put_holds, put_office, put_runs, put_schedules,
     put_targets,
