@@ -57,7 +57,7 @@ content_found num old new rows has h =
     let read = reads_as content_of (Int num ∷ []) old new office_schema has command content_of_is.0 content_of_is.1 content_of_is.2 rows h in
     let found = where_found 9 (is_param 0 0 ∷ []) (2 ∷ []) refl (Int num ∷ []) old.now.trees rows (read.answer Null) in
     let rows_are : map (λ r. map (column r) (2 ∷ [])) (filter (λ r. list_all (holds ((Int num ∷ []) ∷ r ∷ [])) (is_param 0 0 ∷ [])) (old.now.trees 9))
-        ≡ bytes_with num old.now.trees =
+    ≡ bytes_with num old.now.trees =
     ap (map (λ r. map (column r) (2 ∷ []))) (filter_same_on _ _ (old.now.trees 9) (λ r here. or_false _))
     ∙ sym (ap (map (λ s. column s 1 ∷ [])) (filter-map (λ s. share ((0 ∷ []) ∷ []) s (Int num ∷ [])) (shown (at 9 contents)) (old.now.trees 9)) ∙ map-map (λ s. column s 1 ∷ []) (shown (at 9 contents)) _) in
     subst (λ l. IsPermutation l rows) rows_are found

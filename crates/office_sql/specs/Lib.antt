@@ -6,3 +6,4 @@ pub mod Reads
 pub mod Schema
 pub mod Shown
 pub mod Texts
+pub mod Values

@@ -1,9 +1,10 @@
 //! The SQL of the office: its eleven STRICT tables, and each statement that puts a row in, takes one
-//! away, makes a table or reads one whole.
+//! away, makes a table, reads one whole or reads the content of one record.
 //!
 //! Every function here is one call of `sqlite` and speaks of rows column by column, not of what they
 //! mean to the office: that is for the store above. A put says which rows it takes out: those that share
-//! one of the table's keys with the new one.
+//! one of the table's keys with the new one. The values of a row that was read are taken out of it one by
+//! one, and each that is not of its column's kind and range is refused.
 #![tactic(auto)]
 
 mod content;
@@ -13,6 +14,7 @@ mod putting;
 mod putting_records;
 mod reading;
 mod removing;
+mod values;
 
 pub use content::content_of;
 pub use finding::{found, has_any_table};
@@ -28,3 +30,7 @@ pub use reading::{
     all_office, all_records, all_runs, all_schedules, all_targets,
 };
 pub use removing::{remove_content, remove_target};
+pub use values::{
+    BadValue, bytes, day_number, flag, number, optional_day_number, optional_number, optional_text,
+    text,
+};

@@ -15,10 +15,7 @@ pub fn all_office<S: Alter>(conn: &mut Connection<S>) -> Result<Vec<Row>, Error>
     ensures mode { conn.old.in_transaction ≡ false → conn.new.in_transaction ≡ false }
     ensures survives { (state S.Store conn.old).now.schema ≡ office_schema → Survives (state S.Store conn.old) (state S.Store conn.new) (λ _. ⊥) }
 {
-    conn.query_all(
-        "SELECT one, version, day FROM office ORDER BY one",
-        &[],
-    )
+    conn.query_all("SELECT one, version, day FROM office ORDER BY one", &[])
 }
 
 /// The rows of `schedules` in the order of their key.
@@ -80,10 +77,7 @@ pub fn all_contents<S: Alter>(conn: &mut Connection<S>) -> Result<Vec<Row>, Erro
     ensures mode { conn.old.in_transaction ≡ false → conn.new.in_transaction ≡ false }
     ensures survives { (state S.Store conn.old).now.schema ≡ office_schema → Survives (state S.Store conn.old) (state S.Store conn.new) (λ _. ⊥) }
 {
-    conn.query_all(
-        "SELECT record FROM contents ORDER BY record",
-        &[],
-    )
+    conn.query_all("SELECT record FROM contents ORDER BY record", &[])
 }
 
 /// The rows of `holds` in the order of their key.
@@ -145,8 +139,5 @@ pub fn all_certificates<S: Alter>(conn: &mut Connection<S>) -> Result<Vec<Row>, 
     ensures mode { conn.old.in_transaction ≡ false → conn.new.in_transaction ≡ false }
     ensures survives { (state S.Store conn.old).now.schema ≡ office_schema → Survives (state S.Store conn.old) (state S.Store conn.new) (λ _. ⊥) }
 {
-    conn.query_all(
-        "SELECT run, body FROM certificates ORDER BY run",
-        &[],
-    )
+    conn.query_all("SELECT run, body FROM certificates ORDER BY run", &[])
 }
