@@ -15,14 +15,14 @@ use Rattle.sqlite.specs.Listing.{understood, reads_listing}
 use Rattle.sqlite.specs.State.{State, Shown}
 use Rattle.sqlite.proofs.Callers.{IsPlain, command_of, reads_as}
 use Rattle.sqlite_tied.specs.Compute.{everything}
-use Rattle.office_sql.specs.Bags.{shown, rows_of, share}
+use Rattle.office_sql.specs.Bags.{shown, share}
 use Rattle.office_sql.specs.Schema.{office_schema, contents, at}
 use Rattle.office_sql.specs.Texts.{is_param}
-use Rattle.office_sql.specs.Reads.{columns_where, content_of}
+use Rattle.office_sql.specs.Reads.{columns_where, bytes_with, content_of}
 use Rattle.office_sql.proofs.BagLemmas.{filter_same_on}
 use Rattle.office_sql.proofs.RemoveLemmas.{flat_map_test, or_false}
 
-content_of_is : (command_of (understood office_schema content_of) ≡ Select (record { lets = []; body = columns_where 9 (is_param 0 0 ∷ []) (2 ∷ []) }) (codes "bytes" ∷ [])) × IsPlain (understood office_schema content_of)
+pub content_of_is : (command_of (understood office_schema content_of) ≡ Select (record { lets = []; body = columns_where 9 (is_param 0 0 ∷ []) (2 ∷ []) }) (codes "bytes" ∷ [])) × IsPlain (understood office_schema content_of)
     × (reads_listing office_schema content_of ≡ false)
 unfolding understood everything
 content_of_is = (refl, (refl, refl), refl)
@@ -50,14 +50,14 @@ module _ (tree : ℕ) (filters : List Term) (places : List ℕ) (low : nat_le (2
 
 -- the bytes of the rows of `contents` that have the number: of one row, or of none
 pub content_found : (num : ℤ) (old new : State) (rows : List Row) → old.now.schema ≡ office_schema → Shown content_of (Int num ∷ []) old new rows
-    → IsPermutation (map (λ s. column s 1 ∷ []) (filter (λ s. share ((0 ∷ []) ∷ []) s (Int num ∷ [])) (rows_of (at 9 contents) old.now.trees))) rows
+    → IsPermutation (bytes_with num old.now.trees) rows
 unfolding first_key
 content_found num old new rows has h =
     let command = Select (record { lets = []; body = columns_where 9 (is_param 0 0 ∷ []) (2 ∷ []) }) (codes "bytes" ∷ []) in
     let read = reads_as content_of (Int num ∷ []) old new office_schema has command content_of_is.0 content_of_is.1 content_of_is.2 rows h in
     let found = where_found 9 (is_param 0 0 ∷ []) (2 ∷ []) refl (Int num ∷ []) old.now.trees rows (read.answer Null) in
     let rows_are : map (λ r. map (column r) (2 ∷ [])) (filter (λ r. list_all (holds ((Int num ∷ []) ∷ r ∷ [])) (is_param 0 0 ∷ [])) (old.now.trees 9))
-        ≡ map (λ s. column s 1 ∷ []) (filter (λ s. share ((0 ∷ []) ∷ []) s (Int num ∷ [])) (rows_of (at 9 contents) old.now.trees)) =
+    ≡ bytes_with num old.now.trees =
     ap (map (λ r. map (column r) (2 ∷ []))) (filter_same_on _ _ (old.now.trees 9) (λ r here. or_false _))
     ∙ sym (ap (map (λ s. column s 1 ∷ [])) (filter-map (λ s. share ((0 ∷ []) ∷ []) s (Int num ∷ [])) (shown (at 9 contents)) (old.now.trees 9)) ∙ map-map (λ s. column s 1 ∷ []) (shown (at 9 contents)) _) in
     subst (λ l. IsPermutation l rows) rows_are found

@@ -1,11 +1,14 @@
 -- The texts that read a table whole, in the order of its key. Source: own.
-use Rattle.std.specs.Prelude.{ℕ, pos, negsuc, false, List, [], ◌∷◌, codes, map, None, IsPermutation, IsSortedByKey}
+use Rattle.std.specs.Prelude.{ℕ, ℤ, filter, pos, negsuc, false, List, [], ◌∷◌, codes, map, None, IsPermutation, IsSortedByKey}
 use Rattle.sqlite_value.specs.declared.value.Value.TheVariants.{Int}
 use Rattle.sqlite_value.specs.declared.keys.Collation.TheVariants.{Binary}
 use Rattle.sqlite_value.specs.Keys.{ascending}
 use Rattle.sqlite_value.specs.Order.{Row, column}
 use Rattle.sqlite_sql.specs.Term.{Term, lit, col}
 use Rattle.sqlite_sql.specs.Query.{Query, inner, end, key_cmp}
+use Rattle.sqlite_trees.specs.Tree.{Trees}
+use Rattle.office_sql.specs.Bags.{rows_of, share}
+use Rattle.office_sql.specs.Schema.{at, contents}
 
 -- the columns at these places, by the columns at those
 abbrev pub in_order : ℕ → List ℕ → List ℕ → Query
@@ -58,6 +61,10 @@ all_certificates = codes "SELECT run, body FROM certificates ORDER BY run"
 pub record IsByKey (keys : List ℕ) (bag rows : List Row) : Type 0 where
   pub same : IsPermutation bag rows
   pub sorted : IsSortedByKey (λ s. map (column s) keys) (key_cmp 0 (map (λ k. ascending Binary) keys)) rows
+
+-- the bytes of the rows of `contents` that have this number
+abbrev pub bytes_with : ℤ → Trees → List Row
+bytes_with num trees = map (λ row. column row 1 ∷ []) (filter (λ row. share ((0 ∷ []) ∷ []) row (Int num ∷ [])) (rows_of (at 9 contents) trees))
 
 abbrev pub content_of : List ℕ
 content_of = codes "SELECT bytes FROM contents WHERE record = ?1"

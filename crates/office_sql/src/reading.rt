@@ -1,5 +1,5 @@
 //! The eleven tables, each read whole in the order of its key.
-ghost use Rattle.std.specs.Prelude.{◌≡◌, [], ◌∷◌, map, take, IfOk, OnOk};
+ghost use Rattle.std.specs.Prelude.{◌≡◌, [], ◌∷◌, false, map, take, IfOk, OnOk};
 ghost use Rattle.sqlite.specs.Held.{state};
 ghost use Rattle.sqlite.specs.State.{HasCleanDisk, IsUnchanged, Survives};
 ghost use Rattle.office_sql.specs.Bags.{rows_of};
@@ -12,18 +12,17 @@ use sqlite::{Alter, Connection, Error, Row};
 pub fn all_office<S: Alter>(conn: &mut Connection<S>) -> Result<Vec<Row>, Error>
     ensures rows { HasCleanDisk (state S.Store conn.new) → (state S.Store conn.old).now.schema ≡ office_schema → IfOk result (λ rows. IsByKey (0 ∷ []) (rows_of (at 0 office) (state S.Store conn.old).now.trees) rows.items) }
     ensures same { HasCleanDisk (state S.Store conn.new) → (state S.Store conn.old).now.schema ≡ office_schema → OnOk result (IsUnchanged (state S.Store conn.old) (state S.Store conn.new)) }
+    ensures mode { conn.old.in_transaction ≡ false → conn.new.in_transaction ≡ false }
     ensures survives { (state S.Store conn.old).now.schema ≡ office_schema → Survives (state S.Store conn.old) (state S.Store conn.new) (λ _. ⊥) }
 {
-    conn.query_all(
-        "SELECT one, version, day FROM office ORDER BY one",
-        &[],
-    )
+    conn.query_all("SELECT one, version, day FROM office ORDER BY one", &[])
 }
 
 /// The rows of `schedules` in the order of their key.
 pub fn all_schedules<S: Alter>(conn: &mut Connection<S>) -> Result<Vec<Row>, Error>
     ensures rows { HasCleanDisk (state S.Store conn.new) → (state S.Store conn.old).now.schema ≡ office_schema → IfOk result (λ rows. IsByKey (0 ∷ []) (rows_of (at 1 schedules) (state S.Store conn.old).now.trees) rows.items) }
     ensures same { HasCleanDisk (state S.Store conn.new) → (state S.Store conn.old).now.schema ≡ office_schema → OnOk result (IsUnchanged (state S.Store conn.old) (state S.Store conn.new)) }
+    ensures mode { conn.old.in_transaction ≡ false → conn.new.in_transaction ≡ false }
     ensures survives { (state S.Store conn.old).now.schema ≡ office_schema → Survives (state S.Store conn.old) (state S.Store conn.new) (λ _. ⊥) }
 {
     conn.query_all(
@@ -36,6 +35,7 @@ pub fn all_schedules<S: Alter>(conn: &mut Connection<S>) -> Result<Vec<Row>, Err
 pub fn all_classes<S: Alter>(conn: &mut Connection<S>) -> Result<Vec<Row>, Error>
     ensures rows { HasCleanDisk (state S.Store conn.new) → (state S.Store conn.old).now.schema ≡ office_schema → IfOk result (λ rows. IsByKey (0 ∷ []) (rows_of (at 3 classes) (state S.Store conn.old).now.trees) rows.items) }
     ensures same { HasCleanDisk (state S.Store conn.new) → (state S.Store conn.old).now.schema ≡ office_schema → OnOk result (IsUnchanged (state S.Store conn.old) (state S.Store conn.new)) }
+    ensures mode { conn.old.in_transaction ≡ false → conn.new.in_transaction ≡ false }
     ensures survives { (state S.Store conn.old).now.schema ≡ office_schema → Survives (state S.Store conn.old) (state S.Store conn.new) (λ _. ⊥) }
 {
     conn.query_all(
@@ -48,6 +48,7 @@ pub fn all_classes<S: Alter>(conn: &mut Connection<S>) -> Result<Vec<Row>, Error
 pub fn all_aggregations<S: Alter>(conn: &mut Connection<S>) -> Result<Vec<Row>, Error>
     ensures rows { HasCleanDisk (state S.Store conn.new) → (state S.Store conn.old).now.schema ≡ office_schema → IfOk result (λ rows. IsByKey (0 ∷ []) (rows_of (at 5 aggregations) (state S.Store conn.old).now.trees) rows.items) }
     ensures same { HasCleanDisk (state S.Store conn.new) → (state S.Store conn.old).now.schema ≡ office_schema → OnOk result (IsUnchanged (state S.Store conn.old) (state S.Store conn.new)) }
+    ensures mode { conn.old.in_transaction ≡ false → conn.new.in_transaction ≡ false }
     ensures survives { (state S.Store conn.old).now.schema ≡ office_schema → Survives (state S.Store conn.old) (state S.Store conn.new) (λ _. ⊥) }
 {
     conn.query_all(
@@ -60,6 +61,7 @@ pub fn all_aggregations<S: Alter>(conn: &mut Connection<S>) -> Result<Vec<Row>, 
 pub fn all_records<S: Alter>(conn: &mut Connection<S>) -> Result<Vec<Row>, Error>
     ensures rows { HasCleanDisk (state S.Store conn.new) → (state S.Store conn.old).now.schema ≡ office_schema → IfOk result (λ rows. IsByKey (0 ∷ []) (rows_of (at 7 records) (state S.Store conn.old).now.trees) rows.items) }
     ensures same { HasCleanDisk (state S.Store conn.new) → (state S.Store conn.old).now.schema ≡ office_schema → OnOk result (IsUnchanged (state S.Store conn.old) (state S.Store conn.new)) }
+    ensures mode { conn.old.in_transaction ≡ false → conn.new.in_transaction ≡ false }
     ensures survives { (state S.Store conn.old).now.schema ≡ office_schema → Survives (state S.Store conn.old) (state S.Store conn.new) (λ _. ⊥) }
 {
     conn.query_all(
@@ -72,18 +74,17 @@ pub fn all_records<S: Alter>(conn: &mut Connection<S>) -> Result<Vec<Row>, Error
 pub fn all_contents<S: Alter>(conn: &mut Connection<S>) -> Result<Vec<Row>, Error>
     ensures rows { HasCleanDisk (state S.Store conn.new) → (state S.Store conn.old).now.schema ≡ office_schema → IfOk result (λ rows. IsByKey (0 ∷ []) (map (take 1) (rows_of (at 9 contents) (state S.Store conn.old).now.trees)) rows.items) }
     ensures same { HasCleanDisk (state S.Store conn.new) → (state S.Store conn.old).now.schema ≡ office_schema → OnOk result (IsUnchanged (state S.Store conn.old) (state S.Store conn.new)) }
+    ensures mode { conn.old.in_transaction ≡ false → conn.new.in_transaction ≡ false }
     ensures survives { (state S.Store conn.old).now.schema ≡ office_schema → Survives (state S.Store conn.old) (state S.Store conn.new) (λ _. ⊥) }
 {
-    conn.query_all(
-        "SELECT record FROM contents ORDER BY record",
-        &[],
-    )
+    conn.query_all("SELECT record FROM contents ORDER BY record", &[])
 }
 
 /// The rows of `holds` in the order of their key.
 pub fn all_holds<S: Alter>(conn: &mut Connection<S>) -> Result<Vec<Row>, Error>
     ensures rows { HasCleanDisk (state S.Store conn.new) → (state S.Store conn.old).now.schema ≡ office_schema → IfOk result (λ rows. IsByKey (0 ∷ []) (rows_of (at 10 holds) (state S.Store conn.old).now.trees) rows.items) }
     ensures same { HasCleanDisk (state S.Store conn.new) → (state S.Store conn.old).now.schema ≡ office_schema → OnOk result (IsUnchanged (state S.Store conn.old) (state S.Store conn.new)) }
+    ensures mode { conn.old.in_transaction ≡ false → conn.new.in_transaction ≡ false }
     ensures survives { (state S.Store conn.old).now.schema ≡ office_schema → Survives (state S.Store conn.old) (state S.Store conn.new) (λ _. ⊥) }
 {
     conn.query_all(
@@ -96,6 +97,7 @@ pub fn all_holds<S: Alter>(conn: &mut Connection<S>) -> Result<Vec<Row>, Error>
 pub fn all_targets<S: Alter>(conn: &mut Connection<S>) -> Result<Vec<Row>, Error>
     ensures rows { HasCleanDisk (state S.Store conn.new) → (state S.Store conn.old).now.schema ≡ office_schema → IfOk result (λ rows. IsByKey (0 ∷ 1 ∷ 2 ∷ []) (rows_of (at 12 targets) (state S.Store conn.old).now.trees) rows.items) }
     ensures same { HasCleanDisk (state S.Store conn.new) → (state S.Store conn.old).now.schema ≡ office_schema → OnOk result (IsUnchanged (state S.Store conn.old) (state S.Store conn.new)) }
+    ensures mode { conn.old.in_transaction ≡ false → conn.new.in_transaction ≡ false }
     ensures survives { (state S.Store conn.old).now.schema ≡ office_schema → Survives (state S.Store conn.old) (state S.Store conn.new) (λ _. ⊥) }
 {
     conn.query_all(
@@ -108,6 +110,7 @@ pub fn all_targets<S: Alter>(conn: &mut Connection<S>) -> Result<Vec<Row>, Error
 pub fn all_runs<S: Alter>(conn: &mut Connection<S>) -> Result<Vec<Row>, Error>
     ensures rows { HasCleanDisk (state S.Store conn.new) → (state S.Store conn.old).now.schema ≡ office_schema → IfOk result (λ rows. IsByKey (0 ∷ []) (rows_of (at 14 runs) (state S.Store conn.old).now.trees) rows.items) }
     ensures same { HasCleanDisk (state S.Store conn.new) → (state S.Store conn.old).now.schema ≡ office_schema → OnOk result (IsUnchanged (state S.Store conn.old) (state S.Store conn.new)) }
+    ensures mode { conn.old.in_transaction ≡ false → conn.new.in_transaction ≡ false }
     ensures survives { (state S.Store conn.old).now.schema ≡ office_schema → Survives (state S.Store conn.old) (state S.Store conn.new) (λ _. ⊥) }
 {
     conn.query_all(
@@ -120,6 +123,7 @@ pub fn all_runs<S: Alter>(conn: &mut Connection<S>) -> Result<Vec<Row>, Error>
 pub fn all_entries<S: Alter>(conn: &mut Connection<S>) -> Result<Vec<Row>, Error>
     ensures rows { HasCleanDisk (state S.Store conn.new) → (state S.Store conn.old).now.schema ≡ office_schema → IfOk result (λ rows. IsByKey (0 ∷ 1 ∷ []) (rows_of (at 15 entries) (state S.Store conn.old).now.trees) rows.items) }
     ensures same { HasCleanDisk (state S.Store conn.new) → (state S.Store conn.old).now.schema ≡ office_schema → OnOk result (IsUnchanged (state S.Store conn.old) (state S.Store conn.new)) }
+    ensures mode { conn.old.in_transaction ≡ false → conn.new.in_transaction ≡ false }
     ensures survives { (state S.Store conn.old).now.schema ≡ office_schema → Survives (state S.Store conn.old) (state S.Store conn.new) (λ _. ⊥) }
 {
     conn.query_all(
@@ -132,10 +136,8 @@ pub fn all_entries<S: Alter>(conn: &mut Connection<S>) -> Result<Vec<Row>, Error
 pub fn all_certificates<S: Alter>(conn: &mut Connection<S>) -> Result<Vec<Row>, Error>
     ensures rows { HasCleanDisk (state S.Store conn.new) → (state S.Store conn.old).now.schema ≡ office_schema → IfOk result (λ rows. IsByKey (0 ∷ []) (rows_of (at 17 certificates) (state S.Store conn.old).now.trees) rows.items) }
     ensures same { HasCleanDisk (state S.Store conn.new) → (state S.Store conn.old).now.schema ≡ office_schema → OnOk result (IsUnchanged (state S.Store conn.old) (state S.Store conn.new)) }
+    ensures mode { conn.old.in_transaction ≡ false → conn.new.in_transaction ≡ false }
     ensures survives { (state S.Store conn.old).now.schema ≡ office_schema → Survives (state S.Store conn.old) (state S.Store conn.new) (λ _. ⊥) }
 {
-    conn.query_all(
-        "SELECT run, body FROM certificates ORDER BY run",
-        &[],
-    )
+    conn.query_all("SELECT run, body FROM certificates ORDER BY run", &[])
 }
