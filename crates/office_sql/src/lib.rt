@@ -15,6 +15,8 @@ mod putting;
 mod putting_records;
 mod reading;
 mod removing;
+#[cfg(test)]
+mod tests;
 mod values;
 
 pub use content::content_of;
