@@ -9,6 +9,7 @@ pub mod DecidedHolds
 pub mod DecidedRecords
 pub mod DecidedTree
 pub mod Decisions
+pub mod DueLists
 pub mod Feasible
 pub mod HeldSteps
 pub mod HoldRows
@@ -19,7 +20,6 @@ pub mod LesserRefusals
 pub mod Listing
 pub mod NextReady
 pub mod NumberedRows
-pub mod OfficeChanges
 pub mod OfficeSound
 pub mod OneState
 pub mod OneStep

@@ -15,12 +15,6 @@ pub next_by_row : (s : Office) (run : ℕ) (it : Run) → numbered s.runs run �
 next_by_row s run it there =
     ap (λ o. ready_after s (unwrap_or (option_map (λ (row : Run). row.day) o) (pos 0)) (unwrap_or (option_map (λ (row : Run). row.cursor) o) 0)) there
 
--- above the last record there is none
-pub none_after : (s : Office) (day : ℤ) (before : ℕ) → length s.tree.records ≤ before → ready_after s day before ≡ None
-none_after s day before h =
-    let left : length s.tree.records - before ≡ 0 = omega arith in
-    ap (λ n. find (is_ready s day) (numbers_after before n)) left
-
 one_after : (count before : ℕ) → before < count → numbers_after before (count - before) ≡ (before + 1) ∷ numbers_after (before + 1) (count - (before + 1))
 one_after count before h =
     let left : count - before ≡ suc (count - (before + 1)) = omega arith in

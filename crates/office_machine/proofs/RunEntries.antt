@@ -30,7 +30,11 @@ module _ {K V : Type 0} {R : K → K → Ordering} (o : IsTotalOrder R) where
       ∙ ap (put R e.0 e.1) (entries_of_ordered es rises.1)
       ∙ put_first e.0 e.1 es rises.0
 
+-- the values of a map in order are those of the model's map of its entries
+pub values_ordered : (es : List ((ℕ × ℕ) × Entry)) → IsStrictlySortedBy entry_cmp (map (λ e. e.0) es) → values_of es ≡ values (from_entries {R = entry_cmp} es)
+values_ordered es rises = ap (λ (all : List ((ℕ × ℕ) × Entry)). map (λ e. e.1) all) (sym (entries_of_ordered entry_total es rises))
+
 -- the entries of a run among those of a map in order are those among the values of the model's map
 pub of_run_ordered : (run : ℕ) (es : List ((ℕ × ℕ) × Entry)) → IsStrictlySortedBy entry_cmp (map (λ e. e.0) es)
     → filter (λ (e : Entry). e.run == run) (values_of es) ≡ filter (λ (e : Entry). e.run == run) (values (from_entries {R = entry_cmp} es))
-of_run_ordered run es rises = ap (λ (all : List ((ℕ × ℕ) × Entry)). filter (λ (e : Entry). e.run == run) (map (λ e. e.1) all)) (sym (entries_of_ordered entry_total es rises))
+of_run_ordered run es rises = ap (filter (λ (e : Entry). e.run == run)) (values_ordered es rises)

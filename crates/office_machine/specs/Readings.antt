@@ -1,9 +1,9 @@
 -- What is read of the office. Source: own; what is told of a record is MoReq2010's, its record, disposal scheduling and
 -- disposal holding services.
-use Rattle.std.specs.Prelude.{◌↔◌, IsTrue, ℕ, ◌==◌, Bool, true, false, ◌&&◌, List, [], Option, Some, None, ℤ, pos, int_le, if◌then◌else◌}
+use Rattle.std.specs.Prelude.{◌≡◌, ◌↔◌, IsTrue, ℕ, ◌==◌, Bool, true, false, ◌&&◌, List, [], Option, Some, None, ℤ, pos, int_le, if◌then◌else◌}
 use Rattle.std.specs.List.{find, Contains}
 use Rattle.std.specs.List.Sorted.{IsStrictlySortedBy}
-use Rattle.std.specs.Option.{option_map, unwrap_or}
+use Rattle.std.specs.Option.{unwrap_or}
 use Rattle.std.specs.Ordering.{int_cmp, nat_cmp, ordering_then}
 use Rattle.std.specs.declared.cmp.Ordering.{Ordering}
 use Rattle.std.specs.FinMap.{values}
@@ -72,6 +72,10 @@ is_due_here tree day r = holds_of (status_of tree r) is_here && holds_of (due_of
 -- its due day, where that is so
 abbrev pub due_here : TreeState → ℤ → ℕ → Option ℤ
 due_here tree day r = if is_due_here tree day r then due_of tree r else None
+
+-- the pairs are of the records that are here and due on that day or before it: the due day and the number
+abbrev pub AreDuePairs : TreeState → ℤ → List (ℤ × ℕ) → Type 0
+AreDuePairs tree day pairs = (due : ℤ) (r : ℕ) → (Contains pairs (due, r) ↔ (due_here tree day r ≡ Some due))
 
 -- by due day, then number
 abbrev pub due_cmp : TreeState → ℕ → ℕ → Ordering

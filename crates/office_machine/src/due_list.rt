@@ -1,6 +1,6 @@
 ghost use Rattle.std.specs.Prelude.{◌≡◌, IfOk, IsTrue};
 ghost use Rattle.office_tree.specs.Tree.{has_record};
-ghost use Rattle.office_machine.specs.Readings.{IsDueList, due_here};
+ghost use Rattle.office_machine.specs.Readings.{AreDuePairs, IsDueList, due_here};
 
 use office_days::{Day, DueDay};
 use office_tree::{Memory, RecordNo, Status, Tree};
@@ -21,12 +21,9 @@ fn due_here(tree: &Tree, record_no: RecordNo, day: Day) -> Option<DueDay>
     }
 }
 
-/// The records that are here and due, by due day and number.
-fn due_pairs(
-    alloc: Global,
-    tree: &Tree,
-    day: Day,
-) -> Result<BTreeSet<(DueDay, RecordNo)>, Memory>
+/// The records that are here and due on that day or before it, each by its due day and number.
+fn due_pairs(alloc: Global, tree: &Tree, day: Day) -> Result<BTreeSet<(DueDay, RecordNo)>, Memory>
+    ensures { IfOk result (λ pairs. AreDuePairs tree.now day pairs.keys) }
 {
     let mut pairs = BTreeSet::new(alloc);
     for before in 0..tree.record_count() {

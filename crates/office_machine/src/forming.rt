@@ -102,7 +102,10 @@ impl Act {
     {
         match self {
             Act::AddSchedule {
-                day, code, period, ..
+                day,
+                code,
+                period,
+                ..
             } => {
                 formed_day(*day);
                 formed_code(code);
@@ -178,7 +181,10 @@ impl Act {
                 formed_text(by);
             }
             Act::Review {
-                day, schedule, by, ..
+                day,
+                schedule,
+                by,
+                ..
             } => {
                 formed_day(*day);
                 formed_code_or_none(schedule);

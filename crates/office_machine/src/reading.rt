@@ -145,7 +145,11 @@ impl Parts {
     }
 
     /// What is told of the record; `None` where it is not there.
-    pub(crate) fn view(&self, alloc: Global, record_no: RecordNo) -> Result<Option<RecordView>, Memory>
+    pub(crate) fn view(
+        &self,
+        alloc: Global,
+        record_no: RecordNo,
+    ) -> Result<Option<RecordView>, Memory>
         ensures { IfOk result (λ view. view ≡ record_view self.now record_no) }
     {
         if !self.tree.has_record(record_no) {

@@ -13,6 +13,10 @@ mod filing_tests;
 #[cfg(test)]
 mod hold_tests;
 #[cfg(test)]
+mod limit_tests;
+#[cfg(test)]
+mod reading_tests;
+#[cfg(test)]
 mod run_tests;
 #[cfg(test)]
 mod telling;
