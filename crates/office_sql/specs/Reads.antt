@@ -64,7 +64,7 @@ pub record IsByKey (keys : List ℕ) (bag rows : List Row) : Type 0 where
 
 -- the bytes of the rows of `contents` that have this number
 abbrev pub bytes_with : ℤ → Trees → List Row
-bytes_with num trees = map (λ row. column row 1 ∷ []) (filter (λ row. share ((0 ∷ []) ∷ []) row (Int num ∷ [])) (rows_of (at 9 contents) trees))
+bytes_with num trees = map (λ shown_row. column shown_row 1 ∷ []) (filter (λ row. share ((0 ∷ []) ∷ []) row (Int num ∷ [])) (rows_of (at 9 contents) trees))
 
 abbrev pub content_of : List ℕ
 content_of = codes "SELECT bytes FROM contents WHERE record = ?1"
