@@ -48,6 +48,7 @@ pub mod SoundTaken
 pub mod SoundTree
 pub mod SpentByEntries
 pub mod StepSound
+pub mod StepsMade
 pub mod Stored
 pub mod WorkedBase
 pub mod WorkedClosing

@@ -1,5 +1,5 @@
 -- One step of the office for an act, and what a decision on it is. Source: own.
-use Rattle.std.specs.Prelude.{◌≡◌, ◌≤◌, ℕ, Bool, true, false, List, [], ◌∷◌, length}
+use Rattle.std.specs.Prelude.{◌≡◌, ◌≤◌, ℕ, Bool, true, false, List, [], ◌∷◌, length, zero, suc}
 use Rattle.office_machine.specs.Meanings.{IsHeldIn}
 use Rattle.office_machine.specs.Sound.{IsSoundOffice}
 use Rattle.office_machine.specs.State.{State, Office, ByteMap, with_contents}
@@ -76,6 +76,11 @@ may_release _ = false
 abbrev pub KeepsHeld : Office → Decision → Type 0
 KeepsHeld s (decision.Stay answer) = Unit {0}
 KeepsHeld s (decision.Go change) = (r : ℕ) → IsHeldIn s r → IsHeldIn (all_office_writes change.writes.items s) r
+
+-- so many steps of a run, each decided and made, lead from one office to another
+abbrev pub AreStepsMade : ℕ → Office → Office → Type 0
+AreStepsMade zero s t = s ≡ t
+AreStepsMade (suc n) s t = (change : Change) × IsDecidedFor s act.RunStep (decision.Go change) × AreStepsMade n (all_office_writes change.writes.items s) t
 
 -- an act on schedules and classes
 abbrev pub IsOnSchedules : Act → Type 0
