@@ -15,8 +15,6 @@ mod putting;
 mod putting_records;
 mod reading;
 mod removing;
-#[cfg(test)]
-mod tests;
 mod values;
 
 pub use content::content_of;
