@@ -1,49 +1,28 @@
 //! What is read of an office between acts.
 use crate::acts::day;
 use crate::base::base_office;
-use office_machine::{Machine, RecordView};
-use office_tree::Status;
+use office_machine::Machine;
 use std::test::Fail;
 
-/// What is told of a record, which must be there.
-fn view(rt: &HostRuntime, office: &Machine, record_no: u32) -> Result<RecordView, Fail> {
-    Ok(office.record(rt.alloc(), record_no)?.ok_or("no record")?)
+/// The length of a record's content, and the first and the last byte of its digest.
+fn content_told(rt: &HostRuntime, office: &Machine, record_no: u32) -> Result<(u32, u8, u8), Fail> {
+    let view = office.record(rt.alloc(), record_no)?.ok_or("no record")?;
+    Ok((view.length, view.digest[0], view.digest[31]))
+}
+
+/// The run of the entry that ended a record, 0 where none did.
+fn ended_in(rt: &HostRuntime, office: &Machine, record_no: u32) -> Result<u32, Fail> {
+    match office.entry_of(rt.alloc(), record_no)? {
+        Some(entry) => Ok(entry.run),
+        None => Ok(0),
+    }
 }
 
 #[test]
-fn a_record_is_told_with_what_the_office_says_of_it_now(rt: HostRuntime) -> Result<(), Fail> {
+fn a_record_is_told_with_its_digest(rt: HostRuntime) -> Result<(), Fail> {
     let office = base_office(&rt, "")?;
-    let first = view(&rt, &office, 1)?;
-    assert_eq!(rt; first.number, 1);
-    assert_eq!(rt; first.ref_text.text(), "r1");
-    assert_eq!(rt; first.length, 3);
-    assert_eq!(rt; first.digest[0], 0xba);
-    assert_eq!(rt; first.digest[31], 0xad);
-    assert_eq!(rt; first.class.text(), "FIN");
-    assert_eq!(rt; first.schedule.text(), "D1");
-    assert_eq!(rt; first.status, Status::Here);
-    assert_eq!(rt; first.counts, false);
-    let second = view(&rt, &office, 2)?;
-    assert_eq!(rt; second.length, 0);
-    assert_eq!(rt; second.digest[0], 0xe3);
-    assert_eq!(rt; second.digest[31], 0x55);
-    assert!(rt; office.record(rt.alloc(), 4)?.is_none());
-    Ok(())
-}
-
-#[test]
-fn the_due_list_goes_by_due_day_and_then_by_number(rt: HostRuntime) -> Result<(), Fail> {
-    let office = base_office(
-        &rt,
-        "
-        2024-03-01 add-schedule L last-addition days 30 destroy = done
-        2024-03-01 set-record-schedule 3 L = done
-        ",
-    )?;
-    let early = office.due_list(rt.alloc(), day("2024-02-01")?)?;
-    assert_eq!(rt; early.as_slice(), [3].as_slice());
-    let all = office.due_list(rt.alloc(), day("2025-01-02")?)?;
-    assert_eq!(rt; all.as_slice(), [3, 1, 2].as_slice());
+    assert_eq!(rt; content_told(&rt, &office, 1)?, (3, 0xba, 0xad));
+    assert_eq!(rt; content_told(&rt, &office, 2)?, (0, 0xe3, 0x55));
     Ok(())
 }
 
@@ -61,11 +40,23 @@ fn an_ended_record_has_the_entry_that_ended_it(rt: HostRuntime) -> Result<(), Fa
         2025-01-02 run-step = step 3 skipped
         ",
     )?;
-    let ending = office.entry_of(rt.alloc(), 1)?.ok_or("no entry")?;
-    assert_eq!(rt; (ending.run, ending.record_no), (1, 1));
-    assert!(rt; office.entry_of(rt.alloc(), 3)?.is_none());
-    assert_eq!(rt; office.entries(rt.alloc())?.len(), 2);
-    assert_eq!(rt; view(&rt, &office, 1)?.status, Status::Ended);
-    assert!(rt; office.certificate(rt.alloc(), 1)?.is_none());
+    assert_eq!(rt; ended_in(&rt, &office, 1)?, 1);
+    assert_eq!(rt; ended_in(&rt, &office, 3)?, 0);
+    Ok(())
+}
+
+#[test]
+fn the_due_list_goes_by_due_day_and_then_by_number(rt: HostRuntime) -> Result<(), Fail> {
+    let office = base_office(
+        &rt,
+        "
+        2024-03-01 add-schedule L last-addition days 30 destroy = done
+        2024-03-01 set-record-schedule 3 L = done
+        ",
+    )?;
+    let early = office.due_list(rt.alloc(), day("2024-02-01")?)?;
+    assert_eq!(rt; early.as_slice(), [3].as_slice());
+    let all = office.due_list(rt.alloc(), day("2025-01-02")?)?;
+    assert_eq!(rt; all.as_slice(), [3, 1, 2].as_slice());
     Ok(())
 }
