@@ -1,4 +1,5 @@
-ghost use Rattle.std.specs.Prelude.{◌≡◌, OnOk, OnErr, None};
+ghost use Rattle.std.specs.Prelude.{◌≡◌, OnOk, OnErr, IsOk, IsTrue, None};
+ghost use Rattle.std.specs.FinMap.{contains_key};
 ghost use Rattle.office_tree.specs.Conditions.{first_of};
 ghost use Rattle.office_holds.specs.Conditions.{conditions_of_hold_off, conditions_of_hold_on, conditions_of_lift_hold, conditions_of_place_hold};
 ghost use Rattle.office_holds.specs.Effects.{held_off, held_on, lifted_hold, placed_hold};
@@ -59,6 +60,7 @@ impl Holds {
         requires { FitsHoldLimits (put_hold self.old code row) }
         ensures ok { OnOk result (self.new ≡ put_hold self.old code row) }
         ensures err { OnErr result (self.new ≡ self.old) }
+        ensures in_place { IsTrue (contains_key self.old code) → IsOk result }
     {
         put_in(&mut self.by_code, self.alloc, code, row)
     }

@@ -1,5 +1,5 @@
-ghost use Rattle.std.specs.Prelude.{◌≡◌, OnOk, OnErr, Some};
-ghost use Rattle.std.specs.FinMap.{from_entries};
+ghost use Rattle.std.specs.Prelude.{◌≡◌, OnOk, OnErr, IsOk, IsTrue, Some};
+ghost use Rattle.std.specs.FinMap.{contains_key, from_entries};
 ghost use Rattle.office_tree.specs.Tree.{code_cmp};
 ghost use Rattle.office_holds.specs.Effects.{held_off, held_on, lifted_hold};
 ghost use Rattle.office_holds.specs.Rows.{put_hold};
@@ -28,6 +28,7 @@ pub(crate) fn put_in(
 ) -> Result<(), Memory>
     ensures ok { OnOk result (from_entries {R = code_cmp} holds.new.entries ≡ put_hold (from_entries holds.old.entries) code row) }
     ensures err { OnErr result (holds.new.entries ≡ holds.old.entries) }
+    ensures in_place { IsTrue (contains_key (from_entries {R = code_cmp} holds.old.entries) code) → IsOk result }
 {
     if let Some(hold) = holds.get_mut(&code) {
         hold.set_row(row);

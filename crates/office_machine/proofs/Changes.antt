@@ -1,8 +1,8 @@
 -- What a change leads to, in the office and in its rows.
 use Rattle.std.proofs.Common.{◌≡◌, List, [], ◌∷◌, length, refl, sym, ap, ◌∙◌}
-use Rattle.office_machine.specs.Acts.{IsChangeTo, IsDecidedFor, step, with_contents}
+use Rattle.office_machine.specs.Acts.{IsDecidedFor, step}
 use Rattle.office_machine.specs.Rows.{rows_of, all_row_writes}
-use Rattle.office_machine.specs.State.{State, Office, ByteMap}
+use Rattle.office_machine.specs.State.{State, Office, ByteMap, with_contents}
 use Rattle.office_machine.specs.Writes.{write, all_writes, all_office_writes}
 use Rattle.office_machine.specs.declared.act.Act.{Act}
 use Rattle.office_machine.specs.declared.change.Change.{Change}

@@ -1,5 +1,5 @@
 -- The decision that adds a record: its row, its content and the office's day.
-use Rattle.std.proofs.Common.{◌≡◌, ◌≤◌, ◌<◌, ◌+◌, ℕ, suc, List, [], ◌∷◌, ◌++◌, length, Option, Some, None, ℤ, Vec, Global, refl, sym, ap, ◌∙◌, subst, arith}
+use Rattle.std.proofs.Common.{◌≡◌, ◌≤◌, ◌<◌, ◌+◌, ℕ, suc, List, [], ◌∷◌, length, Option, Some, None, ℤ, Vec, Global, sym, ap, ◌∙◌, subst, arith}
 use Rattle.std.specs.FinMap.{insert}
 use Rattle.office_days.specs.declared.refusal.Refusal.{Refusal}
 use Rattle.office_tree.specs.Conditions.{first_of, conditions_of_add_record}
@@ -9,17 +9,15 @@ use Rattle.office_tree.specs.Lists.{put}
 use Rattle.office_tree.specs.Sound as tree
 use Rattle.office_tree.specs.Tree.{TreeState}
 use Rattle.office_tree.specs.declared.head.Record.{Record}
-use Rattle.office_tree.specs.declared.status.Status.{Status}
 use Rattle.office_tree.specs.declared.status.Status.TheVariants.{Here}
 use Rattle.office_tree.proofs.Keeping.{IsSound-add_record}
 use Rattle.office_tree.proofs.Putting.{put_next}
-use Rattle.office_machine.specs.Acts.{IsChangeTo, with_contents}
+use Rattle.office_machine.specs.Acts.{IsChangeTo}
 use Rattle.office_machine.specs.Conditions.{dated, refusals_of_add_record, same_record}
 use Rattle.office_machine.specs.Effects.{new_head, with_new_record, with_tree}
-use Rattle.office_machine.specs.State.{Office, State, ByteMap}
+use Rattle.office_machine.specs.State.{with_contents, Office, ByteMap}
 use Rattle.office_machine.specs.Steps.{by_same_record, step_add_record}
 use Rattle.office_machine.specs.Writes.{CanWrite, all_writes}
-use Rattle.office_machine.specs.declared.answer.Answer.{Answer}
 use Rattle.office_machine.specs.declared.answer.Answer.TheVariants.{Number, Refused}
 use Rattle.office_machine.specs.declared.change.Change.{Change}
 use Rattle.office_machine.specs.declared.new_record.NewRecord.{NewRecord}

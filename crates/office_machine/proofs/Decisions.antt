@@ -1,9 +1,9 @@
 -- What a decision rests on: the first condition of an act's table that holds, or that none does.
-use Rattle.std.proofs.Common.{◌≡◌, ◌≤◌, ℕ, Bool, true, false, cond, List, [], ◌∷◌, length, Option, Some, None, ℤ, refl, sym, ap, ◌∙◌}
+use Rattle.std.proofs.Common.{◌≡◌, ◌≤◌, Bool, List, length, Some, None, sym, ap, ◌∙◌}
 use Rattle.office_days.specs.declared.refusal.Refusal.{Refusal}
 use Rattle.office_tree.specs.Conditions.{first_of}
-use Rattle.office_machine.specs.Acts.{IsChangeTo, with_contents}
-use Rattle.office_machine.specs.State.{Office, State, ByteMap}
+use Rattle.office_machine.specs.Acts.{IsChangeTo}
+use Rattle.office_machine.specs.State.{with_contents, Office, State, ByteMap}
 use Rattle.office_machine.specs.Steps.{stepped, by_refusal}
 use Rattle.office_machine.specs.Writes.{CanWrite, all_writes}
 use Rattle.office_machine.specs.declared.answer.Answer.{Answer}

@@ -72,7 +72,7 @@ any_by : {A : Type 0} (p : A → Bool) (x : A) (xs : List A) (b : Bool) → p x 
 any_by p x xs true is any rest = (x, contains_first x xs, is)
 any_by p x xs false is any rest = let later = rest any in (later.0, contains_later x xs later.0 later.1, later.2)
 
-any_is : {A : Type 0} (p : A → Bool) (xs : List A) → list_any p xs ≡ true → (y : A) × Contains xs y × (p y ≡ true)
+pub any_is : {A : Type 0} (p : A → Bool) (xs : List A) → list_any p xs ≡ true → (y : A) × Contains xs y × (p y ≡ true)
 any_is p [] any = absurd cc
 any_is p (x ∷ xs) any = any_by p x xs (p x) refl any (any_is p xs)
 
@@ -80,7 +80,7 @@ or_right : (b c : Bool) → c ≡ true → (b || c) ≡ true
 or_right true c e = refl
 or_right false c e = e
 
-is_any : {A : Type 0} (p : A → Bool) (xs : List A) (y : A) → Contains xs y → p y ≡ true → list_any p xs ≡ true
+pub is_any : {A : Type 0} (p : A → Bool) (xs : List A) (y : A) → Contains xs y → p y ≡ true → list_any p xs ≡ true
 is_any p [] y h passes = absurd (none_contained y h)
 is_any p (x ∷ xs) y h passes = elim (first_or_later x xs y h) [
   | inl same ↦ ap (λ b. b || list_any p xs) (ap p same ∙ passes)
@@ -267,7 +267,7 @@ within_is n a h = let both = and_parts (nat_le 1 a) (nat_le a n) h in (low a bot
     high : (a n : ℕ) → nat_le a n ≡ true → a ≤ 0 + n
     high a n h = grind (arith, nat_tests)
 
-abbrev HasEndedEntry : List Entry → ℕ → Type 0
+abbrev pub HasEndedEntry : List Entry → ℕ → Type 0
 HasEndedEntry entries r = (entry : Entry) × Contains entries entry × (entry.record_no ≡ r) × IsTrue (is_ending entry.outcome)
 
 ended_is : (entries : List Entry) (r : ℕ) → is_ended_in entries r ≡ true → HasEndedEntry entries r
@@ -281,22 +281,22 @@ is_ended_by entries r one =
     is_any (λ (e : Entry). e.record_no == r && is_ending e.outcome) entries one.0 one.1 (and_from (one.0.record_no == r) (is_ending one.0.outcome) (is_run one.0.record_no r one.2) one.3)
 
 -- a record below the aggregation that one of the entries ended
-abbrev HasEndedBelow : TreeState → List Entry → ℕ → Type 0
+abbrev pub HasEndedBelow : TreeState → List Entry → ℕ → Type 0
 HasEndedBelow tree entries a = (r : ℕ) × IsTrue (has_record tree r) × IsTrue (is_below tree a r) × HasEndedEntry entries r
 
-ended_below_is : (tree : TreeState) (entries : List Entry) (a : ℕ) → list_any (is_ended_in entries) (records_below tree a) ≡ true → HasEndedBelow tree entries a
+pub ended_below_is : (tree : TreeState) (entries : List Entry) (a : ℕ) → list_any (is_ended_in entries) (records_below tree a) ≡ true → HasEndedBelow tree entries a
 ended_below_is tree entries a h =
     let one = any_is (is_ended_in entries) (records_below tree a) h in
     let kept = kept_is (is_below tree a) (numbers_after 0 (length tree.records)) one.0 one.1 in
     let within = numbers_are 0 (length tree.records) one.0 kept.0 in
     (one.0, is_within (length tree.records) one.0 within.0 within.1, kept.1, ended_is entries one.0 one.2)
 
-is_ended_below : (tree : TreeState) (entries : List Entry) (a : ℕ) → HasEndedBelow tree entries a → list_any (is_ended_in entries) (records_below tree a) ≡ true
+pub is_ended_below : (tree : TreeState) (entries : List Entry) (a : ℕ) → HasEndedBelow tree entries a → list_any (is_ended_in entries) (records_below tree a) ≡ true
 is_ended_below tree entries a one =
     let within = within_is (length tree.records) one.0 one.1 in
     is_any (is_ended_in entries) (records_below tree a) one.0 (is_kept (is_below tree a) (numbers_after 0 (length tree.records)) one.0 (are_numbers 0 (length tree.records) one.0 within.0 within.1) one.2) (is_ended_by entries one.0 one.3)
 
-abbrev is_spent_by : TreeState → List Entry → ℕ → Bool
+abbrev pub is_spent_by : TreeState → List Entry → ℕ → Bool
 is_spent_by tree entries a = is_spent tree a && list_any (is_ended_in entries) (records_below tree a)
 
 abbrev IsSpentBy : TreeState → List Entry → ℕ → Type 0

@@ -9,10 +9,13 @@ use Rattle.std.specs.FinSet.{same_set}
 use Rattle.office_tree.specs.Lists.{holds_of}
 use Rattle.office_tree.specs.Tree.{code_cmp}
 use Rattle.office_holds.specs.Holds.{HoldMap, HoldState, has_target}
+use Rattle.office_holds.specs.Rows.{hold_row}
 use Rattle.office_holds.specs.declared.target.Target.{Target}
 use Rattle.office_holds.specs.declared.target.Target.TheVariants as target
-use Rattle.office_machine.specs.Rows.{hold_row, rows_of, record_rows, targets_of}
-use Rattle.office_machine.specs.State.{State}
+use Rattle.office_machine.specs.Rows.{rows_of, record_rows, targets_of}
+use Rattle.office_machine.specs.State.{State, with_contents}
+use Rattle.office_machine.specs.Tables.{StandsFor}
+use Rattle.office_machine.specs.declared.tables.Tables.{Tables}
 use Rattle.office_machine.proofs.HoldRows.{codes_apart}
 use Rattle.office_machine.proofs.KeyedRows.{rows_by, rows_by-get}
 use Rattle.office_machine.proofs.NumberedRows.{same_numbered, same_heads, same_statuses}
@@ -64,3 +67,21 @@ one_state s t e f same =
       };
       contents = contents i;
     }
+
+-- tables that were read stand for at most one office
+pub one_office : (t : Tables) (s u : State) → length s.office.tree.statuses ≡ length s.office.tree.records → length u.office.tree.statuses ≡ length u.office.tree.records → StandsFor t s → StandsFor t u → s.office ≡ u.office
+unfolding rows_of
+one_office t s u e f a b =
+    ap (λ (x : State). x.office) (one_state s (with_contents u.office s.contents) e f (λ i. record {
+      day = (sym a.day ∙ b.day) i;
+      schedules = (sym a.schedules ∙ b.schedules) i;
+      classes = (sym a.classes ∙ b.classes) i;
+      aggregations = (sym a.aggregations ∙ b.aggregations) i;
+      records = (sym a.records ∙ b.records) i;
+      contents = (rows_of s).contents;
+      holds = (sym a.holds ∙ b.holds) i;
+      targets = λ code target. (sym (a.targets code target) ∙ b.targets code target) i;
+      runs = (sym a.runs ∙ b.runs) i;
+      entries_by = (sym a.entries ∙ b.entries) i;
+      certificates = (sym a.certificates ∙ b.certificates) i;
+    }))

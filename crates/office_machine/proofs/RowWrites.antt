@@ -1,6 +1,5 @@
 -- Each write of a row makes of a state's rows those of the next.
 use Rattle.std.proofs.Common.{◌≡◌, ◌+◌, ◌≤◌, List, [], ◌∷◌, length, refl, ap, ◌∙◌, arith}
-use Rattle.std.specs.List.{AllByRecursion}
 use Rattle.std.specs.Cmp.{nat_cmp_total}
 use Rattle.std.specs.Cmp.Lexicographic.{nat_list_cmp_total}
 use Rattle.std.specs.FinMap.{get, entries-insert, nat_cmp-IsAntisymmetric}
@@ -8,9 +7,10 @@ use Rattle.std.specs.FinMap.Entries.{put}
 use Rattle.std.specs.String.{string_bytes}
 use Rattle.office_tree.specs.Tree.{code_cmp}
 use Rattle.office_holds.specs.Effects.{with_target, without_target}
-use Rattle.office_machine.specs.Rows.{all_row_writes, hold_row, numbered_rows, record_row, record_rows, rows_of, write_rows}
+use Rattle.office_holds.specs.Rows.{hold_from, hold_row}
+use Rattle.office_machine.specs.Rows.{all_row_writes, numbered_rows, record_row, record_rows, rows_of, write_rows}
 use Rattle.office_machine.specs.State.{State}
-use Rattle.office_machine.specs.Writes.{CanFollow, CanPut, CanWrite, HasPlace, all_writes, hold_from, write}
+use Rattle.office_machine.specs.Writes.{AllFollow, CanFollow, CanPut, CanWrite, HasPlace, all_writes, write}
 use Rattle.office_machine.specs.declared.rows.RowWrite.{RowWrite}
 use Rattle.office_machine.specs.declared.rows.RowWrite.TheVariants as row_write
 use Rattle.office_machine.proofs.HoldRows.{codes_apart, hold_from-row, targets_of-gone, targets_of-hold, targets_of-put, with_target-row, without_target-row}
@@ -48,25 +48,45 @@ written s (row_write.Day day) e h = refl
 
 -- ---- the writes of a change
 
+-- each record has a status
+abbrev EachHasStatus : State → Type 0
+EachHasStatus s = length s.office.tree.statuses ≡ length s.office.tree.records
+
 put_has_place : (s : State) (w : RowWrite) → CanPut s.office w → HasPlace s.office w
-put_has_place s (row_write.Schedule code schedule) h = tt
-put_has_place s (row_write.Class code class) h = tt
 put_has_place s (row_write.Aggregation number aggregation) h = (h.0, h.1)
 put_has_place s (row_write.Record number head status) h = (h.0, h.1)
+put_has_place s (row_write.Target hold target) h = h.0
+put_has_place s (row_write.Run number run) h = h
+put_has_place s (row_write.Schedule code schedule) h = tt
+put_has_place s (row_write.Class code class) h = tt
+put_has_place s (row_write.Hold code hold) h = tt
+put_has_place s (row_write.TargetGone hold target) h = tt
+put_has_place s (row_write.Entry entry) h = tt
+put_has_place s (row_write.Certificate run text) h = tt
 put_has_place s w h = absurd h
 
-followed : (s : State) (w : RowWrite) → CanFollow w → rows_of (write w s) ≡ write_rows w (rows_of s)
-unfolding rows_of
-followed s (row_write.Content number bytes) h = λ i. record (rows_of s) { contents = entries-insert nat_cmp_total s.contents number bytes.items i }
-followed s (row_write.ContentGone number) h = λ i. record (rows_of s) { contents = entries-remove nat_cmp_total nat_cmp-IsAntisymmetric s.contents number i }
-followed s (row_write.Day day) h = refl
-followed s w h = absurd h
+follow_has_place : (s : State) (w : RowWrite) → CanFollow s.office w → HasPlace s.office w
+follow_has_place s (row_write.Record number head status) h = (h.0, omega (arith, h.1))
+follow_has_place s (row_write.Run number run) h = (h.0, omega (arith, h.1))
+follow_has_place s (row_write.Content number bytes) h = tt
+follow_has_place s (row_write.ContentGone number) h = tt
+follow_has_place s (row_write.Day day) h = tt
+follow_has_place s w h = absurd h
 
-all_followed : (s : State) (ws : List RowWrite) → AllByRecursion CanFollow ws → rows_of (all_writes ws s) ≡ all_row_writes ws (rows_of s)
-all_followed s [] h = refl
-all_followed s (w ∷ ws) h = all_followed (write w s) ws h.1 ∙ ap (all_row_writes ws) (followed s w h.0)
+-- a tree with a record put in that is sound has a status for each record, and other writes leave both
+put_has_status : (s : State) (w : RowWrite) → EachHasStatus s → CanPut s.office w → EachHasStatus (write w s)
+put_has_status s (row_write.Record number head status) e h = h.2.statuses
+put_has_status s w e h = e
+
+follow_has_status : (s : State) (w : RowWrite) → EachHasStatus s → CanFollow s.office w → EachHasStatus (write w s)
+follow_has_status s (row_write.Record number head status) e h = h.2.statuses
+follow_has_status s w e h = e
+
+all_followed : (s : State) (ws : List RowWrite) → EachHasStatus s → AllFollow s.office ws → rows_of (all_writes ws s) ≡ all_row_writes ws (rows_of s)
+all_followed s [] e h = refl
+all_followed s (w ∷ ws) e h = all_followed (write w s) ws (follow_has_status s w e h.0) h.1 ∙ ap (all_row_writes ws) (written s w e (follow_has_place s w h.0))
 
 -- and the writes that the machine can do, one after another
 pub all_written : (s : State) (ws : List RowWrite) → length s.office.tree.statuses ≡ length s.office.tree.records → CanWrite s.office ws → rows_of (all_writes ws s) ≡ all_row_writes ws (rows_of s)
 all_written s [] e h = refl
-all_written s (w ∷ ws) e h = all_followed (write w s) ws h.1 ∙ ap (all_row_writes ws) (written s w e (put_has_place s w h.0))
+all_written s (w ∷ ws) e h = all_followed (write w s) ws (put_has_status s w e h.0) h.1 ∙ ap (all_row_writes ws) (written s w e (put_has_place s w h.0))

@@ -26,7 +26,7 @@ use Rattle.office_machine.proofs.SoundRuns.{IsOpenIn, open_there, sound_closed}
 use Rattle.office_machine.proofs.SoundTaken.{IsTaken, Taken, taken}
 
 -- the state with an outcome of one record and its entry, and the cursor at it
-abbrev with_outcome : State → ℕ → ℕ → Option Outcome → State
+abbrev pub with_outcome : State → ℕ → ℕ → Option Outcome → State
 with_outcome s run r o = record {
   office = record (s.office) {
     tree = record (s.office.tree) { statuses = statuses_with s.office.tree.statuses r o };

@@ -1,9 +1,10 @@
 -- One step of the office for an act, and what a decision on it is. Source: own.
-use Rattle.std.specs.Prelude.{◌≡◌, ◌≤◌, ℕ, List, [], ◌∷◌, length}
-use Rattle.office_tree.specs.declared.class.Class.{Class}
-use Rattle.office_machine.specs.State.{State, Office, ByteMap}
-use Rattle.office_machine.specs.Steps.{step_add_schedule, step_add_class, step_set_class_schedule, step_add_aggregation, step_close_aggregation, step_add_record, step_set_record_schedule, step_reclassify, step_confirm, step_review}
-use Rattle.office_machine.specs.Writes.{all_writes, CanWrite}
+use Rattle.std.specs.Prelude.{◌≡◌, ◌≤◌, ℕ, Bool, true, false, List, [], ◌∷◌, length, zero, suc}
+use Rattle.office_machine.specs.Meanings.{IsHeldIn}
+use Rattle.office_machine.specs.Sound.{IsSoundOffice}
+use Rattle.office_machine.specs.State.{State, Office, ByteMap, with_contents}
+use Rattle.office_machine.specs.Steps.{step_add_schedule, step_add_class, step_set_class_schedule, step_add_aggregation, step_close_aggregation, step_add_record, step_set_record_schedule, step_reclassify, step_place_hold, step_hold_on, step_hold_off, step_lift_hold, step_confirm, step_review, step_open_run, step_run_step}
+use Rattle.office_machine.specs.Writes.{all_writes, all_office_writes, CanWrite}
 use Rattle.office_machine.specs.declared.act.Act.{Act}
 use Rattle.office_machine.specs.declared.act.Act.TheVariants as act
 use Rattle.office_machine.specs.declared.answer.Answer.{Answer}
@@ -23,6 +24,12 @@ step s (act.SetRecordSchedule day r schedule) = step_set_record_schedule s day r
 step s (act.Reclassify day what class) = step_reclassify s day what class
 step s (act.Confirm day r named by) = step_confirm s day r named by
 step s (act.Review day r schedule by) = step_review s day r schedule by
+step s (act.PlaceHold day code reason by) = step_place_hold s day code reason by
+step s (act.HoldOn day code target) = step_hold_on s day code target
+step s (act.HoldOff day code target) = step_hold_off s day code target
+step s (act.LiftHold day code) = step_lift_hold s day code
+step s (act.OpenRun day by) = step_open_run s day by
+step s act.RunStep = step_run_step s
 
 -- the state after acts, one after another
 abbrev pub after : State → List Act → State
@@ -33,10 +40,6 @@ after s (a ∷ rest) = after (step s a).1 rest
 abbrev pub answers : State → List Act → List Answer
 answers s [] = []
 answers s (a ∷ rest) = (step s a).0 ∷ answers (step s a).1 rest
-
--- the office with contents
-abbrev pub with_contents : Office → ByteMap → State
-with_contents s contents = record { office = s; contents = contents }
 
 -- a change that is right where each contents lead to such an answer and next state: its answer, at most six writes that can be done, and what they lead to
 pub record IsChangeTo (s : Office) (next : ByteMap → Answer × State) (change : Change) : Type 0 where
@@ -53,6 +56,31 @@ IsDecidedTo s next (decision.Go change) = IsChangeTo s next change
 -- and right for an act: it is that one's step, whatever the contents
 abbrev pub IsDecidedFor : Office → Act → Decision → Type 0
 IsDecidedFor s a d = IsDecidedTo s (λ contents. step (with_contents s contents) a) d
+
+-- a change that can be made in an office: its writes can be done, and they lead to a sound office
+unfoldable pub CanBeMade : Office → Change → Type 0
+CanBeMade s change = CanWrite s change.writes.items × IsSoundOffice (all_office_writes change.writes.items s)
+
+-- what is decided can be made
+abbrev pub IsFeasible : Office → Decision → Type 0
+IsFeasible s (decision.Stay answer) = Unit {0}
+IsFeasible s (decision.Go change) = CanBeMade s change
+
+-- an act that may let a record out of a hold
+abbrev pub may_release : Act → Bool
+may_release (act.HoldOff day code target) = true
+may_release (act.LiftHold day code) = true
+may_release _ = false
+
+-- every record that is held is held after what is decided
+abbrev pub KeepsHeld : Office → Decision → Type 0
+KeepsHeld s (decision.Stay answer) = Unit {0}
+KeepsHeld s (decision.Go change) = (r : ℕ) → IsHeldIn s r → IsHeldIn (all_office_writes change.writes.items s) r
+
+-- so many steps of a run, each decided and made, lead from one office to another
+abbrev pub AreStepsMade : ℕ → Office → Office → Type 0
+AreStepsMade zero s t = s ≡ t
+AreStepsMade (suc n) s t = (change : Change) × IsDecidedFor s act.RunStep (decision.Go change) × AreStepsMade n (all_office_writes change.writes.items s) t
 
 -- an act on schedules and classes
 abbrev pub IsOnSchedules : Act → Type 0
@@ -75,3 +103,17 @@ IsOnRecords (act.SetRecordSchedule day r schedule) = Unit {0}
 IsOnRecords (act.Confirm day r named by) = Unit {0}
 IsOnRecords (act.Review day r schedule by) = Unit {0}
 IsOnRecords _ = ⊥
+
+-- an act on holds
+abbrev pub IsOnHolds : Act → Type 0
+IsOnHolds (act.PlaceHold day code reason by) = Unit {0}
+IsOnHolds (act.HoldOn day code target) = Unit {0}
+IsOnHolds (act.HoldOff day code target) = Unit {0}
+IsOnHolds (act.LiftHold day code) = Unit {0}
+IsOnHolds _ = ⊥
+
+-- an act on runs
+abbrev pub IsOnRuns : Act → Type 0
+IsOnRuns (act.OpenRun day by) = Unit {0}
+IsOnRuns act.RunStep = Unit {0}
+IsOnRuns _ = ⊥

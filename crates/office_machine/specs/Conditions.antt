@@ -50,14 +50,17 @@ abbrev pub refusals_of_set_record_schedule : Office → ℤ → ℕ → Option (
 refusals_of_set_record_schedule s day r schedule = dated s day (conditions_of_set_record_schedule s.tree r schedule)
 
 -- no such target or class; a root and no class given; a held class would be left; the record is ended; it is sent or received
-abbrev pub refusals_of_reclassify : Office → ℤ → Classified → Option (List ℕ) → List (Refusal × Bool)
-refusals_of_reclassify s day what class = dated s day (
+abbrev pub conditions_of_reclassifying : Office → Classified → Option (List ℕ) → List (Refusal × Bool)
+conditions_of_reclassifying s what class =
     (NoSuch, lacks_classified s.tree what || lacks_class s.tree class)
     ∷ (NeedsClass, is_root s.tree what && is_none class)
     ∷ (HeldClass, would_leave_held_class s.holds s.tree what class)
     ∷ (Ended, holds_of (classified_status s.tree what) is_ended)
     ∷ (InTransfer, holds_of (classified_status s.tree what) is_in_transfer)
-    ∷ [])
+    ∷ []
+
+abbrev pub refusals_of_reclassify : Office → ℤ → Classified → Option (List ℕ) → List (Refusal × Bool)
+refusals_of_reclassify s day what class = dated s day (conditions_of_reclassifying s what class)
 
 abbrev pub refusals_of_place_hold : Office → ℤ → List ℕ → List (Refusal × Bool)
 refusals_of_place_hold s day code = dated s day (conditions_of_place_hold s.holds code)
@@ -74,15 +77,22 @@ target_status tree (target.Class code) = None
 target_status tree (target.Aggregation a) = None
 target_status tree (target.Record r) = status_of tree r
 
+-- what the tree tells of a target: it is not there; it is an ended record
+abbrev pub conditions_of_target : TreeState → Target → List (Refusal × Bool)
+conditions_of_target tree target = (NoSuch, lacks_target tree target) ∷ (Ended, holds_of (target_status tree target) is_ended) ∷ []
+
 -- the hold has that target; no such hold or target; the hold has 1,000 targets; it is lifted; the target is an ended record
-abbrev pub refusals_of_hold_on : Office → ℤ → List ℕ → Target → List (Refusal × Bool)
-refusals_of_hold_on s day code target = dated s day (
+abbrev pub conditions_of_covering : Office → List ℕ → Target → List (Refusal × Bool)
+conditions_of_covering s code target =
     (Exists, holds_target s.holds code target)
     ∷ (NoSuch, is_none (get s.holds code) || lacks_target s.tree target)
     ∷ (Full, has_all_targets s.holds code)
     ∷ (Lifted, is_lifted s.holds code)
     ∷ (Ended, holds_of (target_status s.tree target) is_ended)
-    ∷ [])
+    ∷ []
+
+abbrev pub refusals_of_hold_on : Office → ℤ → List ℕ → Target → List (Refusal × Bool)
+refusals_of_hold_on s day code target = dated s day (conditions_of_covering s code target)
 
 abbrev pub refusals_of_hold_off : Office → ℤ → List ℕ → Target → List (Refusal × Bool)
 refusals_of_hold_off s day code target = dated s day (conditions_of_hold_off s.holds code target)
@@ -97,11 +107,11 @@ abbrev pub refusals_of_review : Office → ℤ → ℕ → Option (List ℕ) →
 refusals_of_review s day r schedule = dated s day (conditions_of_review s.tree day r schedule)
 
 -- there are 10,000 runs; a run is open
+abbrev pub conditions_of_open_run : Office → List (Refusal × Bool)
+conditions_of_open_run s = (Full, nat_le 10_000 (length s.runs)) ∷ (RunOpen, is_some (open_run s)) ∷ []
+
 abbrev pub refusals_of_open_run : Office → ℤ → List (Refusal × Bool)
-refusals_of_open_run s day = dated s day (
-    (Full, nat_le 10_000 (length s.runs))
-    ∷ (RunOpen, is_some (open_run s))
-    ∷ [])
+refusals_of_open_run s day = dated s day (conditions_of_open_run s)
 
 -- no run is open
 abbrev pub refusals_of_run_step : Office → List (Refusal × Bool)

@@ -2,11 +2,16 @@ pub mod Acts
 pub mod Conditions
 pub mod Disposing
 pub mod Effects
+pub mod Forms
+pub mod Lesser
 pub mod Meanings
+pub mod Readings
 pub mod Rows
+pub mod RunWrites
 pub mod Runs
 pub mod Sound
 pub mod State
 pub mod Steps
+pub mod Tables
 pub mod Worked
 pub mod Writes

@@ -1,5 +1,5 @@
 -- The rows of the eleven tables that a state stands for. Source: own.
-use Rattle.std.specs.Prelude.{◌==◌, ℕ, zero, suc, Bool, true, false, ◌&&◌, ◌||◌, not, List, [], ◌∷◌, map, filter, Option, Some, None, ℤ}
+use Rattle.std.specs.Prelude.{◌==◌, ℕ, suc, Bool, false, ◌&&◌, ◌||◌, not, List, [], ◌∷◌, map, ℤ}
 use Rattle.std.specs.Option.{option_map}
 use Rattle.std.specs.Ordering.{nat_cmp, eq_by_cmp}
 use Rattle.std.specs.Str.{bytes_eq}
@@ -13,12 +13,13 @@ use Rattle.office_tree.specs.declared.class.Class.{Class}
 use Rattle.office_tree.specs.declared.head.Record.{Record}
 use Rattle.office_tree.specs.declared.schedule.Schedule.{Schedule}
 use Rattle.office_tree.specs.declared.status.Status.{Status}
-use Rattle.office_holds.specs.Holds.{HoldMap, HoldState, has_target}
+use Rattle.office_holds.specs.Holds.{HoldMap, has_target}
+use Rattle.office_holds.specs.Rows.{hold_row}
+use Rattle.office_holds.specs.declared.row.HoldRow.{HoldRow}
 use Rattle.office_holds.specs.declared.target.Target.{Target}
 use Rattle.office_holds.specs.declared.target.Target.TheVariants as target
 use Rattle.office_proof.specs.declared.entry.Entry.{Entry}
 use Rattle.office_machine.specs.State.{State, entry_cmp}
-use Rattle.office_machine.specs.declared.rows.HoldRow.{HoldRow}
 use Rattle.office_machine.specs.declared.rows.RecordRow.{RecordRow}
 use Rattle.office_machine.specs.declared.rows.RowWrite.{RowWrite}
 use Rattle.office_machine.specs.declared.rows.RowWrite.TheVariants as row_write
@@ -74,10 +75,6 @@ abbrev pub record_rows : List Record → List Status → List RecordRow
 record_rows [] statuses = []
 record_rows (head ∷ heads) [] = []
 record_rows (head ∷ heads) (status ∷ statuses) = record_row head status ∷ record_rows heads statuses
-
--- a hold's columns
-abbrev pub hold_row : HoldState → HoldRow
-hold_row hold = record { reason = hold.reason; placed = hold.placed; placed_by = hold.by; lifted = hold.lifted }
 
 -- which hold has which target
 abbrev pub targets_of : HoldMap → List ℕ → Target → Bool

@@ -1,11 +1,11 @@
 -- A disposal run: its candidates, its steps, and what a run that never stops makes of the office at once. Source: own.
 use Rattle.std.specs.Prelude.{◌≡◌, ◌==◌, ◌&&◌, ℕ, zero, suc, ◌-◌, ◌≤◌, ◌⊎◌, Bool, true, List, [], ◌∷◌, take, length, filter, Option, Some, None, ℤ, pos, if◌then◌else◌}
 use Rattle.std.specs.List.{find, list_any}
-use Rattle.std.specs.Option.{unwrap_or, option_map}
+use Rattle.std.specs.Option.{unwrap_or, option_map, option_and_then}
 use Rattle.std.specs.FinMap.{insert, remove, values}
-use Rattle.office_tree.specs.Disposal.{is_spent, records_below}
+use Rattle.office_tree.specs.Disposal.{is_below, is_spent, records_below}
 use Rattle.office_tree.specs.Lists.{numbered, edited, numbers_after}
-use Rattle.office_tree.specs.Tree.{TreeState}
+use Rattle.office_tree.specs.Tree.{TreeState, has_record}
 use Rattle.office_tree.specs.declared.status.Status.{Status}
 use Rattle.office_tree.specs.declared.status.Status.TheVariants as status
 use Rattle.office_proof.specs.Certificates.{certificate_text}
@@ -102,6 +102,10 @@ entries_of s run = filter (λ e. e.run == run) (values s.entries)
 abbrev pub is_ended_in : List Entry → ℕ → Bool
 is_ended_in entries r = list_any (λ e. e.record_no == r && is_ending e.outcome) entries
 
+-- the entry ended a record that is there, below the aggregation
+abbrev pub ended_below : TreeState → ℕ → Entry → Bool
+ended_below tree a e = is_ending e.outcome && has_record tree e.record_no && is_below tree a e.record_no
+
 -- the aggregations, by number, that are spent and have a record below that one of the entries ended
 unfoldable pub spent_list : TreeState → List Entry → List ℕ
 spent_list tree entries =
@@ -142,6 +146,10 @@ open_run s = open_by (length s.runs) (numbered s.runs (length s.runs))
 -- the least ready record above the cursor
 abbrev pub next_ready : Office → ℕ → Option ℕ
 next_ready s run = find (is_ready s (run_day s run)) (above_cursor s run)
+
+-- the record that a step of the open run would take
+abbrev pub next_in_run : Office → Option ℕ
+next_in_run s = option_and_then (next_ready s) (open_run s)
 
 abbrev pub step_at : State → ℕ → Option ℕ → State
 step_at s run None = closed s run

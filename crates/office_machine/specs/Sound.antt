@@ -20,7 +20,7 @@ use Rattle.office_proof.specs.Forms.{IsFormedEntry}
 use Rattle.office_proof.specs.Outcomes.{is_ending}
 use Rattle.office_proof.specs.declared.entry.Entry.{Entry}
 use Rattle.office_proof.specs.declared.outcome.Outcome.TheVariants.{Transferred, Skipped}
-use Rattle.office_machine.specs.State.{State, EntryMap, ByteMap}
+use Rattle.office_machine.specs.State.{State, Office, EntryMap, ByteMap, with_contents}
 use Rattle.office_machine.specs.declared.run.Run.{Run}
 
 -- the day and the opener of a run, and a cursor that is a number of a record or 0
@@ -103,3 +103,7 @@ pub record IsSound (s : State) : Type 0 where
   pub runs : RunsStand s.office.runs s.office.certificates
   pub days : NoDayIsAfter s.office.tree.aggregations s.office.tree.records s.office.holds s.office.runs s.office.day
   pub refs : RefsDiffer s.office.tree.aggregations s.office.tree.records
+
+-- an office without contents is sound where some contents make a sound state of it
+unfoldable pub IsSoundOffice : Office → Type 0
+IsSoundOffice s = (contents : ByteMap) × IsSound (with_contents s contents)

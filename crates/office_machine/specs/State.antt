@@ -46,6 +46,10 @@ empty_office = record { tree = empty_tree; holds = empty; runs = []; entries = e
 abbrev pub empty_state : State
 empty_state = record { office = empty_office; contents = empty }
 
+-- the office with contents
+abbrev pub with_contents : Office → ByteMap → State
+with_contents s contents = record { office = s; contents = contents }
+
 -- the state with another office
 abbrev pub with_office : State → Office → State
 with_office s office = record s { office = office }

@@ -1,24 +1,16 @@
 -- What a row write makes of the office. Source: own.
-use Rattle.std.specs.Prelude.{◌<◌, ◌≤◌, ◌+◌, ℕ, List, [], ◌∷◌, length, Option, Some, None, IsSome}
-use Rattle.std.specs.List.{AllByRecursion}
+use Rattle.std.specs.Prelude.{◌<◌, ◌≤◌, ◌+◌, List, [], ◌∷◌, length, IsSome}
 use Rattle.std.specs.FinMap.{get, insert, remove}
-use Rattle.std.specs.FinSet as set
 use Rattle.std.specs.String.{string_bytes}
-use Rattle.office_tree.specs.Lists.{amended, put}
+use Rattle.office_tree.specs.Lists.{put}
 use Rattle.office_tree.specs.Rows.{put_schedule, put_class, put_aggregation, put_record}
 use Rattle.office_tree.specs.Sound as tree
-use Rattle.office_tree.specs.Tree.{TreeState}
-use Rattle.office_holds.specs.Effects.{with_target, without_target}
-use Rattle.office_holds.specs.Holds.{HoldMap, HoldState}
+use Rattle.office_holds.specs.Effects.{held_on, held_off}
+use Rattle.office_holds.specs.Forms.{FitsHoldLimits}
+use Rattle.office_holds.specs.Rows.{put_hold}
 use Rattle.office_machine.specs.State.{State, Office, ByteMap}
-use Rattle.office_machine.specs.declared.rows.HoldRow.{HoldRow}
 use Rattle.office_machine.specs.declared.rows.RowWrite.{RowWrite}
 use Rattle.office_machine.specs.declared.rows.RowWrite.TheVariants as row_write
-
--- a hold's columns with the targets that it has, none at first
-abbrev pub hold_from : HoldRow → Option HoldState → HoldState
-hold_from row None = record { reason = row.reason; placed = row.placed; by = row.placed_by; lifted = row.lifted; classes = set.empty; aggregations = set.empty; records = set.empty }
-hold_from row (Some hold) = record hold { reason = row.reason; placed = row.placed; by = row.placed_by; lifted = row.lifted }
 
 -- the office with a row put in by its key, or with a target taken off; contents are not in it
 abbrev pub write_office : RowWrite → Office → Office
@@ -28,9 +20,9 @@ write_office (row_write.Aggregation number aggregation) s = record s { tree = pu
 write_office (row_write.Record number head status) s = record s { tree = put_record s.tree number head status }
 write_office (row_write.Content number bytes) s = s
 write_office (row_write.ContentGone number) s = s
-write_office (row_write.Hold code hold) s = record s { holds = insert s.holds code (hold_from hold (get s.holds code)) }
-write_office (row_write.Target hold target) s = record s { holds = amended s.holds hold (with_target target) }
-write_office (row_write.TargetGone hold target) s = record s { holds = amended s.holds hold (without_target target) }
+write_office (row_write.Hold code hold) s = record s { holds = put_hold s.holds code hold }
+write_office (row_write.Target hold target) s = record s { holds = held_on s.holds hold target }
+write_office (row_write.TargetGone hold target) s = record s { holds = held_off s.holds hold target }
 write_office (row_write.Run number run) s = record s { runs = put s.runs number run }
 write_office (row_write.Entry entry) s = record s { entries = insert s.entries (entry.run, entry.record_no) entry }
 write_office (row_write.Certificate run text) s = record s { certificates = insert s.certificates run (string_bytes text) }
@@ -54,25 +46,38 @@ abbrev pub all_writes : List RowWrite → State → State
 all_writes [] s = s
 all_writes (w ∷ ws) s = all_writes ws (write w s)
 
--- a row that the machine can put in: its key is there or is the next number, and the tree stays sound
+-- a write that can be done first, which may take memory: the key of its row is there or is the next number, and tree and holds stay within what they promise
 abbrev pub CanPut : Office → RowWrite → Type 0
 CanPut s (row_write.Schedule code schedule) = tree.IsSound (put_schedule s.tree code schedule)
 CanPut s (row_write.Class code class) = tree.IsSound (put_class s.tree code class)
 CanPut s (row_write.Aggregation number aggregation) = (0 < number) × (number ≤ length s.tree.aggregations + 1) × tree.IsSound (put_aggregation s.tree number aggregation)
 CanPut s (row_write.Record number head status) = (0 < number) × (number ≤ length s.tree.records + 1) × tree.IsSound (put_record s.tree number head status)
+CanPut s (row_write.Hold code hold) = FitsHoldLimits (put_hold s.holds code hold)
+CanPut s (row_write.Target hold target) = IsSome (get s.holds hold) × FitsHoldLimits (held_on s.holds hold target)
+CanPut s (row_write.TargetGone hold target) = Unit {0}
+CanPut s (row_write.Run number run) = (0 < number) × (number ≤ length s.runs + 1)
+CanPut s (row_write.Entry entry) = Unit {0}
+CanPut s (row_write.Certificate run text) = Unit {0}
 CanPut s _ = ⊥
 
--- a write that may follow on another and needs no memory of the machine
-abbrev pub CanFollow : RowWrite → Type 0
-CanFollow (row_write.Content number bytes) = Unit {0}
-CanFollow (row_write.ContentGone number) = Unit {0}
-CanFollow (row_write.Day day) = Unit {0}
-CanFollow _ = ⊥
+-- a write that may follow on another, since it takes no memory: a row in place of one that is there, a content, or the day
+abbrev pub CanFollow : Office → RowWrite → Type 0
+CanFollow s (row_write.Record number head status) = (0 < number) × (number ≤ length s.tree.records) × tree.IsSound (put_record s.tree number head status)
+CanFollow s (row_write.Run number run) = (0 < number) × (number ≤ length s.runs)
+CanFollow s (row_write.Content number bytes) = Unit {0}
+CanFollow s (row_write.ContentGone number) = Unit {0}
+CanFollow s (row_write.Day day) = Unit {0}
+CanFollow s _ = ⊥
 
--- writes that the machine can do: one that may need memory, and others that need none
+-- each of the writes may follow, where those before it are done
+abbrev pub AllFollow : Office → List RowWrite → Type 0
+AllFollow s [] = Unit {0}
+AllFollow s (w ∷ ws) = CanFollow s w × AllFollow (write_office w s) ws
+
+-- writes that can be done one after another, of which the first alone may take memory
 abbrev pub CanWrite : Office → List RowWrite → Type 0
 CanWrite s [] = Unit {0}
-CanWrite s (w ∷ ws) = CanPut s w × AllByRecursion CanFollow ws
+CanWrite s (w ∷ ws) = CanPut s w × AllFollow (write_office w s) ws
 
 -- the row has a place: its number is there or is the next, and a target's hold is there
 abbrev pub HasPlace : Office → RowWrite → Type 0

@@ -1,5 +1,6 @@
 use crate::NewRecord;
 use office_days::{Day, Offset, Period};
+use office_holds::Target;
 use office_tree::{Action, AggNo, Classified, Code, RecordNo, Text, Trigger};
 
 /// What the office is asked to do, on a day. An act that reads is typed and bounded, so the office
@@ -58,6 +59,30 @@ pub enum Act {
         target: Classified,
         class: Option<Code>,
     },
+    /// Places a hold under a new code, without targets.
+    PlaceHold {
+        day: Day,
+        code: Code,
+        reason: Text,
+        by: Text,
+    },
+    /// Puts a target on a hold.
+    HoldOn {
+        day: Day,
+        code: Code,
+        target: Target,
+    },
+    /// Takes a target off a hold.
+    HoldOff {
+        day: Day,
+        code: Code,
+        target: Target,
+    },
+    /// Lifts a hold for good; its targets stay on record.
+    LiftHold {
+        day: Day,
+        code: Code,
+    },
     /// Confirms that a due record may be disposed of as its plan says.
     Confirm {
         day: Day,
@@ -72,4 +97,11 @@ pub enum Act {
         schedule: Option<Code>,
         by: Text,
     },
+    /// Opens a disposal run for the records that are due on its day.
+    OpenRun {
+        day: Day,
+        by: Text,
+    },
+    /// Lets the open run take its next record, or close where there is none. It has no day of its own.
+    RunStep,
 }

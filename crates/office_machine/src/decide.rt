@@ -1,14 +1,16 @@
 ghost use Rattle.std.specs.Prelude.{IfOk};
-ghost use Rattle.office_machine.specs.Acts.{IsDecidedFor, IsOnAggregations, IsOnRecords, IsOnSchedules};
+ghost use Rattle.office_machine.specs.Acts.{IsDecidedFor, IsOnAggregations, IsOnHolds, IsOnRecords, IsOnRuns, IsOnSchedules};
+ghost use Rattle.office_machine.specs.Sound.{IsSoundOffice};
 
-use crate::{Act, Decision, Machine};
+use crate::parts::Parts;
+use crate::{Act, Decision};
 use office_tree::{Memory, Schedule};
 use std::alloc::Global;
 
-impl Machine {
-    /// What is decided of an act: its refusal, or the change that is to be made. The office stays
-    /// as it is, and the contents of records are not asked for.
-    pub fn decide(&self, alloc: Global, act: &Act) -> Result<Decision, Memory>
+impl Parts {
+    /// What is decided of an act.
+    pub(crate) fn decide(&self, alloc: Global, act: &Act) -> Result<Decision, Memory>
+        requires { IsSoundOffice self.now }
         ensures { IfOk result (λ d. IsDecidedFor self.now act.now d) }
     {
         match act {
@@ -22,6 +24,11 @@ impl Machine {
             | Act::SetRecordSchedule { .. }
             | Act::Confirm { .. }
             | Act::Review { .. } => self.decide_on_records(alloc, act),
+            Act::PlaceHold { .. }
+            | Act::HoldOn { .. }
+            | Act::HoldOff { .. }
+            | Act::LiftHold { .. } => self.decide_on_holds(alloc, act),
+            Act::OpenRun { .. } | Act::RunStep => self.decide_on_runs(alloc, act),
         }
     }
 
@@ -79,17 +86,12 @@ impl Machine {
             } => {
                 self.decide_add_aggregation(alloc, *day, ref_text, title, *parent, class.as_ref())
             }
-            Act::CloseAggregation { day, aggregation } => self.decide_close_aggregation(
-                alloc,
-                *day,
-                *aggregation,
-            ),
-            Act::Reclassify { day, target, class } => self.decide_reclassify(
-                alloc,
-                *day,
-                *target,
-                class.as_ref(),
-            ),
+            Act::CloseAggregation { day, aggregation } => {
+                self.decide_close_aggregation(alloc, *day, *aggregation)
+            }
+            Act::Reclassify { day, target, class } => {
+                self.decide_reclassify(alloc, *day, *target, class.as_ref())
+            }
             _ => unreachable!(),
         }
     }
@@ -119,6 +121,40 @@ impl Machine {
                 schedule,
                 by,
             } => self.decide_review(alloc, *day, *record_no, schedule.as_ref(), by),
+            _ => unreachable!(),
+        }
+    }
+
+    /// What is decided of an act on holds.
+    #[tactic(auto, unfolding(crate::specs::Acts::step))]
+    fn decide_on_holds(&self, alloc: Global, act: &Act) -> Result<Decision, Memory>
+        requires { IsOnHolds act.now }
+        ensures { IfOk result (λ d. IsDecidedFor self.now act.now d) }
+    {
+        match act {
+            Act::PlaceHold {
+                day,
+                code,
+                reason,
+                by,
+            } => self.decide_place_hold(alloc, *day, code, reason, by),
+            Act::HoldOn { day, code, target } => self.decide_hold_on(alloc, *day, code, target),
+            Act::HoldOff { day, code, target } => self.decide_hold_off(alloc, *day, code, target),
+            Act::LiftHold { day, code } => self.decide_lift_hold(alloc, *day, code),
+            _ => unreachable!(),
+        }
+    }
+
+    /// What is decided of an act on runs.
+    #[tactic(auto, unfolding(crate::specs::Acts::step))]
+    fn decide_on_runs(&self, alloc: Global, act: &Act) -> Result<Decision, Memory>
+        requires sound { IsSoundOffice self.now }
+        requires kind { IsOnRuns act.now }
+        ensures { IfOk result (λ d. IsDecidedFor self.now act.now d) }
+    {
+        match act {
+            Act::OpenRun { day, by } => self.decide_open_run(alloc, *day, by),
+            Act::RunStep => self.decide_run_step(alloc),
             _ => unreachable!(),
         }
     }

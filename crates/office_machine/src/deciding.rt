@@ -2,11 +2,13 @@ ghost use Rattle.std.specs.Prelude.{◌≡◌, List, [], ◌∷◌, Bool, None, 
 ghost use Rattle.std.specs.Option.{option_copied};
 ghost use Rattle.office_days.specs.declared.refusal.Refusal.{Refusal};
 ghost use Rattle.office_tree.specs.Conditions.{first_of};
-ghost use Rattle.office_machine.specs.Acts.{IsDecidedTo, with_contents};
+ghost use Rattle.office_machine.specs.Acts.{IsDecidedTo};
 ghost use Rattle.office_machine.specs.Conditions.{dated};
+ghost use Rattle.office_machine.specs.State.{with_contents};
 ghost use Rattle.office_machine.specs.Steps.{step_add_aggregation, step_add_class, step_add_schedule, step_close_aggregation, step_set_class_schedule};
 
-use crate::{Answer, Change, Decision, Machine, RowWrite};
+use crate::parts::Parts;
+use crate::{Answer, Change, Decision, RowWrite};
 use office_days::{Day, Refusal};
 use office_tree::{AggNo, Aggregation, Class, Code, Memory, Schedule, Text};
 use std::alloc::Global;
@@ -50,7 +52,7 @@ fn open_aggregation(
     })
 }
 
-impl Machine {
+impl Parts {
     /// The refusal of an act of that day: the day's, where it is before the office's, else the other.
     pub(crate) fn dated(&self, day: Day, refusal: Option<Refusal>) -> Option<Refusal>
         ensures { (conditions : List (Refusal × Bool)) → refusal ≡ first_of conditions → result ≡ first_of (dated self.now day conditions) }

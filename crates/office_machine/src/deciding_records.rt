@@ -2,18 +2,18 @@ ghost use Rattle.std.specs.Prelude.{◌≡◌, IfOk, [], ◌∷◌, ◌++◌};
 ghost use Rattle.std.specs.Option.{option_copied, option_map};
 ghost use Rattle.sha2.specs.Sha256.{sha256};
 ghost use Rattle.office_tree.specs.Lists.{or_else};
-ghost use Rattle.office_machine.specs.Acts.{IsDecidedTo, with_contents};
+ghost use Rattle.office_machine.specs.Acts.{IsDecidedTo};
 ghost use Rattle.office_machine.specs.Conditions.{is_same_record, same_record};
 ghost use Rattle.office_machine.specs.Effects.{new_head};
-ghost use Rattle.office_machine.specs.Steps.{step_add_record, step_confirm, step_reclassify, step_review, step_set_record_schedule};
+ghost use Rattle.office_machine.specs.State.{with_contents};
+ghost use Rattle.office_machine.specs.Steps.{step_add_record, step_confirm, step_review, step_set_record_schedule};
 
 use crate::deciding::{copy_code, two};
-use crate::{Answer, Change, Decision, Machine, NewRecord, RowWrite};
+use crate::parts::Parts;
+use crate::{Answer, Change, Decision, NewRecord, RowWrite};
 use office_days::{Day, DueDay};
 use office_proof::digest_of;
-use office_tree::{
-    Action, Classified, Code, Confirmation, Memory, Record, RecordNo, Review, Status, Text,
-};
+use office_tree::{Action, Code, Confirmation, Memory, Record, RecordNo, Review, Status, Text};
 use std::alloc::Global;
 
 /// A second code that is equal to the first, if there is one, else to the other.
@@ -93,7 +93,7 @@ fn new_head(alloc: Global, day: Day, new: &NewRecord, digest: [u8; 32]) -> Resul
     })
 }
 
-impl Machine {
+impl Parts {
     /// The record that was added before with all that is asked now, where its content has that digest.
     fn same_record(&self, new: &NewRecord, digest: [u8; 32]) -> Option<RecordNo>
         requires { digest ≡ sha256 new.now.content.items }
@@ -241,51 +241,5 @@ impl Machine {
             answer: Answer::Done,
             writes,
         }))
-    }
-
-    /// What is decided of an own class of an aggregation or a record, set or taken away.
-    pub(crate) fn decide_reclassify(
-        &self,
-        alloc: Global,
-        day: Day,
-        target: Classified,
-        class: Option<&Code>,
-    ) -> Result<Decision, Memory>
-        ensures { IfOk result (λ d. IsDecidedTo self.now (λ contents. step_reclassify (with_contents self.now contents) day target (option_copied class.entry)) d) }
-    {
-        if let Some(refusal) = self.dated(day, self.tree.check_reclassify(target, class)) {
-            return Ok(Decision::Stay(Answer::Refused(refusal)));
-        }
-        self.tree.sound();
-        match target {
-            Classified::Aggregation(number) => {
-                let mut aggregation = self.tree.aggregation(number).copy(alloc)?;
-                aggregation.class = copy_code(alloc, class)?;
-                let write = RowWrite::Aggregation {
-                    number,
-                    aggregation,
-                };
-                let writes = two(alloc, write, RowWrite::Day { day })?;
-                Ok(Decision::Go(Change {
-                    answer: Answer::Done,
-                    writes,
-                }))
-            }
-            Classified::Record(number) => {
-                let mut head = self.tree.record(number).copy(alloc)?;
-                head.class = copy_code(alloc, class)?;
-                let status = self.tree.status(number);
-                let write = RowWrite::Record {
-                    number,
-                    head,
-                    status,
-                };
-                let writes = two(alloc, write, RowWrite::Day { day })?;
-                Ok(Decision::Go(Change {
-                    answer: Answer::Done,
-                    writes,
-                }))
-            }
-        }
     }
 }

@@ -6,32 +6,45 @@
 //! goes through the ready records by number, one a step, and closes with its certificate. A run that
 //! is stopped and resumed ends as one that never stopped: that is a law of the definitions here.
 //!
-//! Today ten acts are decided and applied, in memory: all on schedules, classes, aggregations and
-//! records but the receipt. Holds and runs stand as definitions (`specs`) with their laws.
+//! [`Machine`] decides sixteen acts, all but the receipt, and makes what it decided, in memory. What it
+//! decides is a list of row writes, which the store will do to its tables.
 #![tactic(auto)]
 
 mod act;
-#[cfg(test)]
-mod act_tests;
 mod answer;
 mod applying;
+mod certificate;
 mod change;
+mod closing;
 mod decide;
 mod deciding;
+mod deciding_holds;
 mod deciding_records;
+mod deciding_runs;
 mod disposing;
+mod due_list;
+mod forming;
 pub mod laws;
+mod lesser;
 mod machine;
 mod new_record;
+mod parts;
+mod reading;
+mod reclassifying;
+mod record_view;
 mod rows;
 mod run;
-#[cfg(test)]
-mod tests;
+mod running;
+mod storing;
+mod tables;
+mod taking;
 
 pub use act::Act;
 pub use answer::Answer;
 pub use change::{Change, Decision};
 pub use machine::Machine;
 pub use new_record::NewRecord;
-pub use rows::{HoldRow, RecordRow, RowWrite};
+pub use record_view::RecordView;
+pub use rows::{RecordRow, RowWrite};
 pub use run::Run;
+pub use tables::Tables;

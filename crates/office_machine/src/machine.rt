@@ -1,36 +1,44 @@
-ghost use Rattle.std.specs.Prelude.{◌≡◌};
+ghost use Rattle.std.specs.Prelude.{◌≡◌, IfOk, OnErr, OnOk, false};
+ghost use Rattle.std.specs.FinMap.{get};
+ghost use Rattle.std.specs.Option.{option_map};
+ghost use Rattle.std.specs.String.{string_bytes};
+ghost use Rattle.office_machine.specs.Acts.{CanBeMade, IsDecidedFor, IsFeasible, KeepsHeld, may_release};
+ghost use Rattle.office_machine.specs.Readings.{IsDueList, all_entries_of, ending_entry, record_view};
+ghost use Rattle.office_machine.specs.Runs.{next_in_run};
+ghost use Rattle.office_machine.specs.Sound.{IsSoundOffice};
 ghost use Rattle.office_machine.specs.State.{empty_office};
+ghost use Rattle.office_machine.specs.Writes.{all_office_writes};
 
+use crate::due_list::due_list;
+use crate::parts::Parts;
+use crate::{Act, Change, Decision, RecordView};
 use office_days::Day;
-use office_tree::Tree;
+use office_holds::Holds;
+use office_proof::{Entry, RunNo};
+use office_tree::{Memory, RecordNo, Tree};
 use std::alloc::Global;
 use std::marker::Model;
 
-/// The office in memory, without the contents of its records. Contracts see an `Office`.
+/// The office in memory, without the contents of its records. Contracts see an `Office`, which is
+/// sound.
 #[derive(Drop)]
 pub struct Machine {
-    pub(crate) tree: Tree,
-    pub(crate) day: Day,
+    parts: Parts,
 }
 
 impl Model for Machine {
     ghost use Rattle.std.specs.Coded.{codes};
     ghost use Rattle.std.specs.FinMap as map;
-    ghost use Rattle.std.specs.Prelude.{[]};
+    ghost use Rattle.office_machine.specs.Sound.{IsSoundOffice};
     ghost use Rattle.office_machine.specs.State.{Office};
 
     ghost Value = { Office };
 
     ghost coded = { Prim.hlevel (codes, map.code) };
 
-    ghost view = { λ m. record {
-      tree = m.tree;
-      holds = map.empty;
-      runs = [];
-      entries = map.empty;
-      certificates = map.empty;
-      day = m.day;
-    } };
+    ghost view = { λ m. m.parts };
+
+    ghost invariant = { λ m. IsSoundOffice m.parts };
 }
 
 impl Machine {
@@ -39,22 +47,102 @@ impl Machine {
         ensures { result ≡ empty_office }
     {
         Machine {
-            tree: Tree::new(alloc),
-            day: Day::first(),
+            parts: Parts::new(alloc),
         }
+    }
+
+    /// What is decided of an act: its refusal, or the change that is to be made. The office stays
+    /// as it is, and the contents of records are not asked for.
+    pub fn decide(&self, alloc: Global, act: &Act) -> Result<Decision, Memory>
+        ensures step { IfOk result (λ d. IsDecidedFor self.now act.now d) }
+        ensures feasible { IfOk result (λ d. IsFeasible self.now d) }
+        ensures held { IfOk result (λ d. may_release act.now ≡ false → KeepsHeld self.now d) }
+    {
+        self.sound();
+        act.formed();
+        self.parts.decide(alloc, act)
+    }
+
+    /// Makes a change that was decided of this office. Where an allocation is refused, the office is
+    /// as it was.
+    pub fn apply(&mut self, change: Change) -> Result<(), Memory>
+        requires { CanBeMade self.old change }
+        ensures ok { OnOk result (self.new ≡ all_office_writes change.writes.items self.old) }
+        ensures err { OnErr result (self.new ≡ self.old) }
+    {
+        self.parts.apply(change)
+    }
+
+    /// The record that the next step of the open run would take; none where no run is open, or where
+    /// the step would close it.
+    pub fn next_in_run(&self) -> Option<RecordNo>
+        ensures { result ≡ next_in_run self.now }
+    {
+        self.sound();
+        self.parts.next_in_run()
+    }
+
+    /// What is told of the record; `None` where it is not there.
+    pub fn record(&self, alloc: Global, record_no: RecordNo) -> Result<Option<RecordView>, Memory>
+        ensures { IfOk result (λ view. view ≡ record_view self.now record_no) }
+    {
+        self.parts.view(alloc, record_no)
+    }
+
+    /// The entry that ended the record; `None` where it is not ended or not there.
+    pub fn entry_of(&self, alloc: Global, record_no: RecordNo) -> Result<Option<Entry>, Memory>
+        ensures { IfOk result (λ entry. entry ≡ ending_entry self.now record_no) }
+    {
+        self.parts.entry_that_ended(alloc, record_no)
+    }
+
+    /// All entries, by run, then record.
+    pub fn entries(&self, alloc: Global) -> Result<Vec<Entry>, Memory>
+        ensures { IfOk result (λ all. all.items ≡ all_entries_of self.now) }
+    {
+        self.parts.all_entries(alloc)
+    }
+
+    /// The text of the certificate of that run; `None` where it is not closed or not there.
+    pub fn certificate(&self, alloc: Global, run: RunNo) -> Result<Option<String>, Memory>
+        ensures { IfOk result (λ text. option_map (λ it. string_bytes it) text ≡ get self.now.certificates run) }
+    {
+        self.parts.certificate(alloc, run)
+    }
+
+    /// The due list of the day: the records that are here and due on it or before it, by due day, then
+    /// number.
+    pub fn due_list(&self, alloc: Global, day: Day) -> Result<Vec<RecordNo>, Memory>
+        ensures { IfOk result (λ list. IsDueList self.now.tree day list.items) }
+    {
+        due_list(alloc, &self.parts.tree, day)
     }
 
     /// The tree, by which its readings and checks are reached.
     pub fn tree(&self) -> &Tree
         ensures { result.now ≡ self.now.tree }
     {
-        &self.tree
+        &self.parts.tree
+    }
+
+    /// The holds, by which theirs are reached.
+    pub fn holds(&self) -> &Holds
+        ensures { result.now ≡ self.now.holds }
+    {
+        &self.parts.holds
     }
 
     /// The office's day, before which no act may be.
     pub fn day(&self) -> Day
         ensures { result ≡ self.now.day }
     {
-        self.day
+        self.parts.day
+    }
+
+    /// Tells in proofs that an office is sound; a call does nothing.
+    pub(crate) fn sound(&self)
+        ensures { IsSoundOffice self.now }
+    {
+        let _ = &self.parts;
     }
 }

@@ -1,7 +1,7 @@
 //! The rows of the office's tables, and what writes one of them.
 use crate::Run;
 use office_days::{Day, DueDay};
-use office_holds::Target;
+use office_holds::{HoldRow, Target};
 use office_proof::{Entry, RunNo};
 use office_tree::{
     Action, AggNo, Aggregation, Class, Code, Record, RecordNo, Schedule, Status, Text,
@@ -29,15 +29,6 @@ pub struct RecordRow {
     pub conf_by: Option<Text>,
     pub receipt_day: Option<Day>,
     pub receipt_by: Option<Text>,
-}
-
-/// The columns of a hold beside its code; its targets are rows of their own.
-#[derive(Drop)]
-pub struct HoldRow {
-    pub reason: Text,
-    pub placed: Day,
-    pub placed_by: Text,
-    pub lifted: Option<Day>,
 }
 
 /// One write to the tables: a row put in by its key, in place of what was there or as a new one, or

@@ -1,5 +1,8 @@
+ghost use Rattle.std.specs.Prelude.{◌≡◌, IfOk};
+
 use office_days::Day;
-use office_tree::{RecordNo, Text};
+use office_tree::{Memory, RecordNo, Text};
+use std::alloc::Global;
 
 /// A disposal run: the day for which it looks at due days, who opened it, and the last record that
 /// it took, 0 at first.
@@ -9,4 +12,18 @@ pub struct Run {
     pub by: Text,
     pub cursor: RecordNo,
     pub is_closed: bool,
+}
+
+impl Run {
+    /// A second run that is equal to this one.
+    pub fn copy(&self, alloc: Global) -> Result<Run, Memory>
+        ensures { IfOk result (λ run. run ≡ self.now) }
+    {
+        Ok(Run {
+            day: self.day,
+            by: self.by.copy(alloc)?,
+            cursor: self.cursor,
+            is_closed: self.is_closed,
+        })
+    }
 }

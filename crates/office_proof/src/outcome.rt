@@ -39,8 +39,9 @@ impl Outcome {
             Outcome::Skipped => "skipped",
         }
     }
+
     /// Whether the record is ended by it.
-    pub(crate) fn is_ending(self) -> bool
+    pub fn is_ending(self) -> bool
         ensures { result ≡ is_ending self }
     {
         matches!(self, Outcome::Destroyed | Outcome::Transferred)

@@ -9,7 +9,7 @@ use crate::{Action, Classified, Code, RecordNo, Status, Tree};
 use office_days::{Day, Refusal};
 
 /// Whether the two are one action.
-fn same_action(one: Action, other: Action) -> bool
+pub(crate) fn same_action(one: Action, other: Action) -> bool
     ensures { result ≡ same_action one other }
 {
     one == other

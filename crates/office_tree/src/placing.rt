@@ -6,8 +6,9 @@ ghost use Rattle.office_tree.specs.Sound.{IsSound};
 
 use crate::{AggNo, Aggregation, Class, Code, Memory, Record, RecordNo, Schedule, Status, Tree};
 
-/// Puts a row in place of the one with that number, which needs no memory, or as the next.
-fn put_row<T: Drop>(rows: &mut Vec<T>, number: u32, row: T) -> Result<(), Memory>
+/// Puts a row in place of the one with that number, which needs no memory, or as the next. Rows are
+/// numbered 1, 2, ..
+pub fn put_row<T: Drop>(rows: &mut Vec<T>, number: u32, row: T) -> Result<(), Memory>
     requires { 0 < number }
     ensures ok { OnOk result (rows.new.items ≡ put rows.old.items number row) }
     ensures err { OnErr result (rows.new.items ≡ rows.old.items) }

@@ -16,7 +16,7 @@ fn is_among(numbers: &[AggNo], number: AggNo) -> bool
 
 impl Tree {
     /// Whether the aggregation contains the record, at any height.
-    fn is_below(&self, aggregation: AggNo, record_no: RecordNo) -> bool
+    pub fn is_below(&self, aggregation: AggNo, record_no: RecordNo) -> bool
         requires { IsTrue (has_record self.now record_no) }
         ensures { result ≡ is_below self.now aggregation record_no }
     {

@@ -1,17 +1,21 @@
 //! The rows that a state stands for, and what each write makes of them.
 ghost use Rattle.std.specs.Prelude.{◌≡◌, List, length};
-ghost use Rattle.office_machine.specs.Acts.{IsDecidedFor, step, with_contents};
+ghost use Rattle.office_machine.specs.Acts.{IsDecidedFor, step};
 ghost use Rattle.office_machine.specs.Rows.{rows_of, write_rows, all_row_writes};
-ghost use Rattle.office_machine.specs.State.{State, Office, ByteMap};
+ghost use Rattle.office_machine.specs.State.{State, Office, ByteMap, with_contents};
+ghost use Rattle.office_machine.specs.Tables.{StandsFor};
 ghost use Rattle.office_machine.specs.Writes.{write, all_writes, all_office_writes, CanWrite, HasPlace};
 ghost use Rattle.office_machine.specs.declared.act.Act.{Act};
 ghost use Rattle.office_machine.specs.declared.change.Change.{Change};
 ghost use Rattle.office_machine.specs.declared.change.Decision.TheVariants.{Go};
 ghost use Rattle.office_machine.specs.declared.rows.RowWrite.{RowWrite};
+ghost use Rattle.office_machine.specs.declared.tables.Tables.{Tables};
 
-/// Two different states stand for different rows, where each record has a status.
+/// Two different states stand for different rows, where each record has a status; and tables that were
+/// read, in which contents have their keys alone, stand for at most one office.
 pub fn law_of_one_state()
     ensures one { (s t : State) → length s.office.tree.statuses ≡ length s.office.tree.records → length t.office.tree.statuses ≡ length t.office.tree.records → rows_of s ≡ rows_of t → s ≡ t }
+    ensures tables { (t : Tables) (s u : State) → length s.office.tree.statuses ≡ length s.office.tree.records → length u.office.tree.statuses ≡ length u.office.tree.records → StandsFor t s → StandsFor t u → s.office ≡ u.office }
 {}
 
 /// A write of a row that has a place makes of the rows of a state those of the next; and so do the

@@ -8,16 +8,20 @@ ghost use Rattle.office_tree.specs.declared.classified.Classified.{Classified};
 ghost use Rattle.office_tree.specs.declared.schedule.Schedule.{Schedule};
 ghost use Rattle.office_holds.specs.Forms.{IsFormedTarget};
 ghost use Rattle.office_holds.specs.declared.target.Target.{Target};
+ghost use Rattle.office_machine.specs.Acts.{step};
 ghost use Rattle.office_machine.specs.Conditions.{refusals_of_add_schedule, refusals_of_add_class, refusals_of_set_class_schedule, refusals_of_add_aggregation, refusals_of_close_aggregation, refusals_of_add_record, refusals_of_set_record_schedule, refusals_of_reclassify, refusals_of_place_hold, refusals_of_hold_on, refusals_of_hold_off, refusals_of_lift_hold, refusals_of_confirm, refusals_of_review, refusals_of_open_run, refusals_of_receipt};
 ghost use Rattle.office_machine.specs.Effects.{after_add_schedule, after_add_class, after_set_class_schedule, after_add_aggregation, after_close_aggregation, with_new_record, after_set_record_schedule, after_reclassify, after_place_hold, after_hold_on, after_hold_off, after_lift_hold, after_confirm, after_review, after_open_run, after_receipt};
+ghost use Rattle.office_machine.specs.Forms.{IsFormedAct};
 ghost use Rattle.office_machine.specs.Meanings.{IsAccepted, IsFormedNewRecord};
 ghost use Rattle.office_machine.specs.Runs.{open_run, run_step};
 ghost use Rattle.office_machine.specs.Sound.{IsSound};
 ghost use Rattle.office_machine.specs.State.{State, empty_state, with_office};
+ghost use Rattle.office_machine.specs.declared.act.Act.{Act};
 ghost use Rattle.office_machine.specs.declared.new_record.NewRecord.{NewRecord};
 
 /// The empty office is sound. From a sound state an act of which no condition of refusal holds, with
-/// members of their forms, leads to a sound state; and so does a step of an open run.
+/// members of their forms, leads to a sound state; and so does a step of an open run. The state after
+/// any act of its form, refused or not, is sound.
 pub fn law_of_soundness()
     ensures empty { IsSound empty_state }
     ensures add_schedule { (s : State) (day : ℤ) (code : List ℕ) (schedule : Schedule) → IsSound s → IsDayNumber day → IsCode code → IsFormedSchedule schedule → IsAccepted (refusals_of_add_schedule s.office day code) → IsSound (with_office s (after_add_schedule s.office day code schedule)) }
@@ -37,4 +41,5 @@ pub fn law_of_soundness()
     ensures open_run { (s : State) (day : ℤ) (by : List ℕ) → IsSound s → IsDayNumber day → IsText by → IsAccepted (refusals_of_open_run s.office day) → IsSound (with_office s (after_open_run s.office day by)) }
     ensures receipt { (s : State) (day : ℤ) (r : ℕ) (digest by : List ℕ) → IsSound s → IsDayNumber day → IsText by → IsAccepted (refusals_of_receipt s.office day r digest) → IsSound (with_office s (after_receipt s.office day r by)) }
     ensures run_step { (s : State) (run : ℕ) → IsSound s → open_run s.office ≡ Some run → IsSound (run_step s run) }
+    ensures step { (s : State) (a : Act) → IsSound s → IsFormedAct a → IsSound (step s a).1 }
 {}

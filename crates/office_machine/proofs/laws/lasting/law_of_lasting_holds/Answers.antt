@@ -2,6 +2,7 @@ use Rattle.office_holds.proofs.Lasting.{held-add_schedule, held-add_class, held-
 use Rattle.office_holds.proofs.Reclassifying.{held-reclassify}
 use Rattle.office_machine.proofs.Accepted.{tree_sound, dated_accepted, accepted_by_tree, leaves_none}
 use Rattle.office_machine.proofs.HeldSteps.{held-run_step}
+use Rattle.office_machine.proofs.KeptHolds.{kept_step}
 use Rattle.office_holds.specs.Conditions.{conditions_of_place_hold}
 use Rattle.office_machine.specs.Effects.{new_head}
 use Rattle.office_machine.proofs.laws.lasting.law_of_lasting_holds.Goals as goal
@@ -24,4 +25,5 @@ returns c = record {
   open_run = λ s day by held sound accepted h. h;
   receipt = λ s day r digest by held sound accepted h. held-receipt s.office.holds s.office.tree day r by held h;
   run_step = λ s run held is_open h. held-run_step s run held h;
+  step = kept_step;
 }

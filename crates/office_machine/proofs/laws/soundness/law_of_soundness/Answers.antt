@@ -5,6 +5,7 @@ use Rattle.office_machine.proofs.SoundRuns.{sound_open_run}
 use Rattle.office_machine.proofs.SoundSchedules.{sound_add_schedule, sound_add_class, sound_set_class_schedule}
 use Rattle.office_machine.proofs.SoundSteps.{sound_run_step}
 use Rattle.office_machine.proofs.SoundTree.{sound_add_aggregation, sound_close_aggregation, sound_add_record}
+use Rattle.office_machine.proofs.StepSound.{sound_step}
 use Rattle.office_machine.proofs.laws.soundness.law_of_soundness.Goals as goal
 
 pub returns : goal.returns
@@ -27,4 +28,5 @@ returns c = record {
   open_run = sound_open_run;
   receipt = sound_receipt;
   run_step = sound_run_step;
+  step = sound_step;
 }

@@ -1,0 +1,16 @@
+use Rattle.std.proofs.Common.{IfOk, subst}
+use Rattle.std.proofs.lemmas.Result.{IfOk-weaker}
+use Rattle.office_machine.specs.Acts.{IsDecidedFor}
+use Rattle.office_machine.specs.State.{Office}
+use Rattle.office_machine.proofs.Feasible.{feasible, keeps}
+use Rattle.office_machine.proofs.machine.Machine.decide.Goals.{After-decide}
+use Rattle.office_machine.proofs.machine.Machine.decide.Goals as goal
+
+decided : (c : After-decide) → IfOk c.decide.result (λ d. IsDecidedFor c.args.self.now c.args.act.now d)
+decided c = subst (λ (s : Office). IfOk c.decide.result (λ d. IsDecidedFor s c.args.act.now d)) c.self.view_is c.decide.ensures
+
+pub returns-clause-feasible : goal.returns-clause-feasible
+returns-clause-feasible c = IfOk-weaker c.decide.result _ _ (λ d. feasible c.args.self.now c.args.act.now d c.sound.ensures c.formed.ensures) (decided c)
+
+pub returns-clause-held : goal.returns-clause-held
+returns-clause-held c = IfOk-weaker c.decide.result _ _ (λ d is kept. keeps c.args.self.now c.args.act.now d c.sound.ensures kept is) (decided c)

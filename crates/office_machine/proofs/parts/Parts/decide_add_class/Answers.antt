@@ -1,0 +1,39 @@
+use Rattle.std.proofs.Common.{◌≡◌, ◌∙◌, [], ◌∷◌, sym, ap, refl, subst}
+use Rattle.office_tree.specs.Conditions.{first_of, conditions_of_add_class}
+use Rattle.office_tree.specs.Sound.{IsSound}
+use Rattle.office_tree.specs.Tree.{TreeState}
+use Rattle.office_tree.specs.declared.class.Class.{Class}
+use Rattle.office_machine.specs.Conditions.{refusals_of_add_class}
+use Rattle.office_machine.specs.Effects.{after_add_class}
+use Rattle.office_machine.specs.State.{with_contents, with_office}
+use Rattle.office_machine.specs.declared.answer.Answer.TheVariants.{Done}
+use Rattle.office_machine.specs.declared.rows.RowWrite.TheVariants as row_write
+use Rattle.office_machine.proofs.DecidedTree.{none_of, class_change}
+use Rattle.office_machine.proofs.Decisions.{refused_step}
+use Rattle.office_machine.proofs.parts.Parts.decide_add_class.Goals.{After-dated}
+use Rattle.office_machine.proofs.parts.Parts.decide_add_class.Goals as goal
+
+-- the class that is asked for
+abbrev asked : After-dated → Class
+asked c = record { title = c.args.title.now; schedule = c.args.schedule.now }
+
+table : (c : After-dated) → c.dated.result ≡ first_of (refusals_of_add_class c.args.self.now c.args.day c.args.code.now (asked c))
+table c =
+    let checked = c.check_add_class.ensures.first ∙ ap (λ (t : TreeState). first_of (conditions_of_add_class t c.args.code.now c.args.schedule.now)) (ap (λ o. o.tree) c.self.view_is) in
+    c.dated.ensures (conditions_of_add_class c.args.self.now.tree c.args.code.now c.args.schedule.now) checked
+
+pub returns-in-Some : goal.returns-in-Some
+returns-in-Some c = λ contents.
+    let s = c.args.self.now in
+    let p = (goal.at.returns-in-Some c).After-dated in
+    refused_step (refusals_of_add_class s c.args.day c.args.code.now (asked p)) c.in-Some.refusal (with_contents s contents) Done (with_office (with_contents s contents) (after_add_class s c.args.day c.args.code.now (asked p))) (sym (table p) ∙ c.in-Some.is)
+
+pub returns : goal.returns
+returns c =
+    let p = (goal.at.returns c).After-dated in
+    let accepted = sym (table p) ∙ none_of c.dated.result c.in_default.not-Some in
+    let code = c.in_ok-code.ensures in
+    let title = c.in_ok-title.ensures in
+    let schedule = c.in_ok-schedule.ensures in
+    let writes = c.in_ok-writes.ensures ∙ (λ i. row_write.Class (code i) (record { title = title i; schedule = schedule i }) ∷ row_write.Day c.args.day ∷ []) in
+    class_change c.args.self.now c.args.day c.args.code.now (asked p) (record { answer = Done; writes = c.in_ok-writes.writes }) (subst IsSound (ap (λ o. o.tree) c.self.view_is) c.sound.ensures) accepted refl writes

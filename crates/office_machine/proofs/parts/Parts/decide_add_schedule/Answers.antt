@@ -1,0 +1,30 @@
+use Rattle.std.proofs.Common.{◌≡◌, ◌∙◌, [], ◌∷◌, sym, ap, refl, subst}
+use Rattle.office_tree.specs.Conditions.{first_of, conditions_of_add_schedule}
+use Rattle.office_tree.specs.Sound.{IsSound}
+use Rattle.office_tree.specs.Tree.{TreeState}
+use Rattle.office_machine.specs.Conditions.{refusals_of_add_schedule}
+use Rattle.office_machine.specs.Effects.{after_add_schedule}
+use Rattle.office_machine.specs.State.{with_contents, with_office}
+use Rattle.office_machine.specs.declared.answer.Answer.TheVariants.{Done}
+use Rattle.office_machine.specs.declared.rows.RowWrite.TheVariants as row_write
+use Rattle.office_machine.proofs.DecidedTree.{none_of, schedule_change}
+use Rattle.office_machine.proofs.Decisions.{refused_step}
+use Rattle.office_machine.proofs.parts.Parts.decide_add_schedule.Goals.{After-dated}
+use Rattle.office_machine.proofs.parts.Parts.decide_add_schedule.Goals as goal
+
+table : (c : After-dated) → c.dated.result ≡ first_of (refusals_of_add_schedule c.args.self.now c.args.day c.args.code.now)
+table c =
+    let s = c.args.self.now in
+    let checked = c.check_add_schedule.ensures.first ∙ ap (λ (t : TreeState). first_of (conditions_of_add_schedule t c.args.code.now)) (ap (λ o. o.tree) c.self.view_is) in
+    c.dated.ensures (conditions_of_add_schedule s.tree c.args.code.now) checked
+
+pub returns-in-Some : goal.returns-in-Some
+returns-in-Some c = λ contents.
+    let s = c.args.self.now in
+    refused_step (refusals_of_add_schedule s c.args.day c.args.code.now) c.in-Some.refusal (with_contents s contents) Done (with_office (with_contents s contents) (after_add_schedule s c.args.day c.args.code.now c.args.schedule)) (sym (table (goal.at.returns-in-Some c).After-dated) ∙ c.in-Some.is)
+
+pub returns : goal.returns
+returns c =
+    let accepted = sym (table (goal.at.returns c).After-dated) ∙ none_of c.dated.result c.in_default.not-Some in
+    let writes = c.in_ok-writes.ensures ∙ ap (λ code. row_write.Schedule code c.args.schedule ∷ row_write.Day c.args.day ∷ []) c.in_ok-code.ensures in
+    schedule_change c.args.self.now c.args.day c.args.code.now c.args.schedule (record { answer = Done; writes = c.in_ok-writes.writes }) (subst IsSound (ap (λ o. o.tree) c.self.view_is) c.sound.ensures) accepted refl writes

@@ -1,0 +1,16 @@
+use Rattle.std.proofs.Common.{◌≡◌, Some, ap, refl, subst}
+use Rattle.std.specs.Option.{option_copied}
+use Rattle.office_tree.specs.Lists.{numbered}
+use Rattle.office_tree.specs.Sound.{IsSound}
+use Rattle.office_tree.specs.Tree.{TreeState}
+use Rattle.office_machine.specs.declared.answer.Answer.TheVariants.{Done}
+use Rattle.office_machine.proofs.DecidedClasses.{aggregation_reclassified}
+use Rattle.office_machine.proofs.parts.Parts.decide_class_of_aggregation.Goals as goal
+
+pub returns : goal.returns
+returns c =
+    let tree = ap (λ o. o.tree) c.self.view_is in
+    let old = c.aggregation.result.now in
+    let there = subst (λ (t : TreeState). numbered t.aggregations c.args.number ≡ Some old) tree c.aggregation.ensures in
+    aggregation_reclassified c.args.self.now c.args.day c.args.number (option_copied c.args.class) old (record (c.in_ok-aggregation.aggregation) { class = c.in_ok-aggregation-2.field-0 }) (record { answer = Done; writes = c.in_ok-writes.writes })
+    (subst IsSound tree c.sound.ensures) c.requires there (λ i. record (c.in_ok-aggregation.ensures i) { class = c.in_ok-aggregation-2.ensures i }) refl c.in_ok-writes.ensures

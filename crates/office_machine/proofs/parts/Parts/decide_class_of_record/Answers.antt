@@ -1,0 +1,18 @@
+use Rattle.std.proofs.Common.{◌≡◌, Some, ap, refl, subst}
+use Rattle.std.specs.Option.{option_copied}
+use Rattle.office_tree.specs.Lists.{numbered}
+use Rattle.office_tree.specs.Sound.{IsSound}
+use Rattle.office_tree.specs.Tree.{TreeState}
+use Rattle.office_machine.specs.declared.answer.Answer.TheVariants.{Done}
+use Rattle.office_machine.proofs.DecidedClasses.{record_reclassified}
+use Rattle.office_machine.proofs.parts.Parts.decide_class_of_record.Goals as goal
+
+pub returns : goal.returns
+returns c =
+    let tree = ap (λ o. o.tree) c.self.view_is in
+    let old = c.record.result.now in
+    let status = c.status-status.result in
+    let there = subst (λ (t : TreeState). numbered t.records c.args.number ≡ Some old) tree c.record.ensures in
+    let standing = subst (λ (t : TreeState). numbered t.statuses c.args.number ≡ Some status) tree c.status-status.ensures in
+    record_reclassified c.args.self.now c.args.day c.args.number (option_copied c.args.class) old (record (c.in_ok-head.head) { class = c.in_ok-head-2.field-0 }) status (record { answer = Done; writes = c.in_ok-writes.writes })
+    (subst IsSound tree c.sound.ensures) c.requires there standing (λ i. record (c.in_ok-head.ensures i) { class = c.in_ok-head-2.ensures i }) refl c.in_ok-writes.ensures

@@ -1,0 +1,33 @@
+use Rattle.std.proofs.Common.{◌≡◌, ◌∙◌, [], ◌∷◌, sym, ap, refl}
+use Rattle.office_tree.specs.Conditions.{first_of}
+use Rattle.office_holds.specs.Conditions.{conditions_of_hold_off}
+use Rattle.office_holds.specs.Holds.{HoldMap}
+use Rattle.office_machine.specs.Conditions.{refusals_of_hold_off}
+use Rattle.office_machine.specs.Effects.{after_hold_off}
+use Rattle.office_machine.specs.State.{with_contents, with_office}
+use Rattle.office_machine.specs.declared.answer.Answer.TheVariants.{Done}
+use Rattle.office_machine.specs.declared.rows.RowWrite.TheVariants as row_write
+use Rattle.office_machine.proofs.DecidedHolds.{uncovering_change}
+use Rattle.office_machine.proofs.Decisions.{refused_step}
+use Rattle.office_machine.proofs.parts.Parts.decide_hold_off.Goals.{After-dated}
+use Rattle.office_machine.proofs.parts.Parts.decide_hold_off.Goals as goal
+
+table : (c : After-dated) → c.dated.result ≡ first_of (refusals_of_hold_off c.args.self.now c.args.day c.args.code.now c.args.target.now)
+table c =
+    let s = c.args.self.now in
+    let checked = c.check_uncover.ensures.first ∙ ap (λ (holds : HoldMap). first_of (conditions_of_hold_off holds c.args.code.now c.args.target.now)) (ap (λ o. o.holds) c.self.view_is) in
+    c.dated.ensures (conditions_of_hold_off s.holds c.args.code.now c.args.target.now) checked
+
+pub returns-in-Some : goal.returns-in-Some
+returns-in-Some c = λ contents.
+    let s = c.args.self.now in
+    refused_step (refusals_of_hold_off s c.args.day c.args.code.now c.args.target.now) c.in-Some.refusal (with_contents s contents) Done (with_office (with_contents s contents) (after_hold_off s c.args.day c.args.code.now c.args.target.now)) (sym (table (goal.at.returns-in-Some c).After-dated) ∙ c.in-Some.is)
+
+pub returns : goal.returns
+returns c =
+    let s = c.args.self.now in
+    let accepted = sym (table (goal.at.returns c).After-dated) ∙ c.in_default.is in
+    let code = c.in_ok-hold.ensures in
+    let target = c.in_ok-target.ensures in
+    let writes = c.in_ok-writes.ensures ∙ (λ i. row_write.TargetGone (code i) (target i) ∷ row_write.Day c.args.day ∷ []) in
+    uncovering_change s c.args.day c.args.code.now c.args.target.now (record { answer = Done; writes = c.in_ok-writes.writes }) accepted refl writes

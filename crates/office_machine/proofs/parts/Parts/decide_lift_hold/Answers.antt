@@ -1,0 +1,43 @@
+use Rattle.std.proofs.Common.{◌≡◌, ◌∙◌, [], ◌∷◌, Some, sym, ap, refl, subst}
+use Rattle.std.specs.FinMap.{get}
+use Rattle.std.specs.Option.{option_copied}
+use Rattle.office_tree.specs.Conditions.{first_of}
+use Rattle.office_holds.specs.Conditions.{conditions_of_lift_hold}
+use Rattle.office_holds.specs.Forms.{FitsHoldLimits}
+use Rattle.office_holds.specs.Holds.{HoldMap}
+use Rattle.office_machine.specs.Conditions.{refusals_of_lift_hold}
+use Rattle.office_machine.specs.Effects.{after_lift_hold}
+use Rattle.office_machine.specs.State.{with_contents, with_office}
+use Rattle.office_machine.specs.declared.answer.Answer.TheVariants.{Done}
+use Rattle.office_machine.specs.declared.rows.RowWrite.TheVariants as row_write
+use Rattle.office_machine.proofs.DecidedHolds.{hold_there, lifting_change}
+use Rattle.office_machine.proofs.Decisions.{refused_step}
+use Rattle.office_machine.proofs.parts.Parts.decide_lift_hold.Goals.{After-dated}
+use Rattle.office_machine.proofs.parts.Parts.decide_lift_hold.Goals as goal
+
+table : (c : After-dated) → c.dated.result ≡ first_of (refusals_of_lift_hold c.args.self.now c.args.day c.args.code.now)
+table c =
+    let s = c.args.self.now in
+    let checked = c.check_lift.ensures.first ∙ ap (λ (holds : HoldMap). first_of (conditions_of_lift_hold holds c.args.code.now)) (ap (λ o. o.holds) c.self.view_is) in
+    c.dated.ensures (conditions_of_lift_hold s.holds c.args.code.now) checked
+
+pub returns-in-Some : goal.returns-in-Some
+returns-in-Some c = λ contents.
+    let s = c.args.self.now in
+    refused_step (refusals_of_lift_hold s c.args.day c.args.code.now) c.in-Some.refusal (with_contents s contents) Done (with_office (with_contents s contents) (after_lift_hold s c.args.day c.args.code.now)) (sym (table (goal.at.returns-in-Some c).After-dated) ∙ c.in-Some.is)
+
+pub returns : goal.returns
+returns c =
+    let s = c.args.self.now in
+    let accepted = sym (table (goal.at.returns c).After-dated) ∙ c.in_default.is in
+    let there : get s.holds c.args.code.now ≡ Some c.in-Some-hold.before.now = ap (λ (holds : HoldMap). get holds c.args.code.now) (sym (ap (λ o. o.holds) c.self.view_is)) ∙ sym c.in-Some-hold.ensures in
+    let code = c.in_ok-code.ensures in
+    let row = c.in_ok-hold.ensures ∙ c.row.ensures in
+    let writes = c.in_ok-writes.ensures ∙ (λ i. row_write.Hold (code i) (record (row i) { lifted = Some c.args.day }) ∷ row_write.Day c.args.day ∷ []) in
+    lifting_change s c.args.day c.args.code.now c.in-Some-hold.before.now (record { answer = Done; writes = c.in_ok-writes.writes }) (subst FitsHoldLimits (ap (λ o. o.holds) c.self.view_is) c.sound.ensures) accepted there refl writes
+
+pub unreachable-requires : goal.unreachable-requires
+unreachable-requires c =
+    let s = c.args.self.now in
+    let accepted = sym (table (goal.at.unreachable-requires c).After-dated) ∙ c.in_default.is in
+    hold_there s c.args.day c.args.code.now accepted (ap (λ (holds : HoldMap). get holds c.args.code.now) (sym (ap (λ o. o.holds) c.self.view_is)) ∙ sym c.hold.ensures ∙ ap option_copied c.in_default-hold.is)

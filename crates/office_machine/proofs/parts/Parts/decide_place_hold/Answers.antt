@@ -1,0 +1,35 @@
+use Rattle.std.proofs.Common.{◌≡◌, ◌∙◌, [], ◌∷◌, sym, ap, refl, subst}
+use Rattle.office_tree.specs.Conditions.{first_of}
+use Rattle.office_holds.specs.Conditions.{conditions_of_place_hold}
+use Rattle.office_holds.specs.Forms.{FitsHoldLimits}
+use Rattle.office_holds.specs.Holds.{HoldMap}
+use Rattle.office_machine.specs.Conditions.{refusals_of_place_hold}
+use Rattle.office_machine.specs.Effects.{after_place_hold}
+use Rattle.office_machine.specs.State.{with_contents, with_office}
+use Rattle.office_machine.specs.declared.answer.Answer.TheVariants.{Done}
+use Rattle.office_machine.specs.declared.rows.RowWrite.TheVariants as row_write
+use Rattle.office_machine.proofs.DecidedHolds.{placed_row, placing_change}
+use Rattle.office_machine.proofs.Decisions.{refused_step}
+use Rattle.office_machine.proofs.parts.Parts.decide_place_hold.Goals.{After-dated}
+use Rattle.office_machine.proofs.parts.Parts.decide_place_hold.Goals as goal
+
+table : (c : After-dated) → c.dated.result ≡ first_of (refusals_of_place_hold c.args.self.now c.args.day c.args.code.now)
+table c =
+    let s = c.args.self.now in
+    let checked = c.check_place.ensures.first ∙ ap (λ (holds : HoldMap). first_of (conditions_of_place_hold holds c.args.code.now)) (ap (λ o. o.holds) c.self.view_is) in
+    c.dated.ensures (conditions_of_place_hold s.holds c.args.code.now) checked
+
+pub returns-in-Some : goal.returns-in-Some
+returns-in-Some c = λ contents.
+    let s = c.args.self.now in
+    refused_step (refusals_of_place_hold s c.args.day c.args.code.now) c.in-Some.refusal (with_contents s contents) Done (with_office (with_contents s contents) (after_place_hold s c.args.day c.args.code.now c.args.reason.now c.args.by.now)) (sym (table (goal.at.returns-in-Some c).After-dated) ∙ c.in-Some.is)
+
+pub returns : goal.returns
+returns c =
+    let s = c.args.self.now in
+    let accepted = sym (table (goal.at.returns c).After-dated) ∙ c.in_default.is in
+    let code = c.in_ok-code.ensures in
+    let reason = c.in_ok-copy.ensures in
+    let by = c.in_ok-copy-2.ensures in
+    let writes = c.in_ok-writes.ensures ∙ (λ i. row_write.Hold (code i) (placed_row c.args.day (reason i) (by i)) ∷ row_write.Day c.args.day ∷ []) in
+    placing_change s c.args.day c.args.code.now c.args.reason.now c.args.by.now (record { answer = Done; writes = c.in_ok-writes.writes }) (subst FitsHoldLimits (ap (λ o. o.holds) c.self.view_is) c.sound.ensures) accepted refl writes

@@ -1,0 +1,38 @@
+use Rattle.std.proofs.Common.{◌≡◌, ◌∙◌, None, sym, ap, subst}
+use Rattle.std.specs.Option.{option_copied}
+use Rattle.office_tree.specs.Conditions.{conditions_of_reclassify, first_of}
+use Rattle.office_tree.specs.declared.classified.Classified.{Classified}
+use Rattle.office_holds.specs.Conditions.{conditions_of_leaving_class}
+use Rattle.office_machine.specs.Conditions.{conditions_of_reclassifying, refusals_of_reclassify}
+use Rattle.office_machine.specs.Effects.{after_reclassify}
+use Rattle.office_machine.specs.Lesser.{lesser}
+use Rattle.office_machine.specs.State.{Office, with_contents, with_office}
+use Rattle.office_machine.specs.declared.answer.Answer.TheVariants.{Done}
+use Rattle.office_machine.proofs.Decisions.{refused_step}
+use Rattle.office_machine.proofs.LesserRefusals.{lesser_of_reclassifying}
+use Rattle.office_machine.proofs.parts.Parts.decide_reclassify.Goals.{After-dated}
+use Rattle.office_machine.proofs.parts.Parts.decide_reclassify.Goals as goal
+
+table : (c : After-dated) → c.dated.result ≡ first_of (refusals_of_reclassify c.args.self.now c.args.day c.args.target (option_copied c.args.class))
+table c =
+    let s = c.args.self.now in
+    let class = option_copied c.args.class in
+    let apart = c.lesser.ensures ∙ (λ i. lesser (c.check_reclassify-by_tree.ensures.first i) (c.check_reclassify-by_holds.ensures.first i)) in
+    let by_parts = ap (λ (o : Office). lesser (first_of (conditions_of_reclassify o.tree c.args.target class)) (first_of (conditions_of_leaving_class o.holds o.tree c.args.target class))) c.self.view_is in
+    c.dated.ensures (conditions_of_reclassifying s c.args.target class) (apart ∙ by_parts ∙ lesser_of_reclassifying s c.args.target class)
+
+pub returns-in-Some : goal.returns-in-Some
+returns-in-Some c = λ contents.
+    let s = c.args.self.now in
+    let class = option_copied c.args.class in
+    refused_step (refusals_of_reclassify s c.args.day c.args.target class) c.in-Some.refusal (with_contents s contents) Done (with_office (with_contents s contents) (after_reclassify s c.args.day c.args.target class)) (sym (table (goal.at.returns-in-Some c).After-dated) ∙ c.in-Some.is)
+
+pub decide_class_of_aggregation-requires : goal.decide_class_of_aggregation-requires
+decide_class_of_aggregation-requires c =
+    let accepted = sym (table (goal.at.decide_class_of_aggregation-requires c).After-dated) ∙ c.in_default.is in
+    subst (λ (what : Classified). first_of (refusals_of_reclassify c.args.self.now c.args.day what (option_copied c.args.class)) ≡ None) c.in-Aggregation.is accepted
+
+pub decide_class_of_record-requires : goal.decide_class_of_record-requires
+decide_class_of_record-requires c =
+    let accepted = sym (table (goal.at.decide_class_of_record-requires c).After-dated) ∙ c.in_default.is in
+    subst (λ (what : Classified). first_of (refusals_of_reclassify c.args.self.now c.args.day what (option_copied c.args.class)) ≡ None) c.in-Record.is accepted

@@ -1,0 +1,44 @@
+use Rattle.std.proofs.Common.{◌∙◌, Some, sym, ap, refl}
+use Rattle.std.specs.Option.{option_copied}
+use Rattle.office_tree.specs.Conditions.{first_of, conditions_of_review}
+use Rattle.office_tree.specs.Lists.{or_else}
+use Rattle.office_tree.specs.Tree.{TreeState}
+use Rattle.office_machine.specs.Conditions.{refusals_of_review}
+use Rattle.office_machine.specs.Effects.{after_review}
+use Rattle.office_machine.specs.State.{with_contents, with_office}
+use Rattle.office_machine.specs.declared.answer.Answer.TheVariants.{Done}
+use Rattle.office_machine.proofs.DecidedRecords.{IsRead, accepted_in, record_to_review, reviewed_on}
+use Rattle.office_machine.proofs.Decisions.{refused_step}
+use Rattle.office_machine.proofs.parts.Parts.decide_review.Goals as goal
+
+pub returns-in-Some : goal.returns-in-Some
+returns-in-Some c = λ contents.
+    let s = c.args.self.now in
+    let schedule = option_copied c.args.schedule in
+    let checked = c.check_review.ensures.first ∙ ap (λ (t : TreeState). first_of (conditions_of_review t c.args.day c.args.record_no schedule)) (ap (λ o. o.tree) c.self.view_is) in
+    let table = c.dated.ensures (conditions_of_review s.tree c.args.day c.args.record_no schedule) checked in
+    refused_step (refusals_of_review s c.args.day c.args.record_no schedule) c.in-Some.refusal (with_contents s contents) Done (with_office (with_contents s contents) (after_review s c.args.day c.args.record_no schedule c.args.by.now)) (sym table ∙ c.in-Some.is)
+
+pub record-old-requires : goal.record-old-requires
+record-old-requires c =
+    let t = c.self.inside.tree in
+    let schedule = option_copied c.args.schedule in
+    let conditions = conditions_of_review t c.args.day c.args.record_no schedule in
+    record_to_review t c.args.day c.args.record_no schedule (accepted_in c.args.self.now c.args.day conditions c.dated.result (c.dated.ensures conditions c.check_review.ensures.first) c.in_default.is)
+
+pub status-status-requires : goal.status-status-requires
+status-status-requires c =
+    let t = c.self.inside.tree in
+    let schedule = option_copied c.args.schedule in
+    let conditions = conditions_of_review t c.args.day c.args.record_no schedule in
+    record_to_review t c.args.day c.args.record_no schedule (accepted_in c.args.self.now c.args.day conditions c.dated.result (c.dated.ensures conditions c.check_review.ensures.first) c.in_default.is)
+
+pub returns : goal.returns
+returns c =
+    let t = c.self.inside.tree in
+    let schedule = option_copied c.args.schedule in
+    let table = sym (c.dated.ensures (conditions_of_review t c.args.day c.args.record_no schedule) c.check_review.ensures.first) ∙ c.in_default.is in
+    let own = c.in_ok-head-2.ensures ∙ ap (or_else schedule) c.as_ref.ensures.value in
+    let reads : IsRead t c.args.record_no c.record-old.result.now c.status-status.result = record { sound = c.sound.ensures; there = c.record-old.ensures; standing = c.status-status.ensures } in
+    reviewed_on c.args.self.now t c.args.day c.args.record_no schedule c.args.by.now c.record-old.result.now (record (c.in_ok-head.head) { review = Some (record { day = c.args.day; by = c.in_ok-copy.field-0 }); schedule = c.in_ok-head-2.field-0 }) c.status-status.result _
+    (ap (λ o. o.tree) c.self.view_is) table reads (λ i. record (c.in_ok-head.ensures i) { review = Some (record { day = c.args.day; by = c.in_ok-copy.ensures i }); schedule = own i }) refl c.in_ok-writes.ensures

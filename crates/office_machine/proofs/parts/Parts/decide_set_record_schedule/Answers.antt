@@ -1,0 +1,40 @@
+use Rattle.std.proofs.Common.{◌∙◌, sym, ap, refl}
+use Rattle.std.specs.Option.{option_copied}
+use Rattle.office_tree.specs.Conditions.{first_of, conditions_of_set_record_schedule}
+use Rattle.office_tree.specs.Tree.{TreeState}
+use Rattle.office_machine.specs.Conditions.{refusals_of_set_record_schedule}
+use Rattle.office_machine.specs.Effects.{after_set_record_schedule}
+use Rattle.office_machine.specs.State.{with_contents, with_office}
+use Rattle.office_machine.specs.declared.answer.Answer.TheVariants.{Done}
+use Rattle.office_machine.proofs.DecidedRecords.{IsRead, accepted_in, record_to_schedule, scheduled}
+use Rattle.office_machine.proofs.Decisions.{refused_step}
+use Rattle.office_machine.proofs.parts.Parts.decide_set_record_schedule.Goals as goal
+
+pub returns-in-Some : goal.returns-in-Some
+returns-in-Some c = λ contents.
+    let s = c.args.self.now in
+    let schedule = option_copied c.args.schedule in
+    let checked = c.check_set_record_schedule.ensures.first ∙ ap (λ (t : TreeState). first_of (conditions_of_set_record_schedule t c.args.record_no schedule)) (ap (λ o. o.tree) c.self.view_is) in
+    let table = c.dated.ensures (conditions_of_set_record_schedule s.tree c.args.record_no schedule) checked in
+    refused_step (refusals_of_set_record_schedule s c.args.day c.args.record_no schedule) c.in-Some.refusal (with_contents s contents) Done (with_office (with_contents s contents) (after_set_record_schedule s c.args.day c.args.record_no schedule)) (sym table ∙ c.in-Some.is)
+
+pub record-requires : goal.record-requires
+record-requires c =
+    let t = c.self.inside.tree in
+    let conditions = conditions_of_set_record_schedule t c.args.record_no (option_copied c.args.schedule) in
+    record_to_schedule t c.args.record_no (option_copied c.args.schedule) (accepted_in c.args.self.now c.args.day conditions c.dated.result (c.dated.ensures conditions c.check_set_record_schedule.ensures.first) c.in_default.is)
+
+pub status-status-requires : goal.status-status-requires
+status-status-requires c =
+    let t = c.self.inside.tree in
+    let conditions = conditions_of_set_record_schedule t c.args.record_no (option_copied c.args.schedule) in
+    record_to_schedule t c.args.record_no (option_copied c.args.schedule) (accepted_in c.args.self.now c.args.day conditions c.dated.result (c.dated.ensures conditions c.check_set_record_schedule.ensures.first) c.in_default.is)
+
+pub returns : goal.returns
+returns c =
+    let t = c.self.inside.tree in
+    let schedule = option_copied c.args.schedule in
+    let table = sym (c.dated.ensures (conditions_of_set_record_schedule t c.args.record_no schedule) c.check_set_record_schedule.ensures.first) ∙ c.in_default.is in
+    let reads : IsRead t c.args.record_no c.record.result.now c.status-status.result = record { sound = c.sound.ensures; there = c.record.ensures; standing = c.status-status.ensures } in
+    scheduled c.args.self.now t c.args.day c.args.record_no schedule c.record.result.now (record (c.in_ok-head.head) { schedule = c.in_ok-head-2.field-0 }) c.status-status.result _
+    (ap (λ o. o.tree) c.self.view_is) table reads (λ i. record (c.in_ok-head.ensures i) { schedule = c.in_ok-head-2.ensures i }) refl c.in_ok-writes.ensures

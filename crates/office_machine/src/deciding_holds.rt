@@ -1,0 +1,166 @@
+ghost use Rattle.std.specs.Prelude.{◌≡◌, IfOk};
+ghost use Rattle.office_tree.specs.Conditions.{first_of};
+ghost use Rattle.office_machine.specs.Acts.{IsDecidedTo};
+ghost use Rattle.office_machine.specs.Conditions.{conditions_of_target, lacks_target, target_status};
+ghost use Rattle.office_machine.specs.State.{with_contents};
+ghost use Rattle.office_machine.specs.Steps.{step_hold_off, step_hold_on, step_lift_hold, step_place_hold};
+
+use crate::deciding::two;
+use crate::lesser::lesser;
+use crate::parts::Parts;
+use crate::{Answer, Change, Decision, RowWrite};
+use office_days::{Day, Refusal};
+use office_holds::{HoldRow, Target};
+use office_tree::{Code, Memory, Status, Text, Tree};
+use std::alloc::Global;
+
+/// Whether there is no such target.
+fn lacks_target(tree: &Tree, target: &Target) -> bool
+    ensures { result ≡ lacks_target tree.now target.now }
+{
+    match target {
+        Target::Class(code) => tree.class(code).is_none(),
+        Target::Aggregation(number) => !tree.has_aggregation(*number),
+        Target::Record(number) => !tree.has_record(*number),
+    }
+}
+
+/// The status of a record that is a target and is there.
+fn target_status(tree: &Tree, target: &Target) -> Option<Status>
+    ensures { result ≡ target_status tree.now target.now }
+{
+    let Target::Record(number) = target else {
+        return None;
+    };
+    tree.sound();
+    if !tree.has_record(*number) {
+        return None;
+    }
+    Some(tree.status(*number))
+}
+
+/// Why that is no target for a hold, as far as the tree tells: it is not there, or it is an ended
+/// record.
+fn check_target(tree: &Tree, target: &Target) -> Option<Refusal>
+    ensures { result ≡ first_of (conditions_of_target tree.now target.now) }
+{
+    if lacks_target(tree, target) {
+        return Some(Refusal::NoSuch);
+    }
+    match target_status(tree, target) {
+        Some(Status::Ended) => Some(Refusal::Ended),
+        _ => None,
+    }
+}
+
+impl Parts {
+    /// What is decided of a new hold.
+    pub(crate) fn decide_place_hold(
+        &self,
+        alloc: Global,
+        day: Day,
+        code: &Code,
+        reason: &Text,
+        by: &Text,
+    ) -> Result<Decision, Memory>
+        ensures { IfOk result (λ d. IsDecidedTo self.now (λ contents. step_place_hold (with_contents self.now contents) day code.now reason.now by.now) d) }
+    {
+        if let Some(refusal) = self.dated(day, self.holds.check_place(code)) {
+            return Ok(Decision::Stay(Answer::Refused(refusal)));
+        }
+        self.holds.sound();
+        let hold = HoldRow {
+            reason: reason.copy(alloc)?,
+            placed: day,
+            placed_by: by.copy(alloc)?,
+            lifted: None,
+        };
+        let code = code.copy(alloc)?;
+        let writes = two(alloc, RowWrite::Hold { code, hold }, RowWrite::Day { day })?;
+        Ok(Decision::Go(Change {
+            answer: Answer::Done,
+            writes,
+        }))
+    }
+
+    /// What is decided of a target for a hold.
+    pub(crate) fn decide_hold_on(
+        &self,
+        alloc: Global,
+        day: Day,
+        code: &Code,
+        target: &Target,
+    ) -> Result<Decision, Memory>
+        ensures { IfOk result (λ d. IsDecidedTo self.now (λ contents. step_hold_on (with_contents self.now contents) day code.now target.now) d) }
+    {
+        let by_holds = self.holds.check_cover(code, target);
+        let by_tree = check_target(&self.tree, target);
+        if let Some(refusal) = self.dated(day, lesser(by_holds, by_tree)) {
+            return Ok(Decision::Stay(Answer::Refused(refusal)));
+        }
+        self.holds.sound();
+        let hold = code.copy(alloc)?;
+        let target = target.copy(alloc)?;
+        let writes = two(
+            alloc,
+            RowWrite::Target { hold, target },
+            RowWrite::Day { day },
+        )?;
+        Ok(Decision::Go(Change {
+            answer: Answer::Done,
+            writes,
+        }))
+    }
+
+    /// What is decided of a target that is to be taken off a hold.
+    pub(crate) fn decide_hold_off(
+        &self,
+        alloc: Global,
+        day: Day,
+        code: &Code,
+        target: &Target,
+    ) -> Result<Decision, Memory>
+        ensures { IfOk result (λ d. IsDecidedTo self.now (λ contents. step_hold_off (with_contents self.now contents) day code.now target.now) d) }
+    {
+        if let Some(refusal) = self.dated(day, self.holds.check_uncover(code, target)) {
+            return Ok(Decision::Stay(Answer::Refused(refusal)));
+        }
+        let hold = code.copy(alloc)?;
+        let target = target.copy(alloc)?;
+        let writes = two(
+            alloc,
+            RowWrite::TargetGone { hold, target },
+            RowWrite::Day { day },
+        )?;
+        Ok(Decision::Go(Change {
+            answer: Answer::Done,
+            writes,
+        }))
+    }
+
+    /// What is decided of a hold's lifting.
+    pub(crate) fn decide_lift_hold(
+        &self,
+        alloc: Global,
+        day: Day,
+        code: &Code,
+    ) -> Result<Decision, Memory>
+        ensures { IfOk result (λ d. IsDecidedTo self.now (λ contents. step_lift_hold (with_contents self.now contents) day code.now) d) }
+    {
+        if let Some(refusal) = self.dated(day, self.holds.check_lift(code)) {
+            return Ok(Decision::Stay(Answer::Refused(refusal)));
+        }
+        self.holds.sound();
+        let Some(before) = self.holds.hold(code) else {
+            unreachable!();
+        };
+        let mut hold = before.row().copy(alloc)?;
+        hold.lifted = Some(day);
+        let code = code.copy(alloc)?;
+        let writes = two(alloc, RowWrite::Hold { code, hold }, RowWrite::Day { day })?;
+        Ok(Decision::Go(Change {
+            answer: Answer::Done,
+            writes,
+        }))
+    }
+}

@@ -1,0 +1,15 @@
+ghost use Rattle.std.specs.Prelude.{◌≡◌};
+ghost use Rattle.office_machine.specs.Lesser.{lesser};
+
+use office_days::Refusal;
+
+/// Of two refusals, each where there is one, the one with the lesser number.
+pub(crate) fn lesser(one: Option<Refusal>, other: Option<Refusal>) -> Option<Refusal>
+    ensures { result ≡ lesser one other }
+{
+    match (one, other) {
+        (Some(one), Some(other)) if other.number() < one.number() => Some(other),
+        (Some(one), _) => Some(one),
+        (None, other) => other,
+    }
+}

@@ -1,0 +1,160 @@
+ghost use Rattle.std.specs.Prelude.{◌≡◌, ◌==◌, ◌&&◌, IfOk, IsTrue, Some, map};
+ghost use Rattle.std.specs.FinMap.{from_entries, get, values};
+ghost use Rattle.std.specs.List.{find};
+ghost use Rattle.std.specs.Option.{option_copied, option_map};
+ghost use Rattle.std.specs.String.{string_bytes};
+ghost use Rattle.office_tree.specs.Tree.{has_record};
+ghost use Rattle.office_proof.specs.Outcomes.{is_ending};
+ghost use Rattle.office_machine.specs.Readings.{all_entries_of, ending_entry, record_view};
+ghost use Rattle.office_machine.specs.State.{entry_cmp};
+
+use crate::RecordView;
+use crate::deciding::copy_code;
+use crate::parts::Parts;
+use office_proof::{Entry, RunNo};
+use office_tree::{Confirmation, Memory, RecordNo};
+use std::alloc::Global;
+use std::collections::BTreeMap;
+
+/// A second entry that is equal to this one.
+fn copy_entry(alloc: Global, entry: &Entry) -> Result<Entry, Memory>
+    ensures { IfOk result (λ e. e ≡ entry.now) }
+{
+    Ok(Entry {
+        run: entry.run,
+        record_no: entry.record_no,
+        outcome: entry.outcome,
+        class: entry.class.copy(alloc)?,
+        schedule: entry.schedule.copy(alloc)?,
+        due: entry.due,
+        confirmed_by: entry.confirmed_by.copy(alloc)?,
+        hold: copy_code(alloc, entry.hold.as_ref())?,
+    })
+}
+
+/// A second confirmation that is equal to this one, if there is one.
+fn copy_confirmation(
+    alloc: Global,
+    confirmation: Option<&Confirmation>,
+) -> Result<Option<Confirmation>, Memory>
+    ensures { IfOk result (λ c. c ≡ option_copied confirmation.entry) }
+{
+    match confirmation {
+        Some(confirmation) => Ok(Some(confirmation.copy(alloc)?)),
+        None => Ok(None),
+    }
+}
+
+/// Whether the entry ended the record.
+fn ended(entry: &Entry, record_no: RecordNo) -> bool
+    ensures { result ≡ entry.now.record_no == record_no && is_ending entry.now.outcome }
+{
+    if entry.record_no != record_no {
+        return false;
+    }
+    entry.outcome.is_ending()
+}
+
+/// The first of the entries that ended the record.
+fn find_ending<'a>(
+    entries: &'a BTreeMap<(RunNo, RecordNo), Entry>,
+    record_no: RecordNo,
+) -> Option<&'a Entry>
+    ensures { option_copied result ≡ find (λ e. e.record_no == record_no && is_ending e.outcome) (values (from_entries {R = entry_cmp} entries.now.entries)) }
+{
+    for entry in entries.values() {
+        if ended(entry, record_no) {
+            return Some(entry);
+        }
+    }
+    None
+}
+
+/// Copies of all the entries, in their order.
+fn copy_entries(
+    alloc: Global,
+    entries: &BTreeMap<(RunNo, RecordNo), Entry>,
+) -> Result<Vec<Entry>, Memory>
+    ensures { IfOk result (λ all. all.items ≡ values (from_entries {R = entry_cmp} entries.now.entries)) }
+{
+    let mut all = Vec::with_capacity(alloc, entries.len())?;
+    for entry in entries.values() {
+        all.push(copy_entry(alloc, entry)?)?;
+    }
+    Ok(all)
+}
+
+impl Parts {
+    /// The entry that ended the record; `None` where it is not ended or not there.
+    pub(crate) fn entry_that_ended(
+        &self,
+        alloc: Global,
+        record_no: RecordNo,
+    ) -> Result<Option<Entry>, Memory>
+        ensures { IfOk result (λ entry. entry ≡ ending_entry self.now record_no) }
+    {
+        match find_ending(&self.entries, record_no) {
+            Some(entry) => Ok(Some(copy_entry(alloc, entry)?)),
+            None => Ok(None),
+        }
+    }
+
+    /// All entries, by run, then record.
+    pub(crate) fn all_entries(&self, alloc: Global) -> Result<Vec<Entry>, Memory>
+        ensures { IfOk result (λ all. all.items ≡ all_entries_of self.now) }
+    {
+        copy_entries(alloc, &self.entries)
+    }
+
+    /// The text of the certificate of that run; `None` where it is not closed or not there.
+    pub(crate) fn certificate(&self, alloc: Global, run: RunNo) -> Result<Option<String>, Memory>
+        ensures { IfOk result (λ text. option_map (λ it. string_bytes it) text ≡ get self.now.certificates run) }
+    {
+        match self.certificates.get(&run) {
+            Some(certificate) => Ok(Some(String::from_str(alloc, certificate.text())?)),
+            None => Ok(None),
+        }
+    }
+
+    /// What is told of a record that is there.
+    fn view_of(&self, alloc: Global, record_no: RecordNo) -> Result<RecordView, Memory>
+        requires { IsTrue (has_record self.now.tree record_no) }
+        ensures { IfOk result (λ view. Some view ≡ record_view self.now record_no) }
+    {
+        let head = self.tree.record(record_no);
+        let held = self.holds.covering(&self.tree, record_no);
+        let digest = head.digest;
+        Ok(RecordView {
+            number: record_no,
+            ref_text: head.ref_text.copy(alloc)?,
+            title: head.title.copy(alloc)?,
+            originated: head.originated,
+            added: head.added,
+            aggregation: head.aggregation,
+            length: head.length,
+            digest,
+            status: self.tree.status(record_no),
+            class: self.tree.class_of(record_no).copy(alloc)?,
+            schedule: self.tree.plan_of(record_no).copy(alloc)?,
+            action: self.tree.schedule_of(record_no).action,
+            due: self.tree.due_of(record_no),
+            held: copy_code(alloc, held)?,
+            confirmed: copy_confirmation(alloc, head.confirmation.as_ref())?,
+            counts: self.tree.counts(record_no),
+        })
+    }
+
+    /// What is told of the record; `None` where it is not there.
+    pub(crate) fn view(
+        &self,
+        alloc: Global,
+        record_no: RecordNo,
+    ) -> Result<Option<RecordView>, Memory>
+        ensures { IfOk result (λ view. view ≡ record_view self.now record_no) }
+    {
+        if !self.tree.has_record(record_no) {
+            return Ok(None);
+        }
+        Ok(Some(self.view_of(alloc, record_no)?))
+    }
+}

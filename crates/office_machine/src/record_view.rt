@@ -1,0 +1,25 @@
+use office_days::{Day, DueDay};
+use office_tree::{Action, AggNo, Code, Confirmation, RecordNo, Status, Text};
+
+/// What is told of a record: its head and status; the class, the schedule and the action in effect,
+/// the due day and the least hold as the office says now, whatever the status; and its confirmation,
+/// also where it does not count any more.
+#[derive(Drop)]
+pub struct RecordView {
+    pub number: RecordNo,
+    pub ref_text: Text,
+    pub title: Text,
+    pub originated: Day,
+    pub added: Day,
+    pub aggregation: AggNo,
+    pub length: u32,
+    pub digest: [u8; 32],
+    pub status: Status,
+    pub class: Code,
+    pub schedule: Code,
+    pub action: Action,
+    pub due: Option<DueDay>,
+    pub held: Option<Code>,
+    pub confirmed: Option<Confirmation>,
+    pub counts: bool,
+}

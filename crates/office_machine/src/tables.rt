@@ -1,0 +1,23 @@
+use crate::{RecordRow, Run};
+use office_days::Day;
+use office_holds::{HoldRow, Target};
+use office_proof::{Entry, RunNo};
+use office_tree::{AggNo, Aggregation, Class, Code, RecordNo, Schedule};
+
+/// The rows of the eleven tables, each row with its key before it, in the order of the keys; the
+/// targets of holds in any order. An entry holds its key itself. Of `contents` the keys stand here
+/// alone, of `office`, which has one row, its day.
+#[derive(Drop)]
+pub struct Tables {
+    pub day: Day,
+    pub schedules: Vec<(Code, Schedule)>,
+    pub classes: Vec<(Code, Class)>,
+    pub aggregations: Vec<(AggNo, Aggregation)>,
+    pub records: Vec<(RecordNo, RecordRow)>,
+    pub contents: Vec<RecordNo>,
+    pub holds: Vec<(Code, HoldRow)>,
+    pub targets: Vec<(Code, Target)>,
+    pub runs: Vec<(RunNo, Run)>,
+    pub entries: Vec<Entry>,
+    pub certificates: Vec<(RunNo, String)>,
+}

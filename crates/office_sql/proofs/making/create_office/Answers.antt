@@ -1,0 +1,8 @@
+use Rattle.sqlite.specs.Held.{state}
+use Rattle.office_sql.specs.Schema.{no_schema, office_text, office}
+use Rattle.office_sql.proofs.MakeTexts.{makes_office}
+use Rattle.office_sql.proofs.MakeLemmas.{creates}
+use Rattle.office_sql.proofs.making.create_office.Goals as goal
+
+pub returns-clause-made : goal.returns-clause-made
+returns-clause-made g c = creates no_schema office_text office makes_office (state g.S.Store c.args.tx.now.conn.now) (state g.S.Store c.execute.new.self.conn.now) c.in_ok-execute.field-0 c.in_ok-execute.ensures.runs c.execute.ensures.survives

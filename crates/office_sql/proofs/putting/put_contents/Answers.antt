@@ -1,0 +1,8 @@
+use Rattle.office_sql.proofs.Columns.{columns}
+use Rattle.office_sql.proofs.Inside.{ran_inside}
+use Rattle.office_sql.proofs.PutRows.{puts_content}
+use Rattle.office_sql.proofs.putting.put_contents.Goals as goal
+
+pub returns-clause-put : goal.returns-clause-put
+returns-clause-put g c =
+    ran_inside _ _ _ _ (puts_content _ _ _ _ _) (λ did. did.office) (search columns) c.in_ok-execute.ensures.runs c.execute.ensures.survives
