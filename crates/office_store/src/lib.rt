@@ -1,10 +1,12 @@
 //! The tables of an office in one SQLite file: each change of the machine is saved in one transaction.
 #![tactic(auto)]
 
+mod adopting;
 mod columns;
 mod fault;
 mod saving;
 mod stored;
+mod tables;
 mod texts;
 mod writing;
 pub use fault::Fault;
