@@ -135,7 +135,7 @@ fn day_of(rows: &[Row]) -> Result<Day, Fault>
     ensures ok { IfOk result (λ day. rows.now ≡ office_row (pos 1) (pos 1) day ∷ []) }
     ensures damaged { IfErr result (λ fault. fault ≡ Fault.Damaged → (day : ℤ) → IsDayNumber day → rows.now ≢ office_row (pos 1) (pos 1) day ∷ []) }
     ensures version { IfErr result (λ fault. fault ≡ Fault.Version → (one : ℤ) × (version : ℤ) × (rest : Row) × (rows.now ≡ (Int one ∷ Int version ∷ rest) ∷ []) × (version ≢ pos 1)) }
-    ensures faults { IfErr result (λ fault. (fault ≡ Fault.Damaged) ⊎ (fault ≡ Fault.Version)) }
+    ensures faults { IfErr result (λ fault. fault ≢ Fault.Reopen) }
 {
     let [row] = rows else {
         return Err(Fault::Damaged);
