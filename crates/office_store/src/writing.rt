@@ -10,7 +10,7 @@ ghost use Rattle.office_store.specs.Written.{AreWritten, IsWritten, needed_text}
 
 use crate::texts::target_kind;
 use office_holds::HoldRow;
-use office_machine::{Run, RowWrite};
+use office_machine::{RowWrite, Run};
 use office_proof::Entry;
 use office_sql::{
     FixedColumns, OptionalColumns, put_aggregations, put_certificates, put_classes, put_contents,
@@ -134,11 +134,7 @@ fn put_record<S: Alter>(
     put_records(tx, &fixed, &optional_columns(head))
 }
 
-fn put_hold<S: Alter>(
-    tx: &mut Transaction<'_, S>,
-    code: &Code,
-    hold: &HoldRow,
-) -> Result<(), Error>
+fn put_hold<S: Alter>(tx: &mut Transaction<'_, S>, code: &Code, hold: &HoldRow) -> Result<(), Error>
     ensures same_reference { tx.new.conn.ghost_name ≡ tx.old.conn.ghost_name }
     ensures written { GoesInside (IsWritten (row_write.Hold code.now hold.now)) (state S.Store tx.old.conn.now) (state S.Store tx.new.conn.now) result }
 {
@@ -156,7 +152,14 @@ fn put_run<S: Alter>(tx: &mut Transaction<'_, S>, number: u32, run: &Run) -> Res
     ensures same_reference { tx.new.conn.ghost_name ≡ tx.old.conn.ghost_name }
     ensures written { GoesInside (IsWritten (row_write.Run number run.now)) (state S.Store tx.old.conn.now) (state S.Store tx.new.conn.now) result }
 {
-    put_runs(tx, number, run.day.number(), run.by.text(), run.cursor, run.is_closed)
+    put_runs(
+        tx,
+        number,
+        run.day.number(),
+        run.by.text(),
+        run.cursor,
+        run.is_closed,
+    )
 }
 
 fn put_entry<S: Alter>(tx: &mut Transaction<'_, S>, entry: &Entry) -> Result<(), Error>
@@ -203,7 +206,12 @@ fn write_row<S: Alter>(
         RowWrite::Content { number, bytes } => put_contents(tx, *number, bytes),
         RowWrite::ContentGone { number } => remove_content(tx, *number),
         RowWrite::Hold { code, hold } => put_hold(tx, code, hold),
-        RowWrite::Target { hold, target } => put_targets(tx, hold.text(), target_kind(target), text),
+        RowWrite::Target { hold, target } => put_targets(
+            tx,
+            hold.text(),
+            target_kind(target),
+            text,
+        ),
         RowWrite::TargetGone { hold, target } => {
             remove_target(tx, hold.text(), target_kind(target), text)
         }
