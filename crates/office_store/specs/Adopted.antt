@@ -1,7 +1,7 @@
 -- What is read of the tables when an office is adopted, and how a reading ends. Source: own.
-use Rattle.std.specs.Prelude.{◌≡◌, ◌≢◌, ℕ, ℤ, pos, All, List, [], ◌∷◌, map, take, Result, IfOk, IfErr, OnOk, IsPermutation}
+use Rattle.std.specs.Prelude.{◌≡◌, ◌≢◌, ℕ, ℤ, pos, All, List, [], ◌∷◌, map, take, Option, Some, None, Result, IfOk, IfErr, OnOk, IsPermutation}
 use Rattle.std.specs.String.{string_bytes}
-use Rattle.sqlite_value.specs.declared.value.Value.TheVariants.{Int}
+use Rattle.sqlite_value.specs.declared.value.Value.TheVariants.{Int, Blob}
 use Rattle.sqlite_value.specs.Order.{Row}
 use Rattle.sqlite_trees.specs.Tree.{Trees}
 use Rattle.sqlite.specs.State.{State, HasCleanDisk, Survives}
@@ -67,3 +67,12 @@ pub record AreRunningRead (t : Running) (db : Trees) : Type 0 where
   pub runs : IsByKey (0 ∷ []) (rows_of (at 14 runs) db) (map run_pair t.runs.items)
   pub entries : IsByKey (0 ∷ 1 ∷ []) (rows_of (at 15 entries) db) (map entry_shown t.entries.items)
   pub certificates : IsByKey (0 ∷ []) (rows_of (at 17 certificates) db) (map certificate_pair t.certificates.items)
+
+-- a crash leaves nothing that it did not leave before
+abbrev pub LeavesLess : State → State → Type 0
+LeavesLess old new = (db : Trees) → new.may_leave db → old.may_leave db
+
+-- these rows are those bytes, and none where there is no row
+abbrev pub AreBytesOf : List Row → Option (List ℕ) → Type 0
+AreBytesOf rows None = rows ≡ []
+AreBytesOf rows (Some bytes) = (others : List Row) × IsPermutation rows ((Blob bytes ∷ []) ∷ others)

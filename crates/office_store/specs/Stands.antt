@@ -6,8 +6,9 @@ use Rattle.sqlite_trees.specs.Tree.{Trees}
 use Rattle.sqlite_schema.specs.declared.schema.Table.{Table}
 use Rattle.sqlite.specs.State.{State}
 use Rattle.office_holds.specs.declared.target.Target.{Target}
-use Rattle.office_machine.specs.Rows.{TableRows, is_pair}
-use Rattle.office_sql.specs.Bags.{rows_of}
+use Rattle.office_machine.specs.Rows.{TableRows, is_pair, rows_of}
+use Rattle.office_machine.specs.State.{empty_state}
+use Rattle.office_sql.specs.Bags as bags
 use Rattle.office_sql.specs.Office.{IsAtRest}
 use Rattle.office_sql.specs.Schema.{at, aggregations, certificates, classes, contents, entries, holds, office, records, runs, schedules, targets}
 use Rattle.office_sql.specs.Shown.{certificate_row, content_row, office_row}
@@ -15,7 +16,7 @@ use Rattle.office_store.specs.Encoded.{aggregation_shown, class_shown, entry_sho
 
 -- the table has these rows and no others, in any order
 abbrev pub Has : Table → Trees → List Row → Type 0
-Has table db rows = IsPermutation rows (rows_of table db)
+Has table db rows = IsPermutation rows (bags.rows_of table db)
 
 -- `targets` has each pair of hold and target that there is, and no other
 abbrev pub HasTargets : Trees → (List ℕ → Target → Bool) → Type 0
@@ -45,3 +46,7 @@ pub record HoldsRows (t : TableRows) (s : State) : Type 0 where
 -- a crash leaves tables of these rows or of those
 abbrev pub LeavesWithin : TableRows → TableRows → State → Type 0
 LeavesWithin t u s = (db : Trees) → s.may_leave db → Stands t db ⊎ Stands u db
+
+-- a crash leaves what was there, or the tables of a new office
+abbrev pub LeavesFirst : State → State → Type 0
+LeavesFirst old new = (db : Trees) → new.may_leave db → (db ≡ old.now.trees) ⊎ Stands (rows_of empty_state) db

@@ -1,11 +1,11 @@
 //! The content of a record, out of its table.
-ghost use Rattle.std.specs.Prelude.{◌≡◌, ◌⊎◌, pos, false, map, Some, None, IfOk, IfErr, OnOk, IsPermutation, MatchOption};
+ghost use Rattle.std.specs.Prelude.{◌≡◌, ◌≢◌, pos, false, IfOk, IfErr, OnOk};
+ghost use Rattle.std.specs.Option.{option_map};
 ghost use Rattle.sqlite.specs.Held.{state};
 ghost use Rattle.sqlite.specs.State.{HasCleanDisk};
-ghost use Rattle.sqlite_value.specs.declared.value.Value.TheVariants.{Blob};
 ghost use Rattle.office_sql.specs.Office.{IsAtRest};
 ghost use Rattle.office_sql.specs.Reads.{bytes_with};
-ghost use Rattle.office_store.specs.Adopted.{IsFoundBytes, LeavesLess};
+ghost use Rattle.office_store.specs.Adopted.{AreBytesOf, LeavesLess};
 
 use crate::Fault;
 use crate::tables::{of_database, of_value};
@@ -18,11 +18,11 @@ pub(crate) fn content_in<S: Alter>(
     conn: &mut Connection<S>,
     record_no: RecordNo,
 ) -> Result<Option<Vec<u8>>, Fault>
-    ensures found { HasCleanDisk (state S.Store conn.new) → IsAtRest (state S.Store conn.old) → IfOk result (λ bytes. IsFoundBytes (bytes_with (pos record_no) (state S.Store conn.old).now.trees) bytes) }
+    ensures found { HasCleanDisk (state S.Store conn.new) → IsAtRest (state S.Store conn.old) → IfOk result (λ bytes. AreBytesOf (bytes_with (pos record_no) (state S.Store conn.old).now.trees) (option_map (λ it. it.items) bytes)) }
     ensures same { HasCleanDisk (state S.Store conn.new) → IsAtRest (state S.Store conn.old) → OnOk result (IsAtRest (state S.Store conn.new) × ((state S.Store conn.new).now ≡ (state S.Store conn.old).now)) }
     ensures leaves { HasCleanDisk (state S.Store conn.new) → IsAtRest (state S.Store conn.old) → LeavesLess (state S.Store conn.old) (state S.Store conn.new) }
     ensures mode { conn.old.in_transaction ≡ false → conn.new.in_transaction ≡ false }
-    ensures faults { IfErr result (λ fault. fault ≢ Fault.Reopen) }
+    ensures faults { IfErr result (λ fault. (fault ≢ Fault.Reopen) × (fault ≢ Fault.Version)) }
 {
     let rows = content_of(conn, record_no).map_err(of_database)?;
     match rows.first() {

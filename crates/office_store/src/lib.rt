@@ -3,10 +3,14 @@
 
 mod adopting;
 mod columns;
+mod content;
 mod fault;
 mod saving;
+mod store;
 mod stored;
 mod tables;
 mod texts;
 mod writing;
+
 pub use fault::Fault;
+pub use store::Store;

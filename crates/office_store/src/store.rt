@@ -1,4 +1,4 @@
-ghost use Rattle.std.specs.Prelude.{◌≡◌, ◌⊎◌, codes, false, is_some, Ok, Err, IfOk, IfErr, OnOk, OnErr, IsTrue};
+ghost use Rattle.std.specs.Prelude.{◌≡◌, ◌≢◌, ◌⊎◌, codes, false, true, is_some, Ok, Err, IfOk, IfErr, OnOk, OnErr, IsTrue};
 ghost use Rattle.std.specs.Option.{option_map};
 ghost use Rattle.std.specs.FinMap.{get};
 ghost use Rattle.sqlite.specs.Held.{state};
@@ -12,7 +12,7 @@ ghost use Rattle.office_machine.specs.Writes.{all_writes};
 ghost use Rattle.office_sql.specs.Names.{has_other_table};
 ghost use Rattle.office_sql.specs.Office.{IsAtRest, IsBlank};
 ghost use Rattle.office_store.specs.Adopted.{IsOtherVersion, IsRead, LeavesLess};
-ghost use Rattle.office_store.specs.Stands.{HoldsRows, LeavesWithin};
+ghost use Rattle.office_store.specs.Stands.{HoldsRows, LeavesFirst, LeavesWithin};
 ghost use Rattle.office_store.specs.Stored.{AllReadable};
 
 use crate::Fault;
@@ -64,7 +64,8 @@ impl<S: Alter> Store<S> {
         requires { conn.in_transaction ≡ false }
         ensures ok { IfOk result (λ store. HasCleanDisk (state S.Store store) → IsBlank (state S.Store conn) → HoldsRows (rows_of empty_state) (state S.Store store)) }
         ensures damaged { IfErr result (λ e. e.0 ≡ Fault.Damaged → (has_other_table (state S.Store conn).now.schema ≡ true) × (e.1 ≡ conn)) }
-        ensures err { IfErr result (λ e. HasCleanDisk (state S.Store e.1) → IsBlank (state S.Store conn) → LeavesNew (state S.Store conn) (state S.Store e.1)) }
+        ensures err { IfErr result (λ e. HasCleanDisk (state S.Store e.1) → IsBlank (state S.Store conn) → LeavesFirst (state S.Store conn) (state S.Store e.1)) }
+        ensures undone { IfErr result (λ e. HasCleanDisk (state S.Store e.1) → IsBlank (state S.Store conn) → IsTrue (state S.Store e.1).is_open → IsBlank (state S.Store e.1) × ((state S.Store e.1).now ≡ (state S.Store conn).now)) }
         ensures faults { IfErr result (λ e. (e.0 ≡ Fault.Damaged) ⊎ (e.0 ≡ Fault.Store)) }
         ensures ended { IfErr result (λ e. e.1.in_transaction ≡ false) }
     {
@@ -109,7 +110,6 @@ impl<S: Alter> Store<S> {
         ensures undone { (s : State) → HasCleanDisk (state S.Store self.new) → HoldsRows (rows_of s) (state S.Store self.old) → IsTrue (state S.Store self.new).is_open → OnErr result (HoldsRows (rows_of s) (state S.Store self.new)) }
         ensures faults { IfErr result (λ fault. (fault ≡ Fault.Memory) ⊎ (fault ≡ Fault.Store)) }
     {
-        law_of_saved_rows();
         let Ok(texts) = needed_texts(alloc, &change.writes) else {
             return Err(Fault::Memory);
         };
@@ -121,7 +121,7 @@ impl<S: Alter> Store<S> {
         ensures read { (s : State) → HasCleanDisk (state S.Store self.new) → HoldsRows (rows_of s) (state S.Store self.old) → IfOk result (λ bytes. option_map (λ it. it.items) bytes ≡ get s.contents record_no) }
         ensures same { (s : State) → HasCleanDisk (state S.Store self.new) → HoldsRows (rows_of s) (state S.Store self.old) → OnOk result (HoldsRows (rows_of s) (state S.Store self.new)) }
         ensures leaves { HasCleanDisk (state S.Store self.new) → IsAtRest (state S.Store self.old) → LeavesLess (state S.Store self.old) (state S.Store self.new) }
-        ensures faults { IfErr result (λ fault. (fault ≡ Fault.Memory) ⊎ (fault ≡ Fault.Store)) }
+        ensures faults { IfErr result (λ fault. (fault ≢ Fault.Reopen) × (fault ≢ Fault.Version)) }
     {
         content_in(&mut self.conn, record_no)
     }
