@@ -22,7 +22,7 @@ use hex::FromHex;
 use office_days::{Day, DueDay, Offset, Unit};
 use office_proof::Outcome;
 use office_sql::{BadValue, day_number, optional_day_number, optional_text, text};
-use office_tree::{Action, Code, Memory, Status, Text, Trigger};
+use office_tree::{Action, Code, Memory, Status, Trigger};
 use sqlite::Row;
 use std::alloc::Global;
 
@@ -48,11 +48,7 @@ pub(crate) fn code(alloc: Global, row: &Row, at: usize) -> Result<Code, BadValue
 }
 
 /// The code at this place, or `None` where it is null.
-pub(crate) fn optional_code(
-    alloc: Global,
-    row: &Row,
-    at: usize,
-) -> Result<Option<Code>, BadValue>
+pub(crate) fn optional_code(alloc: Global, row: &Row, at: usize) -> Result<Option<Code>, BadValue>
     ensures ok { IfOk result (λ read. Has row.now at (or_null Text read)) }
     ensures damaged { OnDamaged result ((code : Option (List ℕ)) → IfSome code IsCode → Has row.now at (or_null Text code) → ⊥) }
 {
@@ -64,11 +60,11 @@ pub(crate) fn optional_code(
 }
 
 /// The text at this place.
-pub(crate) fn words(alloc: Global, row: &Row, at: usize) -> Result<Text, BadValue>
+pub(crate) fn words(alloc: Global, row: &Row, at: usize) -> Result<office_tree::Text, BadValue>
     ensures ok { IfOk result (λ read. Has row.now at (Text read)) }
     ensures damaged { OnDamaged result ((words : List ℕ) → IsText words → Has row.now at (Text words) → ⊥) }
 {
-    let read = Text::read(alloc, text(row, at)?.as_str()).map_err(no_memory)?;
+    let read = office_tree::Text::read(alloc, text(row, at)?.as_str()).map_err(no_memory)?;
     read.ok_or(BadValue::Damaged)
 }
 
@@ -77,14 +73,14 @@ pub(crate) fn optional_words(
     alloc: Global,
     row: &Row,
     at: usize,
-) -> Result<Option<Text>, BadValue>
+) -> Result<Option<office_tree::Text>, BadValue>
     ensures ok { IfOk result (λ read. Has row.now at (or_null Text read)) }
     ensures damaged { OnDamaged result ((words : Option (List ℕ)) → IfSome words IsText → Has row.now at (or_null Text words) → ⊥) }
 {
     let Some(stored) = optional_text(row, at)? else {
         return Ok(None);
     };
-    let read = Text::read(alloc, stored.as_str()).map_err(no_memory)?;
+    let read = office_tree::Text::read(alloc, stored.as_str()).map_err(no_memory)?;
     Ok(Some(read.ok_or(BadValue::Damaged)?))
 }
 
