@@ -48,11 +48,7 @@ pub(crate) fn code(alloc: Global, row: &Row, at: usize) -> Result<Code, BadValue
 }
 
 /// The code at this place, or `None` where it is null.
-pub(crate) fn optional_code(
-    alloc: Global,
-    row: &Row,
-    at: usize,
-) -> Result<Option<Code>, BadValue>
+pub(crate) fn optional_code(alloc: Global, row: &Row, at: usize) -> Result<Option<Code>, BadValue>
     ensures ok { IfOk result (λ read. Has row.now at (or_null Text read)) }
     ensures damaged { OnDamaged result ((code : Option (List ℕ)) → IfSome code IsCode → Has row.now at (or_null Text code) → ⊥) }
 {
