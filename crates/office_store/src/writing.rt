@@ -17,7 +17,7 @@ use office_sql::{
     put_entries, put_holds, put_office, put_records, put_runs, put_schedules, put_targets,
     remove_content, remove_target,
 };
-use office_tree::{Aggregation, Code, Record, Schedule, Status};
+use office_tree::{Aggregation, Class, Code, Record, Schedule, Status};
 use sqlite::{Alter, Error, Transaction};
 
 fn put_schedule<S: Alter>(
@@ -37,6 +37,13 @@ fn put_schedule<S: Alter>(
         schedule.offset.text(),
         schedule.action.text(),
     )
+}
+
+fn put_class<S: Alter>(tx: &mut Transaction<'_, S>, code: &Code, class: &Class) -> Result<(), Error>
+    ensures same_reference { tx.new.conn.ghost_name ≡ tx.old.conn.ghost_name }
+    ensures written { GoesInside (IsWritten (row_write.Class code.now class.now)) (state S.Store tx.old.conn.now) (state S.Store tx.new.conn.now) result }
+{
+    put_classes(tx, code.text(), class.title.text(), class.schedule.text())
 }
 
 fn put_aggregation<S: Alter>(
@@ -191,9 +198,7 @@ fn write_row<S: Alter>(
 {
     match write {
         RowWrite::Schedule { code, schedule } => put_schedule(tx, code, *schedule),
-        RowWrite::Class { code, class } => {
-            put_classes(tx, code.text(), class.title.text(), class.schedule.text())
-        }
+        RowWrite::Class { code, class } => put_class(tx, code, class),
         RowWrite::Aggregation {
             number,
             aggregation,
