@@ -1,0 +1,109 @@
+//! A disk that stops while a change is saved leaves the old tables or the next.
+use crate::acts::act_of;
+use crate::base::{BASE, base_office};
+use crate::keeping::{failed, keep};
+use office_machine::{Change, Decision, Machine};
+use office_store::{Fault, Store};
+use sqlite::{Connection, FileStore, Files, Options};
+use sqlite_disk::{Crash, Fuse, Memory};
+use std::alloc::Global;
+use std::test::Fail;
+
+/// The files of the base office.
+fn base_files(rt: &HostRuntime) -> Result<Files<Memory>, Fail> {
+    let alloc = rt.alloc();
+    let files = Files {
+        log: Memory::new(alloc),
+        db: Memory::new(alloc),
+    };
+    let Ok(conn) = Connection::open_files(alloc, files, Options::new(1)) else {
+        return Err(Fail::new("not opened"));
+    };
+    let Ok(mut store) = Store::create(conn) else {
+        return Err(Fail::new("no tables were made"));
+    };
+    keep(rt, &mut Machine::new(alloc), &mut store, BASE)?;
+    Ok(store.release().into_store().close())
+}
+
+/// The change that adds a fourth record to the base office.
+fn fourth_record(rt: &HostRuntime) -> Result<Change, Fail> {
+    let office = base_office(rt, "")?;
+    let words: Vec<&str> = "2024-01-03 add-record r4 1 abcd".split(' ').collect(rt.alloc())?;
+    let act = act_of(rt.alloc(), &words)?;
+    match office.decide(rt.alloc(), &act)? {
+        Decision::Go(change) => Ok(change),
+        Decision::Stay(_) => Err(Fail::new("refused")),
+    }
+}
+
+/// The tables of these files; none where they cannot be opened.
+fn opened(
+    alloc: Global,
+    files: Files<Fuse<Memory>>,
+) -> Result<Option<Store<FileStore<Fuse<Memory>>>>, Fail> {
+    match Connection::open_files(alloc, files, Options::new(1)) {
+        Ok(conn) => adopted(alloc, conn),
+        Err(_) => Ok(None),
+    }
+}
+
+fn adopted(
+    alloc: Global,
+    conn: Connection<FileStore<Fuse<Memory>>>,
+) -> Result<Option<Store<FileStore<Fuse<Memory>>>>, Fail> {
+    match Store::adopt(alloc, conn) {
+        Ok((store, _)) => Ok(Some(store)),
+        Err((Fault::Store, _)) => Ok(None),
+        Err((fault, _)) => Err(failed(fault)),
+    }
+}
+
+/// How many records are found after a crash of these files.
+fn records_after_crash(alloc: Global, store: Store<FileStore<Fuse<Memory>>>) -> Result<usize, Fail> {
+    let Files { mut log, mut db } = store.release().into_store().close();
+    log.crash();
+    db.crash();
+    let Ok(conn) = Connection::open_files(alloc, Files { log, db }, Options::new(1)) else {
+        return Err(Fail::new("not opened after the crash"));
+    };
+    match Store::adopt(alloc, conn) {
+        Ok((_, tables)) => Ok(tables.records.len()),
+        Err((fault, _)) => Err(failed(fault)),
+    }
+}
+
+/// Whether a fourth record was saved on a disk that stops after so many calls of each file, and how many
+/// records are found then; none where it stops before the save.
+fn stopped(rt: &HostRuntime, log: u64, db: u64) -> Result<Option<(bool, usize)>, Fail> {
+    let files = base_files(rt)?;
+    let files = Files {
+        log: Fuse::new(files.log, log),
+        db: Fuse::new(files.db, db),
+    };
+    let Some(mut store) = opened(rt.alloc(), files)? else {
+        return Ok(None);
+    };
+    let change = fourth_record(rt)?;
+    let saved = store.save(rt.alloc(), &change).is_ok();
+    Ok(Some((saved, records_after_crash(rt.alloc(), store)?)))
+}
+
+#[test]
+fn a_stop_while_a_record_is_saved_leaves_it_whole_or_not_at_all(
+    rt: HostRuntime,
+) -> Result<(), Fail> {
+    let mut lost = 0;
+    let mut kept = 0;
+    for calls in 0..60 {
+        match stopped(&rt, calls, 1_000_000)? {
+            Some((true, 4)) => kept += 1,
+            Some((false, 3)) => lost += 1,
+            Some((false, 4)) | None => {}
+            Some(_) => return Err(Fail::new("neither the old tables nor the next")),
+        }
+    }
+    assert!(rt; lost > 0);
+    assert!(rt; kept > 0);
+    Ok(())
+}
