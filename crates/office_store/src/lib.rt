@@ -3,6 +3,7 @@
 
 mod columns;
 mod fault;
+pub mod laws;
 mod saving;
 mod stored;
 mod texts;
