@@ -1,13 +1,11 @@
 -- When two rows share a key, by the numbers and texts in its columns.
-use Rattle.std.proofs.Common.{◌≡◌, ℕ, ℤ, pos, Bool, true, false, ◌&&◌, ◌||◌, List, [], ◌∷◌, refl, sym, ap, ap₂, ◌∙◌, arith, int_cmp, nat_cmp, Some}
+use Rattle.std.proofs.Common.{◌≡◌, ℕ, ℤ, pos, Bool, true, false, ◌&&◌, ◌||◌, List, [], ◌∷◌, refl, ap, ap₂, ◌∙◌, arith, int_cmp, nat_cmp, Some}
 use Rattle.std.specs.declared.cmp.Ordering.{Ordering}
 use Rattle.std.specs.declared.cmp.Ordering.TheVariants.{Less, Equal, Greater}
 use Rattle.std.specs.Ordering.{is_eq, ordering_then}
-use Rattle.std.specs.Cmp.Lexicographic.{slice_cmp}
 use Rattle.std.specs.Str.{bytes_eq}
 use Rattle.std.proofs.lemmas.Bool.Decides.{nat_tests}
 use Rattle.std.proofs.lemmas.Map.Text.{is_eq-slice_cmp}
-use Rattle.sqlite_value.specs.declared.value.Value.{Value}
 use Rattle.sqlite_value.specs.declared.value.Value.TheVariants.{Int, Text}
 use Rattle.sqlite_value.specs.declared.keys.Collation.TheVariants.{Binary}
 use Rattle.sqlite_value.specs.Order.{Row}
@@ -16,6 +14,7 @@ use Rattle.sqlite_value.proofs.OrderLemmas.{value_cmp-Int, value_cmp-Text}
 use Rattle.sqlite_schema.specs.Rules.{equal}
 use Rattle.sqlite_sql.specs.Ops.{binary, is_true, from_truth}
 use Rattle.office_sql.specs.Bags.{share}
+use Rattle.office_sql.proofs.TypedLemmas.{same_number}
 
 shown_truth : (b : Bool) → is_true (from_truth (Some b)) ≡ b
 shown_truth true = refl
@@ -29,7 +28,7 @@ equal_texts : (s t : List ℕ) → equal Binary (Text s) (Text t) ≡ bytes_eq s
 unfolding binary
 equal_texts s t = shown_truth _ ∙ ap is_eq (value_cmp-Text s t) ∙ is_eq-slice_cmp s t
 
-pub natural_order : (m n : ℕ) → int_cmp (pos m) (pos n) ≡ nat_cmp m n
+natural_order : (m n : ℕ) → int_cmp (pos m) (pos n) ≡ nat_cmp m n
 natural_order m n = grind (arith, nat_tests)
 
 and_true : (b : Bool) → (b && true) ≡ b
@@ -40,15 +39,9 @@ or_false : (b : Bool) → (b || false) ≡ b
 or_false true = refl
 or_false false = refl
 
--- a key of one number
+-- a key of one number; of one text `same_text` says it
 pub share_number : (m n : ℕ) (a b : Row) → share ((0 ∷ []) ∷ []) (Int (pos m) ∷ a) (Int (pos n) ∷ b) ≡ is_eq (nat_cmp m n)
-unfolding first_key
-share_number m n a b = or_false _ ∙ and_true _ ∙ equal_numbers (pos m) (pos n) ∙ ap is_eq (natural_order m n)
-
--- a key of one text
-pub share_text : (s t : List ℕ) (a b : Row) → share ((0 ∷ []) ∷ []) (Text s ∷ a) (Text t ∷ b) ≡ is_eq (slice_cmp nat_cmp s t)
-unfolding first_key
-share_text s t a b = or_false _ ∙ and_true _ ∙ equal_texts s t ∙ sym (is_eq-slice_cmp s t)
+share_number m n a b = same_number (pos m) (pos n) a b ∙ ap is_eq (natural_order m n)
 
 -- a key of a number, or one of a text beside it
 pub share_either : (m n : ℕ) (s t : List ℕ) (a b : Row)

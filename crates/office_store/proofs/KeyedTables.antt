@@ -1,10 +1,10 @@
 -- What a put in a table makes of the list that it keeps, for each kind of key.
 use Rattle.std.proofs.Common.{◌≡◌, ℕ, pos, Bool, true, false, not, ◌||◌, List, [], ◌∷◌, drop, map, filter, refl, sym, ap, ◌∙◌, IsPermutation}
-use Rattle.std.specs.Cmp.{IsTotalOrder, nat_cmp_total}
+use Rattle.std.specs.Cmp.{nat_cmp_total}
 use Rattle.std.specs.Cmp.Lexicographic.{nat_list_cmp_total}
-use Rattle.std.specs.FinMap.{IsAntisymmetric, nat_cmp-IsAntisymmetric}
+use Rattle.std.specs.FinMap.{nat_cmp-IsAntisymmetric}
 use Rattle.std.specs.FinMap.Entries.{is_sorted, put, where_key}
-use Rattle.std.specs.Ordering.{eq_by_cmp, is_eq, nat_cmp, ordering_then}
+use Rattle.std.specs.Ordering.{eq_by_cmp, is_eq, nat_cmp}
 use Rattle.std.specs.Str.{bytes_eq}
 use Rattle.std.proofs.lemmas.Cmp.{eq_by_cmp_equiv, tied_itself}
 use Rattle.std.proofs.lemmas.Slice.Eq.{bytes_eq-Decides}
@@ -17,9 +17,10 @@ use Rattle.office_machine.specs.State.{entry_cmp}
 use Rattle.office_machine.proofs.HoldRows.{codes_apart}
 use Rattle.office_machine.proofs.SoundMaps.{entry_cmp-IsAntisymmetric, entry_total}
 use Rattle.office_sql.specs.Bags.{share, IsPut}
+use Rattle.office_sql.proofs.TypedLemmas.{same_text}
 use Rattle.office_store.specs.Encoded.{entry_shown}
-use Rattle.office_store.proofs.KeyTests.{share_either, share_number, share_numbers, share_text}
-use Rattle.office_store.proofs.OrderedPuts.{is_other, put_shuffles}
+use Rattle.office_store.proofs.KeyTests.{share_either, share_number, share_numbers}
+use Rattle.office_store.proofs.OrderedPuts.{put_shuffles}
 use Rattle.office_store.proofs.ShownPuts.{put_stands, removed_stands}
 
 module _ {V : Type 0} (rest : ℕ × V → Row) (es : List (ℕ × V)) (n : ℕ) (v : V) (old rows : List Row) (stands : IsPermutation (map (λ e. Int (pos e.0) ∷ rest e) es) old) where
@@ -31,7 +32,7 @@ module _ {V : Type 0} (rest : ℕ × V → Row) (es : List (ℕ × V)) (n : ℕ)
 module _ {V : Type 0} (rest : List ℕ × V → Row) (es : List (List ℕ × V)) (code : List ℕ) (v : V) (old rows : List Row) (stands : IsPermutation (map (λ e. Text e.0 ∷ rest e) es) old) where
   pub put_coded : is_sorted code_cmp es ≡ true → IsPut ((0 ∷ []) ∷ []) (Text code ∷ rest (code, v)) old rows → IsPermutation (map (λ e. Text e.0 ∷ rest e) (put code_cmp code v es)) rows
   put_coded sorted did =
-      put_stands (λ e. Text e.0 ∷ rest e) ((0 ∷ []) ∷ []) (Text code ∷ rest (code, v)) (λ e. eq_by_cmp code_cmp e.0 code) es old rows (λ e h. share_text e.0 code (rest e) (rest (code, v))) stands (code, v) _ refl
+      put_stands (λ e. Text e.0 ∷ rest e) ((0 ∷ []) ∷ []) (Text code ∷ rest (code, v)) (λ e. eq_by_cmp code_cmp e.0 code) es old rows (λ e h. same_text e.0 code (rest e) (rest (code, v))) stands (code, v) _ refl
       (put_shuffles nat_list_cmp_total codes_apart code v es sorted) did
 
 -- a row in the place of its number alone, where no other has its ref

@@ -1,12 +1,9 @@
 -- The writes of a change, done to tables that stand for the rows of a state, make them stand for those of the next.
-use Rattle.std.proofs.Common.{◌≡◌, ◌≤◌, ◌+◌, ℕ, zero, suc, Bool, true, List, [], ◌∷◌, length, Option, Some, None, refl, sym, ap, subst, ◌∙◌, arith}
+use Rattle.std.proofs.Common.{◌≡◌, ◌+◌, ℕ, zero, suc, true, List, [], ◌∷◌, length, Option, Some, None, refl, sym, ap, subst, ◌∙◌, arith}
 use Rattle.std.specs.FinMap.{get}
-use Rattle.std.specs.FinSet.{contains}
-use Rattle.std.specs.Prelude.{IsTrue, slice_get}
+use Rattle.std.specs.Prelude.{slice_get}
 use Rattle.sqlite.specs.Effect.{Database}
-use Rattle.sqlite_rules.specs.Lists.{Has as IsIn}
 use Rattle.office_tree.specs.Lists.{holds_of, numbered}
-use Rattle.office_tree.specs.declared.aggregation.Aggregation.{Aggregation}
 use Rattle.office_tree.specs.declared.head.Record.{Record}
 use Rattle.office_tree.specs.declared.status.Status.{Status}
 use Rattle.office_holds.specs.Holds.{HoldMap, HoldState, has_target}
@@ -15,10 +12,10 @@ use Rattle.office_holds.specs.declared.target.Target.{Target}
 use Rattle.office_holds.specs.declared.target.Target.TheVariants as target
 use Rattle.office_proof.specs.declared.entry.Entry.{Entry}
 use Rattle.office_machine.specs.Acts.{CanBeMade}
-use Rattle.office_machine.specs.Rows.{numbered_from, record_row, record_rows, rows_of, targets_of}
+use Rattle.office_machine.specs.Rows.{record_row, record_rows, rows_of, targets_of}
 use Rattle.office_machine.specs.Sound.{IsSound}
 use Rattle.office_machine.specs.State.{EntryMap, Office, State}
-use Rattle.office_machine.specs.Writes.{AllFollow, CanFollow, CanPut, CanWrite, HasPlace, RefIsFree, RefsAreFree, all_writes, write}
+use Rattle.office_machine.specs.Writes.{AllFollow, CanFollow, CanWrite, HasPlace, RefIsFree, RefsAreFree, all_writes, write}
 use Rattle.office_machine.specs.declared.change.Change.{Change}
 use Rattle.office_machine.specs.declared.rows.RecordRow.{RecordRow}
 use Rattle.office_machine.specs.declared.rows.RowWrite.{RowWrite}
@@ -28,7 +25,6 @@ use Rattle.office_machine.proofs.RowWrites.{EachHasStatus, follow_has_place, fol
 use Rattle.office_machine.proofs.SoundMaps.{entry_total}
 use Rattle.office_store.specs.Stands.{Stands}
 use Rattle.office_store.specs.Written.{AreWritten, IsWritten}
-use Rattle.office_store.proofs.KeyedTables.{IsOwnKey}
 use Rattle.office_store.proofs.RowsInOrder.{in_entries, in_numbered, rows_in_order}
 use Rattle.office_store.proofs.TargetRows.{IsShortTarget}
 use Rattle.office_store.proofs.WrittenRows.{FitsRows, row_written}

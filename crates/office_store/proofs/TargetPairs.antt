@@ -1,14 +1,13 @@
 -- Pairs of a hold and a target, among those of a list.
-use Rattle.std.proofs.Common.{◌≡◌, ℕ, ◌^◌, ◌<◌, ◌==◌, Bool, true, false, not, cond, ◌&&◌, ◌||◌, List, [], ◌∷◌, filter, codes, refl, sym, ap, ap₂, subst, ◌∙◌}
+use Rattle.std.proofs.Common.{◌≡◌, ℕ, Bool, true, false, not, cond, ◌&&◌, ◌||◌, List, [], ◌∷◌, filter, refl, sym, ap, ap₂, subst, ◌∙◌}
 use Rattle.std.specs.List.{list_any}
-use Rattle.std.specs.Str.{bytes_eq}
 use Rattle.std.proofs.lemmas.Bool.{and_parts, and_from}
 use Rattle.std.proofs.lemmas.Bool.Decides.{Decides-eqb}
 use Rattle.std.proofs.lemmas.Slice.Eq.{bytes_eq-Decides}
-use Rattle.sqlite_rules.specs.Lists.{Has as IsIn}
 use Rattle.office_holds.specs.declared.target.Target.{Target}
 use Rattle.office_holds.specs.declared.target.Target.TheVariants as target
 use Rattle.office_machine.specs.Rows.{is_pair, same_target}
+use Rattle.office_sql.proofs.BagLemmas.{same_tests}
 
 target_is : (t u : Target) → same_target t u ≡ true → t ≡ u
 target_is (target.Class a) (target.Class b) h = ap target.Class ((bytes_eq-Decides a b).0 h)
@@ -35,11 +34,6 @@ pair_itself c t = and_from _ _ ((bytes_eq-Decides c c).1 refl) (target_itself t)
 
 pair_turned : (c d : List ℕ) (t u : Target) → is_pair c t d u ≡ true → is_pair d u c t ≡ true
 pair_turned c d t u h = let is = pair_is c d t u h in subst (λ q. is_pair d u q t ≡ true) (sym is.0) (subst (λ v. is_pair d u d v ≡ true) (sym is.1) (pair_itself d u))
-
-same_tests : (a b : Bool) → (a ≡ true → b ≡ true) → (b ≡ true → a ≡ true) → a ≡ b
-same_tests true b f g = sym (f refl)
-same_tests false true f g = g refl
-same_tests false false f g = refl
 
 pub pair_symmetric : (c d : List ℕ) (t u : Target) → is_pair c t d u ≡ is_pair d u c t
 pair_symmetric c d t u = same_tests _ _ (pair_turned c d t u) (pair_turned d c u t)

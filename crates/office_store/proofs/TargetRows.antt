@@ -1,13 +1,10 @@
 -- What a put and a removal in `targets` make of the pairs of hold and target that it has.
-use Rattle.std.proofs.Common.{◌≡◌, ℕ, ◌^◌, ◌<◌, ◌==◌, Bool, true, false, not, ◌&&◌, ◌||◌, List, [], ◌∷◌, map, filter, codes, refl, sym, ap, ap₂, subst, ◌∙◌, IsPermutation}
-use Rattle.std.specs.Fmt.{decimal}
-use Rattle.std.specs.List.{list_any}
+use Rattle.std.proofs.Common.{◌≡◌, ℕ, ◌^◌, ◌<◌, Bool, true, not, ◌&&◌, ◌||◌, List, [], ◌∷◌, filter, refl, sym, ap, ◌∙◌}
 use Rattle.std.specs.Str.{bytes_eq}
 use Rattle.std.proofs.lemmas.List.Sorted.{IsPermutation-refl}
 use Rattle.sqlite_trees.specs.Tree.{Trees}
 use Rattle.sqlite_rules.specs.Lists.{Has as IsIn}
 use Rattle.sqlite_rules.proofs.ListLemmas.{some_from}
-use Rattle.sqlite.specs.Effect.{Database}
 use Rattle.office_holds.specs.declared.target.Target.{Target}
 use Rattle.office_holds.specs.declared.target.Target.TheVariants as target
 use Rattle.office_machine.specs.Rows.{is_pair, same_target}
@@ -25,10 +22,6 @@ abbrev pub IsShortTarget : Target → Type 0
 IsShortTarget (target.Class code) = Unit {0}
 IsShortTarget (target.Aggregation number) = number < 2 ^ 32
 IsShortTarget (target.Record number) = number < 2 ^ 32
-
-and_true : (b : Bool) → (b && true) ≡ b
-and_true true = refl
-and_true false = refl
 
 kind_and_text : (t u : Target) → IsShortTarget t → (bytes_eq (target_kind t) (target_kind u) && bytes_eq (target_text t) (target_text u)) ≡ same_target t u
 kind_and_text (target.Class a) (target.Class b) h = refl
@@ -54,13 +47,15 @@ module _ (is_target : List ℕ → Target → Bool) (short : (code : List ℕ) (
 
   pub put_target : IsPut ((0 ∷ 1 ∷ 2 ∷ []) ∷ []) (target_shown hold held) (rows_of (at 12 targets) old) (rows_of (at 12 targets) new) → HasTargets new (λ q u. is_pair hold held q u || is_target q u)
   put_target put =
-      let kept = filter (λ (e : List ℕ × Target). not (is_pair e.0 e.1 hold held)) has.0 in
-      ((hold, held) ∷ kept,
-       put_stands (λ e. target_shown e.0 e.1) ((0 ∷ 1 ∷ 2 ∷ []) ∷ []) (target_shown hold held) (λ e. is_pair e.0 e.1 hold held) has.0 _ _ tests has.1 (hold, held) ((hold, held) ∷ kept) refl (IsPermutation-refl _) put,
-       λ q u. with_pair hold held q u has.0 ∙ ap (λ b. is_pair hold held q u || b) (has.2 q u))
+      let kept = filter (λ (e : List ℕ × Target). not (is_pair e.0 e.1 hold held)) has.0 in (
+        (hold, held) ∷ kept,
+        put_stands (λ e. target_shown e.0 e.1) ((0 ∷ 1 ∷ 2 ∷ []) ∷ []) (target_shown hold held) (λ e. is_pair e.0 e.1 hold held) has.0 _ _ tests has.1 (hold, held) ((hold, held) ∷ kept) refl (IsPermutation-refl _) put,
+        λ q u. with_pair hold held q u has.0 ∙ ap (λ b. is_pair hold held q u || b) (has.2 q u),
+      )
 
   pub removed_target : rows_of (at 12 targets) new ≡ filter (λ r. not (share ((0 ∷ 1 ∷ 2 ∷ []) ∷ []) r (target_shown hold held))) (rows_of (at 12 targets) old) → HasTargets new (λ q u. not (is_pair hold held q u) && is_target q u)
-  removed_target is =
-      (filter (λ (e : List ℕ × Target). not (is_pair e.0 e.1 hold held)) has.0,
-       removed_stands (λ e. target_shown e.0 e.1) ((0 ∷ 1 ∷ 2 ∷ []) ∷ []) (target_shown hold held) (λ e. is_pair e.0 e.1 hold held) has.0 _ _ tests has.1 is,
-       λ q u. without_pair hold held q u has.0 ∙ ap (λ b. not (is_pair hold held q u) && b) (has.2 q u))
+  removed_target is = (
+    filter (λ (e : List ℕ × Target). not (is_pair e.0 e.1 hold held)) has.0,
+    removed_stands (λ e. target_shown e.0 e.1) ((0 ∷ 1 ∷ 2 ∷ []) ∷ []) (target_shown hold held) (λ e. is_pair e.0 e.1 hold held) has.0 _ _ tests has.1 is,
+    λ q u. without_pair hold held q u has.0 ∙ ap (λ b. not (is_pair hold held q u) && b) (has.2 q u),
+  )

@@ -1,5 +1,5 @@
 -- A row write, done to tables that stand for rows, makes them stand for the rows with it.
-use Rattle.std.proofs.Common.{◌≡◌, ◌≢◌, ℕ, pos, ℤ, Bool, true, List, [], ◌∷◌, drop, refl, ◌∙◌, IsPermutation}
+use Rattle.std.proofs.Common.{◌≡◌, ℕ, pos, ℤ, true, List, [], ◌∷◌, drop, refl, ◌∙◌, IsPermutation}
 use Rattle.std.specs.String.{string_bytes}
 use Rattle.std.proofs.lemmas.List.Sorted.{IsPermutation-refl}
 use Rattle.sqlite_value.specs.Order.{Row}
