@@ -90,7 +90,7 @@ pub(crate) fn keep<S: Alter>(
 }
 
 /// The tables as they are found when the store is adopted again.
-pub(crate) fn found<S: Alter>(rt: &HostRuntime, store: Store<S>) -> Result<Tables, Fault> {
+pub(crate) fn found<S: Alter + Drop>(rt: &HostRuntime, store: Store<S>) -> Result<Tables, Fault> {
     match Store::adopt(rt.alloc(), store.release()) {
         Ok((_, tables)) => Ok(tables),
         Err((fault, _)) => Err(fault),

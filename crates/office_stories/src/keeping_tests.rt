@@ -72,7 +72,7 @@ fn changed<S: Alter>(conn: &mut Connection<S>, statement: &str) -> Result<(), Er
 }
 
 /// The number of the fault with which tables are adopted, 0 where they are.
-fn fault_of<S: Alter>(rt: &HostRuntime, conn: Connection<S>) -> Result<u32, Fail> {
+fn fault_of<S: Alter + Drop>(rt: &HostRuntime, conn: Connection<S>) -> Result<u32, Fail> {
     if !conn.is_autocommit() {
         return Err(Fail::new("a transaction is under way"));
     }
