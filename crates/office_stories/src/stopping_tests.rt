@@ -23,7 +23,10 @@ fn base_files(rt: &HostRuntime) -> Result<Files<Memory>, Fail> {
         return Err(Fail::new("no tables were made"));
     };
     keep(rt, &mut Machine::new(alloc), &mut store, BASE)?;
-    Ok(store.release().into_store().close())
+    match store.release().close_files() {
+        Ok(files) => Ok(files),
+        Err(_) => Err(Fail::new("not closed")),
+    }
 }
 
 /// The change that adds a fourth record to the base office.
@@ -73,19 +76,18 @@ fn records_after_crash(alloc: Global, store: Store<FileStore<Fuse<Memory>>>) -> 
     }
 }
 
-/// Whether a fourth record was saved on a disk that stops after so many calls of each file, and how many
-/// records are found then; none where it stops before the save.
-fn stopped(rt: &HostRuntime, log: u64, db: u64) -> Result<Option<(bool, usize)>, Fail> {
+/// Whether a change of the base office was saved on a disk whose log stops after so many calls, and how
+/// many records are found then; none where it stops before the save.
+fn stopped(rt: &HostRuntime, calls: u64, change: &Change) -> Result<Option<(bool, usize)>, Fail> {
     let files = base_files(rt)?;
     let files = Files {
-        log: Fuse::new(files.log, log),
-        db: Fuse::new(files.db, db),
+        log: Fuse::new(files.log, calls),
+        db: Fuse::new(files.db, 1_000_000),
     };
     let Some(mut store) = opened(rt.alloc(), files)? else {
         return Ok(None);
     };
-    let change = fourth_record(rt)?;
-    let saved = store.save(rt.alloc(), &change).is_ok();
+    let saved = store.save(rt.alloc(), change).is_ok();
     Ok(Some((saved, records_after_crash(rt.alloc(), store)?)))
 }
 
@@ -93,10 +95,11 @@ fn stopped(rt: &HostRuntime, log: u64, db: u64) -> Result<Option<(bool, usize)>,
 fn a_stop_while_a_record_is_saved_leaves_it_whole_or_not_at_all(
     rt: HostRuntime,
 ) -> Result<(), Fail> {
+    let change = fourth_record(&rt)?;
     let mut lost = 0;
     let mut kept = 0;
-    for calls in 0..60 {
-        match stopped(&rt, calls, 1_000_000)? {
+    for calls in 0..24 {
+        match stopped(&rt, calls, &change)? {
             Some((true, 4)) => kept += 1,
             Some((false, 3)) => lost += 1,
             Some((false, 4)) | None => {}
