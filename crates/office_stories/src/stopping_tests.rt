@@ -98,7 +98,7 @@ fn a_stop_while_a_record_is_saved_leaves_it_whole_or_not_at_all(
     let change = fourth_record(&rt)?;
     let mut lost = 0;
     let mut kept = 0;
-    for calls in 0..24 {
+    for calls in 20..44 {
         match stopped(&rt, calls, &change)? {
             Some((true, 4)) => kept += 1,
             Some((false, 3)) => lost += 1,
