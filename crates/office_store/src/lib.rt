@@ -5,6 +5,7 @@ mod adopting;
 mod columns;
 mod content;
 mod fault;
+pub mod laws;
 mod saving;
 mod store;
 mod stored;

@@ -1,0 +1,17 @@
+//! What the writes of a change do to tables that stand for the rows of an office.
+ghost use Rattle.sqlite.specs.Effect.{Database};
+ghost use Rattle.office_machine.specs.Acts.{CanBeMade};
+ghost use Rattle.office_machine.specs.Rows.{rows_of};
+ghost use Rattle.office_machine.specs.Sound.{IsSound};
+ghost use Rattle.office_machine.specs.State.{State};
+ghost use Rattle.office_machine.specs.Writes.{all_writes};
+ghost use Rattle.office_machine.specs.declared.change.Change.{Change};
+ghost use Rattle.office_store.specs.Stands.{Stands};
+ghost use Rattle.office_store.specs.Written.{AreWritten};
+
+/// The writes of a change that can be made, done to tables that stand for the rows of a sound state,
+/// make them stand for those of the next.
+pub fn law_of_saved_rows()
+    ensures stands { (s : State) (change : Change) (old new : Database) → IsSound s → CanBeMade s.office change → Stands (rows_of s) old.trees → AreWritten change.writes.items old new
+        → Stands (rows_of (all_writes change.writes.items s)) new.trees }
+{}
