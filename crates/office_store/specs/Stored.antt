@@ -1,9 +1,9 @@
 -- When a row is what the office keeps in a table. Source: own.
-use Rattle.std.specs.Prelude.{◌≡◌, ◌≢◌, ◌<◌, ◌^◌, ◌↔◌, ℕ, suc, All, List, [], ◌∷◌, map, take, pos, IfSome, IsUtf8, Result, IfErr, IsPermutation, ℤ}
-use Rattle.std.specs.Prelude.{String}
+use Rattle.std.specs.Prelude.{◌≡◌, ◌<◌, ◌^◌, ℕ, suc, All, List, [], ◌∷◌, map, take, pos, IfSome, IsUtf8, IsPermutation, ℤ, String}
+use Rattle.std.specs.Global.{Global}
 use Rattle.std.specs.String.{string_bytes}
 use Rattle.sqlite_value.specs.declared.value.Value.{Value}
-use Rattle.sqlite_value.specs.declared.value.Value.TheVariants.{Int, Text}
+use Rattle.sqlite_value.specs.declared.value.Value.TheVariants.{Int}
 use Rattle.sqlite_value.specs.Order.{Row}
 use Rattle.sqlite_trees.specs.Tree.{Trees}
 use Rattle.office_days.specs.Limits.{IsDayNumber, IsDueNumber}
@@ -120,7 +120,7 @@ IsRunPair e = IsNumber e.0 × IsFormedRun e.1
 abbrev pub IsEntryOfForm : Entry → Type 0
 IsEntryOfForm e = IsNumber e.run × IsNumber e.record_no × IsFormedEntry e
 
-abbrev pub certificate_pair : {Z : Type 0} → ℕ × String Z → Row
+abbrev pub certificate_pair : ℕ × String Global → Row
 certificate_pair e = certificate_row (pos e.0) (string_bytes e.1)
 
 abbrev pub IsCertificateRow : Row → Type 0

@@ -1,5 +1,5 @@
 //! What the rows of the tables stand for, each kind read by a function of its own.
-ghost use Rattle.std.specs.Prelude.{◌≡◌, ◌≢◌, map, All, IfOk};
+ghost use Rattle.std.specs.Prelude.{◌≡◌, map, All, IfOk};
 ghost use Rattle.sqlite_value.specs.Order.{Row};
 ghost use Rattle.office_sql.specs.Values.{OnDamaged};
 
@@ -33,7 +33,8 @@ pub(crate) fn all<T: Stored + Drop>(alloc: Global, rows: &[Row]) -> Result<Vec<T
 {
     let mut them = Vec::with_capacity(alloc, rows.len()).map_err(|_| BadValue::Memory)?;
     for row in rows {
-        them.push(T::read(alloc, row)?).map_err(|_| BadValue::Memory)?;
+        them.push(T::read(alloc, row)?)
+            .map_err(|_| BadValue::Memory)?;
     }
     Ok(them)
 }

@@ -1,9 +1,8 @@
 //! The rows of holds and their targets, and the keys of contents.
-ghost use Rattle.std.specs.Prelude.{◌≡◌, ℕ, List, codes, IfOk, IfSome};
+ghost use Rattle.std.specs.Prelude.{◌≡◌, ℕ, IfOk};
 ghost use Rattle.std.specs.Fmt.{decimal};
-ghost use Rattle.sqlite_value.specs.declared.value.Value.TheVariants.{Text};
 ghost use Rattle.office_holds.specs.declared.target.Target.{Target};
-ghost use Rattle.office_sql.specs.Values.{Has, OnDamaged};
+ghost use Rattle.office_sql.specs.Values.{OnDamaged};
 ghost use Rattle.office_store.specs.Encoded.{target_kind, target_text};
 ghost use Rattle.office_store.specs.Stored.{IsFormedTargetText, IsHoldPair, IsNumber, IsRowOf, IsTargetPair, hold_pair, number_row, target_pair};
 

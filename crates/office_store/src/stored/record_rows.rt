@@ -53,6 +53,7 @@ struct PapersColumns {
     receipt_by: Option<Text>,
 }
 
+// The columns from 0 to 8.
 fn head(alloc: Global, row: &Row) -> Result<HeadColumns, BadValue>
     ensures ok { IfOk result (λ it. HasFrom row.now 0 (head_columns it)) }
     ensures damaged { OnDamaged result ((it : HeadColumns) → IsFormedHead it → HasFrom row.now 0 (head_columns it) → ⊥) }
@@ -70,6 +71,7 @@ fn head(alloc: Global, row: &Row) -> Result<HeadColumns, BadValue>
     })
 }
 
+// The columns from 9 to 12.
 fn plan(alloc: Global, row: &Row) -> Result<PlanColumns, BadValue>
     ensures ok { IfOk result (λ it. HasFrom row.now 9 (plan_columns it)) }
     ensures damaged { OnDamaged result ((it : PlanColumns) → IsFormedPlan it → HasFrom row.now 9 (plan_columns it) → ⊥) }
@@ -82,6 +84,7 @@ fn plan(alloc: Global, row: &Row) -> Result<PlanColumns, BadValue>
     })
 }
 
+// The columns from 13 to 18.
 fn papers(alloc: Global, row: &Row) -> Result<PapersColumns, BadValue>
     ensures ok { IfOk result (λ it. HasFrom row.now 13 (papers_columns it)) }
     ensures damaged { OnDamaged result ((it : PapersColumns) → IsFormedPapers it → HasFrom row.now 13 (papers_columns it) → ⊥) }
@@ -106,6 +109,7 @@ impl Stored for (RecordNo, RecordRow) {
         let head = head(alloc, row)?;
         let plan = plan(alloc, row)?;
         let papers = papers(alloc, row)?;
+        let digest = head.digest;
         let record = RecordRow {
             ref_text: head.ref_text,
             title: head.title,
@@ -113,7 +117,7 @@ impl Stored for (RecordNo, RecordRow) {
             added: head.added,
             aggregation: head.aggregation,
             size: head.size,
-            digest: head.digest,
+            digest,
             status: head.status,
             class: plan.class,
             schedule: plan.schedule,
