@@ -46,7 +46,7 @@ pub record ReadsTables {X : Type 0} (Is : X → Trees → Type 0) (old new : Sta
   pub damaged : HasCleanDisk new → IsAtRest old → IfErr result (λ f. f ≡ fault.Damaged → AllReadable old.now.trees → ⊥)
   pub version : HasCleanDisk new → IsAtRest old → IfErr result (λ f. f ≡ fault.Version → IsOtherVersion old.now.trees)
   pub leaves : HasCleanDisk new → IsAtRest old → (db : Trees) → new.may_leave db → old.may_leave db
-  pub clean : HasCleanDisk new → IsAtRest old → HasCleanDisk old
+  pub clean : HasCleanDisk new → HasCleanDisk old
 
 -- the same of the tables in four parts
 
