@@ -121,6 +121,7 @@ impl<S: Alter> Store<S> {
     pub fn content(&mut self, record_no: RecordNo) -> Result<Option<Vec<u8>>, Fault>
         ensures read { (s : State) → HasCleanDisk (state S.Store self.new) → HoldsRows (rows_of s) (state S.Store self.old) → IfOk result (λ bytes. option_map (λ it. it.items) bytes ≡ get s.contents record_no) }
         ensures same { (s : State) → HasCleanDisk (state S.Store self.new) → HoldsRows (rows_of s) (state S.Store self.old) → OnOk result (HoldsRows (rows_of s) (state S.Store self.new)) }
+        ensures kept { (s : State) → HasCleanDisk (state S.Store self.new) → HoldsRows (rows_of s) (state S.Store self.old) → IfErr result (λ fault. fault ≢ Fault.Store → HoldsRows (rows_of s) (state S.Store self.new)) }
         ensures leaves { HasCleanDisk (state S.Store self.new) → IsAtRest (state S.Store self.old) → LeavesLess (state S.Store self.old) (state S.Store self.new) }
         ensures clean { HasCleanDisk (state S.Store self.new) → HasCleanDisk (state S.Store self.old) }
         ensures faults { IfErr result (λ fault. (fault ≢ Fault.Reopen) × (fault ≢ Fault.Version)) }
