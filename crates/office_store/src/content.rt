@@ -20,7 +20,9 @@ pub(crate) fn content_in<S: Alter>(
 ) -> Result<Option<Vec<u8>>, Fault>
     ensures found { HasCleanDisk (state S.Store conn.new) → IsAtRest (state S.Store conn.old) → IfOk result (λ bytes. AreBytesOf (bytes_with (pos record_no) (state S.Store conn.old).now.trees) (option_map (λ it. it.items) bytes)) }
     ensures same { HasCleanDisk (state S.Store conn.new) → IsAtRest (state S.Store conn.old) → OnOk result (IsAtRest (state S.Store conn.new) × ((state S.Store conn.new).now ≡ (state S.Store conn.old).now)) }
+    ensures kept { HasCleanDisk (state S.Store conn.new) → IsAtRest (state S.Store conn.old) → IfErr result (λ fault. fault ≢ Fault.Store → IsAtRest (state S.Store conn.new) × ((state S.Store conn.new).now ≡ (state S.Store conn.old).now)) }
     ensures leaves { HasCleanDisk (state S.Store conn.new) → IsAtRest (state S.Store conn.old) → LeavesLess (state S.Store conn.old) (state S.Store conn.new) }
+    ensures clean { HasCleanDisk (state S.Store conn.new) → HasCleanDisk (state S.Store conn.old) }
     ensures mode { conn.old.in_transaction ≡ false → conn.new.in_transaction ≡ false }
     ensures faults { IfErr result (λ fault. (fault ≢ Fault.Reopen) × (fault ≢ Fault.Version)) }
 {

@@ -2,6 +2,7 @@
 ghost use Rattle.std.specs.Prelude.{◌≡◌, false, map};
 ghost use Rattle.std.specs.String.{string_bytes};
 ghost use Rattle.sqlite.specs.Held.{state};
+ghost use Rattle.sqlite.specs.State.{HasCleanDisk};
 ghost use Rattle.office_store.specs.Written.{Saves, needed_text};
 
 use crate::writing::write_all;
@@ -18,6 +19,7 @@ pub(crate) fn save_writes<S: Alter>(
     requires idle { conn.old.in_transaction ≡ false }
     requires texts { map (λ text. string_bytes text) texts.now ≡ map needed_text writes.now }
     ensures saves { Saves writes.now (state S.Store conn.old) (state S.Store conn.new) result }
+    ensures clean { HasCleanDisk (state S.Store conn.new) → HasCleanDisk (state S.Store conn.old) }
     ensures ended { conn.new.in_transaction ≡ false }
 {
     let mut tx = conn.transaction();

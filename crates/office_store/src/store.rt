@@ -108,6 +108,7 @@ impl<S: Alter> Store<S> {
         ensures memory { result ≡ Err Fault.Memory → self.new ≡ self.old }
         ensures err { (s : State) → IsSound s → CanBeMade s.office change.now → HasCleanDisk (state S.Store self.new) → HoldsRows (rows_of s) (state S.Store self.old) → OnErr result (LeavesWithin (rows_of s) (rows_of (all_writes change.now.writes.items s)) (state S.Store self.new)) }
         ensures undone { (s : State) → HasCleanDisk (state S.Store self.new) → HoldsRows (rows_of s) (state S.Store self.old) → IsTrue (state S.Store self.new).is_open → OnErr result (HoldsRows (rows_of s) (state S.Store self.new)) }
+        ensures clean { HasCleanDisk (state S.Store self.new) → HasCleanDisk (state S.Store self.old) }
         ensures faults { IfErr result (λ fault. (fault ≡ Fault.Memory) ⊎ (fault ≡ Fault.Store)) }
     {
         let Ok(texts) = needed_texts(alloc, &change.writes) else {
@@ -120,7 +121,9 @@ impl<S: Alter> Store<S> {
     pub fn content(&mut self, record_no: RecordNo) -> Result<Option<Vec<u8>>, Fault>
         ensures read { (s : State) → HasCleanDisk (state S.Store self.new) → HoldsRows (rows_of s) (state S.Store self.old) → IfOk result (λ bytes. option_map (λ it. it.items) bytes ≡ get s.contents record_no) }
         ensures same { (s : State) → HasCleanDisk (state S.Store self.new) → HoldsRows (rows_of s) (state S.Store self.old) → OnOk result (HoldsRows (rows_of s) (state S.Store self.new)) }
+        ensures kept { (s : State) → HasCleanDisk (state S.Store self.new) → HoldsRows (rows_of s) (state S.Store self.old) → IfErr result (λ fault. fault ≢ Fault.Store → HoldsRows (rows_of s) (state S.Store self.new)) }
         ensures leaves { HasCleanDisk (state S.Store self.new) → IsAtRest (state S.Store self.old) → LeavesLess (state S.Store self.old) (state S.Store self.new) }
+        ensures clean { HasCleanDisk (state S.Store self.new) → HasCleanDisk (state S.Store self.old) }
         ensures faults { IfErr result (λ fault. (fault ≢ Fault.Reopen) × (fault ≢ Fault.Version)) }
     {
         content_in(&mut self.conn, record_no)
