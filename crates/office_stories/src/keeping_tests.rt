@@ -106,9 +106,18 @@ fn tables_of_another_version_are_told(rt: HostRuntime) -> Result<(), Fail> {
 
 #[test]
 fn damaged_tables_are_told(rt: HostRuntime) -> Result<(), Fail> {
-    assert_eq!(rt; fault_after(&rt, "INSERT INTO office VALUES (2, 1, 20000)")?, 33);
-    assert_eq!(rt; fault_after(&rt, "UPDATE records SET status = 'gone' WHERE num = 1")?, 33);
+    assert_eq!(rt;
+        fault_after(&rt, "INSERT INTO office VALUES (2, 1, 20000)")?,
+        33
+    );
+    assert_eq!(rt;
+        fault_after(&rt, "UPDATE records SET status = 'gone' WHERE num = 1")?,
+        33
+    );
     assert_eq!(rt; fault_after(&rt, "UPDATE classes SET title = ''")?, 33);
-    assert_eq!(rt; fault_after(&rt, "UPDATE aggregations SET closed = 400000")?, 33);
+    assert_eq!(rt;
+        fault_after(&rt, "UPDATE aggregations SET closed = 400000")?,
+        33
+    );
     Ok(())
 }

@@ -32,7 +32,9 @@ fn base_files(rt: &HostRuntime) -> Result<Files<Memory>, Fail> {
 /// The change that adds a fourth record to the base office.
 fn fourth_record(rt: &HostRuntime) -> Result<Change, Fail> {
     let office = base_office(rt, "")?;
-    let words: Vec<&str> = "2024-01-03 add-record r4 1 abcd".split(' ').collect(rt.alloc())?;
+    let words: Vec<&str> = "2024-01-03 add-record r4 1 abcd"
+        .split(' ')
+        .collect(rt.alloc())?;
     let act = act_of(rt.alloc(), &words)?;
     match office.decide(rt.alloc(), &act)? {
         Decision::Go(change) => Ok(change),
@@ -63,7 +65,10 @@ fn adopted(
 }
 
 /// How many records are found after a crash of these files.
-fn records_after_crash(alloc: Global, store: Store<FileStore<Fuse<Memory>>>) -> Result<usize, Fail> {
+fn records_after_crash(
+    alloc: Global,
+    store: Store<FileStore<Fuse<Memory>>>,
+) -> Result<usize, Fail> {
     let Files { mut log, mut db } = store.release().into_store().close();
     log.crash();
     db.crash();
