@@ -9,9 +9,8 @@ use sqlite_disk::{Crash, Fuse, Memory};
 use std::alloc::Global;
 use std::test::Fail;
 
-/// The files of the base office.
-fn base_files(rt: &HostRuntime) -> Result<Files<Memory>, Fail> {
-    let alloc = rt.alloc();
+/// The tables of a new office, on a disk in memory.
+fn new_files(alloc: Global) -> Result<Store<FileStore<Memory>>, Fail> {
     let files = Files {
         log: Memory::new(alloc),
         db: Memory::new(alloc),
@@ -19,10 +18,17 @@ fn base_files(rt: &HostRuntime) -> Result<Files<Memory>, Fail> {
     let Ok(conn) = Connection::open_files(alloc, files, Options::new(1)) else {
         return Err(Fail::new("not opened"));
     };
-    let Ok(mut store) = Store::create(conn) else {
-        return Err(Fail::new("no tables were made"));
-    };
-    keep(rt, &mut Machine::new(alloc), &mut store, BASE)?;
+    match Store::create(conn) {
+        Ok(store) => Ok(store),
+        Err(_) => Err(Fail::new("no tables were made")),
+    }
+}
+
+/// The files of the base office.
+fn base_files(rt: &HostRuntime) -> Result<Files<Memory>, Fail> {
+    let mut office = Machine::new(rt.alloc());
+    let mut store = new_files(rt.alloc())?;
+    keep(rt, &mut office, &mut store, BASE)?;
     match store.release().close_files() {
         Ok(files) => Ok(files),
         Err(_) => Err(Fail::new("not closed")),
@@ -42,24 +48,39 @@ fn fourth_record(rt: &HostRuntime) -> Result<Change, Fail> {
     }
 }
 
-/// The tables of these files; none where they cannot be opened.
+/// The connection to these files; none where they cannot be opened.
 fn opened(
     alloc: Global,
     files: Files<Fuse<Memory>>,
-) -> Result<Option<Store<FileStore<Fuse<Memory>>>>, Fail> {
-    match Connection::open_files(alloc, files, Options::new(1)) {
-        Ok(conn) => adopted(alloc, conn),
-        Err(_) => Ok(None),
+) -> Option<Connection<FileStore<Fuse<Memory>>>> {
+    if !files.may_be_used() {
+        return None;
     }
+    Connection::open_files(alloc, files, Options::new(1)).ok()
 }
 
+/// The tables behind a connection; none where the disk stops as they are read.
 fn adopted(
     alloc: Global,
     conn: Connection<FileStore<Fuse<Memory>>>,
 ) -> Result<Option<Store<FileStore<Fuse<Memory>>>>, Fail> {
+    if !conn.is_autocommit() {
+        return Err(Fail::new("a transaction is under way"));
+    }
     match Store::adopt(alloc, conn) {
         Ok((store, _)) => Ok(Some(store)),
         Err((Fault::Store, _)) => Ok(None),
+        Err((fault, _)) => Err(failed(fault)),
+    }
+}
+
+/// How many records the tables behind a connection have.
+fn records_of(alloc: Global, conn: Connection<FileStore<Fuse<Memory>>>) -> Result<usize, Fail> {
+    if !conn.is_autocommit() {
+        return Err(Fail::new("a transaction is under way"));
+    }
+    match Store::adopt(alloc, conn) {
+        Ok((_, tables)) => Ok(tables.records.len()),
         Err((fault, _)) => Err(failed(fault)),
     }
 }
@@ -72,12 +93,9 @@ fn records_after_crash(
     let Files { mut log, mut db } = store.release().into_store().close();
     log.crash();
     db.crash();
-    let Ok(conn) = Connection::open_files(alloc, Files { log, db }, Options::new(1)) else {
-        return Err(Fail::new("not opened after the crash"));
-    };
-    match Store::adopt(alloc, conn) {
-        Ok((_, tables)) => Ok(tables.records.len()),
-        Err((fault, _)) => Err(failed(fault)),
+    match opened(alloc, Files { log, db }) {
+        Some(conn) => records_of(alloc, conn),
+        None => Err(Fail::new("not opened after the crash")),
     }
 }
 
@@ -89,7 +107,10 @@ fn stopped(rt: &HostRuntime, calls: u64, change: &Change) -> Result<Option<(bool
         log: Fuse::new(files.log, calls),
         db: Fuse::new(files.db, 1_000_000),
     };
-    let Some(mut store) = opened(rt.alloc(), files)? else {
+    let Some(conn) = opened(rt.alloc(), files) else {
+        return Ok(None);
+    };
+    let Some(mut store) = adopted(rt.alloc(), conn)? else {
         return Ok(None);
     };
     let saved = store.save(rt.alloc(), change).is_ok();
