@@ -12,6 +12,7 @@ use Rattle.office_holds.specs.declared.row.HoldRow.{HoldRow}
 use Rattle.office_proof.specs.Outcomes.{outcome_word}
 use Rattle.office_proof.specs.declared.entry.Entry.{Entry}
 use Rattle.office_machine.specs.declared.run.Run.{Run}
+use Rattle.office_sql.specs.Shown.{certificate_row}
 use Rattle.office_store.specs.Encoded.{entry_shown}
 use Rattle.office_store.specs.Stored.{aggregation_pair, class_pair, hold_pair, number_row, run_pair, schedule_pair}
 use Rattle.office_store.proofs.OwnValues.{int_or_null_own, int_own, number_or_null_own, number_own, text_or_null_own, text_own}
@@ -55,6 +56,12 @@ hold_own a b h =
     let placed_by = text_own a.1.placed_by b.1.placed_by (ap (λ r. column r 3) h) in
     let lifted = int_or_null_own a.1.lifted b.1.lifted (ap (λ r. column r 4) h) in
     λ i. (code i, record { reason = reason i; placed = placed i; placed_by = placed_by i; lifted = lifted i })
+
+pub certificate_own : (a b : ℕ × List ℕ) → certificate_row (pos a.0) a.1 ≡ certificate_row (pos b.0) b.1 → a ≡ b
+certificate_own a b h =
+    let run = number_own a.0 b.0 (ap (λ r. column r 0) h) in
+    let body = text_own a.1 b.1 (ap (λ r. column r 1) h) in
+    λ i. (run i, body i)
 
 truth_own : (a b : Bool) → Int (if a then pos 1 else pos 0) ≡ Int (if b then pos 1 else pos 0) → a ≡ b
 truth_own true true h = refl

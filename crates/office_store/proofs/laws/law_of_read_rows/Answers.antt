@@ -1,6 +1,6 @@
-use Rattle.office_store.proofs.OwnRows.{schedule_own}
-use Rattle.office_store.proofs.OwnRecords.{record_own}
-use Rattle.office_store.proofs.ReadBack.{read_back}
+use Rattle.office_store.proofs.FormedRows.{formed_records}
+use Rattle.office_store.proofs.ReadTables.{read_runs}
+use Rattle.office_store.proofs.ReadTargets.{read_targets}
 use Rattle.office_store.proofs.laws.law_of_read_rows.Goals as goal
 
 pub returns : goal.returns
