@@ -33,7 +33,8 @@ use Rattle.office_machine.specs.declared.run.Run.{Run}
 use Rattle.office_machine.proofs.SoundMaps.{entry_total}
 use Rattle.office_store.specs.Stored.{IsAggregationPair, IsClassPair, IsEntryOfForm, IsFormedHoldRow, IsFormedRecordRow, IsFormedTargetText, IsHoldPair, IsNumber, IsRecordPair, IsRunPair, IsSchedulePair, IsTargetPair}
 use Rattle.office_store.proofs.RowsInOrder.{in_entries, in_numbered}
-use Rattle.office_store.proofs.StandsWritten.{numbered_at, there_is_hold}
+use Rattle.office_store.proofs.StandsWritten.{numbered_at, short_targets, there_is_hold}
+use Rattle.office_store.proofs.TargetRows.{IsShortTarget}
 
 module _ {A : Type 0} where
   each_some : (P : A → Type 0) (o : Option A) → ((a : A) → o ≡ Some a → P a) → IfSome o P
@@ -136,6 +137,11 @@ module _ (s : State) (sound : IsSound s) where
       let formed = sound.limits.hold_forms code found.0 found.1 in
       (formed.0, formed_target found.0 t s sound formed.1 (sound.names.of_holds code found.0 found.1) found.2)
 
+  -- the number of a target has a text of its own
+  pub short_in_rows : (code : List ℕ) (t : Target) → (rows_of s).targets code t ≡ true → IsShortTarget t
+  unfolding rows_of
+  short_in_rows = short_targets s sound
+
   pub formed_runs : (e : ℕ × Run) → IsIn (rows_of s).runs e → IsRunPair e
   unfolding rows_of
   formed_runs e h =
@@ -167,6 +173,11 @@ module _ (s : State) (sound : IsSound s) where
       let of = (sound.runs.certified e.0).0 there in
       omega (arith, (numbered_within s.office.runs e.0 of.0 of.1).1, sound.limits.runs_few)
 
+  pub day_in_rows : IsDayNumber (rows_of s).day
+  unfolding rows_of
+  day_in_rows = sound.limits.day_form
+
+module _ (s : State) where
   pub got_certificates : (e : ℕ × List ℕ) → IsIn (rows_of s).certificates e → get s.office.certificates e.0 ≡ Some e.1
   unfolding rows_of
   got_certificates e h = in_entries nat_cmp_total s.office.certificates e h

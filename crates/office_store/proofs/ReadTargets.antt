@@ -38,11 +38,11 @@ module _ {A B : Type 0} (f : A → B) where
   like : (xs ys : List A) (x : A) → IsPermutation (map f xs) (map f ys) → IsIn xs x → (y : A) × IsIn ys y × (f x ≡ f y)
   like xs ys x same within = mapped_from ys (f x) (has_contained (map f ys) (f x) (Contains-permutation (map f xs) (map f ys) (f x) same (contains_had (map f xs) (f x) (mapped_in xs x within))))
 
-module _ (is_target : List ℕ → Target → Bool) (short : (code : List ℕ) (t : Target) → is_target code t ≡ true → IsShortTarget t) (db : Trees) (has : HasTargets db is_target) where
-  -- a pair of the list is there
-  pub pair_there : (e : List ℕ × Target) → IsIn has.0 e → is_target e.0 e.1 ≡ true
-  pair_there e within = sym (has.2 e.0 e.1) ∙ some_from (λ f. is_pair f.0 f.1 e.0 e.1) has.0 e within (pair_itself e.0 e.1)
+-- a pair of the list is there
+pub pair_there : (is_target : List ℕ → Target → Bool) (db : Trees) (has : HasTargets db is_target) (e : List ℕ × Target) → IsIn has.0 e → is_target e.0 e.1 ≡ true
+pair_there is_target db has e within = sym (has.2 e.0 e.1) ∙ some_from (λ f. is_pair f.0 f.1 e.0 e.1) has.0 e within (pair_itself e.0 e.1)
 
+module _ (is_target : List ℕ → Target → Bool) (short : (code : List ℕ) (t : Target) → is_target code t ≡ true → IsShortTarget t) (db : Trees) (has : HasTargets db is_target) where
   pub read_targets : (items : List (List ℕ × Target)) → IsByKey (0 ∷ 1 ∷ 2 ∷ []) (rows_of (at 12 targets) db) (map target_pair items) → (code : List ℕ) (target : Target) → list_any (λ e. is_pair e.0 e.1 code target) items ≡ is_target code target
   read_targets items read code target = same_tests _ _ there back ∙ has.2 code target
     where
@@ -53,12 +53,12 @@ module _ (is_target : List ℕ → Target → Bool) (short : (code : List ℕ) (
       there h =
           let found = some_has (λ e. is_pair e.0 e.1 code target) items h in
           let other = like target_pair items has.0 found.0 (IsPermutation-sym _ _ same) found.1 in
-          let is = target_own other.0 found.0 (short other.0.0 other.0.1 (pair_there other.0 other.1)) (sym other.2) in
+          let is = target_own other.0 found.0 (short other.0.0 other.0.1 (pair_there is_target db has other.0 other.1)) (sym other.2) in
           some_from (λ e. is_pair e.0 e.1 code target) has.0 other.0 other.1 (ap₂ (λ c t. is_pair c t code target) is.0 is.1 ∙ found.2)
 
       back : list_any (λ e. is_pair e.0 e.1 code target) has.0 ≡ true → list_any (λ e. is_pair e.0 e.1 code target) items ≡ true
       back h =
           let found = some_has (λ e. is_pair e.0 e.1 code target) has.0 h in
           let other = like target_pair has.0 items found.0 same found.1 in
-          let is = target_own found.0 other.0 (short found.0.0 found.0.1 (pair_there found.0 found.1)) other.2 in
+          let is = target_own found.0 other.0 (short found.0.0 found.0.1 (pair_there is_target db has found.0 found.1)) other.2 in
           some_from (λ e. is_pair e.0 e.1 code target) items other.0 other.1 (ap₂ (λ c t. is_pair c t code target) (sym is.0) (sym is.1) ∙ found.2)

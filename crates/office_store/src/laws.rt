@@ -1,4 +1,7 @@
-//! What the writes of a change do to tables that stand for the rows of an office.
+//! What the writes of a change do to tables that stand for the rows of an office, and what is read of
+//! such tables.
+ghost use Rattle.std.specs.Prelude.{◌≡◌, ℕ, List, Some, IsUtf8};
+ghost use Rattle.std.specs.FinMap.{get};
 ghost use Rattle.sqlite.specs.Effect.{Database};
 ghost use Rattle.sqlite_trees.specs.Tree.{Trees};
 ghost use Rattle.office_machine.specs.Acts.{CanBeMade};
@@ -22,8 +25,8 @@ pub fn law_of_saved_rows()
 {}
 
 /// Tables that are read, where the database's tables stand for the rows of a sound state, stand for
-/// that state, and every row is of its form.
+/// that state; and where its certificates are texts, every row is of its form.
 pub fn law_of_read_rows()
     ensures stand { (s : State) (t : Tables) (db : Trees) → IsSound s → Stands (rows_of s) db → IsRead t db → StandsFor t s }
-    ensures readable { (s : State) (db : Trees) → IsSound s → Stands (rows_of s) db → AllReadable db }
+    ensures readable { (s : State) (db : Trees) → IsSound s → ((run : ℕ) (text : List ℕ) → get s.office.certificates run ≡ Some text → IsUtf8 text) → Stands (rows_of s) db → AllReadable db }
 {}
