@@ -1,16 +1,14 @@
 -- Each row of a sound state is of its form.
-use Rattle.std.proofs.Common.{◌≡◌, ◌≤◌, ◌<◌, ◌^◌, ℕ, zero, suc, ◌+◌, true, List, [], ◌∷◌, map, length, Option, Some, None, inl, inr, refl, sym, ap, ap₂, subst, ◌∙◌, arith}
+use Rattle.std.proofs.Common.{◌≡◌, ℕ, zero, suc, ◌+◌, true, List, [], ◌∷◌, map, length, Option, Some, None, inl, inr, refl, sym, ap, subst, arith}
 use Rattle.std.specs.Cmp.{nat_cmp_total}
 use Rattle.std.specs.Cmp.Lexicographic.{nat_list_cmp_total}
-use Rattle.std.specs.FinMap.{FinMap, entries, get}
-use Rattle.std.specs.Ordering.{nat_cmp}
+use Rattle.std.specs.FinMap.{entries, get}
 use Rattle.std.specs.Option.{option_map}
 use Rattle.std.specs.Prelude.{IfSome, IsSome, slice_get}
 use Rattle.sqlite_rules.specs.Lists.{Has as IsIn}
 use Rattle.office_days.specs.Limits.{IsDayNumber, IsDueNumber}
-use Rattle.office_tree.specs.Forms.{IsCode, IsFormedConfirmation, IsFormedReceipt, IsFormedRecord, IsFormedReview, IsText}
+use Rattle.office_tree.specs.Forms.{IsFormedConfirmation, IsFormedReceipt, IsFormedRecord, IsFormedReview, IsText}
 use Rattle.office_tree.specs.Lists.{numbered}
-use Rattle.office_tree.specs.Tree.{code_cmp}
 use Rattle.office_tree.specs.declared.aggregation.Aggregation.{Aggregation}
 use Rattle.office_tree.specs.declared.class.Class.{Class}
 use Rattle.office_tree.specs.declared.head.Record.{Record}
@@ -25,7 +23,7 @@ use Rattle.office_holds.specs.declared.row.HoldRow.{HoldRow}
 use Rattle.office_holds.specs.declared.target.Target.{Target}
 use Rattle.office_holds.specs.declared.target.Target.TheVariants as target
 use Rattle.office_proof.specs.declared.entry.Entry.{Entry}
-use Rattle.office_machine.specs.Rows.{record_row, record_rows, rows_of, targets_of}
+use Rattle.office_machine.specs.Rows.{record_row, record_rows, rows_of}
 use Rattle.office_machine.specs.Sound.{IsSound}
 use Rattle.office_machine.specs.State.{State}
 use Rattle.office_machine.specs.declared.rows.RecordRow.{RecordRow}

@@ -1,8 +1,7 @@
 -- The row of a record whose digest is of its form is that of no other record.
-use Rattle.std.proofs.Common.{◌≡◌, ℕ, pos, List, ap}
-use Rattle.std.specs.Option.{option_map}
+use Rattle.std.proofs.Common.{◌≡◌, ℕ, ap}
 use Rattle.hex.specs.Hex.{encode_lower}
-use Rattle.sqlite_value.specs.Order.{Row, column}
+use Rattle.sqlite_value.specs.Order.{column}
 use Rattle.office_tree.specs.Forms.{IsDigest}
 use Rattle.office_tree.specs.Words.{status_word}
 use Rattle.office_machine.specs.declared.rows.RecordRow.{RecordRow}
@@ -33,23 +32,26 @@ record_own a b formed h =
     let conf_by = text_or_null_own a.1.conf_by b.1.conf_by (ap (λ r. column r 16) h) in
     let receipt_day = int_or_null_own a.1.receipt_day b.1.receipt_day (ap (λ r. column r 17) h) in
     let receipt_by = text_or_null_own a.1.receipt_by b.1.receipt_by (ap (λ r. column r 18) h) in
-    λ i. (number i, record {
-      ref_text = ref_text i;
-      title = title i;
-      originated = originated i;
-      added = added i;
-      aggregation = aggregation i;
-      size = size i;
-      digest = digest i;
-      status = status i;
-      class = class i;
-      schedule = schedule i;
-      reviewed = reviewed i;
-      reviewed_by = reviewed_by i;
-      conf_action = conf_action i;
-      conf_due = conf_due i;
-      conf_day = conf_day i;
-      conf_by = conf_by i;
-      receipt_day = receipt_day i;
-      receipt_by = receipt_by i;
-    })
+    λ i. (
+      number i,
+      record {
+        ref_text = ref_text i;
+        title = title i;
+        originated = originated i;
+        added = added i;
+        aggregation = aggregation i;
+        size = size i;
+        digest = digest i;
+        status = status i;
+        class = class i;
+        schedule = schedule i;
+        reviewed = reviewed i;
+        reviewed_by = reviewed_by i;
+        conf_action = conf_action i;
+        conf_due = conf_due i;
+        conf_day = conf_day i;
+        conf_by = conf_by i;
+        receipt_day = receipt_day i;
+        receipt_by = receipt_by i;
+      },
+    )

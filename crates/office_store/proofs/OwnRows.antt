@@ -1,8 +1,8 @@
 -- Each row of a table is that of one thing alone.
-use Rattle.std.proofs.Common.{◌≡◌, ℕ, ℤ, pos, Bool, true, false, List, ap, refl, arith}
+use Rattle.std.proofs.Common.{◌≡◌, ℕ, pos, Bool, true, false, List, ap, refl, arith}
 use Rattle.std.specs.Prelude.{if◌then◌else◌}
 use Rattle.sqlite_value.specs.declared.value.Value.TheVariants.{Int}
-use Rattle.sqlite_value.specs.Order.{Row, column}
+use Rattle.sqlite_value.specs.Order.{column}
 use Rattle.office_days.specs.Words.{offset_word, unit_word}
 use Rattle.office_tree.specs.Words.{action_word, trigger_word}
 use Rattle.office_tree.specs.declared.aggregation.Aggregation.{Aggregation}

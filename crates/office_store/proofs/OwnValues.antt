@@ -2,7 +2,6 @@
 use Rattle.std.proofs.Common.{◌≡◌, ℕ, ℤ, pos, List, Option, Some, None, refl, ap}
 use Rattle.std.specs.Option.{option_map}
 use Rattle.sqlite_value.specs.declared.value.Value.TheVariants.{Int, Text}
-use Rattle.sqlite_value.specs.Order.{Row, column}
 use Rattle.sqlite.specs.Values.{or_null}
 use Rattle.office_tree.specs.Words.{action_word}
 use Rattle.office_tree.specs.declared.action.Action.{Action}

@@ -1,8 +1,7 @@
 -- What is read of a table, where the table stands for things whose keys rise: those things.
-use Rattle.std.proofs.Common.{◌≡◌, ℕ, pos, true, List, [], ◌∷◌, map, length, inl, inr, refl, sym, ap, ap₂, ◌∙◌, subst, nat_cmp, IsPermutation, arith}
+use Rattle.std.proofs.Common.{◌≡◌, ℕ, pos, true, List, [], ◌∷◌, map, length, inl, inr, refl, sym, ap, ap₂, nat_cmp, IsPermutation, arith}
 use Rattle.std.specs.FinMap.Entries.{is_sorted}
 use Rattle.std.specs.declared.cmp.Ordering.TheVariants.{Less}
-use Rattle.sqlite_value.specs.declared.value.Value.{Value}
 use Rattle.sqlite_value.specs.declared.value.Value.TheVariants.{Int, Text}
 use Rattle.sqlite_value.specs.Order.{Row}
 use Rattle.sqlite_rules.specs.Lists.{Has as IsIn}

@@ -1,9 +1,10 @@
 -- What is read of each table but `targets`, where the tables stand for rows whose keys rise: those rows.
 use Rattle.std.proofs.Common.{◌≡◌, ℕ, pos, List, [], ◌∷◌, drop, map, take, inl, inr, refl, sym, ap, ap₂, subst, ◌∙◌, IsPermutation}
 use Rattle.std.specs.String.{string_bytes}
+use Rattle.std.specs.declared.cmp.Ordering.TheVariants.{Less}
 use Rattle.std.proofs.lemmas.List.Sorted.{IsPermutation-map, IsPermutation-sym, IsPermutation-trans}
 use Rattle.sqlite_value.specs.declared.value.Value.TheVariants.{Int, Text}
-use Rattle.sqlite_value.specs.Order.{Row, column}
+use Rattle.sqlite_value.specs.Order.{column}
 use Rattle.sqlite_rules.specs.Lists.{Has as IsIn}
 use Rattle.sqlite_trees.specs.Tree.{IsAscending, Trees}
 use Rattle.sqlite_trees.proofs.ListLemmas.{map-map}
@@ -14,9 +15,8 @@ use Rattle.office_machine.specs.declared.rows.RecordRow.{RecordRow}
 use Rattle.office_machine.specs.declared.tables.Tables.{Tables}
 use Rattle.office_sql.specs.Bags as bags
 use Rattle.office_sql.specs.Reads.{IsByKey}
-use Rattle.office_sql.specs.Schema.{at, aggregations, certificates, classes, contents, entries, holds, office, records, runs, schedules}
+use Rattle.office_sql.specs.Schema.{at, aggregations, certificates, classes, contents, entries, holds, records, runs, schedules}
 use Rattle.office_sql.specs.Shown.{certificate_row, content_row, office_row}
-use Rattle.std.specs.declared.cmp.Ordering.TheVariants.{Less}
 use Rattle.office_store.specs.Adopted.{IsRead}
 use Rattle.office_store.specs.Encoded.{entry_shown}
 use Rattle.office_store.specs.Stands.{Stands}

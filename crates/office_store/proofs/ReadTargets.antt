@@ -11,7 +11,6 @@ use Rattle.office_sql.specs.Bags.{rows_of, share}
 use Rattle.office_sql.specs.Reads.{IsByKey}
 use Rattle.office_sql.specs.Schema.{at, targets}
 use Rattle.office_sql.proofs.BagLemmas.{same_tests}
-use Rattle.office_store.specs.Encoded.{target_shown}
 use Rattle.office_store.specs.Stands.{HasTargets}
 use Rattle.office_store.specs.Stored.{target_pair}
 use Rattle.office_store.proofs.TargetPairs.{pair_is, pair_itself}

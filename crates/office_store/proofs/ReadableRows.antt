@@ -1,5 +1,5 @@
 -- Tables that stand for the rows of a sound state have rows of things of their form alone, where the certificates are texts.
-use Rattle.std.proofs.Common.{◌≡◌, ℕ, pos, List, [], ◌∷◌, map, take, All, IsPermutation, Some, refl, subst, ap, ◌∙◌, sym}
+use Rattle.std.proofs.Common.{◌≡◌, ℕ, pos, List, map, take, All, IsPermutation, Some, refl, subst}
 use Rattle.std.specs.FinMap.{get}
 use Rattle.std.specs.Str.{IsUtf8}
 use Rattle.std.proofs.lemmas.List.Elements.{All-from_recursion, All-map}
@@ -9,13 +9,11 @@ use Rattle.sqlite_rules.specs.Lists.{Has as IsIn}
 use Rattle.sqlite_rules.proofs.ListLemmas.{all_from}
 use Rattle.sqlite_trees.specs.Tree.{Trees}
 use Rattle.sqlite_trees.proofs.ListLemmas.{map-map}
-use Rattle.office_holds.specs.declared.target.Target.{Target}
-use Rattle.office_proof.specs.declared.entry.Entry.{Entry}
 use Rattle.office_machine.specs.Rows.{TableRows, rows_of}
 use Rattle.office_machine.specs.Sound.{IsSound}
 use Rattle.office_machine.specs.State.{State}
 use Rattle.office_sql.specs.Bags as bags
-use Rattle.office_sql.specs.Schema.{at, aggregations, certificates, classes, contents, entries, holds, office, records, runs, schedules, targets}
+use Rattle.office_sql.specs.Schema.{at, aggregations, certificates, classes, contents, entries, holds, records, runs, schedules, targets}
 use Rattle.office_sql.specs.Shown.{certificate_row, content_row}
 use Rattle.office_store.specs.Encoded.{entry_shown}
 use Rattle.office_store.specs.Stands.{Stands}
@@ -47,5 +45,5 @@ rows_readable s db sound texts stands =
       runs = all_formed run_pair IsRunPair rows.runs (bags.rows_of (at 14 runs) db) stands.runs (formed_runs s sound);
       entries = all_shown (λ e. entry_shown e.1) (IsRowOf entry_shown IsEntryOfForm) rows.entries_by (bags.rows_of (at 15 entries) db) stands.entries (λ e within. (e.1, formed_entries s sound e within, refl));
       certificates = all_shown (λ e. certificate_row (pos e.0) e.1) IsCertificateRow rows.certificates (bags.rows_of (at 17 certificates) db) stands.certificates
-      (λ e within. (e.0, e.1, formed_certificates s sound e within, texts e.0 e.1 (got_certificates s e within), refl));
+          (λ e within. (e.0, e.1, formed_certificates s sound e within, texts e.0 e.1 (got_certificates s e within), refl));
     }

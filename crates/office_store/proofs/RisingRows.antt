@@ -1,16 +1,15 @@
 -- Rows whose keys rise stand in the strict order in which a table is read.
-use Rattle.std.proofs.Common.{◌≡◌, ℕ, ℤ, pos, true, List, [], ◌∷◌, map, inl, inr, refl, sym, ap, ap₂, ◌∙◌, nat_cmp, int_cmp, arith}
+use Rattle.std.proofs.Common.{◌≡◌, ℕ, pos, true, List, [], ◌∷◌, map, inl, inr, refl, sym, ap₂, ◌∙◌, nat_cmp}
 use Rattle.std.specs.FinMap.Entries.{below_all, is_sorted}
 use Rattle.std.specs.List.{AllByRecursion}
 use Rattle.std.specs.Ordering.{is_lt, ordering_then}
 use Rattle.std.specs.declared.cmp.Ordering.{Ordering}
 use Rattle.std.specs.declared.cmp.Ordering.TheVariants.{Less, Equal, Greater}
 use Rattle.std.proofs.lemmas.Bool.{and_parts}
-use Rattle.std.proofs.lemmas.Bool.Decides.{nat_tests}
 use Rattle.sqlite_value.specs.declared.value.Value.TheVariants.{Int, Text}
 use Rattle.sqlite_value.specs.declared.keys.Collation.TheVariants.{Binary}
 use Rattle.sqlite_value.specs.Keys.{ascending}
-use Rattle.sqlite_value.specs.Order.{Row, column, value_cmp}
+use Rattle.sqlite_value.specs.Order.{Row, column}
 use Rattle.sqlite_value.proofs.OrderLemmas.{then-Equal, value_cmp-Int, value_cmp-Text}
 use Rattle.sqlite_sql.specs.Query.{key_cmp}
 use Rattle.sqlite_rules.specs.Lists.{Has as IsIn}
