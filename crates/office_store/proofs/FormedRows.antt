@@ -48,7 +48,7 @@ module _ {A : Type 0} where
   number_of xs e found = numbered_at xs e.0 found.0 e.1 found.1 found.2
 
 -- the head and the status of a record's row
-pub row_of : (heads : List Record) (statuses : List Status) (i : ℕ) (row : RecordRow) → slice_get (record_rows heads statuses) i ≡ Some row
+row_of : (heads : List Record) (statuses : List Status) (i : ℕ) (row : RecordRow) → slice_get (record_rows heads statuses) i ≡ Some row
     → (head : Record) × (status : Status) × (slice_get heads i ≡ Some head) × (record_row head status ≡ row)
 row_of [] statuses i row e = absurd cc
 row_of (h ∷ hs) [] i row e = absurd cc

@@ -12,7 +12,7 @@ use Rattle.office_sql.proofs.TypedLemmas.{read_typed}
 use Rattle.office_store.proofs.RisingRows.{by_columns, rise_coded, rise_numbered}
 
 -- two lists that show the same, where what the one has shows as nothing else does
-pub same_list : {X : Type 0} (shown : X → Row) (xs ts : List X) → ((x t : X) → IsIn xs x → shown x ≡ shown t → x ≡ t) → map shown ts ≡ map shown xs → ts ≡ xs
+same_list : {X : Type 0} (shown : X → Row) (xs ts : List X) → ((x t : X) → IsIn xs x → shown x ≡ shown t → x ≡ t) → map shown ts ≡ map shown xs → ts ≡ xs
 same_list shown [] [] own h = refl
 same_list shown [] (t ∷ ts) own h = absurd (omega (arith, ap length h))
 same_list shown (x ∷ xs) [] own h = absurd (omega (arith, ap length h))

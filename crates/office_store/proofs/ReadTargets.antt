@@ -23,7 +23,7 @@ target_own a b short h =
     pair_is a.0 b.0 a.1 b.1 (sym (share_target a.0 b.0 a.1 b.1 short) ∙ ap (share keys (target_pair a)) (sym h) ∙ share_target a.0 a.0 a.1 a.1 short ∙ pair_itself a.0 a.1)
 
 module _ {A B : Type 0} (f : A → B) where
-  pub mapped_from : (xs : List A) (b : B) → IsIn (map f xs) b → (a : A) × IsIn xs a × (b ≡ f a)
+  mapped_from : (xs : List A) (b : B) → IsIn (map f xs) b → (a : A) × IsIn xs a × (b ≡ f a)
   mapped_from [] b h = absurd h
   mapped_from (x ∷ xs) b (inl same) = (x, inl refl, same)
   mapped_from (x ∷ xs) b (inr later) = let found = mapped_from xs b later in (found.0, inr found.1, found.2)

@@ -125,7 +125,7 @@ short_targets s sound code t h =
     let found = there_is_hold (get s.office.holds code) t h in
     short_if_there found.0 t s sound (sound.names.of_holds code found.0 found.1) found.2
 
-pub own_keys : (s : State) → IsSound s → HaveOwnKeys s.office.entries
+own_keys : (s : State) → IsSound s → HaveOwnKeys s.office.entries
 own_keys s sound key e there = let is = sound.entries.keyed key.0 key.1 e there in λ i. (sym is.0 i, sym is.1 i)
 
 pub saved_rows : (s : State) (change : Change) (old new : Database) → IsSound s → CanBeMade s.office change → Stands (rows_of s) old.trees → AreWritten change.writes.items old new → Stands (rows_of (all_writes change.writes.items s)) new.trees
