@@ -10,7 +10,7 @@ use Rattle.hex.proofs.HexLemmas.{IsAscii-encode_with, decode_sized-encode_lower}
 use Rattle.office_tree.specs.Forms.{IsDigest}
 use Rattle.office_store.proofs.Words.{IsAscii-literal}
 
-IsBytes-digest : (digest : List ℕ) → IsDigest digest → IsBytes digest
+pub IsBytes-digest : (digest : List ℕ) → IsDigest digest → IsBytes digest
 IsBytes-digest digest formed k =
     elim (cases_lt k (length digest)) [
       | inl within ↦ formed.1 k 0 within

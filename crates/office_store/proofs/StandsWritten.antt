@@ -51,7 +51,7 @@ head_of (h ∷ hs) [] i row e = absurd cc
 head_of (h ∷ hs) (s ∷ ss) zero row e = let same : record_row h s ≡ row = cc in (h, refl, ap (λ (r : RecordRow). r.ref_text) same)
 head_of (h ∷ hs) (s ∷ ss) (suc i) row e = head_of hs ss i row e
 
-numbered_at : {A : Type 0} (xs : List A) (n i : ℕ) (x : A) → n ≡ suc (zero + i) → slice_get xs i ≡ Some x → numbered xs n ≡ Some x
+pub numbered_at : {A : Type 0} (xs : List A) (n i : ℕ) (x : A) → n ≡ suc (zero + i) → slice_get xs i ≡ Some x → numbered xs n ≡ Some x
 numbered_at xs n i x e there = let same : n ≡ suc i = omega arith in ap (numbered xs) same ∙ there
 
 fits_rows : (s : State) (w : RowWrite) → RefIsFree s.office w → FitsTable s.office w → FitsRows (rows_of s) w
@@ -111,7 +111,7 @@ stands_all_written s (w ∷ ws) old new e can free short own stands did =
 
 -- ---- of a sound state
 
-there_is_hold : (o : Option HoldState) (t : Target) → holds_of o (λ hold. has_target hold t) ≡ true → (hold : HoldState) × (o ≡ Some hold) × (has_target hold t ≡ true)
+pub there_is_hold : (o : Option HoldState) (t : Target) → holds_of o (λ hold. has_target hold t) ≡ true → (hold : HoldState) × (o ≡ Some hold) × (has_target hold t ≡ true)
 there_is_hold None t h = absurd cc
 there_is_hold (Some hold) t h = (hold, refl, h)
 
@@ -120,7 +120,7 @@ short_if_there hold (target.Class code) s sound there h = tt
 short_if_there hold (target.Aggregation a) s sound there h = omega (arith, (there.aggregation_targets a h).1, sound.limits.tree_few.aggregations_few)
 short_if_there hold (target.Record r) s sound there h = omega (arith, (there.record_targets r h).1, sound.limits.tree_few.records_few)
 
-short_targets : (s : State) → IsSound s → HaveShortTargets s.office.holds
+pub short_targets : (s : State) → IsSound s → HaveShortTargets s.office.holds
 short_targets s sound code t h =
     let found = there_is_hold (get s.office.holds code) t h in
     short_if_there found.0 t s sound (sound.names.of_holds code found.0 found.1) found.2
