@@ -31,7 +31,10 @@ fn base_files(rt: &HostRuntime) -> Result<Files<Memory>, Fail> {
     keep(rt, &mut office, &mut store, BASE)?;
     match store.release().close_files() {
         Ok(files) => Ok(files),
-        Err(_) => Err(Fail::new("not closed")),
+        Err((_, store)) => {
+            drop(store.close());
+            Err(Fail::new("not closed"))
+        }
     }
 }
 
@@ -124,7 +127,7 @@ fn a_stop_while_a_record_is_saved_leaves_it_whole_or_not_at_all(
     let change = fourth_record(&rt)?;
     let mut lost = 0;
     let mut kept = 0;
-    for calls in 20..44 {
+    for calls in 26..42 {
         match stopped(&rt, calls, &change)? {
             Some((true, 4)) => kept += 1,
             Some((false, 3)) => lost += 1,
