@@ -12,8 +12,8 @@ ghost use Rattle.office_store.specs.Adopted.{AreHoldingRead, ArePlansRead, AreRu
 use crate::Fault;
 use crate::columns::{day, has_columns};
 use crate::tables::{
-    aggregations, certificates, classes, contents, entries, holds, of_database, of_value,
-    records, runs, schedules, targets,
+    aggregations, certificates, classes, contents, entries, holds, of_database, of_value, records,
+    runs, schedules, targets,
 };
 use office_days::Day;
 use office_holds::{HoldRow, Target};
