@@ -1,6 +1,6 @@
 -- The tables of a new office stand for the rows of the empty state. Source: own.
-use Rattle.std.proofs.Common.{◌≡◌, ◌≢◌, ℕ, false, List, [], ◌∷◌, map, refl, sym, ap, ◌∙◌, IsPermutation, Ordering}
-use Rattle.std.specs.FinMap.{entries, empty, get, get-empty, len-empty, len-entries}
+use Rattle.std.proofs.Common.{◌≡◌, List, [], map, sym, ap, ◌∙◌, Ordering}
+use Rattle.std.specs.FinMap.{entries, empty, get-empty, len-empty, len-entries}
 use Rattle.std.proofs.lemmas.List.{nil_from_length}
 use Rattle.sqlite_value.specs.Order.{Row}
 use Rattle.sqlite_trees.specs.Tree.{Trees}
@@ -10,8 +10,7 @@ use Rattle.sqlite.specs.Effect.{Database}
 use Rattle.office_tree.specs.Lists.{holds_of}
 use Rattle.office_tree.specs.Tree.{code_cmp}
 use Rattle.office_holds.specs.Holds.{has_target}
-use Rattle.office_holds.specs.declared.target.Target.{Target}
-use Rattle.office_machine.specs.Rows.{rows_of, targets_of}
+use Rattle.office_machine.specs.Rows.{rows_of}
 use Rattle.office_machine.specs.State.{empty_state}
 use Rattle.office_sql.specs.Bags as bags
 use Rattle.office_sql.specs.Office.{IsNewOffice}

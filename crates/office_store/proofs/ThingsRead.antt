@@ -1,5 +1,5 @@
 -- What is read of a table: the things for which its rows stand, and damaged only where a row stands for none. Source: own.
-use Rattle.std.proofs.Common.{◌≡◌, ℕ, List, map, All, IsPermutation, Result, IfOk, IfErr, subst}
+use Rattle.std.proofs.Common.{◌≡◌, ℕ, List, map, All, Result, IfOk, IfErr, subst}
 use Rattle.std.proofs.lemmas.List.Sorted.{All-permutation}
 use Rattle.std.proofs.lemmas.Result.{IfOk-weaker, IfErr-weaker}
 use Rattle.sqlite_value.specs.Order.{Row}

@@ -1,10 +1,9 @@
 -- What is read of the tables when an office is adopted, and how a reading ends. Source: own.
-use Rattle.std.specs.Prelude.{◌≡◌, ◌≢◌, ℕ, ℤ, pos, All, List, [], ◌∷◌, map, take, Option, Some, None, Result, IfOk, IfErr, OnOk, IsPermutation}
-use Rattle.std.specs.String.{string_bytes}
+use Rattle.std.specs.Prelude.{◌≡◌, ◌≢◌, ℕ, ℤ, pos, List, [], ◌∷◌, map, take, Option, Some, None, Result, IfOk, IfErr, OnOk, IsPermutation}
 use Rattle.sqlite_value.specs.declared.value.Value.TheVariants.{Int, Blob}
 use Rattle.sqlite_value.specs.Order.{Row}
 use Rattle.sqlite_trees.specs.Tree.{Trees}
-use Rattle.sqlite.specs.State.{State, HasCleanDisk, Survives}
+use Rattle.sqlite.specs.State.{State, HasCleanDisk}
 use Rattle.office_machine.specs.declared.tables.Tables.{Tables}
 use Rattle.office_sql.specs.Bags.{rows_of}
 use Rattle.office_sql.specs.Office.{IsAtRest}
