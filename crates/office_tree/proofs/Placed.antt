@@ -10,7 +10,7 @@ use Rattle.office_tree.specs.Sound.{NoneIsOpenUnderClosed, RootsHaveClasses}
 use Rattle.office_tree.specs.Tree.{chain, chain_of}
 use Rattle.office_tree.specs.declared.aggregation.Aggregation.{Aggregation}
 use Rattle.office_tree.proofs.Places.{numbered_at, numbered_within}
-use Rattle.office_tree.proofs.Walk.{ArePlaced, chain_begins, up_from, up_step}
+use Rattle.office_tree.proofs.Walk.{ArePlaced, chain_begins, up_from, up_none, up_step}
 
 -- at each place up to the length there is something
 pub numbered_there : {A : Type 0} (xs : List A) (i : ℕ) → i < length xs → (x : A) × (slice_get xs i ≡ Some x)
@@ -119,6 +119,13 @@ low_step aggregations below roots a k it low e some =
 
 too_many : (n : ℕ) → false ≡ nat_le (suc n) 0
 too_many n = grind (arith, nat_tests)
+
+nothing_fits : (k : ℕ) → true ≡ nat_le 0 k
+nothing_fits k = grind (arith, nat_tests)
+
+-- nothing is above
+pub low_none : (aggregations : List Aggregation) (next : Option ℕ) (k : ℕ) → next ≡ None → true ≡ nat_le (length (up_from aggregations next)) k
+low_none aggregations next k e = nothing_fits k ∙ ap (λ xs. nat_le (length xs) k) (sym (up_none aggregations next e))
 
 -- no step is left
 pub not_low : (aggregations : List Aggregation) (a k : ℕ) → 0 < a → k ≡ 0 → false ≡ nat_le (length (up_from aggregations (Some a))) k
