@@ -95,16 +95,17 @@ not_both (Some x) v e f = absurd cc
 
 found_in_rest : {V : Type 0} (k q : List ℕ) (x v : V) (es : List (List ℕ × V)) → AllByRecursion (λ q. code_cmp k q ≡ Less) (keys_of es) → lookup (is_at (code_cmp q)) es ≡ Some v → lookup (is_at (code_cmp q)) ((k, x) ∷ es) ≡ Some v
 found_in_rest k q x v es above found = elim (true_or_false (is_at (code_cmp q) k)) [
-    | inl tie ↦ absurd (not_both (lookup (is_at (code_cmp q)) es) v (ap (λ c. lookup (is_at (code_cmp c)) es) (same_code q k tie) ∙ absent k es above) found)
-    | inr apart ↦ ap (λ b. cond b (Some x) (lookup (is_at (code_cmp q)) es)) apart ∙ found
-  ]
+  | inl tie ↦ absurd (not_both (lookup (is_at (code_cmp q)) es) v (ap (λ c. lookup (is_at (code_cmp c)) es) (same_code q k tie) ∙ absent k es above) found)
+  | inr apart ↦ ap (λ b. cond b (Some x) (lookup (is_at (code_cmp q)) es)) apart ∙ found
+]
 
 all_looked_up : {V : Type 0} (P : V → Type 0) (es : List (List ℕ × V)) → IsStrictlySortedBy code_cmp (keys_of es) → ((q : List ℕ) (v : V) → lookup (is_at (code_cmp q)) es ≡ Some v → P v) → AllByRecursion P (values_of es)
 unfolding IsStrictlySortedBy
 all_looked_up P [] o h = tt
-all_looked_up P (e ∷ es) o h =
-    (h e.0 e.1 (ap (λ b. cond b (Some e.1) (lookup (is_at (code_cmp e.0)) es)) ((eq_by_cmp_equiv nat_list_cmp_total).refl e.0)),
-     all_looked_up P es o.1 (λ q v found. h q v (found_in_rest e.0 q e.1 v es o.0 found)))
+all_looked_up P (e ∷ es) o h = (
+  h e.0 e.1 (ap (λ b. cond b (Some e.1) (lookup (is_at (code_cmp e.0)) es)) ((eq_by_cmp_equiv nat_list_cmp_total).refl e.0)),
+  all_looked_up P es o.1 (λ q v found. h q v (found_in_rest e.0 q e.1 v es o.0 found)),
+)
 
 -- what holds of all values holds of what is at each code
 pub at_codes : {V : Type 0} (P : V → Type 0) (es : List (List ℕ × V)) → All P (values_of es) → (q : List ℕ) (v : V) → get (from_entries {R = code_cmp} es) q ≡ Some v → P v
@@ -139,9 +140,9 @@ pub names_hold : (schedules : FinMap code_cmp Schedule) (es : List (List ℕ × 
     → NamesStand schedules (from_entries es) aggregations records
 names_hold schedules es aggregations records of_classes of_aggregations of_records =
     let named : (a : ℕ) (it : Aggregation) → numbered aggregations a ≡ Some it → (is_there (from_entries {R = code_cmp} es) it.class ≡ true) × ((is_some it.parent || is_some it.class) ≡ true) =
-        λ a it e. and_2 (is_there (from_entries {R = code_cmp} es) it.class) (is_some it.parent || is_some it.class) (at_numbers (λ it. is_aggregation_named (from_entries {R = code_cmp} es) it ≡ true) aggregations of_aggregations a it e) in
+    λ a it e. and_2 (is_there (from_entries {R = code_cmp} es) it.class) (is_some it.parent || is_some it.class) (at_numbers (λ it. is_aggregation_named (from_entries {R = code_cmp} es) it ≡ true) aggregations of_aggregations a it e) in
     let headed : (r : ℕ) (head : Record) → numbered records r ≡ Some head → (nat_le 1 head.aggregation ≡ true) × (nat_le head.aggregation (length aggregations) ≡ true) × (is_there (from_entries {R = code_cmp} es) head.class ≡ true) × (is_there schedules head.schedule ≡ true) =
-        λ r head e. and_4 (nat_le 1 head.aggregation) (nat_le head.aggregation (length aggregations)) (is_there (from_entries {R = code_cmp} es) head.class) (is_there schedules head.schedule) (at_numbers (λ head. is_record_named schedules (from_entries {R = code_cmp} es) (length aggregations) head ≡ true) records of_records r head e) in
+    λ r head e. and_4 (nat_le 1 head.aggregation) (nat_le head.aggregation (length aggregations)) (is_there (from_entries {R = code_cmp} es) head.class) (is_there schedules head.schedule) (at_numbers (λ head. is_record_named schedules (from_entries {R = code_cmp} es) (length aggregations) head ≡ true) records of_records r head e) in
     record {
       class_schedules = λ code class e. at_codes (λ it. contains_key schedules it.schedule ≡ true) es of_classes code class e;
       aggregation_classes = λ a it e. names_of_there (from_entries es) it.class (named a it e).0;
@@ -161,5 +162,5 @@ aggregations_pass schedules classes aggregations records names = from_numbers (�
 pub records_pass : (schedules : FinMap code_cmp Schedule) (classes : FinMap code_cmp Class) (aggregations : List Aggregation) (records : List Record) → NamesStand schedules classes aggregations records → All (λ head. is_record_named schedules classes (length aggregations) head ≡ true) records
 records_pass schedules classes aggregations records names = from_numbers (λ head. is_record_named schedules classes (length aggregations) head ≡ true) records
     (λ r head e. all_4 (nat_le 1 head.aggregation) (nat_le head.aggregation (length aggregations)) (is_there classes head.class) (is_there schedules head.schedule)
-        (le_to 1 head.aggregation (names.homes r head e).0) (le_to head.aggregation (length aggregations) (names.homes r head e).1)
-        (there_of_names classes head.class (names.record_classes r head e)) (there_of_names schedules head.schedule (names.record_schedules r head e)))
+    (le_to 1 head.aggregation (names.homes r head e).0) (le_to head.aggregation (length aggregations) (names.homes r head e).1)
+    (there_of_names classes head.class (names.record_classes r head e)) (there_of_names schedules head.schedule (names.record_schedules r head e)))

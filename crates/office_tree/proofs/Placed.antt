@@ -43,7 +43,6 @@ all_3 true true c p q r = r
 all_3 true false c p q r = absurd cc
 all_3 false b c p q r = absurd cc
 
-
 parts : (aggregations : List Aggregation) → AllPass aggregations → (a p : ℕ) (it : Aggregation) → numbered aggregations a ≡ Some it → it.parent ≡ Some p
     → (nat_le 1 p ≡ true) × (nat_lt p a ≡ true) × ((is_some it.closed || holds_of (numbered aggregations p) (λ parent. is_none parent.closed)) ≡ true)
 parts aggregations pass a p it e up =
@@ -93,7 +92,7 @@ one_passes aggregations below closed a it (Some p) up e =
     let at = numbered_at aggregations p (p - 1) (omega (arith, low.0)) ∙ there.1 in
     all_3 (nat_le 1 p) (nat_lt p a) (is_some it.closed || holds_of (numbered aggregations p) (λ parent. is_none parent.closed)) (to_above_zero p low.0) (to_less p a low.1)
     (covered (is_some it.closed) (holds_of (numbered aggregations p) (λ parent. is_none parent.closed))
-        (λ free. ap (λ o. holds_of o (λ (parent : Aggregation). is_none parent.closed)) at ∙ some_none there.0.closed (closed a p it there.0 e up at free)))
+    (λ free. ap (λ o. holds_of o (λ (parent : Aggregation). is_none parent.closed)) at ∙ some_none there.0.closed (closed a p it there.0 e up at free)))
 
 pub all_pass : (aggregations : List Aggregation) → AreBelow aggregations → NoneIsOpenUnderClosed aggregations → AllPass aggregations
 all_pass aggregations below closed a it e = one_passes aggregations below closed a it it.parent refl e

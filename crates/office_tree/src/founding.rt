@@ -52,10 +52,7 @@ fn is_within_limits(
 }
 
 /// Whether the schedules of the classes are there.
-fn are_classes_named(
-    schedules: &BTreeMap<Code, Schedule>,
-    classes: &BTreeMap<Code, Class>,
-) -> bool
+fn are_classes_named(schedules: &BTreeMap<Code, Schedule>, classes: &BTreeMap<Code, Class>) -> bool
     ensures all { IsTrue result ↔ All (λ it. contains_key (from_entries {R = code_cmp} schedules.now.entries) it.schedule ≡ true) (map.values classes.now) }
     ensures ordered { map.IsOrdered code_cmp classes.now }
 {

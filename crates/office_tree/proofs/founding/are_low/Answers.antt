@@ -8,6 +8,6 @@ loop-i-init c = low_zero c.args.aggregations.now
 
 pub returns-clause-yes : goal.returns-clause-yes
 returns-clause-yes c told a = elim (cases_lt (length c.args.aggregations.now) a) [
-    | inl beyond ↦ low_beyond c.args.aggregations.now a beyond
-    | inr within ↦ c.loop-i.invariant a (omega (arith, within, c.loop-i-test.false))
-  ]
+  | inl beyond ↦ low_beyond c.args.aggregations.now a beyond
+  | inr within ↦ c.loop-i.invariant a (omega (arith, within, c.loop-i-test.false))
+]

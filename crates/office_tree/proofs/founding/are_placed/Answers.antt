@@ -13,11 +13,11 @@ loop-i-init c = λ a it low at. let h = numbered_within c.args.aggregations.now 
 
 pub loop-i-preserved : goal.loop-i-preserved
 loop-i-preserved c = λ a it low at. elim (cases_lt c.loop-i.i a) [
-    | inl above ↦ let same : c.loop-i.i + 1 ≡ a = omega arith in
-        subst (λ n. numbered c.args.aggregations.now n ≡ Some it → is_placed c.args.aggregations.now n it it.parent ≡ true) same
-        (λ here. sym (c.is_placed.ensures it here) ∙ c.if-not-is_placed.false) at
-    | inr below ↦ c.loop-i.invariant a it below at
-  ]
+  | inl above ↦ let same : c.loop-i.i + 1 ≡ a = omega arith in
+      subst (λ n. numbered c.args.aggregations.now n ≡ Some it → is_placed c.args.aggregations.now n it it.parent ≡ true) same
+      (λ here. sym (c.is_placed.ensures it here) ∙ c.if-not-is_placed.false) at
+  | inr below ↦ c.loop-i.invariant a it below at
+]
 
 pub returns-then-not-is_placed-clause-no : goal.returns-then-not-is_placed-clause-no
 returns-then-not-is_placed-clause-no c _ all =
