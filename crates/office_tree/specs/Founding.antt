@@ -1,5 +1,5 @@
 -- The tree of parts that are there already, and tests of whether the parts hang together. Source: own.
-use Rattle.std.specs.Prelude.{ℕ, suc, Bool, true, false, ◌&&◌, ◌||◌, List, length, Option, Some, None, nat_lt, nat_le}
+use Rattle.std.specs.Prelude.{ℕ, Bool, true, ◌&&◌, ◌||◌, List, length, Option, Some, None, nat_lt, nat_le}
 use Rattle.std.specs.Option.{is_some, is_none}
 use Rattle.std.specs.FinMap.{FinMap, contains_key, from_entries, len}
 use Rattle.office_tree.specs.Lists.{numbered, holds_of}
