@@ -5,7 +5,7 @@ ghost use Rattle.std.specs.List.{All};
 ghost use Rattle.std.specs.Option.{unwrap_or};
 ghost use Rattle.office_tree.specs.Founding.{is_aggregation_named, is_placed, is_record_named, is_there, is_within_limits, tree_of};
 ghost use Rattle.office_tree.specs.Lists.{numbered};
-ghost use Rattle.office_tree.specs.Sound.{FitsLimits, IsForest, IsSound, NamesStand, NoneIsOpenUnderClosed, RootsHaveClasses};
+ghost use Rattle.office_tree.specs.Sound.{IsSound, NamesStand, RootsHaveClasses};
 ghost use Rattle.office_tree.specs.Tree.{chain, chain_of, code_cmp};
 ghost use Rattle.office_tree.specs.declared.aggregation.Aggregation.{Aggregation};
 
