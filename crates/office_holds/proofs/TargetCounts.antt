@@ -1,13 +1,11 @@
 -- How many targets a hold has once one more is put on it, and beside a hold that has them all.
 use Rattle.std.proofs.Common.{◌≡◌, ℕ, ◌+◌, ◌≤◌, Bool, true, false, cond, not, ◌||◌, Option, Some, None, List, refl, sym, ap, ◌∙◌, arith}
 use Rattle.std.specs.Prelude.{IsSome, nat_le}
-use Rattle.std.specs.Ordering.{nat_cmp}
 use Rattle.std.specs.Cmp.{nat_cmp_total}
 use Rattle.std.specs.Cmp.Lexicographic.{nat_list_cmp_total}
 use Rattle.std.specs.FinMap.{get, nat_cmp-IsAntisymmetric}
 use Rattle.std.specs.FinSet as set
 use Rattle.office_tree.specs.Lists.{holds_of}
-use Rattle.office_tree.specs.Tree.{code_cmp}
 use Rattle.office_tree.proofs.Accepting.{below}
 use Rattle.office_holds.specs.Conditions.{target_count}
 use Rattle.office_holds.specs.Effects.{held_on, with_target}

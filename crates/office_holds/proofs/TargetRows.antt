@@ -1,6 +1,6 @@
 -- Rows of targets, one after another.
 use Rattle.std.proofs.Common.{◌≡◌, ◌≤◌, ℕ, List, [], ◌∷◌, ◌++◌, Bool, true, false, not, ◌&&◌, ◌||◌, Option, Some, None, refl, sym, ap, ◌∙◌, arith, true≢false}
-use Rattle.std.specs.Prelude.{nat_le, is_some}
+use Rattle.std.specs.Prelude.{nat_le}
 use Rattle.std.specs.Option.{option_map}
 use Rattle.std.specs.List.{list_any}
 use Rattle.std.specs.FinMap.{get}
@@ -13,7 +13,7 @@ use Rattle.office_tree.proofs.Accepting.{neither, not_false}
 use Rattle.office_holds.specs.Conditions.{target_count}
 use Rattle.office_holds.specs.Effects.{held_on, with_target}
 use Rattle.office_holds.specs.Forms.{FitsHoldLimits}
-use Rattle.office_holds.specs.Founding.{AreRowsOf, hold_rows, is_pair, same_target, takes_target}
+use Rattle.office_holds.specs.Founding.{AreRowsOf, is_pair, same_target, takes_target}
 use Rattle.office_holds.specs.Holds.{HoldMap, HoldState, has_target}
 use Rattle.office_holds.specs.Rows.{hold_row}
 use Rattle.office_holds.specs.declared.row.HoldRow.{HoldRow}
