@@ -11,6 +11,7 @@ pub mod DecidedTree
 pub mod Decisions
 pub mod DueLists
 pub mod Feasible
+pub mod FreeRefs
 pub mod HeldSteps
 pub mod HoldRows
 pub mod KeptHolds

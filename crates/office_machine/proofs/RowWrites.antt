@@ -49,10 +49,10 @@ written s (row_write.Day day) e h = refl
 -- ---- the writes of a change
 
 -- each record has a status
-abbrev EachHasStatus : State → Type 0
+abbrev pub EachHasStatus : State → Type 0
 EachHasStatus s = length s.office.tree.statuses ≡ length s.office.tree.records
 
-put_has_place : (s : State) (w : RowWrite) → CanPut s.office w → HasPlace s.office w
+pub put_has_place : (s : State) (w : RowWrite) → CanPut s.office w → HasPlace s.office w
 put_has_place s (row_write.Aggregation number aggregation) h = (h.0, h.1)
 put_has_place s (row_write.Record number head status) h = (h.0, h.1)
 put_has_place s (row_write.Target hold target) h = h.0
@@ -65,7 +65,7 @@ put_has_place s (row_write.Entry entry) h = tt
 put_has_place s (row_write.Certificate run text) h = tt
 put_has_place s w h = absurd h
 
-follow_has_place : (s : State) (w : RowWrite) → CanFollow s.office w → HasPlace s.office w
+pub follow_has_place : (s : State) (w : RowWrite) → CanFollow s.office w → HasPlace s.office w
 follow_has_place s (row_write.Record number head status) h = (h.0, omega (arith, h.1))
 follow_has_place s (row_write.Run number run) h = (h.0, omega (arith, h.1))
 follow_has_place s (row_write.Content number bytes) h = tt
@@ -74,11 +74,11 @@ follow_has_place s (row_write.Day day) h = tt
 follow_has_place s w h = absurd h
 
 -- a tree with a record put in that is sound has a status for each record, and other writes leave both
-put_has_status : (s : State) (w : RowWrite) → EachHasStatus s → CanPut s.office w → EachHasStatus (write w s)
+pub put_has_status : (s : State) (w : RowWrite) → EachHasStatus s → CanPut s.office w → EachHasStatus (write w s)
 put_has_status s (row_write.Record number head status) e h = h.2.statuses
 put_has_status s w e h = e
 
-follow_has_status : (s : State) (w : RowWrite) → EachHasStatus s → CanFollow s.office w → EachHasStatus (write w s)
+pub follow_has_status : (s : State) (w : RowWrite) → EachHasStatus s → CanFollow s.office w → EachHasStatus (write w s)
 follow_has_status s (row_write.Record number head status) e h = h.2.statuses
 follow_has_status s w e h = e
 

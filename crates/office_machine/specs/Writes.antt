@@ -1,10 +1,12 @@
 -- What a row write makes of the office. Source: own.
-use Rattle.std.specs.Prelude.{◌<◌, ◌≤◌, ◌+◌, List, [], ◌∷◌, length, IsSome}
+use Rattle.std.specs.Prelude.{◌≡◌, ◌<◌, ◌≤◌, ◌+◌, ℕ, List, [], ◌∷◌, length, Some, IsSome}
 use Rattle.std.specs.FinMap.{get, insert, remove}
 use Rattle.std.specs.String.{string_bytes}
-use Rattle.office_tree.specs.Lists.{put}
+use Rattle.office_tree.specs.Lists.{numbered, put}
 use Rattle.office_tree.specs.Rows.{put_schedule, put_class, put_aggregation, put_record}
 use Rattle.office_tree.specs.Sound as tree
+use Rattle.office_tree.specs.declared.aggregation.Aggregation.{Aggregation}
+use Rattle.office_tree.specs.declared.head.Record.{Record}
 use Rattle.office_holds.specs.Effects.{held_on, held_off}
 use Rattle.office_holds.specs.Forms.{FitsHoldLimits}
 use Rattle.office_holds.specs.Rows.{put_hold}
@@ -60,9 +62,13 @@ CanPut s (row_write.Entry entry) = Unit {0}
 CanPut s (row_write.Certificate run text) = Unit {0}
 CanPut s _ = ⊥
 
--- a write that may follow on another, since it takes no memory: a row in place of one that is there, a content, or the day
+-- the record that is there has this ref
+abbrev pub HasRef : Office → ℕ → List ℕ → Type 0
+HasRef s r ref_text = (head : Record) × (numbered s.tree.records r ≡ Some head) × (head.ref_text ≡ ref_text)
+
+-- a write that may follow on another, since it takes no memory: a row in place of one that is there, under the same ref, a content, or the day
 abbrev pub CanFollow : Office → RowWrite → Type 0
-CanFollow s (row_write.Record number head status) = (0 < number) × (number ≤ length s.tree.records) × tree.IsSound (put_record s.tree number head status)
+CanFollow s (row_write.Record number head status) = (0 < number) × (number ≤ length s.tree.records) × tree.IsSound (put_record s.tree number head status) × HasRef s number head.ref_text
 CanFollow s (row_write.Run number run) = (0 < number) × (number ≤ length s.runs)
 CanFollow s (row_write.Content number bytes) = Unit {0}
 CanFollow s (row_write.ContentGone number) = Unit {0}
@@ -86,3 +92,14 @@ HasPlace s (row_write.Record number head status) = (0 < number) × (number ≤ l
 HasPlace s (row_write.Run number run) = (0 < number) × (number ≤ length s.runs + 1)
 HasPlace s (row_write.Target hold target) = IsSome (get s.holds hold)
 HasPlace s _ = Unit {0}
+
+-- no other aggregation, and no other record, has the ref of a row that is put in
+abbrev pub RefIsFree : Office → RowWrite → Type 0
+RefIsFree s (row_write.Aggregation number it) = (a : ℕ) (other : Aggregation) → numbered s.tree.aggregations a ≡ Some other → other.ref_text ≡ it.ref_text → a ≡ number
+RefIsFree s (row_write.Record number head status) = (r : ℕ) (other : Record) → numbered s.tree.records r ≡ Some other → other.ref_text ≡ head.ref_text → r ≡ number
+RefIsFree s _ = Unit {0}
+
+-- so it is at each of the writes, where those before it are done
+abbrev pub RefsAreFree : Office → List RowWrite → Type 0
+RefsAreFree s [] = Unit {0}
+RefsAreFree s (w ∷ ws) = RefIsFree s w × RefsAreFree (write_office w s) ws

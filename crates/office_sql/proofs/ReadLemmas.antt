@@ -112,10 +112,15 @@ pub record ReadsWhole (sql : List ℕ) (tree : ℕ) (places among : List ℕ) : 
   pub tied : (r : Row) → map (column (map (column r) places)) among ≡ map (column r) keys
   pub as_many : map (λ k. ascending Binary) keys ≡ map (λ k. ascending Binary) among
 
+-- the disk was clean before a call if it is after
+pub clean_before : {Commits : Trees → Type 0} (old new : State) → Survives old new Commits → HasCleanDisk new → HasCleanDisk old
+clean_before old new survives clean = omega (arith, survives.clean)
+
 -- what a call of such a text gives and leaves
 pub record HasRead {X E : Type 0} (items : X → List Row) (among : List ℕ) (bag : List Row) (old new : State) (r : Result X E) : Type 0 where
   pub rows : HasCleanDisk new → old.now.schema ≡ office_schema → IfOk r (λ x. IsByKey among bag (items x))
   pub same : HasCleanDisk new → old.now.schema ≡ office_schema → OnOk r (IsUnchanged old new)
+  pub clean : HasCleanDisk new → HasCleanDisk old
   pub survives : old.now.schema ≡ office_schema → Survives old new (λ _. ⊥)
 
 module _ {sql : List ℕ} {tree : ℕ} {places among : List ℕ} (it : ReadsWhole sql tree places among) where
@@ -130,5 +135,6 @@ module _ {sql : List ℕ} {tree : ℕ} {places among : List ℕ} (it : ReadsWhol
   reads_whole items old new r shows survives = record {
     rows = λ clean has. IfOk-weaker r _ _ (λ x. shows_by_key old new (items x) has) (shows clean);
     same = λ clean has. IfOk-weaker r _ _ (λ x. shows_same sql [] it.plain old new has (items x)) (shows clean);
+    clean = clean_before old new survives;
     survives = λ has. query_quiet sql [] it.plain old new has survives;
   }

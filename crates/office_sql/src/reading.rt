@@ -13,6 +13,7 @@ pub fn all_office<S: Alter>(conn: &mut Connection<S>) -> Result<Vec<Row>, Error>
     ensures rows { HasCleanDisk (state S.Store conn.new) → (state S.Store conn.old).now.schema ≡ office_schema → IfOk result (λ rows. IsByKey (0 ∷ []) (rows_of (at 0 office) (state S.Store conn.old).now.trees) rows.items) }
     ensures same { HasCleanDisk (state S.Store conn.new) → (state S.Store conn.old).now.schema ≡ office_schema → OnOk result (IsUnchanged (state S.Store conn.old) (state S.Store conn.new)) }
     ensures mode { conn.old.in_transaction ≡ false → conn.new.in_transaction ≡ false }
+    ensures clean { HasCleanDisk (state S.Store conn.new) → HasCleanDisk (state S.Store conn.old) }
     ensures survives { (state S.Store conn.old).now.schema ≡ office_schema → Survives (state S.Store conn.old) (state S.Store conn.new) (λ _. ⊥) }
 {
     conn.query_all("SELECT one, version, day FROM office ORDER BY one", &[])
@@ -23,6 +24,7 @@ pub fn all_schedules<S: Alter>(conn: &mut Connection<S>) -> Result<Vec<Row>, Err
     ensures rows { HasCleanDisk (state S.Store conn.new) → (state S.Store conn.old).now.schema ≡ office_schema → IfOk result (λ rows. IsByKey (0 ∷ []) (rows_of (at 1 schedules) (state S.Store conn.old).now.trees) rows.items) }
     ensures same { HasCleanDisk (state S.Store conn.new) → (state S.Store conn.old).now.schema ≡ office_schema → OnOk result (IsUnchanged (state S.Store conn.old) (state S.Store conn.new)) }
     ensures mode { conn.old.in_transaction ≡ false → conn.new.in_transaction ≡ false }
+    ensures clean { HasCleanDisk (state S.Store conn.new) → HasCleanDisk (state S.Store conn.old) }
     ensures survives { (state S.Store conn.old).now.schema ≡ office_schema → Survives (state S.Store conn.old) (state S.Store conn.new) (λ _. ⊥) }
 {
     conn.query_all(
@@ -36,6 +38,7 @@ pub fn all_classes<S: Alter>(conn: &mut Connection<S>) -> Result<Vec<Row>, Error
     ensures rows { HasCleanDisk (state S.Store conn.new) → (state S.Store conn.old).now.schema ≡ office_schema → IfOk result (λ rows. IsByKey (0 ∷ []) (rows_of (at 3 classes) (state S.Store conn.old).now.trees) rows.items) }
     ensures same { HasCleanDisk (state S.Store conn.new) → (state S.Store conn.old).now.schema ≡ office_schema → OnOk result (IsUnchanged (state S.Store conn.old) (state S.Store conn.new)) }
     ensures mode { conn.old.in_transaction ≡ false → conn.new.in_transaction ≡ false }
+    ensures clean { HasCleanDisk (state S.Store conn.new) → HasCleanDisk (state S.Store conn.old) }
     ensures survives { (state S.Store conn.old).now.schema ≡ office_schema → Survives (state S.Store conn.old) (state S.Store conn.new) (λ _. ⊥) }
 {
     conn.query_all(
@@ -49,6 +52,7 @@ pub fn all_aggregations<S: Alter>(conn: &mut Connection<S>) -> Result<Vec<Row>, 
     ensures rows { HasCleanDisk (state S.Store conn.new) → (state S.Store conn.old).now.schema ≡ office_schema → IfOk result (λ rows. IsByKey (0 ∷ []) (rows_of (at 5 aggregations) (state S.Store conn.old).now.trees) rows.items) }
     ensures same { HasCleanDisk (state S.Store conn.new) → (state S.Store conn.old).now.schema ≡ office_schema → OnOk result (IsUnchanged (state S.Store conn.old) (state S.Store conn.new)) }
     ensures mode { conn.old.in_transaction ≡ false → conn.new.in_transaction ≡ false }
+    ensures clean { HasCleanDisk (state S.Store conn.new) → HasCleanDisk (state S.Store conn.old) }
     ensures survives { (state S.Store conn.old).now.schema ≡ office_schema → Survives (state S.Store conn.old) (state S.Store conn.new) (λ _. ⊥) }
 {
     conn.query_all(
@@ -62,6 +66,7 @@ pub fn all_records<S: Alter>(conn: &mut Connection<S>) -> Result<Vec<Row>, Error
     ensures rows { HasCleanDisk (state S.Store conn.new) → (state S.Store conn.old).now.schema ≡ office_schema → IfOk result (λ rows. IsByKey (0 ∷ []) (rows_of (at 7 records) (state S.Store conn.old).now.trees) rows.items) }
     ensures same { HasCleanDisk (state S.Store conn.new) → (state S.Store conn.old).now.schema ≡ office_schema → OnOk result (IsUnchanged (state S.Store conn.old) (state S.Store conn.new)) }
     ensures mode { conn.old.in_transaction ≡ false → conn.new.in_transaction ≡ false }
+    ensures clean { HasCleanDisk (state S.Store conn.new) → HasCleanDisk (state S.Store conn.old) }
     ensures survives { (state S.Store conn.old).now.schema ≡ office_schema → Survives (state S.Store conn.old) (state S.Store conn.new) (λ _. ⊥) }
 {
     conn.query_all(
@@ -75,6 +80,7 @@ pub fn all_contents<S: Alter>(conn: &mut Connection<S>) -> Result<Vec<Row>, Erro
     ensures rows { HasCleanDisk (state S.Store conn.new) → (state S.Store conn.old).now.schema ≡ office_schema → IfOk result (λ rows. IsByKey (0 ∷ []) (map (take 1) (rows_of (at 9 contents) (state S.Store conn.old).now.trees)) rows.items) }
     ensures same { HasCleanDisk (state S.Store conn.new) → (state S.Store conn.old).now.schema ≡ office_schema → OnOk result (IsUnchanged (state S.Store conn.old) (state S.Store conn.new)) }
     ensures mode { conn.old.in_transaction ≡ false → conn.new.in_transaction ≡ false }
+    ensures clean { HasCleanDisk (state S.Store conn.new) → HasCleanDisk (state S.Store conn.old) }
     ensures survives { (state S.Store conn.old).now.schema ≡ office_schema → Survives (state S.Store conn.old) (state S.Store conn.new) (λ _. ⊥) }
 {
     conn.query_all("SELECT record FROM contents ORDER BY record", &[])
@@ -85,6 +91,7 @@ pub fn all_holds<S: Alter>(conn: &mut Connection<S>) -> Result<Vec<Row>, Error>
     ensures rows { HasCleanDisk (state S.Store conn.new) → (state S.Store conn.old).now.schema ≡ office_schema → IfOk result (λ rows. IsByKey (0 ∷ []) (rows_of (at 10 holds) (state S.Store conn.old).now.trees) rows.items) }
     ensures same { HasCleanDisk (state S.Store conn.new) → (state S.Store conn.old).now.schema ≡ office_schema → OnOk result (IsUnchanged (state S.Store conn.old) (state S.Store conn.new)) }
     ensures mode { conn.old.in_transaction ≡ false → conn.new.in_transaction ≡ false }
+    ensures clean { HasCleanDisk (state S.Store conn.new) → HasCleanDisk (state S.Store conn.old) }
     ensures survives { (state S.Store conn.old).now.schema ≡ office_schema → Survives (state S.Store conn.old) (state S.Store conn.new) (λ _. ⊥) }
 {
     conn.query_all(
@@ -98,6 +105,7 @@ pub fn all_targets<S: Alter>(conn: &mut Connection<S>) -> Result<Vec<Row>, Error
     ensures rows { HasCleanDisk (state S.Store conn.new) → (state S.Store conn.old).now.schema ≡ office_schema → IfOk result (λ rows. IsByKey (0 ∷ 1 ∷ 2 ∷ []) (rows_of (at 12 targets) (state S.Store conn.old).now.trees) rows.items) }
     ensures same { HasCleanDisk (state S.Store conn.new) → (state S.Store conn.old).now.schema ≡ office_schema → OnOk result (IsUnchanged (state S.Store conn.old) (state S.Store conn.new)) }
     ensures mode { conn.old.in_transaction ≡ false → conn.new.in_transaction ≡ false }
+    ensures clean { HasCleanDisk (state S.Store conn.new) → HasCleanDisk (state S.Store conn.old) }
     ensures survives { (state S.Store conn.old).now.schema ≡ office_schema → Survives (state S.Store conn.old) (state S.Store conn.new) (λ _. ⊥) }
 {
     conn.query_all(
@@ -111,6 +119,7 @@ pub fn all_runs<S: Alter>(conn: &mut Connection<S>) -> Result<Vec<Row>, Error>
     ensures rows { HasCleanDisk (state S.Store conn.new) → (state S.Store conn.old).now.schema ≡ office_schema → IfOk result (λ rows. IsByKey (0 ∷ []) (rows_of (at 14 runs) (state S.Store conn.old).now.trees) rows.items) }
     ensures same { HasCleanDisk (state S.Store conn.new) → (state S.Store conn.old).now.schema ≡ office_schema → OnOk result (IsUnchanged (state S.Store conn.old) (state S.Store conn.new)) }
     ensures mode { conn.old.in_transaction ≡ false → conn.new.in_transaction ≡ false }
+    ensures clean { HasCleanDisk (state S.Store conn.new) → HasCleanDisk (state S.Store conn.old) }
     ensures survives { (state S.Store conn.old).now.schema ≡ office_schema → Survives (state S.Store conn.old) (state S.Store conn.new) (λ _. ⊥) }
 {
     conn.query_all(
@@ -124,6 +133,7 @@ pub fn all_entries<S: Alter>(conn: &mut Connection<S>) -> Result<Vec<Row>, Error
     ensures rows { HasCleanDisk (state S.Store conn.new) → (state S.Store conn.old).now.schema ≡ office_schema → IfOk result (λ rows. IsByKey (0 ∷ 1 ∷ []) (rows_of (at 15 entries) (state S.Store conn.old).now.trees) rows.items) }
     ensures same { HasCleanDisk (state S.Store conn.new) → (state S.Store conn.old).now.schema ≡ office_schema → OnOk result (IsUnchanged (state S.Store conn.old) (state S.Store conn.new)) }
     ensures mode { conn.old.in_transaction ≡ false → conn.new.in_transaction ≡ false }
+    ensures clean { HasCleanDisk (state S.Store conn.new) → HasCleanDisk (state S.Store conn.old) }
     ensures survives { (state S.Store conn.old).now.schema ≡ office_schema → Survives (state S.Store conn.old) (state S.Store conn.new) (λ _. ⊥) }
 {
     conn.query_all(
@@ -137,6 +147,7 @@ pub fn all_certificates<S: Alter>(conn: &mut Connection<S>) -> Result<Vec<Row>, 
     ensures rows { HasCleanDisk (state S.Store conn.new) → (state S.Store conn.old).now.schema ≡ office_schema → IfOk result (λ rows. IsByKey (0 ∷ []) (rows_of (at 17 certificates) (state S.Store conn.old).now.trees) rows.items) }
     ensures same { HasCleanDisk (state S.Store conn.new) → (state S.Store conn.old).now.schema ≡ office_schema → OnOk result (IsUnchanged (state S.Store conn.old) (state S.Store conn.new)) }
     ensures mode { conn.old.in_transaction ≡ false → conn.new.in_transaction ≡ false }
+    ensures clean { HasCleanDisk (state S.Store conn.new) → HasCleanDisk (state S.Store conn.old) }
     ensures survives { (state S.Store conn.old).now.schema ≡ office_schema → Survives (state S.Store conn.old) (state S.Store conn.new) (λ _. ⊥) }
 {
     conn.query_all("SELECT run, body FROM certificates ORDER BY run", &[])

@@ -4,7 +4,7 @@ use office_machine::Machine;
 use std::test::Fail;
 
 /// One yearly schedule, two classes, an aggregation of each, and three records, all on one day.
-const BASE: &str = "
+pub(crate) const BASE: &str = "
     2024-01-02 add-schedule D1 added years 1 destroy = done
     2024-01-02 add-class FIN D1 = done
     2024-01-02 add-class LEG D1 = done

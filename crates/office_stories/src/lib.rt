@@ -15,10 +15,16 @@ mod filing_tests;
 #[cfg(test)]
 mod hold_tests;
 #[cfg(test)]
+mod keeping;
+#[cfg(test)]
+mod keeping_tests;
+#[cfg(test)]
 mod limit_tests;
 #[cfg(test)]
 mod reading_tests;
 #[cfg(test)]
 mod run_tests;
+#[cfg(test)]
+mod stopping_tests;
 #[cfg(test)]
 mod telling;

@@ -43,7 +43,7 @@ fn answer_text(alloc: Global, answer: Answer) -> Result<String, Fail> {
 }
 
 /// The answer must have these words.
-fn must_be(alloc: Global, given: Answer, answer: &str) -> Result<(), Fail> {
+pub(crate) fn must_be(alloc: Global, given: Answer, answer: &str) -> Result<(), Fail> {
     if answer_text(alloc, given)?.as_str() == answer {
         Ok(())
     } else {

@@ -1,10 +1,10 @@
 //! The rows that a state stands for, and what each write makes of them.
 ghost use Rattle.std.specs.Prelude.{◌≡◌, List, length};
-ghost use Rattle.office_machine.specs.Acts.{IsDecidedFor, step};
+ghost use Rattle.office_machine.specs.Acts.{CanBeMade, IsDecidedFor, step};
 ghost use Rattle.office_machine.specs.Rows.{rows_of, write_rows, all_row_writes};
 ghost use Rattle.office_machine.specs.State.{State, Office, ByteMap, with_contents};
 ghost use Rattle.office_machine.specs.Tables.{StandsFor};
-ghost use Rattle.office_machine.specs.Writes.{write, all_writes, all_office_writes, CanWrite, HasPlace};
+ghost use Rattle.office_machine.specs.Writes.{write, all_writes, all_office_writes, CanWrite, HasPlace, RefsAreFree};
 ghost use Rattle.office_machine.specs.declared.act.Act.{Act};
 ghost use Rattle.office_machine.specs.declared.change.Change.{Change};
 ghost use Rattle.office_machine.specs.declared.change.Decision.TheVariants.{Go};
@@ -26,9 +26,11 @@ pub fn law_of_writes()
 {}
 
 /// A change that was decided for an act leads, done in the office or in its rows, to what the act's
-/// step makes of them.
+/// step makes of them. At none of the writes of a change that can be made has another aggregation or
+/// record the ref of the row that is put in.
 pub fn law_of_changes()
     ensures office { (s : Office) (a : Act) (change : Change) (contents : ByteMap) → IsDecidedFor s a (Go change) → all_office_writes change.writes.items s ≡ (step (with_contents s contents) a).1.office }
     ensures rows { (s : Office) (a : Act) (change : Change) (contents : ByteMap) → length s.tree.statuses ≡ length s.tree.records → IsDecidedFor s a (Go change)
         → all_row_writes change.writes.items (rows_of (with_contents s contents)) ≡ rows_of (step (with_contents s contents) a).1 }
+    ensures refs { (s : Office) (change : Change) → CanBeMade s change → RefsAreFree s change.writes.items }
 {}

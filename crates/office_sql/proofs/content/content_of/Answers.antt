@@ -4,7 +4,7 @@ use Rattle.sqlite_value.specs.declared.value.Value.TheVariants.{Int}
 use Rattle.sqlite.specs.Held.{state}
 use Rattle.office_sql.specs.Reads.{content_of as text}
 use Rattle.office_sql.proofs.ContentLemmas.{content_of_is, content_found}
-use Rattle.office_sql.proofs.ReadLemmas.{shows_same, fails_same, query_quiet}
+use Rattle.office_sql.proofs.ReadLemmas.{clean_before, shows_same, fails_same, query_quiet}
 use Rattle.office_sql.proofs.content.content_of.Goals as goal
 
 pub returns : goal.returns
@@ -18,5 +18,6 @@ returns g c =
       same = λ clean has. IfOk-weaker calls.result _ _ (λ rows. shows_same text params content_of_is.1 old new has rows.items) (rw c.params-to_sql.ensures at calls.ensures.ok clean);
       err = λ clean has. IfErr-weaker calls.result _ _ (λ e. fails_same text params content_of_is.1 old new has e) (rw c.params-to_sql.ensures at calls.ensures.err clean);
       mode = calls.ensures.mode;
+      clean = clean_before old new calls.ensures.survives;
       survives = λ has. query_quiet text params content_of_is.1 old new has (rw c.params-to_sql.ensures at calls.ensures.survives);
     }

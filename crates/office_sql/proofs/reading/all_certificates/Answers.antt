@@ -7,4 +7,4 @@ pub returns : goal.returns
 returns g c =
     let calls = c.query_all in
     let read = reads_whole all_certificates_is (λ rows. rows.items) (state g.S.Store c.args.conn.now) (state g.S.Store calls.new.self) calls.result calls.ensures.ok calls.ensures.survives in
-    record { rows = read.rows; same = read.same; mode = calls.ensures.mode; survives = read.survives }
+    record { rows = read.rows; same = read.same; mode = calls.ensures.mode; clean = read.clean; survives = read.survives }

@@ -23,5 +23,6 @@ returns g c =
       rows = λ clean has. IfOk-weaker calls.result _ _ (λ rows. subst (λ bag. IsByKey (0 ∷ []) bag rows.items) (first_of_each (old.now.trees 9))) (read.rows clean has);
       same = read.same;
       mode = calls.ensures.mode;
+      clean = read.clean;
       survives = read.survives;
     }

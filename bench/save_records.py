@@ -1,0 +1,64 @@
+#!/usr/bin/env python3
+"""Writes the rows that an office's tables have with COUNT records, by Python's sqlite3.
+
+save_records.py each FILE COUNT   each record in a transaction of its own, journal WAL, synchronous FULL
+save_records.py whole FILE COUNT  all of them in one transaction, the log copied into the file at the end
+"""
+import hashlib
+import sqlite3
+import sys
+
+TABLES = [
+    "CREATE TABLE office(one INTEGER PRIMARY KEY, version INTEGER NOT NULL, day INTEGER NOT NULL) STRICT",
+    "CREATE TABLE schedules(code TEXT PRIMARY KEY, start_at TEXT NOT NULL CHECK (start_at IN ('origin', 'added', 'closed', 'last-addition', 'review')), unit TEXT NOT NULL, span INTEGER NOT NULL, roll TEXT NOT NULL, disposal TEXT NOT NULL) STRICT",
+    "CREATE TABLE classes(code TEXT PRIMARY KEY, title TEXT NOT NULL, schedule TEXT NOT NULL) STRICT",
+    "CREATE TABLE aggregations(num INTEGER PRIMARY KEY, ref TEXT NOT NULL UNIQUE, title TEXT NOT NULL, parent INTEGER, class TEXT, closed INTEGER) STRICT",
+    "CREATE TABLE records(num INTEGER PRIMARY KEY, ref TEXT NOT NULL UNIQUE, title TEXT NOT NULL, originated INTEGER NOT NULL, added INTEGER NOT NULL, aggregation INTEGER NOT NULL, size INTEGER NOT NULL, digest TEXT NOT NULL, status TEXT NOT NULL, class TEXT, schedule TEXT, reviewed INTEGER, reviewed_by TEXT, conf_action TEXT, conf_due INTEGER, conf_day INTEGER, conf_by TEXT, receipt_day INTEGER, receipt_by TEXT) STRICT",
+    "CREATE TABLE contents(record INTEGER PRIMARY KEY, bytes BLOB NOT NULL) STRICT",
+    "CREATE TABLE holds(code TEXT PRIMARY KEY, reason TEXT NOT NULL, placed INTEGER NOT NULL, placed_by TEXT NOT NULL, lifted INTEGER) STRICT",
+    "CREATE TABLE targets(hold TEXT NOT NULL, kind TEXT NOT NULL, target TEXT NOT NULL, PRIMARY KEY (hold, kind, target)) STRICT",
+    "CREATE TABLE runs(num INTEGER PRIMARY KEY, day INTEGER NOT NULL, opened_by TEXT NOT NULL, place INTEGER NOT NULL, closed INTEGER NOT NULL) STRICT",
+    "CREATE TABLE entries(run INTEGER, record INTEGER, outcome TEXT NOT NULL, class TEXT NOT NULL, schedule TEXT NOT NULL, due INTEGER NOT NULL, confirmed_by TEXT NOT NULL, hold TEXT, PRIMARY KEY (run, record)) STRICT",
+    "CREATE TABLE certificates(run INTEGER PRIMARY KEY, body TEXT NOT NULL) STRICT",
+]
+DAY = 19724
+DIGEST = hashlib.sha256(b"abc").hexdigest()
+
+
+def begin(conn):
+    conn.execute("BEGIN")
+    for text in TABLES:
+        conn.execute(text)
+    conn.execute("INSERT INTO office VALUES (1, 1, ?)", (DAY,))
+    conn.execute("INSERT INTO schedules VALUES ('D1', 'added', 'years', 1, 'none', 'destroy')")
+    conn.execute("INSERT INTO classes VALUES ('FIN', 'Finance', 'D1')")
+    conn.execute("INSERT INTO aggregations VALUES (1, 'A', 'A', NULL, 'FIN', NULL)")
+    conn.execute("COMMIT")
+
+
+def add(conn, number):
+    name = f"r{number - 1}"
+    row = (number, name, name, DAY, DAY, 1, 3, DIGEST, "here") + (None,) * 10
+    conn.execute("INSERT OR REPLACE INTO records VALUES (?, ?, ?, ?, ?, ?, ?, ?, ?, ?, ?, ?, ?, ?, ?, ?, ?, ?, ?)", row)
+    conn.execute("INSERT OR REPLACE INTO contents VALUES (?, ?)", (number, b"abc"))
+    conn.execute("INSERT OR REPLACE INTO office VALUES (1, 1, ?)", (DAY,))
+
+
+how, path, count = sys.argv[1], sys.argv[2], int(sys.argv[3])
+conn = sqlite3.connect(path, isolation_level=None)
+conn.execute("PRAGMA journal_mode = WAL")
+conn.execute("PRAGMA synchronous = FULL")
+begin(conn)
+if how == "whole":
+    conn.execute("BEGIN")
+for number in range(1, count + 1):
+    if how == "each":
+        conn.execute("BEGIN")
+    add(conn, number)
+    if how == "each":
+        conn.execute("COMMIT")
+if how == "whole":
+    conn.execute("COMMIT")
+    conn.execute("PRAGMA journal_mode = DELETE")
+conn.close()
+print(count, "records")

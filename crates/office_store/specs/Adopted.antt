@@ -1,0 +1,77 @@
+-- What is read of the tables when an office is adopted, and how a reading ends. Source: own.
+use Rattle.std.specs.Prelude.{◌≡◌, ◌≢◌, ℕ, ℤ, pos, List, [], ◌∷◌, map, take, Option, Some, None, Result, IfOk, IfErr, OnOk, IsPermutation}
+use Rattle.sqlite_value.specs.declared.value.Value.TheVariants.{Int, Blob}
+use Rattle.sqlite_value.specs.Order.{Row}
+use Rattle.sqlite_trees.specs.Tree.{Trees}
+use Rattle.sqlite.specs.State.{State, HasCleanDisk}
+use Rattle.office_machine.specs.declared.tables.Tables.{Tables}
+use Rattle.office_sql.specs.Bags.{rows_of}
+use Rattle.office_sql.specs.Office.{IsAtRest}
+use Rattle.office_sql.specs.Reads.{IsByKey}
+use Rattle.office_sql.specs.Schema.{at, aggregations, certificates, classes, contents, entries, holds, office, records, runs, schedules, targets}
+use Rattle.office_sql.specs.Shown.{office_row}
+use Rattle.office_store.specs.Encoded.{entry_shown}
+use Rattle.office_store.specs.Stored.{AllReadable, aggregation_pair, certificate_pair, class_pair, hold_pair, number_row, record_pair, run_pair, schedule_pair, target_pair}
+use Rattle.office_store.specs.declared.adopting.Holding.{Holding}
+use Rattle.office_store.specs.declared.adopting.Plans.{Plans}
+use Rattle.office_store.specs.declared.adopting.Running.{Running}
+use Rattle.office_store.specs.declared.adopting.Things.{Things}
+use Rattle.office_store.specs.declared.fault.Fault.{Fault}
+use Rattle.office_store.specs.declared.fault.Fault.TheVariants as fault
+
+-- each table is read whole, in the order of its key; of contents the keys alone
+pub record IsRead (t : Tables) (db : Trees) : Type 0 where
+  pub office : IsPermutation (office_row (pos 1) (pos 1) t.day ∷ []) (rows_of (at 0 office) db)
+  pub schedules : IsByKey (0 ∷ []) (rows_of (at 1 schedules) db) (map schedule_pair t.schedules.items)
+  pub classes : IsByKey (0 ∷ []) (rows_of (at 3 classes) db) (map class_pair t.classes.items)
+  pub aggregations : IsByKey (0 ∷ []) (rows_of (at 5 aggregations) db) (map aggregation_pair t.aggregations.items)
+  pub records : IsByKey (0 ∷ []) (rows_of (at 7 records) db) (map record_pair t.records.items)
+  pub contents : IsByKey (0 ∷ []) (map (take 1) (rows_of (at 9 contents) db)) (map number_row t.contents.items)
+  pub holds : IsByKey (0 ∷ []) (rows_of (at 10 holds) db) (map hold_pair t.holds.items)
+  pub targets : IsByKey (0 ∷ 1 ∷ 2 ∷ []) (rows_of (at 12 targets) db) (map target_pair t.targets.items)
+  pub runs : IsByKey (0 ∷ []) (rows_of (at 14 runs) db) (map run_pair t.runs.items)
+  pub entries : IsByKey (0 ∷ 1 ∷ []) (rows_of (at 15 entries) db) (map entry_shown t.entries.items)
+  pub certificates : IsByKey (0 ∷ []) (rows_of (at 17 certificates) db) (map certificate_pair t.certificates.items)
+
+-- `office` has one row, and its version is not 1
+abbrev pub IsOtherVersion : Trees → Type 0
+IsOtherVersion db = (one : ℤ) × (version : ℤ) × (rest : Row) × IsPermutation ((Int one ∷ Int version ∷ rest) ∷ []) (rows_of (at 0 office) db) × (version ≢ pos 1)
+
+-- how the reading of tables ends, where what is read is right for them
+pub record ReadsTables {X : Type 0} (Is : X → Trees → Type 0) (old new : State) (result : Result X Fault) : Type 0 where
+  pub read : HasCleanDisk new → IsAtRest old → IfOk result (λ x. Is x old.now.trees)
+  pub same : HasCleanDisk new → IsAtRest old → OnOk result (IsAtRest new × (new.now ≡ old.now))
+  pub faults : IfErr result (λ f. f ≢ fault.Reopen)
+  pub damaged : HasCleanDisk new → IsAtRest old → IfErr result (λ f. f ≡ fault.Damaged → AllReadable old.now.trees → ⊥)
+  pub version : HasCleanDisk new → IsAtRest old → IfErr result (λ f. f ≡ fault.Version → IsOtherVersion old.now.trees)
+  pub leaves : HasCleanDisk new → IsAtRest old → (db : Trees) → new.may_leave db → old.may_leave db
+  pub clean : HasCleanDisk new → HasCleanDisk old
+
+-- the same of the tables in four parts
+
+pub record ArePlansRead (t : Plans) (db : Trees) : Type 0 where
+  pub schedules : IsByKey (0 ∷ []) (rows_of (at 1 schedules) db) (map schedule_pair t.schedules.items)
+  pub classes : IsByKey (0 ∷ []) (rows_of (at 3 classes) db) (map class_pair t.classes.items)
+  pub aggregations : IsByKey (0 ∷ []) (rows_of (at 5 aggregations) db) (map aggregation_pair t.aggregations.items)
+
+pub record AreThingsRead (t : Things) (db : Trees) : Type 0 where
+  pub records : IsByKey (0 ∷ []) (rows_of (at 7 records) db) (map record_pair t.records.items)
+  pub contents : IsByKey (0 ∷ []) (map (take 1) (rows_of (at 9 contents) db)) (map number_row t.contents.items)
+
+pub record AreHoldingRead (t : Holding) (db : Trees) : Type 0 where
+  pub holds : IsByKey (0 ∷ []) (rows_of (at 10 holds) db) (map hold_pair t.holds.items)
+  pub targets : IsByKey (0 ∷ 1 ∷ 2 ∷ []) (rows_of (at 12 targets) db) (map target_pair t.targets.items)
+
+pub record AreRunningRead (t : Running) (db : Trees) : Type 0 where
+  pub runs : IsByKey (0 ∷ []) (rows_of (at 14 runs) db) (map run_pair t.runs.items)
+  pub entries : IsByKey (0 ∷ 1 ∷ []) (rows_of (at 15 entries) db) (map entry_shown t.entries.items)
+  pub certificates : IsByKey (0 ∷ []) (rows_of (at 17 certificates) db) (map certificate_pair t.certificates.items)
+
+-- a crash leaves nothing that it did not leave before
+abbrev pub LeavesLess : State → State → Type 0
+LeavesLess old new = (db : Trees) → new.may_leave db → old.may_leave db
+
+-- these rows are those bytes, and none where there is no row
+abbrev pub AreBytesOf : List Row → Option (List ℕ) → Type 0
+AreBytesOf rows None = rows ≡ []
+AreBytesOf rows (Some bytes) = (others : List Row) × IsPermutation rows ((Blob bytes ∷ []) ∷ others)

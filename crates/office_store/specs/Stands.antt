@@ -1,0 +1,52 @@
+-- When the tables in the database stand for the rows of an office. Source: own.
+use Rattle.std.specs.Prelude.{◌≡◌, ◌⊎◌, ℕ, Bool, pos, List, [], ◌∷◌, map, IsPermutation}
+use Rattle.std.specs.List.{list_any}
+use Rattle.sqlite_value.specs.Order.{Row}
+use Rattle.sqlite_trees.specs.Tree.{Trees}
+use Rattle.sqlite_schema.specs.declared.schema.Table.{Table}
+use Rattle.sqlite.specs.State.{State}
+use Rattle.office_holds.specs.declared.target.Target.{Target}
+use Rattle.office_machine.specs.Rows.{TableRows, is_pair, rows_of}
+use Rattle.office_machine.specs.State.{empty_state}
+use Rattle.office_sql.specs.Bags as bags
+use Rattle.office_sql.specs.Office.{IsAtRest}
+use Rattle.office_sql.specs.Schema.{at, aggregations, certificates, classes, contents, entries, holds, office, records, runs, schedules, targets}
+use Rattle.office_sql.specs.Shown.{certificate_row, content_row, office_row}
+use Rattle.office_store.specs.Encoded.{aggregation_shown, class_shown, entry_shown, hold_shown, record_shown, run_shown, schedule_shown, target_shown}
+
+-- the table has these rows and no others, in any order
+abbrev pub Has : Table → Trees → List Row → Type 0
+Has table db rows = IsPermutation rows (bags.rows_of table db)
+
+-- `targets` has each pair of hold and target that there is, and no other
+abbrev pub HasTargets : Trees → (List ℕ → Target → Bool) → Type 0
+HasTargets db is_target =
+    (pairs : List (List ℕ × Target)) × Has (at 12 targets) db (map (λ e. target_shown e.0 e.1) pairs)
+    × ((code : List ℕ) (target : Target) → list_any (λ e. is_pair e.0 e.1 code target) pairs ≡ is_target code target)
+
+-- the eleven tables have these rows; `office` has one, of version 1
+pub record Stands (t : TableRows) (db : Trees) : Type 0 where
+  pub office : Has (at 0 office) db (office_row (pos 1) (pos 1) t.day ∷ [])
+  pub schedules : Has (at 1 schedules) db (map (λ e. schedule_shown e.0 e.1) t.schedules)
+  pub classes : Has (at 3 classes) db (map (λ e. class_shown e.0 e.1) t.classes)
+  pub aggregations : Has (at 5 aggregations) db (map (λ e. aggregation_shown e.0 e.1) t.aggregations)
+  pub records : Has (at 7 records) db (map (λ e. record_shown e.0 e.1) t.records)
+  pub contents : Has (at 9 contents) db (map (λ e. content_row (pos e.0) e.1) t.contents)
+  pub holds : Has (at 10 holds) db (map (λ e. hold_shown e.0 e.1) t.holds)
+  pub targets : HasTargets db t.targets
+  pub runs : Has (at 14 runs) db (map (λ e. run_shown e.0 e.1) t.runs)
+  pub entries : Has (at 15 entries) db (map (λ e. entry_shown e.1) t.entries_by)
+  pub certificates : Has (at 17 certificates) db (map (λ e. certificate_row (pos e.0) e.1) t.certificates)
+
+-- between calls: the tables have these rows, and a crash leaves just these
+pub record HoldsRows (t : TableRows) (s : State) : Type 0 where
+  pub rest : IsAtRest s
+  pub stands : Stands t s.now.trees
+
+-- a crash leaves tables of these rows or of those
+abbrev pub LeavesWithin : TableRows → TableRows → State → Type 0
+LeavesWithin t u s = (db : Trees) → s.may_leave db → Stands t db ⊎ Stands u db
+
+-- a crash leaves what was there, or the tables of a new office
+abbrev pub LeavesFirst : State → State → Type 0
+LeavesFirst old new = (db : Trees) → new.may_leave db → (db ≡ old.now.trees) ⊎ Stands (rows_of empty_state) db

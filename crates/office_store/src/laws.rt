@@ -1,0 +1,32 @@
+//! What the writes of a change do to tables that stand for the rows of an office, and what is read of
+//! such tables.
+ghost use Rattle.std.specs.Prelude.{◌≡◌, ℕ, List, Some, IsUtf8};
+ghost use Rattle.std.specs.FinMap.{get};
+ghost use Rattle.sqlite.specs.Effect.{Database};
+ghost use Rattle.sqlite_trees.specs.Tree.{Trees};
+ghost use Rattle.office_machine.specs.Acts.{CanBeMade};
+ghost use Rattle.office_machine.specs.Rows.{rows_of};
+ghost use Rattle.office_machine.specs.Sound.{IsSound};
+ghost use Rattle.office_machine.specs.State.{State};
+ghost use Rattle.office_machine.specs.Tables.{StandsFor};
+ghost use Rattle.office_machine.specs.Writes.{all_writes};
+ghost use Rattle.office_machine.specs.declared.change.Change.{Change};
+ghost use Rattle.office_machine.specs.declared.tables.Tables.{Tables};
+ghost use Rattle.office_store.specs.Adopted.{IsRead};
+ghost use Rattle.office_store.specs.Stands.{Stands};
+ghost use Rattle.office_store.specs.Stored.{AllReadable};
+ghost use Rattle.office_store.specs.Written.{AreWritten};
+
+/// The writes of a change that can be made, done to tables that stand for the rows of a sound state,
+/// make them stand for those of the next.
+pub fn law_of_saved_rows()
+    ensures stands { (s : State) (change : Change) (old new : Database) → IsSound s → CanBeMade s.office change → Stands (rows_of s) old.trees → AreWritten change.writes.items old new
+        → Stands (rows_of (all_writes change.writes.items s)) new.trees }
+{}
+
+/// Tables that are read, where the database's tables stand for the rows of a sound state, stand for
+/// that state; and where its certificates are texts, every row is of its form.
+pub fn law_of_read_rows()
+    ensures stand { (s : State) (t : Tables) (db : Trees) → IsSound s → Stands (rows_of s) db → IsRead t db → StandsFor t s }
+    ensures readable { (s : State) (db : Trees) → IsSound s → ((run : ℕ) (text : List ℕ) → get s.office.certificates run ≡ Some text → IsUtf8 text) → Stands (rows_of s) db → AllReadable db }
+{}

@@ -1,0 +1,17 @@
+//! The tables of an office in one SQLite file: each change of the machine is saved in one transaction.
+#![tactic(auto)]
+
+mod adopting;
+mod columns;
+mod content;
+mod fault;
+pub mod laws;
+mod saving;
+mod store;
+mod stored;
+mod tables;
+mod texts;
+mod writing;
+
+pub use fault::Fault;
+pub use store::Store;
