@@ -10,6 +10,7 @@
 mod changing;
 mod checking;
 mod finding;
+mod founding;
 mod hold;
 mod holds;
 pub mod laws;

@@ -1,5 +1,6 @@
 pub mod Accepting
 pub mod Amending
+pub mod Bridge
 pub mod Containing
 pub mod DueNumbers
 pub mod Forming
@@ -9,6 +10,8 @@ pub mod LastAddition
 pub mod LastAdditions
 pub mod Least
 pub mod Maps
+pub mod Named
+pub mod Placed
 pub mod Places
 pub mod Plan
 pub mod Putting

@@ -3,6 +3,7 @@ pub mod Conditions
 pub mod Disposal
 pub mod Effects
 pub mod Forms
+pub mod Founding
 pub mod Lists
 pub mod Meanings
 pub mod Rows

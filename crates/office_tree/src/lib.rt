@@ -24,6 +24,7 @@ mod classifying;
 mod code;
 mod confirming;
 mod finding;
+mod founding;
 mod head;
 pub mod laws;
 mod memory;
