@@ -3,6 +3,7 @@ pub mod Conditions
 pub mod Disposing
 pub mod Effects
 pub mod Forms
+pub mod Founding
 pub mod Lesser
 pub mod Meanings
 pub mod Readings

@@ -1,10 +1,11 @@
 -- The rows of the eleven tables that a state stands for. Source: own.
-use Rattle.std.specs.Prelude.{ℕ, suc, Bool, ◌&&◌, ◌||◌, not, List, [], ◌∷◌, map, ℤ}
+use Rattle.std.specs.Prelude.{ℕ, Bool, ◌&&◌, ◌||◌, not, List, [], ◌∷◌, map, ℤ}
 use Rattle.std.specs.Option.{option_map}
 use Rattle.std.specs.Ordering.{nat_cmp, eq_by_cmp}
 use Rattle.std.specs.String.{string_bytes}
 use Rattle.std.specs.FinMap.{entries, get}
 use Rattle.std.specs.FinMap.Entries.{put, where_key}
+use Rattle.office_rows.specs.Rows.{numbered_rows}
 use Rattle.office_tree.specs.Lists.{holds_of}
 use Rattle.office_tree.specs.Tree.{code_cmp}
 use Rattle.office_tree.specs.declared.aggregation.Aggregation.{Aggregation}
@@ -37,14 +38,6 @@ pub record TableRows : Type 0 where
   pub runs : List (ℕ × Run)
   pub entries_by : List ((ℕ × ℕ) × Entry)
   pub certificates : List (ℕ × List ℕ)
-
-abbrev pub numbered_from : {A : Type 0} → ℕ → List A → List (ℕ × A)
-numbered_from n [] = []
-numbered_from n (x ∷ xs) = (suc n, x) ∷ numbered_from (suc n) xs
-
--- the things of a list under their numbers, from 1 on
-abbrev pub numbered_rows : {A : Type 0} → List A → List (ℕ × A)
-numbered_rows xs = numbered_from 0 xs
 
 -- a record's columns: its head's, its status, and each of the three groups that it may have
 abbrev pub record_row : Record → Status → RecordRow

@@ -24,6 +24,7 @@ mod deciding_runs;
 mod disposing;
 mod due_list;
 mod forming;
+mod founding;
 pub mod laws;
 mod lesser;
 mod machine;

@@ -23,6 +23,7 @@ mod classified;
 mod classifying;
 mod code;
 mod confirming;
+mod examining;
 mod finding;
 mod founding;
 mod head;
