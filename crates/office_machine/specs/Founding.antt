@@ -1,5 +1,5 @@
 -- An office made of tables that were read, and what is examined of it. Source: own.
-use Rattle.std.specs.Prelude.{◌≡◌, ◌≢◌, ◌×◌, ◌↔◌, ℕ, ℤ, Bool, true, ◌&&◌, ◌||◌, not, nat_le, int_le, List, map, length, Option, Some, IsTrue, IsSome, if◌then◌else◌}
+use Rattle.std.specs.Prelude.{◌≡◌, ◌≢◌, ◌↔◌, ℕ, ℤ, Bool, true, ◌&&◌, ◌||◌, not, nat_le, int_le, List, map, length, Option, Some, IsTrue, IsSome, if◌then◌else◌}
 use Rattle.std.specs.FinMap.{FinMap, contains_key, entries, get}
 use Rattle.std.specs.List.{All, Contains}
 use Rattle.std.specs.Option.{is_none, is_some}

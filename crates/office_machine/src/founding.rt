@@ -1,5 +1,5 @@
 //! The office for which tables stand, or that there is none.
-ghost use Rattle.std.specs.Prelude.{◌≡◌, ◌×◌, IfOk, Ok, false, true};
+ghost use Rattle.std.specs.Prelude.{◌≡◌, IfOk, Ok, false, true};
 ghost use Rattle.std.specs.FinMap.{from_entries};
 ghost use Rattle.std.specs.Ordering.{nat_cmp};
 ghost use Rattle.office_rows.specs.Rows.{OnDamaged};
