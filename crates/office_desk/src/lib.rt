@@ -6,7 +6,10 @@
 //! answers no more, and is to be closed and opened again.
 #![tactic(auto)]
 
+mod content;
 mod desk;
+mod opening;
 mod performing;
+mod telling;
 
 pub use desk::Desk;

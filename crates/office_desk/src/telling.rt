@@ -3,16 +3,12 @@ ghost use Rattle.std.specs.Prelude.{◌≡◌, ◌⊎◌, ℕ, Err, IfErr, IfOk,
 ghost use Rattle.std.specs.FinMap.{get};
 ghost use Rattle.std.specs.Option.{option_map};
 ghost use Rattle.std.specs.String.{string_bytes};
-ghost use Rattle.sqlite.specs.Held.{state};
-ghost use Rattle.sqlite.specs.State.{HasCleanDisk};
 ghost use Rattle.office_machine.specs.Readings.{IsDueList, all_entries_of, ending_entry, record_view};
-ghost use Rattle.office_machine.specs.State.{State};
-ghost use Rattle.office_desk.specs.Leaving.{IsContentTold, IsOtherContent, LeavesRowsOf, StandsAt};
 
 use crate::Desk;
 use office_days::Day;
 use office_machine::RecordView;
-use office_proof::{Entry, RunNo, digest_of};
+use office_proof::{Entry, RunNo};
 use office_store::Fault;
 use office_tree::{Memory, RecordNo};
 use sqlite::Alter;
