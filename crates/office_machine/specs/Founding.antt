@@ -1,18 +1,21 @@
 -- An office made of tables that were read, and what is examined of it. Source: own.
-use Rattle.std.specs.Prelude.{◌≡◌, ◌≢◌, ◌↔◌, ℕ, ℤ, Bool, true, ◌&&◌, ◌||◌, not, nat_le, int_le, List, map, length, Option, Some, IsTrue, IsSome, if◌then◌else◌}
-use Rattle.std.specs.FinMap.{FinMap, contains_key, entries, get}
+use Rattle.std.specs.Prelude.{◌≡◌, ◌≢◌, ◌↔◌, ◌≤◌, ◌≤ℤ◌, ℕ, ℤ, Bool, true, ◌&&◌, ◌||◌, not, nat_le, int_le, List, map, length, Option, Some, IsTrue, IsSome, if◌then◌else◌}
+use Rattle.std.specs.FinMap.{FinMap, entries, get, values}
 use Rattle.std.specs.List.{All, Contains}
 use Rattle.std.specs.Option.{is_none, is_some}
 use Rattle.std.specs.Ordering.{nat_cmp}
 use Rattle.std.specs.String.{string_bytes}
 use Rattle.office_tree.specs.Disposal.{is_ended}
+use Rattle.office_tree.specs.Examined.{AllHavePapers, AreContentsShort, IsTreeBy}
 use Rattle.office_tree.specs.Founding.{is_there}
 use Rattle.office_tree.specs.Lists.{holds_of, numbered}
 use Rattle.office_tree.specs.Tree.{status_of}
 use Rattle.office_tree.specs.declared.status.Status.{Status}
 use Rattle.office_tree.specs.declared.status.Status.TheVariants.{Ended}
+use Rattle.office_holds.specs.Sound.{NoHoldIsAfter, TargetsStand}
 use Rattle.office_proof.specs.Outcomes.{is_ending, is_skipping, is_transferring}
 use Rattle.office_proof.specs.declared.entry.Entry.{Entry}
+use Rattle.office_machine.specs.Sound.{RunsStand}
 use Rattle.office_machine.specs.State.{Office, ByteMap, EntryMap, with_contents}
 use Rattle.office_machine.specs.Tables.{StandsFor}
 use Rattle.office_machine.specs.declared.run.Run.{Run}
@@ -63,3 +66,20 @@ AreRunsBy runs last = (n : ℕ) (it : Run) → numbered runs n ≡ Some it → i
 -- the keys are the numbers of exactly the records that are not ended
 abbrev pub AreKeysOfLive : {V : Type 0} → List Status → FinMap nat_cmp V → Type 0
 AreKeysOfLive statuses keys = (r : ℕ) → IsSome (get keys r) ↔ ((status : Status) × (numbered statuses r ≡ Some status) × (status ≢ Ended))
+
+-- each entry stands under its own run and record
+abbrev pub AreEntriesKeyed : EntryMap → Type 0
+AreEntriesKeyed entries = (run r : ℕ) (e : Entry) → get entries (run, r) ≡ Some e → (e.run ≡ run) × (e.record_no ≡ r)
+
+-- the parts of an office agree with each other, and with marks under the keys of its contents
+pub record DoPartsAgree {V : Type 0} (s : Office) (marks : FinMap nat_cmp V) : Type 0 where
+  pub runs_few : length s.runs ≤ 10_000
+  pub short : AreContentsShort s.tree.records
+  pub papers : AllHavePapers s.tree.records s.tree.statuses
+  pub tree_by : IsTreeBy s.tree.aggregations s.tree.records s.day
+  pub holds_by : NoHoldIsAfter s.holds s.day
+  pub runs_by : AreRunsBy s.runs s.day
+  pub targets : TargetsStand s.holds s.tree.classes (length s.tree.aggregations) (length s.tree.records)
+  pub runs : RunsStand s.runs s.certificates
+  pub live : AreKeysOfLive s.tree.statuses marks
+  pub entries : All (λ e. is_entry_right s e ≡ true) (values s.entries)
