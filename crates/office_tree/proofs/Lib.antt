@@ -12,6 +12,7 @@ pub mod Least
 pub mod Maps
 pub mod Named
 pub mod Placed
+pub mod Papers
 pub mod Places
 pub mod Plan
 pub mod Putting
