@@ -2,6 +2,7 @@ pub mod Accepting
 pub mod Amending
 pub mod Bridge
 pub mod Containing
+pub mod Differing
 pub mod DueNumbers
 pub mod Forming
 pub mod Inserting
