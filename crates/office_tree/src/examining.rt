@@ -7,6 +7,7 @@ ghost use Rattle.office_tree.specs.Forms.{IsFormedTree};
 ghost use Rattle.office_tree.specs.Lists.{Differ};
 ghost use Rattle.office_tree.specs.Sound.{RefsDiffer};
 
+use crate::formed::{formed_aggregations, formed_classes, formed_records, formed_schedules};
 use crate::{Action, Aggregation, Confirmation, Memory, Receipt, Record, Review, Status, Tree};
 use office_days::Day;
 use std::alloc::Global;
@@ -172,5 +173,9 @@ impl Tree {
         requires { AreContentsShort self.now.records }
         ensures { IsFormedTree self.now }
     {
+        formed_schedules(&self.schedules);
+        formed_classes(&self.classes);
+        formed_aggregations(&self.aggregations);
+        formed_records(&self.records);
     }
 }
