@@ -4,6 +4,7 @@ pub mod Bridge
 pub mod Containing
 pub mod Differing
 pub mod DueNumbers
+pub mod EachFormed
 pub mod Forming
 pub mod Inserting
 pub mod Keeping
