@@ -56,7 +56,7 @@ pub gathered_more : {A : Type 0} (name : A → List ℕ) (old new : BTreeSet (Bo
 gathered_more name old new xs i x q added low is named is_new told updates gathered =
     let longer : take (i + 1) xs ≡ take i xs ++ x ∷ [] = take_more xs i x low ∙ ap (λ y. take i xs ++ y ∷ []) (sym is) in
     let free : list_any (λ z. bytes_eq (name z) (name x)) (take i xs) ≡ false =
-      ap (λ text. list_any (λ z. bytes_eq (name z) text) (take i xs)) (sym named) ∙ sym (gathered.known q) ∙ not_there added (contains text_cmp old q) is_new told in
+    ap (λ text. list_any (λ z. bytes_eq (name z) text) (take i xs)) (sym named) ∙ sym (gathered.known q) ∙ not_there added (contains text_cmp old q) is_new told in
     rw longer (record {
       differ = Differ-push name (take i xs) x gathered.differ free;
       known = λ p. updates.0 p

@@ -3,7 +3,6 @@ use Rattle.std.proofs.Common.{◌≡◌, ℕ, suc, List, Some, sym, subst, ◌�
 use Rattle.std.specs.BTreeMap.{is_at}
 use Rattle.std.specs.FinMap.{get, from_entries}
 use Rattle.std.specs.List.{All}
-use Rattle.std.specs.Map.{lookup}
 use Rattle.std.proofs.lemmas.Map.Entries.{place_from_lookup}
 use Rattle.office_tree.specs.Forms.{IsCode, IsFormedAggregation, IsFormedClass, IsFormedRecord, IsFormedSchedule, IsFormedTree}
 use Rattle.office_tree.specs.Founding.{tree_of}

@@ -1,6 +1,5 @@
 //! What is examined of a tree before it is taken over with the rest of an office.
-ghost use Rattle.std.specs.Prelude.{◌≡◌, ◌↔◌, IsTrue, false, true, Ok, IfOk, List, nat_le};
-ghost use Rattle.std.specs.List.{All};
+ghost use Rattle.std.specs.Prelude.{◌≡◌, ◌↔◌, IsTrue, false, true, Ok};
 ghost use Rattle.office_tree.specs.Disposal.{is_disposal};
 ghost use Rattle.office_tree.specs.Examined.{AllHavePapers, AreContentsShort, IsTreeBy, has_papers, is_by, is_confirmed_by, is_disposal_confirmed, is_receipted_by, is_record_by, is_reviewed_by};
 ghost use Rattle.office_tree.specs.Forms.{IsFormedTree};

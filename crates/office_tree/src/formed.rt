@@ -56,7 +56,7 @@ fn formed_due_day(due: DueDay)
     let _ = due.number();
 }
 
-/// Bytes are below 256.
+/// Each byte is below 256.
 fn formed_bytes(bytes: &[u8])
     ensures { All (λ b. b < 256) bytes.now }
 {
