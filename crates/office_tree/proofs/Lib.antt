@@ -2,7 +2,9 @@ pub mod Accepting
 pub mod Amending
 pub mod Bridge
 pub mod Containing
+pub mod Differing
 pub mod DueNumbers
+pub mod EachFormed
 pub mod Forming
 pub mod Inserting
 pub mod Keeping
@@ -12,6 +14,7 @@ pub mod Least
 pub mod Maps
 pub mod Named
 pub mod Placed
+pub mod Papers
 pub mod Places
 pub mod Plan
 pub mod Putting

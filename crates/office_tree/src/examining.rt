@@ -1,14 +1,16 @@
 //! What is examined of a tree before it is taken over with the rest of an office.
-ghost use Rattle.std.specs.Prelude.{◌≡◌, ◌↔◌, IsTrue, false, true, Ok, IfOk, List, nat_le};
-ghost use Rattle.std.specs.List.{All};
+ghost use Rattle.std.specs.Prelude.{◌≡◌, ◌↔◌, IsTrue, false, true, Ok};
 ghost use Rattle.office_tree.specs.Disposal.{is_disposal};
 ghost use Rattle.office_tree.specs.Examined.{AllHavePapers, AreContentsShort, IsTreeBy, has_papers, is_by, is_confirmed_by, is_disposal_confirmed, is_receipted_by, is_record_by, is_reviewed_by};
 ghost use Rattle.office_tree.specs.Forms.{IsFormedTree};
+ghost use Rattle.office_tree.specs.Lists.{Differ};
 ghost use Rattle.office_tree.specs.Sound.{RefsDiffer};
 
-use crate::{Action, Confirmation, Memory, Receipt, Record, Review, Status, Tree};
+use crate::formed::{formed_aggregations, formed_classes, formed_records, formed_schedules};
+use crate::{Action, Aggregation, Confirmation, Memory, Receipt, Record, Review, Status, Tree};
 use office_days::Day;
 use std::alloc::Global;
+use std::collections::BTreeSet;
 
 /// Whether the action is one that a disposal run does.
 fn is_disposal(action: Action) -> bool
@@ -93,6 +95,34 @@ fn is_record_by(last: Day, head: &Record) -> bool
         && is_receipted_by(last, &head.receipt)
 }
 
+/// Whether no two aggregations have one ref.
+fn do_aggregation_refs_differ(aggregations: &[Aggregation], alloc: Global) -> Result<bool, Memory>
+    ensures yes { result ≡ Ok true → Differ (λ it. it.ref_text) aggregations.now }
+    ensures no { result ≡ Ok false → Differ (λ it. it.ref_text) aggregations.now → ⊥ }
+{
+    let mut refs = BTreeSet::new(alloc);
+    for it in aggregations {
+        if !refs.insert(it.ref_text.text())? {
+            return Ok(false);
+        }
+    }
+    Ok(true)
+}
+
+/// Whether no two records have one ref.
+fn do_record_refs_differ(records: &[Record], alloc: Global) -> Result<bool, Memory>
+    ensures yes { result ≡ Ok true → Differ (λ head. head.ref_text) records.now }
+    ensures no { result ≡ Ok false → Differ (λ head. head.ref_text) records.now → ⊥ }
+{
+    let mut refs = BTreeSet::new(alloc);
+    for head in records {
+        if !refs.insert(head.ref_text.text())? {
+            return Ok(false);
+        }
+    }
+    Ok(true)
+}
+
 impl Tree {
     /// Whether each record has the confirmation and the receipt that its status asks for, and each
     /// confirmation names transfer or destruction.
@@ -131,8 +161,10 @@ impl Tree {
         ensures yes { result ≡ Ok true → RefsDiffer self.now.aggregations self.now.records }
         ensures no { result ≡ Ok false → RefsDiffer self.now.aggregations self.now.records → ⊥ }
     {
-        let _ = alloc;
-        Ok(false)
+        if !do_aggregation_refs_differ(&self.aggregations, alloc)? {
+            return Ok(false);
+        }
+        do_record_refs_differ(&self.records, alloc)
     }
 
     /// Tells in proofs that all that stands in the tree is of its form; a call changes nothing.
@@ -140,5 +172,9 @@ impl Tree {
         requires { AreContentsShort self.now.records }
         ensures { IsFormedTree self.now }
     {
+        formed_schedules(&self.schedules);
+        formed_classes(&self.classes);
+        formed_aggregations(&self.aggregations);
+        formed_records(&self.records);
     }
 }

@@ -25,6 +25,7 @@ mod code;
 mod confirming;
 mod examining;
 mod finding;
+mod formed;
 mod founding;
 mod head;
 pub mod laws;
