@@ -8,6 +8,7 @@ pub mod Keeping
 pub mod Keys
 pub mod Lasting
 pub mod Reclassifying
+pub mod Standing
 pub mod Subsets
 pub mod TargetCounts
 pub mod TargetRows
