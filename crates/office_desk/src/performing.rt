@@ -17,7 +17,7 @@ use sqlite::Alter;
 impl<S: Alter> Desk<S> {
     /// One act. Its answer is added once its commit stands.
     fn perform(&mut self, act: &Act, answers: &mut Vec<Answer>) -> Result<(), Fault>
-        requires { self.old.is_given_up ≡ false }
+        requires open { self.old.is_given_up ≡ false }
         ensures clean { HasCleanDisk (state S.Store self.new.held) → HasCleanDisk (state S.Store self.old.held) }
         ensures answered { (s : State) → s.office ≡ self.old.office → OnOk result (answers.new.items ≡ answers.old.items ++ (step s act.now).0 ∷ []) }
         ensures office { (s : State) → s.office ≡ self.old.office → OnOk result (self.new.office ≡ (step s act.now).1.office) }
@@ -43,8 +43,8 @@ impl<S: Alter> Desk<S> {
 
     /// Saves a change, and then does it in memory and answers.
     fn make(&mut self, change: Change, answers: &mut Vec<Answer>) -> Result<(), Fault>
-        requires { self.old.is_given_up ≡ false }
-        requires { CanBeMade self.old.office change }
+        requires open { self.old.is_given_up ≡ false }
+        requires feasible { CanBeMade self.old.office change }
         ensures clean { HasCleanDisk (state S.Store self.new.held) → HasCleanDisk (state S.Store self.old.held) }
         ensures answered { OnOk result (answers.new.items ≡ answers.old.items ++ change.answer ∷ []) }
         ensures office { OnOk result (self.new.office ≡ all_office_writes change.writes.items self.old.office) }
@@ -67,7 +67,7 @@ impl<S: Alter> Desk<S> {
 
     /// Does a saved change in memory and answers; the desk is given up where a growth is refused.
     fn finish(&mut self, change: Change, answers: &mut Vec<Answer>) -> Result<(), Fault>
-        requires { CanBeMade self.old.office change }
+        requires feasible { CanBeMade self.old.office change }
         ensures held { self.new.held ≡ self.old.held }
         ensures answered { OnOk result (answers.new.items ≡ answers.old.items ++ change.answer ∷ []) }
         ensures office { OnOk result (self.new.office ≡ all_office_writes change.writes.items self.old.office) }
@@ -86,7 +86,7 @@ impl<S: Alter> Desk<S> {
 
     /// One act after another, by a desk that is open.
     fn perform_open(&mut self, acts: &[Act], answers: &mut Vec<Answer>) -> Result<(), Fault>
-        requires { self.old.is_given_up ≡ false }
+        requires open { self.old.is_given_up ≡ false }
         ensures clean { HasCleanDisk (state S.Store self.new.held) → HasCleanDisk (state S.Store self.old.held) }
         ensures answered { (s : State) → s.office ≡ self.old.office → OnOk result (answers.new.items ≡ answers.old.items ++ answers s acts.now) }
         ensures office { (s : State) → s.office ≡ self.old.office → OnOk result (self.new.office ≡ (after s acts.now).office) }
