@@ -11,6 +11,8 @@ pub mod DecidedTree
 pub mod Decisions
 pub mod DueLists
 pub mod Feasible
+pub mod FoundTables
+pub mod FoundTree
 pub mod FreeRefs
 pub mod HeldSteps
 pub mod HoldRows
@@ -19,6 +21,7 @@ pub mod KeyedRows
 pub mod LeastHolds
 pub mod LesserRefusals
 pub mod Listing
+pub mod MapRows
 pub mod NextReady
 pub mod NumberedRows
 pub mod OfficeSound
@@ -27,6 +30,7 @@ pub mod OneStep
 pub mod OpenRun
 pub mod OpenedRuns
 pub mod Places
+pub mod RecordRows
 pub mod Resuming
 pub mod Rising
 pub mod RowWrites

@@ -14,5 +14,6 @@ pub mod Sound
 pub mod State
 pub mod Steps
 pub mod Tables
+pub mod TreeRows
 pub mod Worked
 pub mod Writes

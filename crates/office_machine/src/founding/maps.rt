@@ -1,4 +1,4 @@
-//! Entries and certificates by their keys.
+//! Entries, certificates and the keys of contents in maps.
 ghost use Rattle.std.specs.Prelude.{◌≡◌, IfOk, map};
 ghost use Rattle.std.specs.BTreeMap.{IsOrdered};
 ghost use Rattle.std.specs.List.Sorted.{IsStrictlySortedBy};
@@ -46,4 +46,20 @@ pub(crate) fn certificates_of(
         push_keyed(&mut certificates, run, Certificate::new(text))?;
     }
     Ok(certificates)
+}
+
+/// The keys of contents; damaged where these do not ascend.
+pub(crate) fn marks_of(
+    alloc: Global,
+    keys: Vec<RecordNo>,
+) -> Result<BTreeMap<RecordNo, ()>, Rebuild>
+    ensures ok { IfOk result (λ marks. keys_of marks.entries ≡ keys.items) }
+    ensures ordered { IfOk result (λ marks. IsOrdered nat_cmp marks) }
+    ensures damaged { OnDamaged result (IsStrictlySortedBy nat_cmp keys.items → ⊥) }
+{
+    let mut marks = BTreeMap::new(alloc);
+    for key in keys {
+        push_keyed(&mut marks, key, ())?;
+    }
+    Ok(marks)
 }
