@@ -10,6 +10,8 @@ pub mod DecidedRecords
 pub mod DecidedTree
 pub mod Decisions
 pub mod DueLists
+pub mod Endings
+pub mod EntryTests
 pub mod Feasible
 pub mod FoundTables
 pub mod FoundTree
