@@ -31,6 +31,7 @@ pub mod OneState
 pub mod OneStep
 pub mod OpenRun
 pub mod OpenedRuns
+pub mod PartsTests
 pub mod Places
 pub mod RecordRows
 pub mod Resuming
@@ -39,6 +40,7 @@ pub mod RowWrites
 pub mod RunClosing
 pub mod RunEntries
 pub mod RunTaken
+pub mod RunTests
 pub mod SameRecords
 pub mod SoundEmpty
 pub mod SoundHeads
