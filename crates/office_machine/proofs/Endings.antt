@@ -1,16 +1,18 @@
 -- The runs of the entries that ended their records, under these records.
-use Rattle.std.proofs.Common.{◌≡◌, ◌≢◌, ℕ, List, [], ◌∷◌, ◌++◌, Some, None, refl, sym, ap, ◌∙◌, subst, true, false, ◌⊎◌, inl, inr, Option, arith, append_assoc, append-nil}
-use Rattle.std.specs.Prelude.{IsSome, IsNone, IsTrue}
-use Rattle.std.specs.Option.{is_some}
-use Rattle.std.proofs.lemmas.Bool.{cases_Bool, false≢true}
+use Rattle.std.proofs.Common.{◌≡◌, ◌≢◌, ◌+◌, ◌≤◌, ℕ, Bool, List, length, [], ◌∷◌, ◌++◌, Some, None, refl, sym, ap, ◌∙◌, subst, true, false, ◌⊎◌, inl, inr, Option, arith, append_assoc, append-nil}
+use Rattle.std.specs.Prelude.{◌&&◌, IsSome, IsNone, IsTrue}
+use Rattle.std.specs.Option.{is_none, is_some}
+use Rattle.std.proofs.lemmas.Bool.{and_parts, cases_Bool, cases_lt, false≢true, not-false, not-true}
 use Rattle.std.specs.Cmp.{nat_cmp_total}
 use Rattle.std.specs.FinMap.{FinMap, empty, get, get-empty, insert, nat_cmp-IsAntisymmetric}
 use Rattle.std.specs.List.{Contains}
 use Rattle.std.specs.Ordering.{nat_cmp}
 use Rattle.std.proofs.lemmas.List.Elements.{Contains-append_left, Contains-append_right, Contains-push, Contains-push_cases}
-use Rattle.office_tree.specs.Lists.{numbered}
+use Rattle.office_tree.specs.Disposal.{is_ended}
+use Rattle.office_tree.specs.Lists.{numbered, holds_of}
 use Rattle.office_tree.specs.declared.status.Status.{Status}
-use Rattle.office_tree.specs.declared.status.Status.TheVariants.{Ended}
+use Rattle.office_tree.specs.declared.status.Status.TheVariants.{Here, Sent, Received, Ended}
+use Rattle.office_tree.proofs.Places.{numbered_within}
 use Rattle.office_proof.specs.Outcomes.{is_ending}
 use Rattle.office_proof.specs.declared.entry.Entry.{Entry}
 use Rattle.office_machine.specs.Founding.{AreEndings, EachHasOneEnding, TwoRunsEndOne}
@@ -80,11 +82,14 @@ pub noted_next : (m n : Ends) (left rest all : List Entry) (e : Entry) → AreNo
     → (is_ending e.outcome ≡ true → (run : ℕ) → get m e.record_no ≡ Some run → run ≡ e.run) → AreNoted n rest all
 noted_next m n left rest all e noted first other ending one =
     let done = noted.0 in
-    let whole : (done ++ e ∷ []) ++ rest ≡ all = append_assoc done (e ∷ []) rest ∙ ap (λ xs. done ++ xs) (sym first) ∙ noted.1 in
-    (done ++ e ∷ [], whole, elim (cases_Bool (is_ending e.outcome)) [
-      | inl is ↦ subst (λ (k : Ends). AreEndings k (done ++ e ∷ [])) (sym (ending is)) (endings_more m done e noted.2 is (one is))
-      | inr is ↦ subst (λ (k : Ends). AreEndings k (done ++ e ∷ [])) (sym (other is)) (endings_other m done e noted.2 is)
-    ])
+    let whole : (done ++ e ∷ []) ++ rest ≡ all = append_assoc done (e ∷ []) rest ∙ ap (λ xs. done ++ xs) (sym first) ∙ noted.1 in (
+      done ++ e ∷ [],
+      whole,
+      elim (cases_Bool (is_ending e.outcome)) [
+        | inl is ↦ subst (λ (k : Ends). AreEndings k (done ++ e ∷ [])) (sym (ending is)) (endings_more m done e noted.2 is (one is))
+        | inr is ↦ subst (λ (k : Ends). AreEndings k (done ++ e ∷ [])) (sym (other is)) (endings_other m done e noted.2 is)
+      ],
+    )
 
 -- all are noted at last
 pub all_noted : (m : Ends) (left all : List Entry) → AreNoted m left all → left ≡ [] → AreEndings m all
@@ -114,3 +119,43 @@ no_ending m statuses es r h ended none one =
     let entry = one.one r ended in
     let there = ap (get m) (sym entry.2) ∙ h.all entry.0 entry.1 entry.3 in
     absurd (lacks (get m r) entry.0.run none there)
+
+-- ---- ended records that have no run under them
+
+pub ended_only : (status : Status) → is_ended status ≡ true → status ≡ Ended
+ended_only Here e = absurd cc
+ended_only Sent e = absurd cc
+ended_only Received e = absurd cc
+ended_only Ended e = refl
+
+ended_is : (o : Option Status) → holds_of o is_ended ≡ true → o ≡ Some Ended
+ended_is None e = absurd cc
+ended_is (Some status) e = ap Some (ended_only status e)
+
+-- the record is ended and has no run under it
+abbrev pub lacks_ending : List Status → Ends → ℕ → Bool
+lacks_ending statuses m r = holds_of (numbered statuses r) is_ended && is_none (get m r)
+
+pub has_ending : (statuses : List Status) (m : Ends) (r : ℕ) → lacks_ending statuses m r ≡ false → numbered statuses r ≡ Some Ended → IsSome (get m r)
+has_ending statuses m r has ended = not-false (is_some (get m r)) (sym (ap (λ o. holds_of o is_ended && is_none (get m r)) ended) ∙ has)
+
+pub has_no_ending : (statuses : List Status) (m : Ends) (r : ℕ) → lacks_ending statuses m r ≡ true → (numbered statuses r ≡ Some Ended) × IsNone (get m r)
+has_no_ending statuses m r lacking =
+    let both = and_parts (holds_of (numbered statuses r) is_ended) (is_none (get m r)) lacking in
+    (ended_is (numbered statuses r) both.0, not-true (is_some (get m r)) both.1)
+
+-- each of so many records that is ended has a run under it
+abbrev pub HaveEndings : List Status → Ends → ℕ → Type 0
+HaveEndings statuses m n = (r : ℕ) → r ≤ n → numbered statuses r ≡ Some Ended → IsSome (get m r)
+
+pub none_has : (statuses : List Status) (m : Ends) → HaveEndings statuses m 0
+none_has statuses m r high ended = let within = numbered_within statuses r Ended ended in absurd (omega (arith, within))
+
+pub next_has : (statuses : List Status) (m : Ends) (n : ℕ) → HaveEndings statuses m n → lacks_ending statuses m (n + 1) ≡ false → HaveEndings statuses m (n + 1)
+next_has statuses m n all has r high ended = elim (cases_lt n r) [
+  | inl above ↦ let same : n + 1 ≡ r = omega arith in has_ending statuses m r (ap (lacks_ending statuses m) (sym same) ∙ has) ended
+  | inr below ↦ all r below ended
+]
+
+pub all_have : (statuses : List Status) (m : Ends) (n : ℕ) → HaveEndings statuses m n → length statuses ≤ n → (r : ℕ) → numbered statuses r ≡ Some Ended → IsSome (get m r)
+all_have statuses m n all many r ended = let within = numbered_within statuses r Ended ended in all r (omega (arith, within, many)) ended

@@ -22,13 +22,11 @@ use Rattle.office_machine.specs.Founding.{EachHasOneEnding, is_entry_right}
 use Rattle.office_machine.specs.Sound.{EntriesStand, IsNamedEntry}
 use Rattle.office_machine.specs.State.{EntryMap, Office}
 use Rattle.office_machine.specs.declared.run.Run.{Run}
-use Rattle.office_machine.proofs.Listing.{value_found, found_value}
+use Rattle.office_machine.proofs.Endings.{ended_only}
+use Rattle.office_machine.proofs.Listing.{AreKeyed, value_found, found_value}
 use Rattle.office_machine.proofs.SoundMaps.{some_is, one_there}
 use Rattle.office_machine.proofs.SoundPlans.{numbered_there}
-
--- each entry stands under its own run and record
-abbrev pub AreKeyed : EntryMap → Type 0
-AreKeyed entries = (run r : ℕ) (e : Entry) → get entries (run, r) ≡ Some e → (e.run ≡ run) × (e.record_no ≡ r)
+use Rattle.office_machine.proofs.SoundTaken.{holds_is}
 
 -- what the items of soundness say of entries
 pub record AreEntriesSound (s : Office) : Type 0 where
@@ -37,10 +35,6 @@ pub record AreEntriesSound (s : Office) : Type 0 where
   pub transferred : (run r : ℕ) (e : Entry) (head : Record) → get s.entries (run, r) ≡ Some e → e.outcome ≡ outcome.Transferred → numbered s.tree.records r ≡ Some head → IsSome head.receipt
 
 -- ---- what passes each test
-
-holds_is : {A : Type 0} (o : Option A) (test : A → Bool) → holds_of o test ≡ true → (x : A) × (o ≡ Some x) × (test x ≡ true)
-holds_is None test e = absurd cc
-holds_is (Some x) test e = (x, refl, e)
 
 is_held_of : {A : Type 0} (o : Option A) (test : A → Bool) (x : A) → o ≡ Some x → test x ≡ true → holds_of o test ≡ true
 is_held_of o test x there passes = ap (λ it. holds_of it test) there ∙ passes
@@ -82,12 +76,6 @@ is_receipted outcome.Transferred receipt e = e refl
 is_receipted outcome.Destroyed receipt e = refl
 is_receipted outcome.Sent receipt e = refl
 is_receipted outcome.Skipped receipt e = refl
-
-ended_only : (status : Status) → is_ended status ≡ true → status ≡ Ended
-ended_only Here e = absurd cc
-ended_only Sent e = absurd cc
-ended_only Received e = absurd cc
-ended_only Ended e = refl
 
 ended_is : (ending : Bool) (status : Status) → (not ending || is_ended status) ≡ true → ending ≡ true → status ≡ Ended
 ended_is true status e is = ended_only status e

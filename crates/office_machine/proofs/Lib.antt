@@ -13,6 +13,7 @@ pub mod DueLists
 pub mod Endings
 pub mod EntryTests
 pub mod Feasible
+pub mod FoundSound
 pub mod FoundTables
 pub mod FoundTree
 pub mod FreeRefs
@@ -32,6 +33,7 @@ pub mod OneStep
 pub mod OpenRun
 pub mod OpenedRuns
 pub mod PartsTests
+pub mod Passing
 pub mod Places
 pub mod RecordRows
 pub mod Resuming

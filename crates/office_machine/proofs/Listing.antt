@@ -176,7 +176,8 @@ found_is q v (e ∷ es) found = found_by q v e es (eq_by_cmp entry_cmp q e.0) fo
 abbrev IsKeyed : Kept → Type 0
 IsKeyed e = (e.1.run ≡ e.0.0) × (e.1.record_no ≡ e.0.1)
 
-abbrev AreKeyed : EntryMap → Type 0
+-- each entry stands under its own run and record
+abbrev pub AreKeyed : EntryMap → Type 0
 AreKeyed m = (run r : ℕ) (e : Entry) → get m (run, r) ≡ Some e → (e.run ≡ run) × (e.record_no ≡ r)
 
 each_keyed_in : (m : EntryMap) → AreKeyed m → (es : List Kept) → AllByRecursion (IsFoundIn (entries m)) es → AllByRecursion IsKeyed es

@@ -1,5 +1,5 @@
 -- What the tests of contents' keys, of papers and of days tell of an office, and back.
-use Rattle.std.proofs.Common.{◌≡◌, ◌≢◌, ◌↔◌, ℕ, ◌≤◌, ℤ, ◌≤ℤ◌, List, map, length, Option, Some, None, refl, sym, ap, ◌∙◌, Bool, true, false, arith}
+use Rattle.std.proofs.Common.{◌≡◌, ◌≢◌, ◌↔◌, ℕ, ◌-◌, ℤ, ◌≤ℤ◌, List, map, length, Option, Some, None, refl, sym, ap, ◌∙◌, Bool, true, false, arith}
 use Rattle.std.specs.Prelude.{IsSome, IsTrue, IfSome, int_le, not, ◌&&◌, ◌||◌}
 use Rattle.std.specs.FinMap.{FinMap, contains_key, contains_key-keys, entries, get}
 use Rattle.std.specs.List.{list_any}
@@ -7,7 +7,7 @@ use Rattle.std.specs.Option.{is_some}
 use Rattle.std.specs.Ordering.{eq_by_cmp, nat_cmp}
 use Rattle.std.proofs.lemmas.Int.{ints}
 use Rattle.office_tree.specs.Disposal.{is_disposal, is_here, is_received}
-use Rattle.office_tree.specs.Examined.{AllHavePapers, IsTreeBy, has_papers, is_by, is_confirmed_by, is_disposal_confirmed, is_receipted_by, is_record_by, is_reviewed_by}
+use Rattle.office_tree.specs.Examined.{AllHavePapers, IsTreeBy, is_by, is_confirmed_by, is_disposal_confirmed, is_receipted_by, is_record_by, is_reviewed_by}
 use Rattle.office_tree.specs.Lists.{numbered}
 use Rattle.office_tree.specs.declared.aggregation.Aggregation.{Aggregation}
 use Rattle.office_tree.specs.declared.head.Confirmation.{Confirmation}
@@ -78,8 +78,8 @@ all_4 false b c d p q r s = absurd cc
 within_length : {A B : Type 0} (xs : List A) (ys : List B) → length ys ≡ length xs → (n : ℕ) (x : A) → numbered xs n ≡ Some x → (y : B) × (numbered ys n ≡ Some y)
 within_length xs ys same n x at =
     let h = numbered_within xs n x at in
-    let there = numbered_there ys (pred n) (omega (arith, h, same)) in
-    (there.0, numbered_at ys n (pred n) (omega (arith, h)) ∙ there.1)
+    let there = numbered_there ys (n - 1) (omega (arith, h, same)) in
+    (there.0, numbered_at ys n (n - 1) (omega (arith, h)) ∙ there.1)
 
 confirmed_of : (status : Status) (o : Option Confirmation) → (is_here status || is_some o) ≡ true → status ≢ Here → IsSome o
 confirmed_of Here o e other = absurd (other refl)
@@ -119,7 +119,7 @@ pub papers_sound : (records : List Record) (statuses : List Status) (entries : E
     → PapersStand records statuses entries
 papers_sound records statuses entries same papers transferred =
     let parts : (r : ℕ) (head : Record) (status : Status) → numbered records r ≡ Some head → numbered statuses r ≡ Some status
-        → ((is_here status || is_some head.confirmation) ≡ true) × (is_disposal_confirmed head.confirmation ≡ true) × ((not (is_received status) || is_some head.receipt) ≡ true) =
+    → ((is_here status || is_some head.confirmation) ≡ true) × (is_disposal_confirmed head.confirmation ≡ true) × ((not (is_received status) || is_some head.receipt) ≡ true) =
     λ r head status at has. and_3 (is_here status || is_some head.confirmation) (is_disposal_confirmed head.confirmation) (not (is_received status) || is_some head.receipt) (papers r head status at has) in
     record {
       confirmed = λ r head status at has other. confirmed_of status head.confirmation (parts r head status at has).0 other;
@@ -197,8 +197,8 @@ days_tested aggregations records holds runs day none = (
   record {
     closed = from_numbers (λ it. is_by day it.closed ≡ true) aggregations (λ a it at. to_closed_by day it.closed (none.closed a it at));
     acted = from_numbers (λ head. is_record_by day head ≡ true) records (λ r head at.
-    all_4 (int_le head.added day) (is_reviewed_by day head.review) (is_confirmed_by day head.confirmation) (is_receipted_by day head.receipt)
-    (le_to head.added day (none.added r head at)) (to_reviewed_by day head.review (none.reviewed r head at)) (to_confirmed_by day head.confirmation (none.confirmed r head at)) (to_receipted_by day head.receipt (none.receipted r head at)));
+        all_4 (int_le head.added day) (is_reviewed_by day head.review) (is_confirmed_by day head.confirmation) (is_receipted_by day head.receipt)
+        (le_to head.added day (none.added r head at)) (to_reviewed_by day head.review (none.reviewed r head at)) (to_confirmed_by day head.confirmation (none.confirmed r head at)) (to_receipted_by day head.receipt (none.receipted r head at)));
   },
   none.held,
   none.run_days,

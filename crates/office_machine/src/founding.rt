@@ -47,10 +47,7 @@ fn tree_of_rows(
 impl Parts {
     /// The parts of which the tables have the rows, and the keys of contents; damaged only where there is
     /// no sound office of such rows.
-    fn of_tables(
-        alloc: Global,
-        tables: Tables,
-    ) -> Result<(Parts, BTreeMap<RecordNo, ()>), Rebuild>
+    fn of_tables(alloc: Global, tables: Tables) -> Result<(Parts, BTreeMap<RecordNo, ()>), Rebuild>
         ensures parts { IfOk result (λ p. AreTablesOf tables p.0) }
         ensures keys { IfOk result (λ p. (contents : ByteMap) × HaveKeys contents tables.contents.items) }
         ensures marks { IfOk result (λ p. map (λ e. e.0) p.1.entries ≡ tables.contents.items) }

@@ -1,6 +1,6 @@
 //! What is examined of entries.
 ghost use Rattle.std.specs.Prelude.{◌≡◌, ◌≢◌, ◌↔◌, ◌&&◌, ◌||◌, ℕ, IfOk, IsNone, IsSome, IsTrue, MatchOption, Ok, Some, false, if◌then◌else◌, nat_le, not, true};
-ghost use Rattle.std.specs.FinMap.{from_entries, get, insert, values};
+ghost use Rattle.std.specs.FinMap.{contains_key, from_entries, get, insert, values};
 ghost use Rattle.std.specs.List.{All};
 ghost use Rattle.std.specs.Option.{is_none, is_some};
 ghost use Rattle.std.specs.Ordering.{nat_cmp};
@@ -34,6 +34,13 @@ fn note_ending(ends: &mut BTreeMap<RecordNo, RunNo>, entry: &Entry) -> Result<bo
         Some(run) => Ok(run == entry.run),
         None => Ok(true),
     }
+}
+
+/// Whether a run stands under the record.
+fn is_noted(ends: &BTreeMap<RecordNo, RunNo>, record_no: RecordNo) -> bool
+    ensures { result ≡ contains_key (from_entries {R = nat_cmp} ends.now.entries) record_no }
+{
+    ends.contains_key(&record_no)
 }
 
 /// Under each record the run of the entry that ended it; `None` where two runs ended one record.
@@ -101,12 +108,10 @@ impl Parts {
         requires { IsTrue (has_record self.now.tree entry.now.record_no) }
         ensures { result ≡ (holds_of (numbered self.now.tree.records entry.now.record_no) (λ head. not (is_transferring entry.now.outcome) || is_some head.receipt) && holds_of (status_of self.now.tree entry.now.record_no) (λ status. not (is_ending entry.now.outcome) || is_ended status)) }
     {
-        let is_ended = self.tree.status(entry.record_no) == Status::Ended;
+        let ended = self.tree.status(entry.record_no) == Status::Ended;
         match entry.outcome {
-            Outcome::Transferred => {
-                self.tree.record(entry.record_no).receipt.is_some() && is_ended
-            }
-            Outcome::Destroyed => is_ended,
+            Outcome::Transferred => self.tree.record(entry.record_no).receipt.is_some() && ended,
+            Outcome::Destroyed => ended,
             Outcome::Sent | Outcome::Skipped => true,
         }
     }
@@ -139,14 +144,22 @@ impl Parts {
         true
     }
 
+    /// Whether the record is ended and has no run under it.
+    fn lacks_ending(&self, ends: &BTreeMap<RecordNo, RunNo>, record_no: RecordNo) -> bool
+        requires { IsTrue (has_record self.now.tree record_no) }
+        ensures { result ≡ (holds_of (status_of self.now.tree record_no) is_ended && is_none (get (from_entries {R = nat_cmp} ends.now.entries) record_no)) }
+    {
+        self.tree.status(record_no) == Status::Ended && !is_noted(ends, record_no)
+    }
+
     /// Whether each ended record has a run under it.
     fn has_each_ended(&self, ends: &BTreeMap<RecordNo, RunNo>) -> bool
         ensures yes { IsTrue result → (r : ℕ) → numbered self.now.tree.statuses r ≡ Some Ended → IsSome (get (from_entries {R = nat_cmp} ends.now.entries) r) }
         ensures no { result ≡ false → (r : ℕ) × (numbered self.now.tree.statuses r ≡ Some Ended) × IsNone (get (from_entries {R = nat_cmp} ends.now.entries) r) }
     {
+        self.tree.sound();
         for before in 0..self.tree.record_count() {
-            let record_no = before + 1;
-            if self.tree.status(record_no) == Status::Ended && !ends.contains_key(&record_no) {
+            if self.lacks_ending(ends, before + 1) {
                 return false;
             }
         }

@@ -38,9 +38,9 @@ fn confirmation_of(
 ) -> Option<Option<Confirmation>>
     ensures { MatchOption result
         ((it : Option Confirmation) → option_map (λ confirmation. confirmation.action) it ≡ action → option_map (λ confirmation. confirmation.due) it ≡ due
-            → option_map (λ confirmation. confirmation.day) it ≡ day → option_map (λ confirmation. confirmation.by) it ≢ by)
+        → option_map (λ confirmation. confirmation.day) it ≡ day → option_map (λ confirmation. confirmation.by) it ≢ by)
         (λ it. (option_map (λ confirmation. confirmation.action) it ≡ action) × (option_map (λ confirmation. confirmation.due) it ≡ due)
-            × (option_map (λ confirmation. confirmation.day) it ≡ day) × (option_map (λ confirmation. confirmation.by) it ≡ by)) }
+        × (option_map (λ confirmation. confirmation.day) it ≡ day) × (option_map (λ confirmation. confirmation.by) it ≡ by)) }
 {
     match (action, due, day, by) {
         (Some(action), Some(due), Some(day), Some(by)) => Some(Some(Confirmation {

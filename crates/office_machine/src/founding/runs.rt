@@ -10,7 +10,6 @@ ghost use Rattle.office_tree.specs.Lists.{holds_of, numbered};
 ghost use Rattle.office_tree.specs.declared.status.Status.{Status};
 ghost use Rattle.office_machine.specs.Founding.{AreKeysOfLive, AreRunsBy};
 ghost use Rattle.office_machine.specs.Sound.{IsFormedRun, RunsStand};
-ghost use Rattle.office_machine.specs.State.{entry_cmp};
 ghost use Rattle.office_machine.specs.declared.run.Run.{Run};
 ghost use Rattle.office_proof.specs.Forms.{IsFormedEntry};
 ghost use Rattle.office_proof.specs.declared.entry.Entry.{Entry};
@@ -50,8 +49,7 @@ fn is_closed(runs: &[Run], run: RunNo) -> bool
 
 /// Whether each certificate is of a closed run.
 fn are_of_closed_runs(runs: &[Run], certificates: &BTreeMap<RunNo, Certificate>) -> bool
-    ensures all { IsTrue result ↔ All (λ run. holds_of (numbered runs.now run) (λ it. it.is_closed) ≡ true) (map.keys certificates.now) }
-    ensures ordered { map.IsOrdered nat_cmp certificates.now }
+    ensures { IsTrue result ↔ All (λ run. holds_of (numbered runs.now run) (λ it. it.is_closed) ≡ true) (map.keys certificates.now) }
 {
     certificates.keys().all(|run| is_closed(runs, *run))
 }
@@ -65,8 +63,7 @@ fn formed_number(run: RunNo)
 
 /// And so is each that has a certificate.
 fn formed_numbers(certificates: &BTreeMap<RunNo, Certificate>)
-    ensures all { All (λ run. run < 2 ^ 32) (map.keys certificates.now) }
-    ensures ordered { map.IsOrdered nat_cmp certificates.now }
+    ensures { All (λ run. run < 2 ^ 32) (map.keys certificates.now) }
 {
     for run in certificates.keys() {
         formed_number(*run);
@@ -116,8 +113,7 @@ fn is_live(tree: &Tree, record_no: RecordNo) -> bool
 
 /// Whether each key is the number of a record that is not ended.
 fn are_live(tree: &Tree, keys: &BTreeMap<RecordNo, ()>) -> bool
-    ensures all { IsTrue result ↔ All (λ r. holds_of (numbered tree.now.statuses r) (λ status. not (is_ended status)) ≡ true) (map.keys keys.now) }
-    ensures ordered { map.IsOrdered nat_cmp keys.now }
+    ensures { IsTrue result ↔ All (λ r. holds_of (numbered tree.now.statuses r) (λ status. not (is_ended status)) ≡ true) (map.keys keys.now) }
 {
     keys.keys().all(|record_no| is_live(tree, *record_no))
 }
@@ -195,8 +191,7 @@ fn formed_entry(entry: &Entry)
 
 /// And so is each entry.
 fn formed_entries(entries: &BTreeMap<(RunNo, RecordNo), Entry>)
-    ensures all { All IsFormedEntry (map.values entries.now) }
-    ensures ordered { map.IsOrdered entry_cmp entries.now }
+    ensures { All IsFormedEntry (map.values entries.now) }
 {
     for entry in entries.values() {
         formed_entry(entry);

@@ -29,7 +29,7 @@ loop-number-preserved c =
           ∙ sym (length_push c.loop-number.heads.items c.in-Some-record_of.head) ∙ sym (ap length heads);
       done = (λ i. numbered_rows (record_rows (heads i) (statuses i)))
           ∙ records-push c.loop-number.heads.items c.loop-number.statuses.items c.loop-number.invariant.long c.in-Some-record_of.head c.in-Some-record_of.status c.in-Some.number c.in-Some.row
-              c.in_ok-push_numbered.ensures.number c.in-Some-record_of.ensures
+          c.in_ok-push_numbered.ensures.number c.in-Some-record_of.ensures
           ∙ ap (λ front. front ++ (c.in-Some.number, c.in-Some.row) ∷ []) c.loop-number.invariant.done;
       left = c.loop-number.invariant.left ∙ ap (λ rest. c.loop-number.yielded ++ rest) c.in-Some.ensures.steps.0
           ∙ sym (append_assoc c.loop-number.yielded ((c.in-Some.number, c.in-Some.row) ∷ []) c.next.new.self.rest.items);

@@ -1,4 +1,3 @@
-use Rattle.std.proofs.Common.{◌≡◌, true}
 use Rattle.office_machine.proofs.RunTests.{earlier_closed}
 use Rattle.office_machine.proofs.founding.runs.are_earlier_closed.Goals as goal
 

@@ -1,5 +1,3 @@
-use Rattle.std.proofs.Common.{◌≡◌, ◌+◌, ◌-◌, arith, ap, ◌∙◌, length}
-use Rattle.office_tree.proofs.Places.{numbered_read, numbered_within}
 use Rattle.office_machine.specs.Sound.{IsFormedRun}
 use Rattle.office_machine.proofs.RunTests.{numbers_more, numbers_all, numbers_none, read_at}
 use Rattle.office_machine.proofs.founding.runs.formed_runs.Goals as goal

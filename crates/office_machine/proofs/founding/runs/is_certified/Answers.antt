@@ -1,4 +1,4 @@
-use Rattle.std.proofs.Common.{◌≡◌, ◌^◌, ◌∙◌, ap, sym}
+use Rattle.std.proofs.Common.{◌^◌, ◌∙◌, ap, sym}
 use Rattle.std.specs.FinMap.{contains_key, from_entries}
 use Rattle.std.specs.Ordering.{nat_cmp}
 use Rattle.office_machine.proofs.RunTests.{contains_is, too_great}
@@ -11,4 +11,4 @@ returns-in-Ok c =
     ∙ ap (contains_key (from_entries {R = nat_cmp} c.args.certificates.now.entries)) c.in-Ok.ensures.1
 
 pub returns-in-Err : goal.returns-in-Err
-returns-in-Err c = too_great c.args.certificates.now.entries c.args.run (2 ^ 32) c.formed_numbers.ensures.all c.in-Err.ensures
+returns-in-Err c = too_great c.args.certificates.now.entries c.args.run (2 ^ 32) c.formed_numbers.ensures c.in-Err.ensures

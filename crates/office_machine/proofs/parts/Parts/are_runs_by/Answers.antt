@@ -1,4 +1,4 @@
-use Rattle.std.proofs.Common.{◌≡◌, ◌≤ℤ◌, ◌∙◌, ap, sym, subst}
+use Rattle.std.proofs.Common.{◌≤ℤ◌, ◌∙◌, ap, sym, subst}
 use Rattle.office_tree.specs.Lists.{numbered}
 use Rattle.office_tree.proofs.Bridge.{from_numbers}
 use Rattle.office_machine.specs.Founding.{AreRunsBy}

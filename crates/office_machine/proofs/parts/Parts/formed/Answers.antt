@@ -1,4 +1,4 @@
-use Rattle.std.proofs.Common.{◌≡◌, ◌∙◌, ℕ, Some, ap, sym, subst}
+use Rattle.std.proofs.Common.{◌≡◌, ◌∙◌, ℕ, Some, ap, subst}
 use Rattle.std.specs.FinMap.{get}
 use Rattle.office_tree.specs.Lists.{numbered}
 use Rattle.office_proof.specs.Forms.{IsFormedEntry}
@@ -17,4 +17,4 @@ returns-clause-runs c =
 pub returns-clause-entries : goal.returns-clause-entries
 returns-clause-entries c =
     subst (λ (o : Office). (run r : ℕ) (e : Entry) → get o.entries (run, r) ≡ Some e → IsFormedEntry e) c.self.view_is
-    (λ run r e at. at_entries IsFormedEntry c.self.inside.entries.entries c.formed_entries.ensures.all (run, r) e at)
+    (λ run r e at. at_entries IsFormedEntry c.self.inside.entries.entries c.formed_entries.ensures (run, r) e at)
