@@ -1,5 +1,5 @@
 -- The runs of the entries that ended their records, under these records.
-use Rattle.std.proofs.Common.{◌≡◌, ◌≢◌, ◌+◌, ◌≤◌, ℕ, Bool, List, length, [], ◌∷◌, ◌++◌, Some, None, refl, sym, ap, ◌∙◌, subst, true, false, ◌⊎◌, inl, inr, Option, arith, append_assoc, append-nil}
+use Rattle.std.proofs.Common.{◌≡◌, ◌≢◌, ◌+◌, ◌≤◌, ℕ, Bool, List, length, [], ◌∷◌, ◌++◌, Some, None, refl, sym, ap, ◌∙◌, subst, true, false, inl, inr, Option, arith, append_assoc, append-nil}
 use Rattle.std.specs.Prelude.{◌&&◌, IsSome, IsNone, IsTrue}
 use Rattle.std.specs.Option.{is_none, is_some}
 use Rattle.std.proofs.lemmas.Bool.{and_parts, cases_Bool, cases_lt, false≢true, not-false, not-true}

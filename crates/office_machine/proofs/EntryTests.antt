@@ -1,6 +1,6 @@
 -- What the tests of entries tell of an office, and that a sound office passes them.
-use Rattle.std.proofs.Common.{◌≡◌, ◌≢◌, ◌≤◌, ◌<◌, ℕ, List, length, Option, Some, None, refl, sym, ap, ◌∙◌, subst, Bool, true, false, arith}
-use Rattle.std.specs.Prelude.{◌&&◌, ◌||◌, ◌↔◌, not, nat_le, IsSome, IfSome, IsTrue, if◌then◌else◌}
+use Rattle.std.proofs.Common.{◌≡◌, ◌≤◌, ◌<◌, ℕ, List, length, Option, Some, None, refl, sym, ap, ◌∙◌, subst, Bool, true, false}
+use Rattle.std.specs.Prelude.{◌||◌, ◌↔◌, not, nat_le, IsSome, IfSome, if◌then◌else◌}
 use Rattle.std.specs.FinMap.{FinMap, get, values}
 use Rattle.std.specs.List.{All, Contains}
 use Rattle.std.specs.Option.{is_none, is_some}
@@ -9,10 +9,10 @@ use Rattle.std.proofs.lemmas.List.Elements.{All-contains, All-contains_itself, A
 use Rattle.office_tree.specs.Disposal.{is_ended}
 use Rattle.office_tree.specs.Founding.{is_there}
 use Rattle.office_tree.specs.Lists.{numbered, holds_of}
-use Rattle.office_tree.specs.Tree.{code_cmp, status_of}
+use Rattle.office_tree.specs.Tree.{code_cmp}
 use Rattle.office_tree.specs.declared.head.Record.{Record}
 use Rattle.office_tree.specs.declared.status.Status.{Status}
-use Rattle.office_tree.specs.declared.status.Status.TheVariants.{Here, Sent, Received, Ended}
+use Rattle.office_tree.specs.declared.status.Status.TheVariants.{Ended}
 use Rattle.office_tree.proofs.Places.{numbered_within}
 use Rattle.office_proof.specs.Outcomes.{is_ending, is_skipping, is_transferring}
 use Rattle.office_proof.specs.declared.entry.Entry.{Entry}
@@ -20,11 +20,11 @@ use Rattle.office_proof.specs.declared.outcome.Outcome.{Outcome}
 use Rattle.office_proof.specs.declared.outcome.Outcome.TheVariants as outcome
 use Rattle.office_machine.specs.Founding.{EachHasOneEnding, is_entry_right}
 use Rattle.office_machine.specs.Sound.{EntriesStand, IsNamedEntry}
-use Rattle.office_machine.specs.State.{EntryMap, Office}
+use Rattle.office_machine.specs.State.{Office}
 use Rattle.office_machine.specs.declared.run.Run.{Run}
 use Rattle.office_machine.proofs.Endings.{ended_only}
 use Rattle.office_machine.proofs.Listing.{AreKeyed, value_found, found_value}
-use Rattle.office_machine.proofs.SoundMaps.{some_is, one_there}
+use Rattle.office_machine.proofs.SoundMaps.{one_there}
 use Rattle.office_machine.proofs.SoundPlans.{numbered_there}
 use Rattle.office_machine.proofs.SoundTaken.{holds_is}
 

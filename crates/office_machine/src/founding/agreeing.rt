@@ -34,7 +34,13 @@ impl Parts {
         ensures yes { IsTrue result → IsTreeBy self.now.tree.aggregations self.now.tree.records self.now.day × NoHoldIsAfter self.now.holds self.now.day × AreRunsBy self.now.runs self.now.day }
         ensures no { result ≡ false → IsTreeBy self.now.tree.aggregations self.now.tree.records self.now.day → NoHoldIsAfter self.now.holds self.now.day → AreRunsBy self.now.runs self.now.day → ⊥ }
     {
-        self.tree.is_by(self.day) && self.holds.are_by(self.day) && self.are_runs_by()
+        if !self.tree.is_by(self.day) {
+            return false;
+        }
+        if !self.holds.are_by(self.day) {
+            return false;
+        }
+        self.are_runs_by()
     }
 
     /// Whether they are sound with contents of these keys.

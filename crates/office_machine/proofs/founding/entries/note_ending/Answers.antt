@@ -1,4 +1,4 @@
-use Rattle.std.proofs.Common.{◌≡◌, ◌∙◌, ℕ, Some, None, true, false, sym, refl}
+use Rattle.std.proofs.Common.{◌≡◌, ◌∙◌, Some, None, true, false, sym}
 use Rattle.std.specs.Prelude.{nat_eq}
 use Rattle.std.specs.Cmp.{nat_cmp_total}
 use Rattle.std.specs.FinMap.{from_entries, get, nat_cmp-IsAntisymmetric}

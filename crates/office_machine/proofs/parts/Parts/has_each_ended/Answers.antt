@@ -1,4 +1,4 @@
-use Rattle.std.proofs.Common.{◌≡◌, ◌≤◌, ◌+◌, ◌∙◌, length, arith, sym, ap, subst}
+use Rattle.std.proofs.Common.{◌≤◌, ◌+◌, ◌∙◌, length, arith, sym, ap, subst}
 use Rattle.std.specs.FinMap.{from_entries}
 use Rattle.office_tree.specs.Sound.{IsSound}
 use Rattle.office_machine.proofs.Endings.{all_have, has_no_ending, next_has, none_has}

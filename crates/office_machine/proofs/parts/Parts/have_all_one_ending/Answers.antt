@@ -1,4 +1,4 @@
-use Rattle.std.proofs.Common.{◌≡◌, true, false, ap, subst}
+use Rattle.std.proofs.Common.{◌≡◌, true, false, subst}
 use Rattle.std.specs.FinMap.{from_entries, values}
 use Rattle.std.specs.Ordering.{nat_cmp}
 use Rattle.office_machine.specs.Founding.{AreEndings}
