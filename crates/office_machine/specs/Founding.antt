@@ -5,17 +5,22 @@ use Rattle.std.specs.List.{All, Contains}
 use Rattle.std.specs.Option.{is_none, is_some}
 use Rattle.std.specs.Ordering.{nat_cmp}
 use Rattle.std.specs.String.{string_bytes}
+use Rattle.office_days.specs.Limits.{IsDayNumber}
 use Rattle.office_tree.specs.Disposal.{is_ended}
 use Rattle.office_tree.specs.Examined.{AllHavePapers, AreContentsShort, IsTreeBy}
+use Rattle.office_tree.specs.Forms.{IsFormedTree}
 use Rattle.office_tree.specs.Founding.{is_there}
 use Rattle.office_tree.specs.Lists.{holds_of, numbered}
+use Rattle.office_tree.specs.Sound as tree
 use Rattle.office_tree.specs.Tree.{status_of}
 use Rattle.office_tree.specs.declared.status.Status.{Status}
 use Rattle.office_tree.specs.declared.status.Status.TheVariants.{Ended}
+use Rattle.office_holds.specs.Forms.{AreFormedHolds, FitsHoldLimits}
 use Rattle.office_holds.specs.Sound.{NoHoldIsAfter, TargetsStand}
+use Rattle.office_proof.specs.Forms.{IsFormedEntry}
 use Rattle.office_proof.specs.Outcomes.{is_ending, is_skipping, is_transferring}
 use Rattle.office_proof.specs.declared.entry.Entry.{Entry}
-use Rattle.office_machine.specs.Sound.{RunsStand}
+use Rattle.office_machine.specs.Sound.{IsFormedRun, RunsStand}
 use Rattle.office_machine.specs.State.{Office, ByteMap, EntryMap, with_contents}
 use Rattle.office_machine.specs.Tables.{StandsFor}
 use Rattle.office_machine.specs.declared.run.Run.{Run}
@@ -71,15 +76,33 @@ AreKeysOfLive statuses keys = (r : ℕ) → IsSome (get keys r) ↔ ((status : S
 abbrev pub AreEntriesKeyed : EntryMap → Type 0
 AreEntriesKeyed entries = (run r : ℕ) (e : Entry) → get entries (run, r) ≡ Some e → (e.run ≡ run) × (e.record_no ≡ r)
 
--- the parts of an office agree with each other, and with marks under the keys of its contents
-pub record DoPartsAgree {V : Type 0} (s : Office) (marks : FinMap nat_cmp V) : Type 0 where
-  pub runs_few : length s.runs ≤ 10_000
-  pub short : AreContentsShort s.tree.records
-  pub papers : AllHavePapers s.tree.records s.tree.statuses
+-- no day of an act is after the office's
+pub record IsOfficeBy (s : Office) : Type 0 where
   pub tree_by : IsTreeBy s.tree.aggregations s.tree.records s.day
   pub holds_by : NoHoldIsAfter s.holds s.day
   pub runs_by : AreRunsBy s.runs s.day
+
+-- targets, runs with certificates, marks under the keys of contents, and entries fit the parts that they name
+pub record DoPartsStand {V : Type 0} (s : Office) (marks : FinMap nat_cmp V) : Type 0 where
   pub targets : TargetsStand s.holds s.tree.classes (length s.tree.aggregations) (length s.tree.records)
   pub runs : RunsStand s.runs s.certificates
   pub live : AreKeysOfLive s.tree.statuses marks
   pub entries : All (λ e. is_entry_right s e ≡ true) (values s.entries)
+
+-- the parts of an office agree with each other
+pub record DoPartsAgree {V : Type 0} (s : Office) (marks : FinMap nat_cmp V) : Type 0 where
+  pub runs_few : length s.runs ≤ 10_000
+  pub short : AreContentsShort s.tree.records
+  pub papers : AllHavePapers s.tree.records s.tree.statuses
+  pub by : IsOfficeBy s
+  pub stand : DoPartsStand s marks
+
+-- what the types and the tree's and the holds' own promises tell of an office
+pub record IsFormedOffice (s : Office) : Type 0 where
+  pub tree_sound : tree.IsSound s.tree
+  pub tree_forms : IsFormedTree s.tree
+  pub holds_few : FitsHoldLimits s.holds
+  pub hold_forms : AreFormedHolds s.holds
+  pub run_forms : (n : ℕ) (it : Run) → numbered s.runs n ≡ Some it → IsFormedRun it
+  pub entry_forms : (run r : ℕ) (e : Entry) → get s.entries (run, r) ≡ Some e → IsFormedEntry e
+  pub day_form : IsDayNumber s.day

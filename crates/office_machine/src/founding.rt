@@ -1,5 +1,7 @@
 //! The office for which tables stand, or that there is none.
 ghost use Rattle.std.specs.Prelude.{◌≡◌, IfOk, map};
+ghost use Rattle.std.specs.BTreeMap.{IsOrdered};
+ghost use Rattle.std.specs.Ordering.{nat_cmp};
 ghost use Rattle.office_rows.specs.Rows.{OnDamaged};
 ghost use Rattle.office_tree.specs.Sound as sound_tree;
 ghost use Rattle.office_tree.specs.Tree.{TreeState};
@@ -51,6 +53,7 @@ impl Parts {
         ensures parts { IfOk result (λ p. AreTablesOf tables p.0) }
         ensures keys { IfOk result (λ p. (contents : ByteMap) × HaveKeys contents tables.contents.items) }
         ensures marks { IfOk result (λ p. map (λ e. e.0) p.1.entries ≡ tables.contents.items) }
+        ensures ordered { IfOk result (λ p. IsOrdered nat_cmp p.1) }
         ensures damaged { OnDamaged result ((s : State) → StandsFor tables s → IsSound s → ⊥) }
     {
         let tree = tree_of_rows(
