@@ -3,6 +3,7 @@ use Rattle.std.proofs.Common.{◌≡◌, ℕ, ◌≤◌, List, [], ◌∷◌, ma
 use Rattle.std.specs.Prelude.{IsSome, IsTrue, true, nat_le}
 use Rattle.std.specs.FinMap.{FinMap, entries, get, get-entries, values}
 use Rattle.std.specs.FinMap.Entries.{find}
+use Rattle.std.specs.List.{list_any}
 use Rattle.std.specs.Ordering.{eq_by_cmp, is_eq, nat_cmp}
 use Rattle.std.specs.declared.cmp.Ordering.{Ordering}
 use Rattle.std.specs.declared.cmp.Ordering.TheVariants.{Less, Equal, Greater}
@@ -15,9 +16,11 @@ use Rattle.office_tree.specs.Sound as tree
 use Rattle.office_tree.specs.declared.head.Record.{Record}
 use Rattle.office_tree.proofs.Bridge.{from_numbers}
 use Rattle.office_tree.proofs.Named.{le_to}
+use Rattle.office_holds.specs.Founding.{is_pair}
 use Rattle.office_holds.specs.Forms.{AreFormedHolds, FitsHoldLimits}
 use Rattle.office_proof.specs.Forms.{IsFormedEntry}
 use Rattle.office_proof.specs.declared.entry.Entry.{Entry}
+use Rattle.office_machine.specs.Copies.{HaveSameRows}
 use Rattle.office_machine.specs.Founding.{AreEntriesKeyed, AreTablesOf, DoPartsAgree, EachHasOneEnding, HaveKeys, IsFormedOffice, entry_rows}
 use Rattle.office_machine.specs.Rows.{rows_of}
 use Rattle.office_machine.specs.Sound.{IsFormedRun, IsSound}
@@ -128,3 +131,41 @@ found_state t s u many stand for sound =
     let have : HaveKeys u.contents t.contents.items = tables_keys t u for in
     let same : s ≡ u.office = one_office t (with_contents s u.contents) u many sound.limits.statuses (stand u.contents have) for in
     (have, subst (λ (o : Office). IsSound (with_contents o u.contents)) (sym same) sound)
+
+-- ---- tables with the same rows
+
+turned : (t u : Tables) → HaveSameRows t u → HaveSameRows u t
+turned t u same = record {
+  day = sym same.day;
+  schedules = sym same.schedules;
+  classes = sym same.classes;
+  aggregations = sym same.aggregations;
+  records = sym same.records;
+  contents = sym same.contents;
+  holds = sym same.holds;
+  targets = sym same.targets;
+  runs = sym same.runs;
+  entries = sym same.entries;
+  certificates = sym same.certificates;
+}
+
+pub same_stand : (t u : Tables) (s : State) → HaveSameRows t u → StandsFor t s → StandsFor u s
+same_stand t u s same stand = record {
+  day = sym same.day ∙ stand.day;
+  schedules = sym same.schedules ∙ stand.schedules;
+  classes = sym same.classes ∙ stand.classes;
+  aggregations = sym same.aggregations ∙ stand.aggregations;
+  records = sym same.records ∙ stand.records;
+  contents = sym same.contents ∙ stand.contents;
+  holds = sym same.holds ∙ stand.holds;
+  targets = λ code target. ap (list_any (λ e. is_pair e.0 e.1 code target)) (sym same.targets) ∙ stand.targets code target;
+  runs = sym same.runs ∙ stand.runs;
+  entries = ap entry_rows (sym same.entries) ∙ stand.entries;
+  certificates = sym same.certificates ∙ stand.certificates;
+}
+
+pub same_tables : (t u : Tables) (s : Office) → HaveSameRows t u → AreTablesOf t s → AreTablesOf u s
+same_tables t u s same stand = λ contents have. same_stand t u (with_contents s contents) same (stand contents (have ∙ sym same.contents))
+
+pub none_stand : (t u : Tables) → HaveSameRows t u → ((s : State) → StandsFor t s → IsSound s → ⊥) → (s : State) → StandsFor u s → IsSound s → ⊥
+none_stand t u same none s stand sound = none s (same_stand u t s (turned t u same) stand) sound

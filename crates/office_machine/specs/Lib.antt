@@ -1,5 +1,6 @@
 pub mod Acts
 pub mod Conditions
+pub mod Copies
 pub mod Disposing
 pub mod Effects
 pub mod Forms

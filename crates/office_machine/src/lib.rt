@@ -16,6 +16,7 @@ mod applying;
 mod certificate;
 mod change;
 mod closing;
+mod copying;
 mod decide;
 mod deciding;
 mod deciding_holds;

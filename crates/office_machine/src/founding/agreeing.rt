@@ -78,7 +78,11 @@ impl Parts {
     }
 
     /// Whether they are sound with contents of these keys.
-    pub(crate) fn is_sound(&self, alloc: Global, keys: &BTreeMap<RecordNo, ()>) -> Result<bool, Memory>
+    pub(crate) fn is_sound(
+        &self,
+        alloc: Global,
+        keys: &BTreeMap<RecordNo, ()>,
+    ) -> Result<bool, Memory>
         requires keyed { AreEntriesKeyed self.now.entries }
         requires ordered { IsOrdered nat_cmp keys.now }
         ensures yes { result ≡ Ok true → (contents : ByteMap) → HaveKeys contents (map (λ e. e.0) keys.now.entries) → IsSound (with_contents self.now contents) }

@@ -28,4 +28,17 @@ impl Machine {
             Err(_) => Err(Rebuild::Memory),
         }
     }
+
+    /// The same of tables that stay as they are: their rows are copied first.
+    pub fn from_tables(alloc: Global, tables: &Tables) -> Result<Machine, Rebuild>
+        ensures ok { IfOk result (λ machine. AreTablesOf tables.now machine) }
+        ensures sound { IfOk result (λ machine. (contents : ByteMap) → HaveKeys contents tables.now.contents.items → IsSound (with_contents machine contents)) }
+        ensures keys { IfOk result (λ machine. (contents : ByteMap) × HaveKeys contents tables.now.contents.items) }
+        ensures damaged { OnDamaged result ((s : State) → StandsFor tables.now s → IsSound s → ⊥) }
+    {
+        match tables.copy(alloc) {
+            Ok(copy) => Machine::of_tables(alloc, copy),
+            Err(_) => Err(Rebuild::Memory),
+        }
+    }
 }
