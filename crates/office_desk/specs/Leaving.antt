@@ -21,7 +21,7 @@ use Rattle.office_desk.specs.Desk.{DeskState}
 
 -- the desk is open, its office is the state's, its tables have the state's rows, and a crash leaves just these
 pub record StandsAt {S : Type 0} (g : Ghosts S) (s : State) (d : DeskState S) : Type 0 where
-  pub open : d.is_given_up ≡ false
+  pub is_open : d.is_given_up ≡ false
   pub office : d.office ≡ s.office
   pub sound : IsSound s
   pub rows : HoldsRows (rows_of s) (state g d.held)

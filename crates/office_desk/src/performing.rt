@@ -2,7 +2,7 @@
 ghost use Rattle.std.specs.Prelude.{◌≡◌, ◌≢◌, ◌+◌, ℕ, IfErr, IsTrue, OnErr, OnOk, Err, [], ◌∷◌, ◌++◌, false, take};
 ghost use Rattle.sqlite.specs.Held.{state};
 ghost use Rattle.sqlite.specs.State.{HasCleanDisk};
-ghost use Rattle.office_machine.specs.Acts.{CanBeMade, after, answers, step};
+ghost use Rattle.office_machine.specs.Acts.{CanBeMade, after, answers as answers_of, step};
 ghost use Rattle.office_machine.specs.Rows.{rows_of};
 ghost use Rattle.office_machine.specs.Writes.{all_office_writes, all_writes};
 ghost use Rattle.office_store.specs.Stands.{HoldsRows};
@@ -88,7 +88,7 @@ impl<S: Alter> Desk<S> {
     fn perform_open(&mut self, acts: &[Act], answers: &mut Vec<Answer>) -> Result<(), Fault>
         requires open { self.old.is_given_up ≡ false }
         ensures clean { HasCleanDisk (state S.Store self.new.held) → HasCleanDisk (state S.Store self.old.held) }
-        ensures answered { (s : State) → s.office ≡ self.old.office → OnOk result (answers.new.items ≡ answers.old.items ++ answers s acts.now) }
+        ensures answered { (s : State) → s.office ≡ self.old.office → OnOk result (answers.new.items ≡ answers.old.items ++ answers_of s acts.now) }
         ensures office { (s : State) → s.office ≡ self.old.office → OnOk result (self.new.office ≡ (after s acts.now).office) }
         ensures open { OnOk result (self.new.is_given_up ≡ false) }
         ensures stands { (s : State) → HasCleanDisk (state S.Store self.new.held) → StandsAt S.Store s self.old → OnOk result (StandsAt S.Store (after s acts.now) self.new) }
@@ -114,7 +114,7 @@ impl<S: Alter> Desk<S> {
     pub fn perform_all(&mut self, acts: &[Act], answers: &mut Vec<Answer>) -> Result<(), Fault>
         ensures gone { IsTrue self.old.is_given_up → (result ≡ Err Fault.Reopen) × (answers.new.items ≡ answers.old.items) × (self.new ≡ self.old) }
         ensures clean { HasCleanDisk (state S.Store self.new.held) → HasCleanDisk (state S.Store self.old.held) }
-        ensures answered { (s : State) → self.old.is_given_up ≡ false → s.office ≡ self.old.office → OnOk result (answers.new.items ≡ answers.old.items ++ answers s acts.now) }
+        ensures answered { (s : State) → self.old.is_given_up ≡ false → s.office ≡ self.old.office → OnOk result (answers.new.items ≡ answers.old.items ++ answers_of s acts.now) }
         ensures office { (s : State) → self.old.is_given_up ≡ false → s.office ≡ self.old.office → OnOk result (self.new.office ≡ (after s acts.now).office) }
         ensures open { OnOk result (self.new.is_given_up ≡ false) }
         ensures stands { (s : State) → HasCleanDisk (state S.Store self.new.held) → StandsAt S.Store s self.old → OnOk result (StandsAt S.Store (after s acts.now) self.new) }
