@@ -38,7 +38,7 @@ module _ {K V W : Type 0} (R : K → K → Ordering) (f : V → W) where
   below_made k [] = refl
   below_made k (e ∷ es) = ap (λ b. is_lt (R k e.0) && b) (below_made k es)
 
-  made_in_order : (es : List (K × V)) → is_sorted R (map (λ e. (e.0, f e.1)) es) ≡ is_sorted R es
+  pub made_in_order : (es : List (K × V)) → is_sorted R (map (λ e. (e.0, f e.1)) es) ≡ is_sorted R es
   made_in_order [] = refl
   made_in_order (e ∷ es) = ap₂ ◌&&◌ (below_made e.0 es) (made_in_order es)
 

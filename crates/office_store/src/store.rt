@@ -16,7 +16,7 @@ ghost use Rattle.office_store.specs.Stands.{HoldsRows, LeavesFirst, LeavesWithin
 ghost use Rattle.office_store.specs.Stored.{AllReadable};
 
 use crate::Fault;
-use crate::adopting::read_tables;
+use crate::adopting::{obeys, read_tables};
 use crate::content::content_in;
 use crate::saving::save_writes;
 use crate::tables::of_database;
@@ -98,6 +98,7 @@ impl<S: Alter> Store<S> {
         ensures faults { IfErr result (λ e. e.0 ≢ Fault.Reopen) }
         ensures ended { IfErr result (λ e. e.1.in_transaction ≡ false) }
     {
+        obeys(&conn);
         match read_tables(alloc, &mut conn) {
             Ok(tables) => Ok((Store { conn }, tables)),
             Err(fault) => Err((fault, conn)),
