@@ -5,7 +5,6 @@ use Rattle.sqlite_trees.specs.declared.store.Store.{Ghosts}
 use Rattle.office_machine.specs.Acts.{IsDecidedFor, step}
 use Rattle.office_machine.specs.Forms.{IsFormedAct}
 use Rattle.office_machine.specs.Rows.{rows_of}
-use Rattle.office_machine.specs.Sound.{IsSound}
 use Rattle.office_machine.specs.State.{State, Office}
 use Rattle.office_machine.specs.Writes.{all_office_writes, all_writes, write}
 use Rattle.office_machine.specs.declared.act.Act.{Act}

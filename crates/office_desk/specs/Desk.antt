@@ -1,5 +1,5 @@
 -- What a desk is: an office in memory, the tables behind it, and whether it was given up. Source: own.
-use Rattle.std.specs.Prelude.{◌≡◌, Bool, refl}
+use Rattle.std.specs.Prelude.{Bool, refl}
 use Rattle.std.specs.Coded.{Coded, code_by, coded×, coded_bool}
 use Rattle.sqlite.specs.Held.{Held, held_code}
 use Rattle.office_machine.specs.State.{Office}

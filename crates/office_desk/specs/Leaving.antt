@@ -1,6 +1,6 @@
 -- Where a desk stands, and what a crash leaves where it stops. Source: own.
 use Rattle.std.specs.FinMap.{get}
-use Rattle.std.specs.Prelude.{◌≡◌, ◌≢◌, ◌<◌, ◌≤◌, ◌+◌, ◌⊎◌, ℕ, Bool, true, false, List, ◌++◌, length, take, IsTrue, Option, Some, None}
+use Rattle.std.specs.Prelude.{◌≡◌, ◌≢◌, ◌<◌, ◌≤◌, ℕ, false, List, ◌++◌, length, take, IsTrue, Option, Some, None}
 use Rattle.sha2.specs.Sha256.{sha256}
 use Rattle.sqlite.specs.Held.{state}
 use Rattle.sqlite.specs.State as sqlite
@@ -8,7 +8,7 @@ use Rattle.sqlite_trees.specs.Tree.{Trees}
 use Rattle.sqlite_trees.specs.declared.store.Store.{Ghosts}
 use Rattle.office_tree.specs.Lists.{numbered}
 use Rattle.office_tree.specs.declared.head.Record.{Record}
-use Rattle.office_machine.specs.Acts.{after, answers}
+use Rattle.office_machine.specs.Acts.{answers}
 use Rattle.office_machine.specs.Rows.{rows_of}
 use Rattle.office_machine.specs.Sound.{IsSound}
 use Rattle.office_machine.specs.State.{State, Office}

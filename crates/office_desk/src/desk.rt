@@ -1,10 +1,10 @@
+ghost use Rattle.std.specs.Prelude.{◌≡◌};
+
 use office_machine::Machine;
 use office_store::Store;
 use sqlite::{Alter, Connection};
 use std::alloc::Global;
 use std::marker::Model;
-
-ghost use Rattle.std.specs.Prelude.{◌≡◌};
 
 /// An office at work over its tables. Contracts see a `DeskState`: the office in memory, what the
 /// connection holds, and whether the desk was given up.

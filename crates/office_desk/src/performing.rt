@@ -95,7 +95,7 @@ impl<S: Alter> Desk<S> {
         ensures err { (s : State) → s.office ≡ self.old.office → IfErr result (λ fault. (n : ℕ) × IsFrontAnswered s acts.now answers.old.items answers.new.items fault n
             × StopsAt (after s (take n acts.now)).office fault self.new
             × (HasCleanDisk (state S.Store self.new.held) → StandsAt S.Store s self.old
-                → StopsLeaving (after s (take n acts.now)) (after s (take (n + 1) acts.now)) fault (state S.Store self.new.held))) }
+            → StopsLeaving (after s (take n acts.now)) (after s (take (n + 1) acts.now)) fault (state S.Store self.new.held))) }
     {
         for act in acts {
             self.perform(act, answers)?;
@@ -121,7 +121,7 @@ impl<S: Alter> Desk<S> {
         ensures err { (s : State) → self.old.is_given_up ≡ false → s.office ≡ self.old.office → IfErr result (λ fault. (n : ℕ) × IsFrontAnswered s acts.now answers.old.items answers.new.items fault n
             × StopsAt (after s (take n acts.now)).office fault self.new
             × (HasCleanDisk (state S.Store self.new.held) → StandsAt S.Store s self.old
-                → StopsLeaving (after s (take n acts.now)) (after s (take (n + 1) acts.now)) fault (state S.Store self.new.held))) }
+            → StopsLeaving (after s (take n acts.now)) (after s (take (n + 1) acts.now)) fault (state S.Store self.new.held))) }
     {
         if self.is_given_up {
             return Err(Fault::Reopen);

@@ -41,7 +41,9 @@ impl<S: Alter> Desk<S> {
         ensures gone { IsTrue self.now.is_given_up → result ≡ Err Fault.Reopen }
     {
         self.check_open()?;
-        self.machine.record(self.alloc, record_no).map_err(of_memory)
+        self.machine
+            .record(self.alloc, record_no)
+            .map_err(of_memory)
     }
 
     /// The entry that ended the record; `None` where it is not ended or not there. Faults as of `record`.

@@ -1,10 +1,9 @@
-use Rattle.std.proofs.Common.{◌≡◌, List, [], ◌∷◌, ◌++◌, IfErr, OnOk, sym, ap, ◌∙◌, subst, rules}
+use Rattle.std.proofs.Common.{◌≡◌, [], ◌∷◌, ◌++◌, OnOk, sym, ap, ◌∙◌, rules}
 use Rattle.std.proofs.lemmas.Result.{on_ok_weaker}
 use Rattle.office_machine.specs.Acts.{step}
-use Rattle.office_machine.specs.State.{Office, State}
+use Rattle.office_machine.specs.State.{State}
 use Rattle.office_machine.specs.declared.answer.Answer.{Answer}
 use Rattle.office_desk.specs.Desk.{DeskState}
-use Rattle.office_desk.specs.Leaving.{StopsLeaving}
 use Rattle.office_desk.proofs.DecidedSteps.{go_step, office_stepped, stands_next, stay_step}
 use Rattle.office_desk.proofs.desk.Desk.perform.Goals as goal
 

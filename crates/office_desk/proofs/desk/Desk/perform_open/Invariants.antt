@@ -11,6 +11,6 @@ invariant-loop-act g l = record {
   clean : HasCleanDisk (state g.S.Store l.self.held) → HasCleanDisk (state g.S.Store l.fn.self.held);
   answered : (s : State) → s.office ≡ l.fn.self.office → l.answers.items ≡ l.fn.answers.items ++ answers s (take l.act-index l.acts);
   office : (s : State) → s.office ≡ l.fn.self.office → (after s (take l.act-index l.acts)).office ≡ l.self.office;
-  open_still : l.self.is_given_up ≡ false;
+  still : l.self.is_given_up ≡ false;
   stands : (s : State) → HasCleanDisk (state g.S.Store l.self.held) → StandsAt g.S.Store s l.fn.self → StandsAt g.S.Store (after s (take l.act-index l.acts)) l.self;
 }
