@@ -23,7 +23,7 @@ use std::marker::Model;
 /// sound.
 #[derive(Drop)]
 pub struct Machine {
-    pub(crate) parts: Parts,
+    parts: Parts,
 }
 
 impl Model for Machine {

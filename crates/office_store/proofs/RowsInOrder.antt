@@ -10,8 +10,7 @@ use Rattle.std.specs.declared.cmp.Ordering.TheVariants.{Less, Equal, Greater}
 use Rattle.std.proofs.lemmas.Bool.{and_parts, and_from}
 use Rattle.sqlite_rules.specs.Lists.{Has as IsIn}
 use Rattle.office_tree.specs.Tree.{code_cmp}
-use Rattle.office_machine.specs.Rows.{TableRows, record_rows, rows_of}
-use Rattle.office_rows.specs.Rows.{numbered_from}
+use Rattle.office_machine.specs.Rows.{TableRows, numbered_from, record_rows, rows_of}
 use Rattle.office_machine.specs.State.{State, entry_cmp}
 
 -- no key stands twice, and keys rise

@@ -5,9 +5,8 @@ use Rattle.sqlite_value.specs.Order.{Row}
 use Rattle.sqlite_trees.specs.Tree.{Trees}
 use Rattle.sqlite_schema.specs.declared.schema.Table.{Table}
 use Rattle.sqlite.specs.State.{State}
-use Rattle.office_holds.specs.Founding.{is_pair}
 use Rattle.office_holds.specs.declared.target.Target.{Target}
-use Rattle.office_machine.specs.Rows.{TableRows, rows_of}
+use Rattle.office_machine.specs.Rows.{TableRows, is_pair, rows_of}
 use Rattle.office_machine.specs.State.{empty_state}
 use Rattle.office_sql.specs.Bags as bags
 use Rattle.office_sql.specs.Office.{IsAtRest}
