@@ -210,7 +210,7 @@ module _ (holds : HoldMap) (formed : AreFormedHolds holds) where
 new_count : (day : ℤ) (reason by : List ℕ) → target_count (new_hold day reason by) ≤ 1_000
 new_count day reason by = let none = set.len-empty code_cmp in let no_number = set.len-empty nat_cmp in omega (arith, none, no_number)
 
-with_count : (target : Target) (hold : HoldState) → target_count (with_target target hold) ≤ target_count hold + 1
+pub with_count : (target : Target) (hold : HoldState) → target_count (with_target target hold) ≤ target_count hold + 1
 with_count (target.Class code) hold = omega (arith, len_more nat_list_cmp_total hold.classes code)
 with_count (target.Aggregation a) hold = omega (arith, len_more nat_cmp_total hold.aggregations a)
 with_count (target.Record r) hold = omega (arith, len_more nat_cmp_total hold.records r)
@@ -241,7 +241,7 @@ module _ (holds : HoldMap) (fits : FitsHoldLimits holds) where
       let room : len holds < 1_000 = below (len holds) 1_000 h.1.0 in
       record { holds_few = omega (arith, one_more, room); targets_few = OfEach-insert HasFewTargets holds code (new_hold day reason by) fits.targets_few (new_count day reason by) }
 
-  amended_fits : (code : List ℕ) (change : HoldState → HoldState) → ((hold : HoldState) → get holds code ≡ Some hold → target_count (change hold) ≤ 1_000) → FitsHoldLimits (amended holds code change)
+  pub amended_fits : (code : List ℕ) (change : HoldState → HoldState) → ((hold : HoldState) → get holds code ≡ Some hold → target_count (change hold) ≤ 1_000) → FitsHoldLimits (amended holds code change)
   amended_fits code change few = record { holds_few = subst (λ n. n ≤ 1_000) (sym (len-amended holds code change)) fits.holds_few; targets_few = OfEach-amended HasFewTargets holds code change fits.targets_few few }
 
   pub FitsHoldLimits-held_on : (code : List ℕ) (target : Target) → first_of (conditions_of_hold_on holds code target) ≡ None → FitsHoldLimits (held_on holds code target)

@@ -1,8 +1,14 @@
 pub mod Amending
+pub mod BareHolds
 pub mod Classes
 pub mod Covering
+pub mod CoveringRows
 pub mod Entries
 pub mod Keeping
 pub mod Keys
 pub mod Lasting
 pub mod Reclassifying
+pub mod Standing
+pub mod Subsets
+pub mod TargetCounts
+pub mod TargetRows

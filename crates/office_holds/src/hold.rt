@@ -1,18 +1,21 @@
-ghost use Rattle.std.specs.Prelude.{◌≡◌, ◌&&◌, nat_le, Some, None, OnOk, OnErr};
+ghost use Rattle.std.specs.Prelude.{◌≡◌, ◌↔◌, ◌≤ℤ◌, ◌&&◌, IfSome, IsTrue, nat_le, length, Some, None, OnOk, OnErr};
 ghost use Rattle.std.specs.FinSet.{contains};
 ghost use Rattle.std.specs.Option.{is_some};
+ghost use Rattle.office_days.specs.Limits.{IsDayNumber};
 ghost use Rattle.office_holds.specs.Conditions.{target_count};
 ghost use Rattle.office_holds.specs.Effects.{with_target, without_target};
+ghost use Rattle.office_holds.specs.Forms.{IsFormedHold};
 ghost use Rattle.office_holds.specs.Holds.{has_target, hold_covers, is_in_force};
 ghost use Rattle.office_holds.specs.Rows.{hold_from, hold_row};
+ghost use Rattle.office_holds.specs.Sound.{TargetsAreThere};
 
 use crate::sets::{
-    count_codes, count_numbers, has_any, has_code, has_number, put_code, put_number, take_code,
-    take_number,
+    are_aggregations, are_classes, are_records, count_codes, count_numbers, formed_codes, has_any,
+    has_code, has_number, put_code, put_number, take_code, take_number,
 };
 use crate::{HoldRow, Target};
 use office_days::Day;
-use office_tree::{AggNo, Code, Memory, RecordNo};
+use office_tree::{AggNo, Code, Memory, RecordNo, Tree};
 use std::alloc::Global;
 use std::collections::BTreeSet;
 use std::marker::Model;
@@ -45,6 +48,15 @@ impl Model for Hold {
       aggregations = from_list h.aggregations.keys;
       records = from_list h.records.keys;
     } };
+}
+
+/// Tells in proofs that a day, where there is one, may be handed in; a call changes nothing.
+fn formed_day_or_none(day: Option<Day>)
+    ensures { IfSome day IsDayNumber }
+{
+    if let Some(day) = day {
+        let _ = day.number();
+    }
 }
 
 impl Hold {
@@ -153,5 +165,37 @@ impl Hold {
             return true;
         }
         has_code(&self.classes, class)
+    }
+
+    /// Whether every target is in the tree.
+    pub(crate) fn do_targets_stand(&self, tree: &Tree) -> bool
+        ensures { IsTrue result ↔ TargetsAreThere tree.now.classes (length tree.now.aggregations) (length tree.now.records) self.now }
+    {
+        if !are_classes(&self.classes, tree) {
+            return false;
+        }
+        if !are_aggregations(&self.aggregations, tree) {
+            return false;
+        }
+        are_records(&self.records, tree)
+    }
+
+    /// Whether it was neither placed nor lifted after that day.
+    pub(crate) fn is_by(&self, last: Day) -> bool
+        ensures { IsTrue result ↔ (self.now.placed ≤ℤ last) × IfSome self.now.lifted (λ lifted. lifted ≤ℤ last) }
+    {
+        self.row.placed <= last && self.row.lifted.is_none_or(|lifted| lifted <= last)
+    }
+
+    /// Tells in proofs that its texts and days and the codes of its classes are of their forms; a call
+    /// changes nothing.
+    pub(crate) fn formed(&self)
+        ensures { IsFormedHold self.now }
+    {
+        let _ = self.row.reason.text();
+        let _ = self.row.placed.number();
+        let _ = self.row.placed_by.text();
+        formed_day_or_none(self.row.lifted);
+        formed_codes(&self.classes);
     }
 }

@@ -9,7 +9,9 @@
 
 mod changing;
 mod checking;
+mod examining;
 mod finding;
+mod founding;
 mod hold;
 mod holds;
 pub mod laws;

@@ -1,10 +1,12 @@
-ghost use Rattle.std.specs.Prelude.{◌≡◌, ◌<◌, ◌^◌, OnOk, OnErr};
+ghost use Rattle.std.specs.Prelude.{◌≡◌, ◌↔◌, ◌<◌, ◌^◌, IsTrue, OnOk, OnErr, true};
+ghost use Rattle.std.specs.FinMap.{contains_key};
 ghost use Rattle.std.specs.FinSet as set;
-ghost use Rattle.std.specs.List.{list_any};
+ghost use Rattle.std.specs.List.{All, list_any};
 ghost use Rattle.std.specs.Ordering.{nat_cmp};
-ghost use Rattle.office_tree.specs.Tree.{code_cmp};
+ghost use Rattle.office_tree.specs.Forms.{IsCode};
+ghost use Rattle.office_tree.specs.Tree.{code_cmp, has_aggregation, has_record};
 
-use office_tree::{Code, Memory};
+use office_tree::{Code, Memory, Tree};
 use std::collections::BTreeSet;
 
 /// Whether the set has the code.
@@ -72,4 +74,34 @@ pub(crate) fn has_any(numbers: &BTreeSet<u32>, these: &[u32]) -> bool
     ensures { result ≡ list_any (set.contains (set.from_list {R = nat_cmp} numbers.now.keys)) these.now }
 {
     these.iter().any(|&number| has_number(numbers, number))
+}
+
+/// Whether each code of the set is that of a class.
+pub(crate) fn are_classes(codes: &BTreeSet<Code>, tree: &Tree) -> bool
+    ensures { IsTrue result ↔ All (λ code. contains_key tree.now.classes code ≡ true) codes.now.keys }
+{
+    codes.iter().all(|code| tree.class(code).is_some())
+}
+
+/// Whether each number of the set is that of an aggregation.
+pub(crate) fn are_aggregations(numbers: &BTreeSet<u32>, tree: &Tree) -> bool
+    ensures { IsTrue result ↔ All (λ number. has_aggregation tree.now number ≡ true) numbers.now.keys }
+{
+    numbers.iter().all(|&number| tree.has_aggregation(number))
+}
+
+/// Whether each number of the set is that of a record.
+pub(crate) fn are_records(numbers: &BTreeSet<u32>, tree: &Tree) -> bool
+    ensures { IsTrue result ↔ All (λ number. has_record tree.now number ≡ true) numbers.now.keys }
+{
+    numbers.iter().all(|&number| tree.has_record(number))
+}
+
+/// Tells in proofs that each code of the set is of its form; a call changes nothing.
+pub(crate) fn formed_codes(codes: &BTreeSet<Code>)
+    ensures { All IsCode codes.now.keys }
+{
+    for code in codes.iter() {
+        let _ = code.text();
+    }
 }

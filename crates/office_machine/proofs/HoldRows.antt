@@ -13,12 +13,13 @@ use Rattle.office_tree.specs.Lists.{amended, holds_of}
 use Rattle.office_tree.specs.Tree.{code_cmp}
 use Rattle.office_tree.proofs.Inserting.{get-amended, same_code}
 use Rattle.office_holds.specs.Effects.{with_target, without_target}
+use Rattle.office_holds.specs.Founding.{is_pair, same_target}
 use Rattle.office_holds.specs.Holds.{HoldMap, HoldState, has_target}
 use Rattle.office_holds.specs.Rows.{hold_from, hold_row}
 use Rattle.office_holds.specs.declared.row.HoldRow.{HoldRow}
 use Rattle.office_holds.specs.declared.target.Target.{Target}
 use Rattle.office_holds.specs.declared.target.Target.TheVariants as target
-use Rattle.office_machine.specs.Rows.{is_pair, same_target, targets_of}
+use Rattle.office_machine.specs.Rows.{targets_of}
 
 pub codes_apart : IsAntisymmetric code_cmp
 codes_apart = slice_cmp-IsAntisymmetric nat_cmp-IsAntisymmetric

@@ -9,7 +9,7 @@ use Rattle.std.proofs.lemmas.Map.Made.{Contains-from_values_of}
 use Rattle.std.specs.declared.cmp.Ordering.{Ordering}
 use Rattle.std.specs.declared.cmp.Ordering.TheVariants.{Less, Equal, Greater}
 use Rattle.std.specs.Cmp.{IsTotalOrder, nat_cmp_total, on_total, then_total, tied_itself, eq_by_cmp_equiv}
-use Rattle.std.specs.FinMap.{get, entries, entries_sorted, get-entries}
+use Rattle.std.specs.FinMap.{get, entries, entries_sorted, get-entries, values}
 use Rattle.std.specs.FinMap.Entries.{find, below_all, is_sorted}
 use Rattle.std.specs.List.{AllByRecursion, Contains, list_any}
 use Rattle.std.specs.List.Sorted.{IsStrictlySortedBy}
@@ -176,7 +176,8 @@ found_is q v (e ∷ es) found = found_by q v e es (eq_by_cmp entry_cmp q e.0) fo
 abbrev IsKeyed : Kept → Type 0
 IsKeyed e = (e.1.run ≡ e.0.0) × (e.1.record_no ≡ e.0.1)
 
-abbrev AreKeyed : EntryMap → Type 0
+-- each entry stands under its own run and record
+abbrev pub AreKeyed : EntryMap → Type 0
 AreKeyed m = (run r : ℕ) (e : Entry) → get m (run, r) ≡ Some e → (e.run ≡ run) × (e.record_no ≡ r)
 
 each_keyed_in : (m : EntryMap) → AreKeyed m → (es : List Kept) → AllByRecursion (IsFoundIn (entries m)) es → AllByRecursion IsKeyed es
@@ -198,18 +199,27 @@ run_is n run e = grind (arith, nat_tests)
 is_run : (n run : ℕ) → n ≡ run → (n == run) ≡ true
 is_run n run e = grind (arith, nat_tests)
 
+-- each of the values stands under some key
+pub value_found : (m : EntryMap) (entry : Entry) → Contains (values m) entry → (key : ℕ × ℕ) × (get m key ≡ Some entry)
+value_found m entry h =
+    let one = Contains-from_values_of (entries m) entry h in
+    let found : IsFoundIn (entries m) (one.0, entry) = All-contains (IsFoundIn (entries m)) (entries m) (one.0, entry) (All-from_recursion (IsFoundIn (entries m)) (entries m) (each_found (entries m) (entries_rise m))) one.1 in
+    (one.0, get-entries m one.0 ∙ found)
+
+-- what stands under a key is one of the values
+pub found_value : (m : EntryMap) (key : ℕ × ℕ) (entry : Entry) → get m key ≡ Some entry → Contains (values m) entry
+found_value m key entry there = found_is key entry (entries m) (sym (get-entries m key) ∙ there)
+
 listed_is : (m : EntryMap) → AreKeyed m → (run : ℕ) (entry : Entry) → Contains (filter (of_run run) (map (λ e. e.1) (entries m))) entry → (r : ℕ) × (get m (run, r) ≡ Some entry)
 listed_is m keyed run entry h =
     let kept = kept_is (of_run run) (map (λ (e : Kept). e.1) (entries m)) entry h in
-    let one = Contains-from_values_of (entries m) entry kept.0 in
-    let found : IsFoundIn (entries m) (one.0, entry) = All-contains (IsFoundIn (entries m)) (entries m) (one.0, entry) (All-from_recursion (IsFoundIn (entries m)) (entries m) (each_found (entries m) (entries_rise m))) one.1 in
-    let there : get m one.0 ≡ Some entry = get-entries m one.0 ∙ found in
-    let same : run ≡ one.0.0 = sym (run_is entry.run run kept.1) ∙ (keyed one.0.0 one.0.1 entry there).0 in
-    (one.0.1, ap (λ n. get m (n, one.0.1)) same ∙ there)
+    let one = value_found m entry kept.0 in
+    let same : run ≡ one.0.0 = sym (run_is entry.run run kept.1) ∙ (keyed one.0.0 one.0.1 entry one.1).0 in
+    (one.0.1, ap (λ n. get m (n, one.0.1)) same ∙ one.1)
 
 is_listed : (m : EntryMap) → AreKeyed m → (run : ℕ) (entry : Entry) → (r : ℕ) × (get m (run, r) ≡ Some entry) → Contains (filter (of_run run) (map (λ e. e.1) (entries m))) entry
 is_listed m keyed run entry one =
-    is_kept (of_run run) (map (λ (e : Kept). e.1) (entries m)) entry (found_is (run, one.0) entry (entries m) (sym (get-entries m (run, one.0)) ∙ one.1)) (is_run entry.run run (keyed run one.0 entry one.1).0)
+    is_kept (of_run run) (map (λ (e : Kept). e.1) (entries m)) entry (found_value m (run, one.0) entry one.1) (is_run entry.run run (keyed run one.0 entry one.1).0)
 
 -- a certificate lists exactly the entries of its run
 pub listed_entries : (s : State) (run : ℕ) (entry : Entry) → IsSound s → (Contains (entries_of s.office run) entry ↔ ((r : ℕ) × (get s.office.entries (run, r) ≡ Some entry)))

@@ -13,7 +13,8 @@ use Rattle.office_tree.specs.declared.head.Receipt.{Receipt}
 use Rattle.office_tree.specs.declared.head.Record.{Record}
 use Rattle.office_tree.specs.declared.head.Review.{Review}
 use Rattle.office_tree.specs.declared.status.Status.{Status}
-use Rattle.office_machine.specs.Rows.{numbered_from, numbered_rows, record_row, record_rows}
+use Rattle.office_machine.specs.Rows.{record_row, record_rows}
+use Rattle.office_rows.specs.Rows.{numbered_from, numbered_rows}
 use Rattle.office_machine.specs.declared.rows.RecordRow.{RecordRow}
 
 -- ---- one is put in

@@ -8,7 +8,8 @@ use Rattle.std.specs.String.{string_bytes}
 use Rattle.office_tree.specs.Tree.{code_cmp}
 use Rattle.office_holds.specs.Effects.{with_target, without_target}
 use Rattle.office_holds.specs.Rows.{hold_from, hold_row}
-use Rattle.office_machine.specs.Rows.{all_row_writes, numbered_rows, record_row, record_rows, rows_of, write_rows}
+use Rattle.office_machine.specs.Rows.{all_row_writes, record_row, record_rows, rows_of, write_rows}
+use Rattle.office_rows.specs.Rows.{numbered_rows}
 use Rattle.office_machine.specs.State.{State}
 use Rattle.office_machine.specs.Writes.{AllFollow, CanFollow, CanPut, CanWrite, HasPlace, all_writes, write}
 use Rattle.office_machine.specs.declared.rows.RowWrite.{RowWrite}

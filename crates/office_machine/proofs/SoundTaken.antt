@@ -61,7 +61,8 @@ both : (a b : Bool) → (a && b) ≡ true → (a ≡ true) × (b ≡ true)
 both true b e = (refl, e)
 both false b e = absurd cc
 
-holds_is : {A : Type 0} (o : Option A) (test : A → Bool) → holds_of o test ≡ true → (x : A) × (o ≡ Some x) × (test x ≡ true)
+-- a test that holds of what is there
+pub holds_is : {A : Type 0} (o : Option A) (test : A → Bool) → holds_of o test ≡ true → (x : A) × (o ≡ Some x) × (test x ≡ true)
 holds_is None test e = absurd cc
 holds_is (Some x) test e = (x, refl, e)
 

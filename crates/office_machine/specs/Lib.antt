@@ -1,8 +1,10 @@
 pub mod Acts
 pub mod Conditions
+pub mod Copies
 pub mod Disposing
 pub mod Effects
 pub mod Forms
+pub mod Founding
 pub mod Lesser
 pub mod Meanings
 pub mod Readings
@@ -13,5 +15,6 @@ pub mod Sound
 pub mod State
 pub mod Steps
 pub mod Tables
+pub mod TreeRows
 pub mod Worked
 pub mod Writes

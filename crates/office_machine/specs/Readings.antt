@@ -7,13 +7,12 @@ use Rattle.std.specs.Option.{unwrap_or}
 use Rattle.std.specs.Ordering.{int_cmp, nat_cmp, ordering_then}
 use Rattle.std.specs.declared.cmp.Ordering.{Ordering}
 use Rattle.std.specs.FinMap.{values}
-use Rattle.office_tree.specs.Disposal.{counts}
+use Rattle.office_tree.specs.Disposal.{counts, is_here}
 use Rattle.office_tree.specs.Lists.{holds_of, numbered}
 use Rattle.office_tree.specs.Tree.{TreeState, action_of, class_of, due_of, plan_of, status_of}
 use Rattle.office_tree.specs.declared.action.Action.TheVariants.{Keep}
 use Rattle.office_tree.specs.declared.head.Record.{Record}
 use Rattle.office_tree.specs.declared.status.Status.{Status}
-use Rattle.office_tree.specs.declared.status.Status.TheVariants as status
 use Rattle.office_holds.specs.Holds.{least_covering}
 use Rattle.office_proof.specs.Outcomes.{is_ending}
 use Rattle.office_proof.specs.declared.entry.Entry.{Entry}
@@ -58,12 +57,6 @@ abbrev pub record_view : Office → ℕ → Option RecordView
 record_view s r = view_by s r (numbered s.tree.records r) (status_of s.tree r)
 
 -- ---- what is due
-
-abbrev pub is_here : Status → Bool
-is_here status.Here = true
-is_here status.Sent = false
-is_here status.Received = false
-is_here status.Ended = false
 
 -- the record is here, and due on that day or before it
 abbrev pub is_due_here : TreeState → ℤ → ℕ → Bool

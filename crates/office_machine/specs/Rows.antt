@@ -1,11 +1,11 @@
 -- The rows of the eleven tables that a state stands for. Source: own.
-use Rattle.std.specs.Prelude.{◌==◌, ℕ, suc, Bool, false, ◌&&◌, ◌||◌, not, List, [], ◌∷◌, map, ℤ}
+use Rattle.std.specs.Prelude.{ℕ, Bool, ◌&&◌, ◌||◌, not, List, [], ◌∷◌, map, ℤ}
 use Rattle.std.specs.Option.{option_map}
 use Rattle.std.specs.Ordering.{nat_cmp, eq_by_cmp}
-use Rattle.std.specs.Str.{bytes_eq}
 use Rattle.std.specs.String.{string_bytes}
 use Rattle.std.specs.FinMap.{entries, get}
 use Rattle.std.specs.FinMap.Entries.{put, where_key}
+use Rattle.office_rows.specs.Rows.{numbered_rows}
 use Rattle.office_tree.specs.Lists.{holds_of}
 use Rattle.office_tree.specs.Tree.{code_cmp}
 use Rattle.office_tree.specs.declared.aggregation.Aggregation.{Aggregation}
@@ -13,11 +13,11 @@ use Rattle.office_tree.specs.declared.class.Class.{Class}
 use Rattle.office_tree.specs.declared.head.Record.{Record}
 use Rattle.office_tree.specs.declared.schedule.Schedule.{Schedule}
 use Rattle.office_tree.specs.declared.status.Status.{Status}
+use Rattle.office_holds.specs.Founding.{is_pair}
 use Rattle.office_holds.specs.Holds.{HoldMap, has_target}
 use Rattle.office_holds.specs.Rows.{hold_row}
 use Rattle.office_holds.specs.declared.row.HoldRow.{HoldRow}
 use Rattle.office_holds.specs.declared.target.Target.{Target}
-use Rattle.office_holds.specs.declared.target.Target.TheVariants as target
 use Rattle.office_proof.specs.declared.entry.Entry.{Entry}
 use Rattle.office_machine.specs.State.{State, entry_cmp}
 use Rattle.office_machine.specs.declared.rows.RecordRow.{RecordRow}
@@ -38,14 +38,6 @@ pub record TableRows : Type 0 where
   pub runs : List (ℕ × Run)
   pub entries_by : List ((ℕ × ℕ) × Entry)
   pub certificates : List (ℕ × List ℕ)
-
-abbrev pub numbered_from : {A : Type 0} → ℕ → List A → List (ℕ × A)
-numbered_from n [] = []
-numbered_from n (x ∷ xs) = (suc n, x) ∷ numbered_from (suc n) xs
-
--- the things of a list under their numbers, from 1 on
-abbrev pub numbered_rows : {A : Type 0} → List A → List (ℕ × A)
-numbered_rows xs = numbered_from 0 xs
 
 -- a record's columns: its head's, its status, and each of the three groups that it may have
 abbrev pub record_row : Record → Status → RecordRow
@@ -95,16 +87,6 @@ rows_of s = record {
   entries_by = entries s.office.entries;
   certificates = entries s.office.certificates;
 }
-
-abbrev pub same_target : Target → Target → Bool
-same_target (target.Class code) (target.Class other) = bytes_eq code other
-same_target (target.Aggregation a) (target.Aggregation b) = a == b
-same_target (target.Record r) (target.Record q) = r == q
-same_target _ _ = false
-
--- a pair of hold and target
-abbrev pub is_pair : List ℕ → Target → List ℕ → Target → Bool
-is_pair code target other_code other_target = bytes_eq code other_code && same_target target other_target
 
 -- the rows with one put in by its key, or taken away
 abbrev pub write_rows : RowWrite → TableRows → TableRows

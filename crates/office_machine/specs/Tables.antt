@@ -2,8 +2,9 @@
 use Rattle.std.specs.Prelude.{◌≡◌, ℕ, List, map}
 use Rattle.std.specs.List.{list_any}
 use Rattle.std.specs.String.{string_bytes}
+use Rattle.office_holds.specs.Founding.{is_pair}
 use Rattle.office_holds.specs.declared.target.Target.{Target}
-use Rattle.office_machine.specs.Rows.{is_pair, rows_of}
+use Rattle.office_machine.specs.Rows.{rows_of}
 use Rattle.office_machine.specs.State.{State}
 use Rattle.office_machine.specs.declared.tables.Tables.{Tables}
 

@@ -72,8 +72,8 @@ fn formed_new_record(new: &NewRecord)
 }
 
 impl Act {
-    /// What an act asks for is of its form.
-    pub(crate) fn formed(&self)
+    /// Tells in proofs that what an act asks for is of its form; a call does nothing.
+    pub fn formed(&self)
         ensures { IsFormedAct self.now }
     {
         match self {

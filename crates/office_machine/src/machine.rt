@@ -23,7 +23,7 @@ use std::marker::Model;
 /// sound.
 #[derive(Drop)]
 pub struct Machine {
-    parts: Parts,
+    pub(crate) parts: Parts,
 }
 
 impl Model for Machine {

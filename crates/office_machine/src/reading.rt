@@ -17,7 +17,7 @@ use std::alloc::Global;
 use std::collections::BTreeMap;
 
 /// A second entry that is equal to this one.
-fn copy_entry(alloc: Global, entry: &Entry) -> Result<Entry, Memory>
+pub(crate) fn copy_entry(alloc: Global, entry: &Entry) -> Result<Entry, Memory>
     ensures { IfOk result (λ e. e ≡ entry.now) }
 {
     Ok(Entry {

@@ -24,6 +24,12 @@ is_skipping Transferred = false
 is_skipping Sent = false
 is_skipping Skipped = true
 
+abbrev pub is_transferring : Outcome → Bool
+is_transferring Destroyed = false
+is_transferring Transferred = true
+is_transferring Sent = false
+is_transferring Skipped = false
+
 -- the word for each outcome
 abbrev pub outcome_word : Outcome → List ℕ
 outcome_word Destroyed = codes "destroyed"

@@ -1,12 +1,18 @@
 -- The one row of the table `office`, of version 1. Source: own.
-use Rattle.std.proofs.Common.{◌≡◌, ◌<◌, ◌≤◌, ℕ, ℤ, pos, nat_eq, Bool, false, not, List, [], ◌∷◌, length, get_or, All, IsPermutation, rules, Result, Ok, Err, sym, ap, subst, ◌∙◌, true≢false, arith}
-use Rattle.std.proofs.lemmas.List.Sorted.{All-permutation, length_permutation}
+use Rattle.std.proofs.Common.{◌≡◌, ◌<◌, ◌≤◌, ℕ, ℤ, pos, nat_eq, Bool, false, not, List, [], ◌∷◌, length, get_or, All, IsPermutation, rules, Result, Ok, Err, IfErr, sym, ap, subst, ◌∙◌, true≢false, arith}
+use Rattle.std.proofs.lemmas.List.Sorted.{All-permutation, IsPermutation-sym, IsPermutation-trans, length_permutation}
 use Rattle.std.proofs.lemmas.Bool.Decides.{nat_tests}
 use Rattle.std.specs.Result.{result_eq}
 use Rattle.sqlite_value.specs.declared.value.Value.TheVariants.{Int}
 use Rattle.sqlite_value.specs.Order.{Row}
+use Rattle.sqlite_trees.specs.Tree.{Trees}
+use Rattle.office_sql.specs.Bags.{rows_of}
+use Rattle.office_sql.specs.Schema.{at, office}
 use Rattle.office_sql.specs.Shown.{office_row}
 use Rattle.office_sql.specs.Values.{Has}
+use Rattle.office_store.specs.Adopted.{IsOtherVersion}
+use Rattle.office_store.specs.declared.fault.Fault.{Fault}
+use Rattle.office_store.specs.declared.fault.Fault.TheVariants.{Damaged}
 
 -- what has the elements of a list of one is that list
 pub only_row : {X : Type 0} (row : X) (rows : List X) → IsPermutation (row ∷ []) rows → rows ≡ row ∷ []
@@ -45,3 +51,15 @@ same_number m n same = grind (arith, nat_tests)
 pub is_number : {E : Type 0} (F : E → E → Bool) (r : Result ℕ E) (n : ℕ) → not (result_eq nat_eq F r (Ok n)) ≡ false → r ≡ Ok n
 is_number F (Ok m) n same = ap Ok (same_number m n same)
 is_number F (Err e) n same = absurd (true≢false same)
+
+-- a row of version 1 is of no other version
+pub this_version : (db : Trees) (day : ℤ) → IsPermutation (office_row (pos 1) (pos 1) day ∷ []) (rows_of (at 0 office) db) → IsOtherVersion db → ⊥
+this_version db day same other =
+    let is = only_row (office_row (pos 1) (pos 1) day) _ (IsPermutation-trans _ _ _ same (IsPermutation-sym _ _ other.3)) in
+    let version : other.1 ≡ pos 1 = cc in
+    other.4 version
+
+-- and so after it was read, whatever fails, nothing is told of another version
+pub not_other : {X : Type 0} (result : Result X Fault) (db : Trees) (day : ℤ) → IsPermutation (office_row (pos 1) (pos 1) day ∷ []) (rows_of (at 0 office) db) → IfErr result (λ f. f ≡ Damaged → IsOtherVersion db → ⊥)
+not_other (Ok x) db day same = tt
+not_other (Err e) db day same = λ is. this_version db day same

@@ -5,8 +5,8 @@ use Rattle.std.proofs.lemmas.List.Sorted.{Contains-permutation, IsPermutation-sy
 use Rattle.sqlite_trees.specs.Tree.{Trees}
 use Rattle.sqlite_rules.specs.Lists.{Has as IsIn}
 use Rattle.sqlite_rules.proofs.ListLemmas.{contains_had, has_contained, some_from, some_has}
+use Rattle.office_holds.specs.Founding.{is_pair}
 use Rattle.office_holds.specs.declared.target.Target.{Target}
-use Rattle.office_machine.specs.Rows.{is_pair}
 use Rattle.office_sql.specs.Bags.{rows_of, share}
 use Rattle.office_sql.specs.Reads.{IsByKey}
 use Rattle.office_sql.specs.Schema.{at, targets}

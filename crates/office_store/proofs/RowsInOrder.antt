@@ -10,7 +10,8 @@ use Rattle.std.specs.declared.cmp.Ordering.TheVariants.{Less, Equal, Greater}
 use Rattle.std.proofs.lemmas.Bool.{and_parts, and_from}
 use Rattle.sqlite_rules.specs.Lists.{Has as IsIn}
 use Rattle.office_tree.specs.Tree.{code_cmp}
-use Rattle.office_machine.specs.Rows.{TableRows, numbered_from, record_rows, rows_of}
+use Rattle.office_machine.specs.Rows.{TableRows, record_rows, rows_of}
+use Rattle.office_rows.specs.Rows.{numbered_from}
 use Rattle.office_machine.specs.State.{State, entry_cmp}
 
 -- no key stands twice, and keys rise
@@ -37,7 +38,7 @@ module _ {K V W : Type 0} (R : K → K → Ordering) (f : V → W) where
   below_made k [] = refl
   below_made k (e ∷ es) = ap (λ b. is_lt (R k e.0) && b) (below_made k es)
 
-  made_in_order : (es : List (K × V)) → is_sorted R (map (λ e. (e.0, f e.1)) es) ≡ is_sorted R es
+  pub made_in_order : (es : List (K × V)) → is_sorted R (map (λ e. (e.0, f e.1)) es) ≡ is_sorted R es
   made_in_order [] = refl
   made_in_order (e ∷ es) = ap₂ ◌&&◌ (below_made e.0 es) (made_in_order es)
 

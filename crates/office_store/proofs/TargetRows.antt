@@ -5,9 +5,9 @@ use Rattle.std.proofs.lemmas.List.Sorted.{IsPermutation-refl}
 use Rattle.sqlite_trees.specs.Tree.{Trees}
 use Rattle.sqlite_rules.specs.Lists.{Has as IsIn}
 use Rattle.sqlite_rules.proofs.ListLemmas.{some_from}
+use Rattle.office_holds.specs.Founding.{is_pair, same_target}
 use Rattle.office_holds.specs.declared.target.Target.{Target}
 use Rattle.office_holds.specs.declared.target.Target.TheVariants as target
-use Rattle.office_machine.specs.Rows.{is_pair, same_target}
 use Rattle.office_sql.specs.Bags.{rows_of, share, IsPut}
 use Rattle.office_sql.specs.Schema.{at, targets}
 use Rattle.office_store.specs.Encoded.{target_kind, target_shown, target_text}

@@ -1,5 +1,5 @@
 -- What is read of the tables when an office is adopted, and how a reading ends. Source: own.
-use Rattle.std.specs.Prelude.{◌≡◌, ◌≢◌, ℕ, ℤ, pos, List, [], ◌∷◌, map, take, Option, Some, None, Result, IfOk, IfErr, OnOk, IsPermutation}
+use Rattle.std.specs.Prelude.{◌≡◌, ◌≢◌, All, ℕ, ℤ, pos, List, [], ◌∷◌, map, take, Option, Some, None, Result, IfOk, IfErr, OnOk, IsPermutation}
 use Rattle.sqlite_value.specs.declared.value.Value.TheVariants.{Int, Blob}
 use Rattle.sqlite_value.specs.Order.{Row}
 use Rattle.sqlite_trees.specs.Tree.{Trees}
@@ -9,7 +9,7 @@ use Rattle.office_sql.specs.Bags.{rows_of}
 use Rattle.office_sql.specs.Office.{IsAtRest}
 use Rattle.office_sql.specs.Reads.{IsByKey}
 use Rattle.office_sql.specs.Schema.{at, aggregations, certificates, classes, contents, entries, holds, office, records, runs, schedules, targets}
-use Rattle.office_sql.specs.Shown.{office_row}
+use Rattle.office_sql.specs.Shown.{content_row, office_row}
 use Rattle.office_store.specs.Encoded.{entry_shown}
 use Rattle.office_store.specs.Stored.{AllReadable, aggregation_pair, certificate_pair, class_pair, hold_pair, number_row, record_pair, run_pair, schedule_pair, target_pair}
 use Rattle.office_store.specs.declared.adopting.Holding.{Holding}
@@ -75,3 +75,7 @@ LeavesLess old new = (db : Trees) → new.may_leave db → old.may_leave db
 abbrev pub AreBytesOf : List Row → Option (List ℕ) → Type 0
 AreBytesOf rows None = rows ≡ []
 AreBytesOf rows (Some bytes) = (others : List Row) × IsPermutation rows ((Blob bytes ∷ []) ∷ others)
+
+-- each row of contents is a number and bytes
+abbrev pub AreNumbersAndBytes : Trees → Type 0
+AreNumbersAndBytes db = All (λ row. (n : ℤ) × (bytes : List ℕ) × (row ≡ content_row n bytes)) (rows_of (at 9 contents) db)

@@ -1,13 +1,15 @@
 -- When the tables in the database stand for the rows of an office. Source: own.
 use Rattle.std.specs.Prelude.{◌≡◌, ◌⊎◌, ℕ, Bool, pos, List, [], ◌∷◌, map, IsPermutation}
 use Rattle.std.specs.List.{list_any}
+use Rattle.std.specs.FinMap as finmap
 use Rattle.sqlite_value.specs.Order.{Row}
 use Rattle.sqlite_trees.specs.Tree.{Trees}
 use Rattle.sqlite_schema.specs.declared.schema.Table.{Table}
 use Rattle.sqlite.specs.State.{State}
+use Rattle.office_holds.specs.Founding.{is_pair}
 use Rattle.office_holds.specs.declared.target.Target.{Target}
-use Rattle.office_machine.specs.Rows.{TableRows, is_pair, rows_of}
-use Rattle.office_machine.specs.State.{empty_state}
+use Rattle.office_machine.specs.Rows.{TableRows, rows_of}
+use Rattle.office_machine.specs.State.{ByteMap, empty_state}
 use Rattle.office_sql.specs.Bags as bags
 use Rattle.office_sql.specs.Office.{IsAtRest}
 use Rattle.office_sql.specs.Schema.{at, aggregations, certificates, classes, contents, entries, holds, office, records, runs, schedules, targets}
@@ -23,6 +25,10 @@ abbrev pub HasTargets : Trees → (List ℕ → Target → Bool) → Type 0
 HasTargets db is_target =
     (pairs : List (List ℕ × Target)) × Has (at 12 targets) db (map (λ e. target_shown e.0 e.1) pairs)
     × ((code : List ℕ) (target : Target) → list_any (λ e. is_pair e.0 e.1 code target) pairs ≡ is_target code target)
+
+-- `contents` has these contents, and no other
+abbrev pub HasContents : Trees → ByteMap → Type 0
+HasContents db bytes = Has (at 9 contents) db (map (λ e. content_row (pos e.0) e.1) (finmap.entries bytes))
 
 -- the eleven tables have these rows; `office` has one, of version 1
 pub record Stands (t : TableRows) (db : Trees) : Type 0 where

@@ -1,13 +1,15 @@
 //! An office that is there is read whole: its version first, then one table after the other.
 ghost use Rattle.std.specs.Prelude.{◌≡◌, ◌≢◌, ◌⊎◌, ℤ, pos, false, List, [], ◌∷◌, IfOk, IfErr, OnOk, IsPermutation};
 ghost use Rattle.sqlite.specs.Held.{state};
+ghost use Rattle.sqlite.specs.State.{HasCleanDisk};
 ghost use Rattle.sqlite_value.specs.declared.value.Value.TheVariants.{Int};
 ghost use Rattle.sqlite_value.specs.Order.{Row};
 ghost use Rattle.office_days.specs.Limits.{IsDayNumber};
 ghost use Rattle.office_sql.specs.Bags.{rows_of};
+ghost use Rattle.office_sql.specs.Office.{IsAtRest};
 ghost use Rattle.office_sql.specs.Schema.{at, office};
 ghost use Rattle.office_sql.specs.Shown.{office_row};
-ghost use Rattle.office_store.specs.Adopted.{AreHoldingRead, ArePlansRead, AreRunningRead, AreThingsRead, IsRead, ReadsTables};
+ghost use Rattle.office_store.specs.Adopted.{AreHoldingRead, AreNumbersAndBytes, ArePlansRead, AreRunningRead, AreThingsRead, IsOtherVersion, IsRead, ReadsTables};
 
 use crate::Fault;
 use crate::columns::{day, has_columns};
@@ -51,12 +53,20 @@ struct Running {
     certificates: Vec<(RunNo, String)>,
 }
 
+/// An open connection's tables obey their schema: each row of `contents` is a number and bytes.
+pub(crate) fn obeys<S: Alter>(conn: &Connection<S>)
+    ensures { IsAtRest (state S.Store conn.now) → AreNumbersAndBytes (state S.Store conn.now).now.trees }
+{
+    conn.schema();
+}
+
 /// The rows of the eleven tables, where the version is this one.
 pub(crate) fn read_tables<S: Alter>(
     alloc: Global,
     conn: &mut Connection<S>,
 ) -> Result<Tables, Fault>
     ensures reads { ReadsTables IsRead (state S.Store conn.old) (state S.Store conn.new) result }
+    ensures this_version { HasCleanDisk (state S.Store conn.new) → IsAtRest (state S.Store conn.old) → IfErr result (λ fault. fault ≡ Fault.Damaged → IsOtherVersion (state S.Store conn.old).now.trees → ⊥) }
     ensures mode { conn.old.in_transaction ≡ false → conn.new.in_transaction ≡ false }
 {
     let day = office_day(conn)?;
@@ -124,6 +134,7 @@ fn read_running<S: Alter>(alloc: Global, conn: &mut Connection<S>) -> Result<Run
 // The office's day, where there is one row and its version is 1.
 fn office_day<S: Alter>(conn: &mut Connection<S>) -> Result<Day, Fault>
     ensures reads { ReadsTables (λ day db. IsPermutation (office_row (pos 1) (pos 1) day ∷ []) (rows_of (at 0 office) db)) (state S.Store conn.old) (state S.Store conn.new) result }
+    ensures this_version { HasCleanDisk (state S.Store conn.new) → IsAtRest (state S.Store conn.old) → IfErr result (λ fault. fault ≡ Fault.Damaged → IsOtherVersion (state S.Store conn.old).now.trees → ⊥) }
     ensures mode { conn.old.in_transaction ≡ false → conn.new.in_transaction ≡ false }
 {
     let rows = all_office(conn).map_err(of_database)?;
@@ -134,6 +145,7 @@ fn office_day<S: Alter>(conn: &mut Connection<S>) -> Result<Day, Fault>
 fn day_of(rows: &[Row]) -> Result<Day, Fault>
     ensures ok { IfOk result (λ day. rows.now ≡ office_row (pos 1) (pos 1) day ∷ []) }
     ensures damaged { IfErr result (λ fault. fault ≡ Fault.Damaged → (day : ℤ) → IsDayNumber day → rows.now ≢ office_row (pos 1) (pos 1) day ∷ []) }
+    ensures this_version { IfErr result (λ fault. fault ≡ Fault.Damaged → (one version : ℤ) (rest : Row) → version ≢ pos 1 → rows.now ≢ (Int one ∷ Int version ∷ rest) ∷ []) }
     ensures version { IfErr result (λ fault. fault ≡ Fault.Version → (one : ℤ) × (version : ℤ) × (rest : Row) × (rows.now ≡ (Int one ∷ Int version ∷ rest) ∷ []) × (version ≢ pos 1)) }
     ensures faults { IfErr result (λ fault. fault ≢ Fault.Reopen) }
 {

@@ -7,13 +7,14 @@ ghost use Rattle.sqlite_trees.specs.Tree.{Trees};
 ghost use Rattle.office_machine.specs.Acts.{CanBeMade};
 ghost use Rattle.office_machine.specs.Rows.{rows_of};
 ghost use Rattle.office_machine.specs.Sound.{IsSound};
-ghost use Rattle.office_machine.specs.State.{State};
+ghost use Rattle.office_machine.specs.Founding.{HaveKeys};
+ghost use Rattle.office_machine.specs.State.{ByteMap, State};
 ghost use Rattle.office_machine.specs.Tables.{StandsFor};
 ghost use Rattle.office_machine.specs.Writes.{all_writes};
 ghost use Rattle.office_machine.specs.declared.change.Change.{Change};
 ghost use Rattle.office_machine.specs.declared.tables.Tables.{Tables};
-ghost use Rattle.office_store.specs.Adopted.{IsRead};
-ghost use Rattle.office_store.specs.Stands.{Stands};
+ghost use Rattle.office_store.specs.Adopted.{AreNumbersAndBytes, IsRead};
+ghost use Rattle.office_store.specs.Stands.{HasContents, Stands};
 ghost use Rattle.office_store.specs.Stored.{AllReadable};
 ghost use Rattle.office_store.specs.Written.{AreWritten};
 
@@ -29,4 +30,12 @@ pub fn law_of_saved_rows()
 pub fn law_of_read_rows()
     ensures stand { (s : State) (t : Tables) (db : Trees) → IsSound s → Stands (rows_of s) db → IsRead t db → StandsFor t s }
     ensures readable { (s : State) (db : Trees) → IsSound s → ((run : ℕ) (text : List ℕ) → get s.office.certificates run ≡ Some text → IsUtf8 text) → Stands (rows_of s) db → AllReadable db }
+{}
+
+/// Where tables that were read stand for a state whose contents have the rows of `contents`, the
+/// database's tables stand for its rows; and rows of numbers and bytes, the numbers ascending, are those
+/// of contents.
+pub fn law_of_found_rows()
+    ensures stand { (s : State) (t : Tables) (db : Trees) → IsRead t db → StandsFor t s → HasContents db s.contents → Stands (rows_of s) db }
+    ensures contents { (t : Tables) (db : Trees) (like : ByteMap) → IsRead t db → AreNumbersAndBytes db → HaveKeys like t.contents.items → (contents : ByteMap) × HaveKeys contents t.contents.items × HasContents db contents }
 {}

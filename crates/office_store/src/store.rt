@@ -11,12 +11,12 @@ ghost use Rattle.office_machine.specs.State.{State, empty_state};
 ghost use Rattle.office_machine.specs.Writes.{all_writes};
 ghost use Rattle.office_sql.specs.Names.{has_other_table};
 ghost use Rattle.office_sql.specs.Office.{IsAtRest, IsBlank};
-ghost use Rattle.office_store.specs.Adopted.{IsOtherVersion, IsRead, LeavesLess};
+ghost use Rattle.office_store.specs.Adopted.{AreNumbersAndBytes, IsOtherVersion, IsRead, LeavesLess};
 ghost use Rattle.office_store.specs.Stands.{HoldsRows, LeavesFirst, LeavesWithin};
 ghost use Rattle.office_store.specs.Stored.{AllReadable};
 
 use crate::Fault;
-use crate::adopting::read_tables;
+use crate::adopting::{obeys, read_tables};
 use crate::content::content_in;
 use crate::saving::save_writes;
 use crate::tables::of_database;
@@ -90,11 +90,15 @@ impl<S: Alter> Store<S> {
         ensures read { IfOk result (λ p. HasCleanDisk (state S.Store p.0) → IsAtRest (state S.Store conn) → IsRead p.1 (state S.Store conn).now.trees) }
         ensures same { IfOk result (λ p. HasCleanDisk (state S.Store p.0) → IsAtRest (state S.Store conn) → IsAtRest (state S.Store p.0) × ((state S.Store p.0).now ≡ (state S.Store conn).now)) }
         ensures damaged { IfErr result (λ e. HasCleanDisk (state S.Store e.1) → IsAtRest (state S.Store conn) → e.0 ≡ Fault.Damaged → AllReadable (state S.Store conn).now.trees → ⊥) }
+        ensures bytes { IfOk result (λ p. HasCleanDisk (state S.Store p.0) → IsAtRest (state S.Store conn) → AreNumbersAndBytes (state S.Store conn).now.trees) }
+        ensures this_version { IfErr result (λ e. HasCleanDisk (state S.Store e.1) → IsAtRest (state S.Store conn) → e.0 ≡ Fault.Damaged → IsOtherVersion (state S.Store conn).now.trees → ⊥) }
+        ensures clean_read { IfOk result (λ p. HasCleanDisk (state S.Store p.0) → HasCleanDisk (state S.Store conn)) }
         ensures version { IfErr result (λ e. HasCleanDisk (state S.Store e.1) → IsAtRest (state S.Store conn) → e.0 ≡ Fault.Version → IsOtherVersion (state S.Store conn).now.trees) }
         ensures leaves { IfErr result (λ e. HasCleanDisk (state S.Store e.1) → IsAtRest (state S.Store conn) → LeavesLess (state S.Store conn) (state S.Store e.1)) }
         ensures faults { IfErr result (λ e. e.0 ≢ Fault.Reopen) }
         ensures ended { IfErr result (λ e. e.1.in_transaction ≡ false) }
     {
+        obeys(&conn);
         match read_tables(alloc, &mut conn) {
             Ok(tables) => Ok((Store { conn }, tables)),
             Err(fault) => Err((fault, conn)),
@@ -122,6 +126,7 @@ impl<S: Alter> Store<S> {
         ensures read { (s : State) → HasCleanDisk (state S.Store self.new) → HoldsRows (rows_of s) (state S.Store self.old) → IfOk result (λ bytes. option_map (λ it. it.items) bytes ≡ get s.contents record_no) }
         ensures same { (s : State) → HasCleanDisk (state S.Store self.new) → HoldsRows (rows_of s) (state S.Store self.old) → OnOk result (HoldsRows (rows_of s) (state S.Store self.new)) }
         ensures kept { (s : State) → HasCleanDisk (state S.Store self.new) → HoldsRows (rows_of s) (state S.Store self.old) → IfErr result (λ fault. fault ≢ Fault.Store → HoldsRows (rows_of s) (state S.Store self.new)) }
+        ensures intact { (s : State) → HasCleanDisk (state S.Store self.new) → HoldsRows (rows_of s) (state S.Store self.old) → result ≢ Err Fault.Damaged }
         ensures leaves { HasCleanDisk (state S.Store self.new) → IsAtRest (state S.Store self.old) → LeavesLess (state S.Store self.old) (state S.Store self.new) }
         ensures clean { HasCleanDisk (state S.Store self.new) → HasCleanDisk (state S.Store self.old) }
         ensures faults { IfErr result (λ fault. (fault ≢ Fault.Reopen) × (fault ≢ Fault.Version)) }

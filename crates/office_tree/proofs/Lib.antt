@@ -1,7 +1,10 @@
 pub mod Accepting
 pub mod Amending
+pub mod Bridge
 pub mod Containing
+pub mod Differing
 pub mod DueNumbers
+pub mod EachFormed
 pub mod Forming
 pub mod Inserting
 pub mod Keeping
@@ -9,6 +12,9 @@ pub mod LastAddition
 pub mod LastAdditions
 pub mod Least
 pub mod Maps
+pub mod Named
+pub mod Placed
+pub mod Papers
 pub mod Places
 pub mod Plan
 pub mod Putting

@@ -2,7 +2,9 @@ pub mod Codes
 pub mod Conditions
 pub mod Disposal
 pub mod Effects
+pub mod Examined
 pub mod Forms
+pub mod Founding
 pub mod Lists
 pub mod Meanings
 pub mod Rows

@@ -24,3 +24,10 @@ returns-clause-reads g c =
       leaves = search rules;
       clean = search rules;
     }
+
+pub returns-clause-this_version : goal.returns-clause-this_version
+returns-clause-this_version g c clean rest =
+    let bag = rows_of (at 0 office) (state g.S.Store c.args.conn.now).now.trees in
+    let rows = c.deref.result.now in
+    let held : IsPermutation bag rows = rw c.deref.ensures.value (search rules) in
+    IfErr-weaker c.day_of.result _ _ (λ fault none is other. none is other.0 other.1 other.2 other.4 (only_row _ rows (IsPermutation-trans _ bag rows other.3 held))) c.day_of.ensures.this_version

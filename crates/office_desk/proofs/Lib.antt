@@ -1,0 +1,2 @@
+pub mod DecidedSteps
+pub mod Fronts

@@ -1,0 +1,103 @@
+//! An office is opened: made anew where there is none, else the one for which the tables stand.
+ghost use Rattle.std.specs.Prelude.{◌≡◌, ◌≢◌, IfErr, IfOk, false, true};
+ghost use Rattle.sqlite.specs.Held.{state};
+ghost use Rattle.sqlite.specs.State.{HasCleanDisk};
+ghost use Rattle.office_machine.specs.State.{State, empty_state};
+ghost use Rattle.office_sql.specs.Names.{has_other_table};
+ghost use Rattle.office_sql.specs.Office.{IsAtRest, IsBlank};
+ghost use Rattle.office_store.specs.Adopted.{IsOtherVersion, LeavesLess};
+ghost use Rattle.office_store.specs.Stands.{LeavesFirst};
+ghost use Rattle.office_desk.specs.Leaving.{StandsAt};
+ghost use Rattle.office_desk.specs.Opening.{StandFor, StandForNone};
+
+use crate::Desk;
+use office_machine::Machine;
+use office_rows::Rebuild;
+use office_store::{Fault, Store};
+use sqlite::{Alter, Connection};
+use std::alloc::Global;
+
+/// The fault of tables of which nothing is built.
+fn of_rebuild(error: Rebuild) -> Fault
+    ensures memory { error ≡ Rebuild.Memory → result ≡ Fault.Memory }
+    ensures damaged { error ≡ Rebuild.Damaged → result ≡ Fault.Damaged }
+{
+    match error {
+        Rebuild::Memory => Fault::Memory,
+        Rebuild::Damaged => Fault::Damaged,
+    }
+}
+
+impl<S: Alter> Desk<S> {
+    /// Opens the office behind a connection. Where there is no table `office` its eleven tables are made
+    /// in one transaction, and the office is new; else nothing changes, and the office is the one for
+    /// which the tables stand; an open run stays open.
+    ///
+    /// At a fault the connection is given back: `Version` where the one row of `office` is of another
+    /// version; `Damaged` where the tables stand for no state, or where there is no table `office` and a
+    /// table of another of the ten names; `Memory` where there is none for what is read; `Store` where the
+    /// database failed.
+    pub fn open(alloc: Global, mut conn: Connection<S>) -> Result<Desk<S>, (Fault, Connection<S>)>
+        requires { conn.in_transaction ≡ false }
+        ensures made { IfOk result (λ desk. HasCleanDisk (state S.Store desk.held) → IsBlank (state S.Store conn) → StandsAt S.Store empty_state desk) }
+        ensures found { IfOk result (λ desk. HasCleanDisk (state S.Store desk.held) → IsAtRest (state S.Store conn) → (s : State) × StandFor (state S.Store conn).now.trees s × StandsAt S.Store s desk × ((state S.Store desk.held).now ≡ (state S.Store conn).now)) }
+        ensures open { IfOk result (λ desk. desk.is_given_up ≡ false) }
+        ensures version { IfErr result (λ e. HasCleanDisk (state S.Store e.1) → IsAtRest (state S.Store conn) → e.0 ≡ Fault.Version → IsOtherVersion (state S.Store conn).now.trees) }
+        ensures damaged { IfErr result (λ e. HasCleanDisk (state S.Store e.1) → IsAtRest (state S.Store conn) → e.0 ≡ Fault.Damaged → StandForNone (state S.Store conn).now.trees) }
+        ensures this_version { IfErr result (λ e. HasCleanDisk (state S.Store e.1) → IsAtRest (state S.Store conn) → e.0 ≡ Fault.Damaged → IsOtherVersion (state S.Store conn).now.trees → ⊥) }
+        ensures other_tables { IfErr result (λ e. IsBlank (state S.Store conn) → e.0 ≡ Fault.Damaged → has_other_table (state S.Store conn).now.schema ≡ true) }
+        ensures leaves { IfErr result (λ e. HasCleanDisk (state S.Store e.1) → IsAtRest (state S.Store conn) → LeavesLess (state S.Store conn) (state S.Store e.1)) }
+        ensures leaves_first { IfErr result (λ e. HasCleanDisk (state S.Store e.1) → IsBlank (state S.Store conn) → LeavesFirst (state S.Store conn) (state S.Store e.1)) }
+        ensures faults { IfErr result (λ e. e.0 ≢ Fault.Reopen) }
+        ensures ended { IfErr result (λ e. e.1.in_transaction ≡ false) }
+    {
+        match Store::found(&mut conn) {
+            Ok(true) => Desk::take_over(alloc, conn),
+            Ok(false) => Desk::make(alloc, conn),
+            Err(fault) => Err((fault, conn)),
+        }
+    }
+
+    /// Makes the tables of a new office.
+    fn make(alloc: Global, conn: Connection<S>) -> Result<Desk<S>, (Fault, Connection<S>)>
+        requires { conn.in_transaction ≡ false }
+        ensures made { IfOk result (λ desk. HasCleanDisk (state S.Store desk.held) → IsBlank (state S.Store conn) → StandsAt S.Store empty_state desk) }
+        ensures open { IfOk result (λ desk. desk.is_given_up ≡ false) }
+        ensures other_tables { IfErr result (λ e. e.0 ≡ Fault.Damaged → has_other_table (state S.Store conn).now.schema ≡ true) }
+        ensures leaves_first { IfErr result (λ e. HasCleanDisk (state S.Store e.1) → IsBlank (state S.Store conn) → LeavesFirst (state S.Store conn) (state S.Store e.1)) }
+        ensures faults { IfErr result (λ e. e.0 ≢ Fault.Reopen) }
+        ensures ended { IfErr result (λ e. e.1.in_transaction ≡ false) }
+    {
+        let store = Store::create(conn)?;
+        Ok(Desk {
+            machine: Machine::new(alloc),
+            store,
+            is_given_up: false,
+            alloc,
+        })
+    }
+
+    /// Takes over the tables of an office that is there.
+    fn take_over(alloc: Global, conn: Connection<S>) -> Result<Desk<S>, (Fault, Connection<S>)>
+        requires { conn.in_transaction ≡ false }
+        ensures found { IfOk result (λ desk. HasCleanDisk (state S.Store desk.held) → IsAtRest (state S.Store conn) → (s : State) × StandFor (state S.Store conn).now.trees s × StandsAt S.Store s desk × ((state S.Store desk.held).now ≡ (state S.Store conn).now)) }
+        ensures open { IfOk result (λ desk. desk.is_given_up ≡ false) }
+        ensures version { IfErr result (λ e. HasCleanDisk (state S.Store e.1) → IsAtRest (state S.Store conn) → e.0 ≡ Fault.Version → IsOtherVersion (state S.Store conn).now.trees) }
+        ensures damaged { IfErr result (λ e. HasCleanDisk (state S.Store e.1) → IsAtRest (state S.Store conn) → e.0 ≡ Fault.Damaged → StandForNone (state S.Store conn).now.trees) }
+        ensures this_version { IfErr result (λ e. HasCleanDisk (state S.Store e.1) → IsAtRest (state S.Store conn) → e.0 ≡ Fault.Damaged → IsOtherVersion (state S.Store conn).now.trees → ⊥) }
+        ensures leaves { IfErr result (λ e. HasCleanDisk (state S.Store e.1) → IsAtRest (state S.Store conn) → LeavesLess (state S.Store conn) (state S.Store e.1)) }
+        ensures faults { IfErr result (λ e. e.0 ≢ Fault.Reopen) }
+        ensures ended { IfErr result (λ e. e.1.in_transaction ≡ false) }
+    {
+        let (store, tables) = Store::adopt(alloc, conn)?;
+        match Machine::of_tables(alloc, tables) {
+            Ok(machine) => Ok(Desk {
+                machine,
+                store,
+                is_given_up: false,
+                alloc,
+            }),
+            Err(error) => Err((of_rebuild(error), store.release())),
+        }
+    }
+}

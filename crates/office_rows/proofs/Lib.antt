@@ -1,0 +1,4 @@
+pub mod Ascending
+pub mod Counted
+pub mod Exits
+pub mod Maps

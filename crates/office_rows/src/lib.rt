@@ -1,0 +1,9 @@
+//! Rows of tables back to maps and lists: a table by key stands for a map, a table by number for a list.
+//!
+//! A table's rows come in the order of its key. They are damaged where that order, or the run of the
+//! numbers 1, 2, .., is broken: then there is no map, or no list, of which they are the rows.
+#![tactic(auto)]
+
+mod build;
+
+pub use build::{Rebuild, keyed, numbered, push_keyed, push_numbered};

@@ -1,0 +1,180 @@
+//! What is examined of a tree before it is taken over with the rest of an office.
+ghost use Rattle.std.specs.Prelude.{◌≡◌, ◌↔◌, IsTrue, false, true, Ok};
+ghost use Rattle.office_tree.specs.Disposal.{is_disposal};
+ghost use Rattle.office_tree.specs.Examined.{AllHavePapers, AreContentsShort, IsTreeBy, has_papers, is_by, is_confirmed_by, is_disposal_confirmed, is_receipted_by, is_record_by, is_reviewed_by};
+ghost use Rattle.office_tree.specs.Forms.{IsFormedTree};
+ghost use Rattle.office_tree.specs.Lists.{Differ};
+ghost use Rattle.office_tree.specs.Sound.{RefsDiffer};
+
+use crate::formed::{formed_aggregations, formed_classes, formed_records, formed_schedules};
+use crate::{Action, Aggregation, Confirmation, Memory, Receipt, Record, Review, Status, Tree};
+use office_days::Day;
+use std::alloc::Global;
+use std::collections::BTreeSet;
+
+/// Whether the action is one that a disposal run does.
+fn is_disposal(action: Action) -> bool
+    ensures { result ≡ is_disposal action }
+{
+    match action {
+        Action::Transfer | Action::Destroy => true,
+        Action::Keep | Action::Review => false,
+    }
+}
+
+/// Whether the action that is confirmed, if one is, is one that a disposal run does.
+fn is_disposal_confirmed(confirmation: &Option<Confirmation>) -> bool
+    ensures { result ≡ is_disposal_confirmed confirmation.now }
+{
+    match confirmation {
+        Some(confirmation) => is_disposal(confirmation.action),
+        None => true,
+    }
+}
+
+/// Whether the record has what its status asks for.
+fn has_papers(head: &Record, status: Status) -> bool
+    ensures { result ≡ has_papers head.now status }
+{
+    if status != Status::Here && head.confirmation.is_none() {
+        return false;
+    }
+    if !is_disposal_confirmed(&head.confirmation) {
+        return false;
+    }
+    status != Status::Received || head.receipt.is_some()
+}
+
+/// Whether the day, if there is one, is not after the other.
+fn is_by(last: Day, day: Option<Day>) -> bool
+    ensures { result ≡ is_by last day }
+{
+    match day {
+        Some(day) => day <= last,
+        None => true,
+    }
+}
+
+/// Whether the review, if there is one, is of that day or before it.
+fn is_reviewed_by(last: Day, review: &Option<Review>) -> bool
+    ensures { result ≡ is_reviewed_by last review.now }
+{
+    match review {
+        Some(review) => review.day <= last,
+        None => true,
+    }
+}
+
+/// Whether the confirmation, if there is one, is of that day or before it.
+fn is_confirmed_by(last: Day, confirmation: &Option<Confirmation>) -> bool
+    ensures { result ≡ is_confirmed_by last confirmation.now }
+{
+    match confirmation {
+        Some(confirmation) => confirmation.day <= last,
+        None => true,
+    }
+}
+
+/// Whether the receipt, if there is one, is of that day or before it.
+fn is_receipted_by(last: Day, receipt: &Option<Receipt>) -> bool
+    ensures { result ≡ is_receipted_by last receipt.now }
+{
+    match receipt {
+        Some(receipt) => receipt.day <= last,
+        None => true,
+    }
+}
+
+/// Whether no day of an act on the record is after that day.
+fn is_record_by(last: Day, head: &Record) -> bool
+    ensures { result ≡ is_record_by last head.now }
+{
+    head.added <= last
+        && is_reviewed_by(last, &head.review)
+        && is_confirmed_by(last, &head.confirmation)
+        && is_receipted_by(last, &head.receipt)
+}
+
+/// Whether no two aggregations have one ref.
+fn do_aggregation_refs_differ(aggregations: &[Aggregation], alloc: Global) -> Result<bool, Memory>
+    ensures yes { result ≡ Ok true → Differ (λ it. it.ref_text) aggregations.now }
+    ensures no { result ≡ Ok false → Differ (λ it. it.ref_text) aggregations.now → ⊥ }
+{
+    let mut refs = BTreeSet::new(alloc);
+    for it in aggregations {
+        if !refs.insert(it.ref_text.text())? {
+            return Ok(false);
+        }
+    }
+    Ok(true)
+}
+
+/// Whether no two records have one ref.
+fn do_record_refs_differ(records: &[Record], alloc: Global) -> Result<bool, Memory>
+    ensures yes { result ≡ Ok true → Differ (λ head. head.ref_text) records.now }
+    ensures no { result ≡ Ok false → Differ (λ head. head.ref_text) records.now → ⊥ }
+{
+    let mut refs = BTreeSet::new(alloc);
+    for head in records {
+        if !refs.insert(head.ref_text.text())? {
+            return Ok(false);
+        }
+    }
+    Ok(true)
+}
+
+impl Tree {
+    /// Whether each record has the confirmation and the receipt that its status asks for, and each
+    /// confirmation names transfer or destruction.
+    pub fn have_all_papers(&self) -> bool
+        ensures yes { IsTrue result → AllHavePapers self.now.records self.now.statuses }
+        ensures no { result ≡ false → AllHavePapers self.now.records self.now.statuses → ⊥ }
+    {
+        for (head, status) in self.records.iter().zip(self.statuses.iter()) {
+            if !has_papers(head, *status) {
+                return false;
+            }
+        }
+        true
+    }
+
+    /// Whether no day of an act on the tree is after that day.
+    pub fn is_by(&self, last: Day) -> bool
+        ensures yes { IsTrue result → IsTreeBy self.now.aggregations self.now.records last }
+        ensures no { result ≡ false → IsTreeBy self.now.aggregations self.now.records last → ⊥ }
+    {
+        if !self.aggregations.iter().all(|it| is_by(last, it.closed)) {
+            return false;
+        }
+        self.records.iter().all(|head| is_record_by(last, head))
+    }
+
+    /// Whether no content is longer than one may be.
+    pub fn are_contents_short(&self) -> bool
+        ensures { IsTrue result ↔ AreContentsShort self.now.records }
+    {
+        self.records.iter().all(|head| head.length <= 262_144)
+    }
+
+    /// Whether no two aggregations and no two records have one ref.
+    pub fn do_refs_differ(&self, alloc: Global) -> Result<bool, Memory>
+        ensures yes { result ≡ Ok true → RefsDiffer self.now.aggregations self.now.records }
+        ensures no { result ≡ Ok false → RefsDiffer self.now.aggregations self.now.records → ⊥ }
+    {
+        if !do_aggregation_refs_differ(&self.aggregations, alloc)? {
+            return Ok(false);
+        }
+        do_record_refs_differ(&self.records, alloc)
+    }
+
+    /// Tells in proofs that all that stands in the tree is of its form; a call changes nothing.
+    pub fn formed(&self)
+        requires { AreContentsShort self.now.records }
+        ensures { IsFormedTree self.now }
+    {
+        formed_schedules(&self.schedules);
+        formed_classes(&self.classes);
+        formed_aggregations(&self.aggregations);
+        formed_records(&self.records);
+    }
+}
