@@ -1,5 +1,6 @@
 //! An office is opened: made anew where there is none, else the one for which the tables stand.
-ghost use Rattle.std.specs.Prelude.{◌≡◌, ◌≢◌, IfErr, IfOk, false, true};
+ghost use Rattle.std.specs.Prelude.{◌≡◌, ◌≢◌, IfErr, IfOk, codes, false, is_some, true};
+ghost use Rattle.sqlite_schema.specs.Names.{table_named};
 ghost use Rattle.sqlite.specs.Held.{state};
 ghost use Rattle.sqlite.specs.State.{HasCleanDisk};
 ghost use Rattle.office_machine.specs.State.{State, empty_state};
@@ -13,6 +14,7 @@ ghost use Rattle.office_desk.specs.Opening.{StandFor, StandForNone};
 use crate::Desk;
 use office_machine::Machine;
 use office_rows::Rebuild;
+use office_store::laws::{law_of_found_rows, law_of_read_rows};
 use office_store::{Fault, Store};
 use sqlite::{Alter, Connection};
 use std::alloc::Global;
@@ -45,7 +47,7 @@ impl<S: Alter> Desk<S> {
         ensures version { IfErr result (λ e. HasCleanDisk (state S.Store e.1) → IsAtRest (state S.Store conn) → e.0 ≡ Fault.Version → IsOtherVersion (state S.Store conn).now.trees) }
         ensures damaged { IfErr result (λ e. HasCleanDisk (state S.Store e.1) → IsAtRest (state S.Store conn) → e.0 ≡ Fault.Damaged → StandForNone (state S.Store conn).now.trees) }
         ensures this_version { IfErr result (λ e. HasCleanDisk (state S.Store e.1) → IsAtRest (state S.Store conn) → e.0 ≡ Fault.Damaged → IsOtherVersion (state S.Store conn).now.trees → ⊥) }
-        ensures other_tables { IfErr result (λ e. IsBlank (state S.Store conn) → e.0 ≡ Fault.Damaged → has_other_table (state S.Store conn).now.schema ≡ true) }
+        ensures other_tables { IfErr result (λ e. is_some (table_named (state S.Store conn).now.schema (codes "office")) ≡ false → e.0 ≡ Fault.Damaged → has_other_table (state S.Store conn).now.schema ≡ true) }
         ensures leaves { IfErr result (λ e. HasCleanDisk (state S.Store e.1) → IsAtRest (state S.Store conn) → LeavesLess (state S.Store conn) (state S.Store e.1)) }
         ensures leaves_first { IfErr result (λ e. HasCleanDisk (state S.Store e.1) → IsBlank (state S.Store conn) → LeavesFirst (state S.Store conn) (state S.Store e.1)) }
         ensures faults { IfErr result (λ e. e.0 ≢ Fault.Reopen) }
@@ -89,6 +91,8 @@ impl<S: Alter> Desk<S> {
         ensures faults { IfErr result (λ e. e.0 ≢ Fault.Reopen) }
         ensures ended { IfErr result (λ e. e.1.in_transaction ≡ false) }
     {
+        law_of_read_rows();
+        law_of_found_rows();
         let (store, tables) = Store::adopt(alloc, conn)?;
         match Machine::of_tables(alloc, tables) {
             Ok(machine) => Ok(Desk {
