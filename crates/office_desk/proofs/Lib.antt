@@ -1,3 +1,6 @@
+pub mod AllFates
 pub mod DecidedSteps
 pub mod Fronts
+pub mod LeftFates
+pub mod OneFates
 pub mod Opened

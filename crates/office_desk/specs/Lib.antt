@@ -1,3 +1,4 @@
 pub mod Desk
+pub mod Fates
 pub mod Leaving
 pub mod Opening

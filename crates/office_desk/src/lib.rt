@@ -8,6 +8,7 @@
 
 mod content;
 mod desk;
+mod fates;
 mod opening;
 mod performing;
 mod telling;

@@ -7,9 +7,11 @@ ghost use Rattle.office_machine.specs.Rows.{rows_of};
 ghost use Rattle.office_machine.specs.Writes.{all_office_writes, all_writes};
 ghost use Rattle.office_store.specs.Stands.{HoldsRows};
 ghost use Rattle.office_machine.specs.State.{State};
+ghost use Rattle.office_desk.specs.Fates.{LeavesFates};
 ghost use Rattle.office_desk.specs.Leaving.{IsFrontAnswered, StandsAt, StopsAt, StopsLeaving};
 
 use crate::Desk;
+use crate::fates::law_of_fates;
 use office_machine::{Act, Answer, Change, Decision};
 use office_store::Fault;
 use sqlite::Alter;
@@ -122,7 +124,9 @@ impl<S: Alter> Desk<S> {
             × StopsAt (after s (take n acts.now)).office fault self.new
             × (HasCleanDisk (state S.Store self.new.held) → StandsAt S.Store s self.old
             → StopsLeaving (after s (take n acts.now)) (after s (take (n + 1) acts.now)) fault (state S.Store self.new.held))) }
+        ensures fates { (s : State) → HasCleanDisk (state S.Store self.new.held) → StandsAt S.Store s self.old → LeavesFates s acts.now (state S.Store self.new.held) }
     {
+        law_of_fates();
         if self.is_given_up {
             return Err(Fault::Reopen);
         }
