@@ -8,7 +8,7 @@
 
 mod content;
 mod desk;
-mod fates;
+pub mod fates;
 mod opening;
 mod performing;
 mod telling;
