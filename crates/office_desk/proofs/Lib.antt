@@ -4,3 +4,5 @@ pub mod Fronts
 pub mod LeftFates
 pub mod OneFates
 pub mod Opened
+pub mod RunSteps
+pub mod StepFates

@@ -14,6 +14,7 @@ use Rattle.office_machine.specs.declared.act.Act.TheVariants.{AddRecord}
 use Rattle.office_machine.specs.declared.answer.Answer.TheVariants.{Number}
 use Rattle.office_machine.specs.declared.new_record.NewRecord.{NewRecord}
 use Rattle.office_store.specs.Stands.{Stands}
+use Rattle.office_desk.specs.Resuming.{AreRunSteps}
 
 -- the record is there
 abbrev pub IsThere : State → ℕ → Type 0
@@ -56,3 +57,7 @@ pub record StandsAfter (s : State) (acts : List Act) (n : ℕ) (db : Trees) : Ty
 -- whatever tables a crash leaves, they are those after some number of the acts, and these acts tell the contents
 abbrev pub LeavesFates : State → List Act → sqlite.State → Type 0
 LeavesFates s acts held = (db : Trees) → held.may_leave db → (n : ℕ) × StandsAfter s acts n db
+
+-- the same of some number of steps of the open run
+abbrev pub LeavesStepFates : State → sqlite.State → Type 0
+LeavesStepFates s held = (acts : List Act) × AreRunSteps acts × LeavesFates s acts held

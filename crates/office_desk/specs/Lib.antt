@@ -2,3 +2,4 @@ pub mod Desk
 pub mod Fates
 pub mod Leaving
 pub mod Opening
+pub mod Resuming

@@ -11,6 +11,7 @@ mod desk;
 pub mod fates;
 mod opening;
 mod performing;
+mod resuming;
 mod telling;
 
 pub use desk::Desk;

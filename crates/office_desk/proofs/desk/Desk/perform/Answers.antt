@@ -1,5 +1,5 @@
-use Rattle.std.proofs.Common.{◌≡◌, [], ◌∷◌, ◌++◌, OnOk, sym, ap, ◌∙◌, rules}
-use Rattle.std.proofs.lemmas.Result.{on_ok_weaker}
+use Rattle.std.proofs.Common.{◌≡◌, sym, ap, ◌∙◌, rules}
+use Rattle.std.proofs.lemmas.Result.{IfOk-weaker, on_ok_weaker}
 use Rattle.office_machine.specs.Acts.{step}
 use Rattle.office_machine.specs.State.{State}
 use Rattle.office_machine.specs.declared.answer.Answer.{Answer}
@@ -11,15 +11,14 @@ use Rattle.office_desk.proofs.desk.Desk.perform.Goals as goal
 office_of : {S : Type 0} {d e : DeskState S} → d ≡ e → d.office ≡ e.office
 office_of same = ap (λ d. d.office) same
 
-pub returns-after-push-clause-answered : goal.returns-after-push-clause-answered
-returns-after-push-clause-answered g c s same =
+pub returns-in-Ok-Stay-clause-answered : goal.returns-in-Ok-Stay-clause-answered
+returns-in-Ok-Stay-clause-answered g c s same =
     let decided = rw c.in-Ok-Stay.field-0-is at c.in-Ok-Stay.ensures.step in
     let is = stay_step s c.self.inside.machine c.args.act.now c.in-Ok-Stay.answer (same ∙ sym (office_of c.self.view_is)) decided in
-    let told : OnOk c.match-push.result (c.push.new.self.items ≡ c.args.answers.now.items ++ c.in-Ok-Stay.answer ∷ []) = search rules in
-    on_ok_weaker c.match-push.result (λ e. e ∙ ap (λ (p : Answer × State). c.args.answers.now.items ++ p.0 ∷ []) (sym is)) told
+    ap (λ (p : Answer × State). p.0) (sym is)
 
-pub returns-after-push-clause-office : goal.returns-after-push-clause-office
-returns-after-push-clause-office g c s same =
+pub returns-in-Ok-Stay-clause-office : goal.returns-in-Ok-Stay-clause-office
+returns-in-Ok-Stay-clause-office g c s same =
     let decided = rw c.in-Ok-Stay.field-0-is at c.in-Ok-Stay.ensures.step in
     let is = stay_step s c.self.inside.machine c.args.act.now c.in-Ok-Stay.answer (same ∙ sym (office_of c.self.view_is)) decided in
     let office : c.args.self.now.office ≡ (step s c.args.act.now).1.office = sym same ∙ ap (λ (p : Answer × State). p.1.office) (sym is) in
@@ -29,7 +28,7 @@ pub returns-in-Ok-Go-clause-answered : goal.returns-in-Ok-Go-clause-answered
 returns-in-Ok-Go-clause-answered g c s same =
     let decided = rw c.in-Ok-Go.field-0-is at c.in-Ok-Go.ensures.step in
     let by = go_step s c.self.inside.machine c.args.act.now c.in-Ok-Go.change (same ∙ sym (office_of c.self.view_is)) decided in
-    on_ok_weaker c.make.result (λ e. e ∙ ap (λ a. c.args.answers.now.items ++ a ∷ []) (sym by.answered)) c.make.ensures.answered
+    IfOk-weaker c.make.result _ _ (λ answer e. e ∙ sym by.answered) c.make.ensures.answered
 
 pub returns-in-Ok-Go-clause-office : goal.returns-in-Ok-Go-clause-office
 returns-in-Ok-Go-clause-office g c s same =
