@@ -19,7 +19,7 @@ use Rattle.office_desk.specs.Resuming.{AreRunSteps}
 use Rattle.office_desk.proofs.LeftFates.{AreFatesTold, fates_at, fates_done}
 use Rattle.office_desk.proofs.RunSteps.{step_run}
 
-run_steps : ℕ → List Act
+abbrev run_steps : ℕ → List Act
 run_steps zero = []
 run_steps (suc n) = act.RunStep ∷ run_steps n
 

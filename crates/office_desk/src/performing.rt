@@ -144,13 +144,13 @@ impl<S: Alter> Desk<S> {
             → HasCleanDisk (state S.Store self.new.held) → StandsAt S.Store t self.old → LeavesMidway s run (state S.Store self.new.held) }
     {
         law_of_fates();
-        law_of_resumption();
         if self.is_given_up {
             return Err(Fault::Reopen);
         }
         if answers.try_reserve(acts.len()).is_err() {
             return Err(Fault::Memory);
         }
+        law_of_resumption();
         self.perform_open(acts, answers)
     }
 }
