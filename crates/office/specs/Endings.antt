@@ -3,11 +3,11 @@ use Rattle.std.specs.Prelude.{ℕ, List, [], ◌∷◌, ◌++◌, codes, Option,
 use Rattle.std.specs.Fmt.{decimal}
 use Rattle.office_days.specs.declared.refusal.Refusal.{Refusal}
 use Rattle.office_days.specs.Refusals.{refusal_number}
-use Rattle.office.specs.declared.output.Io.{Io}
+use Rattle.office_plan.specs.declared.output.Io.{Io}
 use Rattle.office.specs.declared.ending.Ending.{Ending}
 use Rattle.office.specs.declared.ending.Ending.TheVariants.{Done, Refused, LineRefused, BadWords, File, Memory}
-use Rattle.office.specs.declared.input.PlanStop.{PlanStop}
-use Rattle.office.specs.declared.input.PlanStop.TheVariants as stop
+use Rattle.office_plan.specs.declared.input.PlanStop.{PlanStop}
+use Rattle.office_plan.specs.declared.input.PlanStop.TheVariants as stop
 
 -- a refusal is told as such, and a writer's error as that of a file
 abbrev pub ending_of : Result (Option Refusal) Io → Ending

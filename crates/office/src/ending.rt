@@ -1,8 +1,7 @@
 ghost use Rattle.std.specs.Prelude.{◌≡◌};
 
-use crate::input::PlanStop;
-use crate::output::Io;
 use office_days::Refusal;
+use office_plan::{Io, PlanStop};
 use std::fmt;
 
 /// How the program ends. Its text is the line on standard error, with its line feed, or nothing.

@@ -1,37 +1,21 @@
 //! The program `office` of the records disposal office.
 //!
-//! Its words are read by `clap` (`words`), each command does its work over a writer whose bytes
-//! a contract can name (`due`), and `ending` says what the program tells the caller at the end:
-//! the exit status, and the line on standard error.
+//! Its words are read by `office_words`, the commands that need no stored office are done by
+//! `office_plan`, and `ending` says what the program tells the caller at the end: the exit status,
+//! and the line on standard error.
 #![tactic(auto)]
 
-mod due;
 mod ending;
-mod input;
-mod lines;
-mod number;
-mod output;
-mod parting;
-mod parts;
-mod plan;
-mod plan_line;
-mod plan_step;
-#[cfg(test)]
-mod plan_tests;
 #[cfg(test)]
 mod tests;
-mod text;
-mod words;
 
 use clap::error::ErrorKind;
-use due::due_to;
 use ending::Ending;
-use input::PlanStop;
-use plan::plan_to;
+use office_plan::{PlanStop, due_to, plan_to};
+use office_words::{Words, read_words};
 use std::fs::File;
 use std::process::ExitCode;
 use std::{env, io};
-use words::{Words, read_words};
 
 /// Does what the words ask for, on standard output.
 fn perform(rt: &HostRuntime, words: Words<'_>) -> Ending {
