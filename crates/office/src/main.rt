@@ -12,26 +12,35 @@ mod tests;
 use clap::error::ErrorKind;
 use ending::Ending;
 use office_plan::{PlanStop, due_to, plan_to};
-use office_words::{Words, read_words};
+use office_store::Fault;
+use office_words::{Order, Words, order_of, read_words};
 use std::fs::File;
 use std::process::ExitCode;
 use std::{env, io};
 
-/// Does what the words ask for, on standard output.
-fn perform(rt: &HostRuntime, words: Words<'_>) -> Ending {
+/// Does what is ordered, on standard output.
+fn perform(rt: &HostRuntime, order: Order<'_>) -> Ending {
     let mut out = io::writer(rt);
-    match words {
-        Words::Due {
+    match order {
+        Order::Due {
             unit,
             count,
             offset,
             day,
         } => Ending::of(due_to(unit, count, offset, day, &mut out)),
-        Words::Plan { file } => match File::open(rt, file) {
+        Order::Plan { file } => match File::open(rt, file) {
             Ok(mut reader) => Ending::of_plan(plan_to(rt.alloc(), &mut reader, &mut out)),
             Err(error) => Ending::of_plan(Err(PlanStop::of(&error))),
         },
-        Words::Nothing => Ending::BadWords,
+        Order::Init { .. } | Order::Nothing => Ending::BadWords,
+    }
+}
+
+/// Does what the words ask for.
+fn obey(rt: &HostRuntime, words: Words<'_>) -> Ending {
+    match order_of(words) {
+        Ok(order) => perform(rt, order),
+        Err(refusal) => Ending::Refused(refusal),
     }
 }
 
@@ -48,8 +57,8 @@ fn run(rt: &HostRuntime, texts: &[String]) -> Result<Ending, std::alloc::AllocEr
         words.push(text.as_str())?;
     }
     match read_words(rt.alloc(), words.as_slice()) {
-        Ok(asked) => Ok(perform(rt, asked)),
-        Err(error) if error.kind() == ErrorKind::OutOfMemory => Ok(Ending::Memory),
+        Ok(words) => Ok(obey(rt, words)),
+        Err(error) if error.kind() == ErrorKind::OutOfMemory => Ok(Ending::Fault(Fault::Memory)),
         Err(error) => {
             let _ = eprint!(rt; "{error}");
             Ok(Ending::BadWords)
@@ -59,8 +68,8 @@ fn run(rt: &HostRuntime, texts: &[String]) -> Result<Ending, std::alloc::AllocEr
 
 fn start(rt: &HostRuntime) -> Ending {
     match words_of_process(rt) {
-        Ok(texts) => run(rt, texts.as_slice()).unwrap_or(Ending::Memory),
-        Err(error) if error.kind() == io::ErrorKind::OutOfMemory => Ending::Memory,
+        Ok(texts) => run(rt, texts.as_slice()).unwrap_or(Ending::Fault(Fault::Memory)),
+        Err(error) if error.kind() == io::ErrorKind::OutOfMemory => Ending::Fault(Fault::Memory),
         Err(_) => {
             let _ = eprintln!(rt; "office: the words are not UTF-8 text");
             Ending::BadWords

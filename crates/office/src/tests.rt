@@ -2,6 +2,7 @@
 
 use crate::ending::Ending;
 use office_days::Refusal;
+use office_store::Fault;
 use std::test::Fail;
 
 #[test]
@@ -21,7 +22,11 @@ fn what_is_said_at_the_end(rt: HostRuntime) -> Result<(), Fail> {
         ),
         (Ending::BadWords, 2, ""),
         (Ending::File, 3, "office: file\n"),
-        (Ending::Memory, 4, "office: fault 30\n"),
+        (Ending::Fault(Fault::Memory), 4, "office: fault 30\n"),
+        (Ending::Fault(Fault::Store), 3, "office: fault 31\n"),
+        (Ending::Fault(Fault::Reopen), 3, "office: fault 32\n"),
+        (Ending::Fault(Fault::Damaged), 3, "office: fault 33\n"),
+        (Ending::Fault(Fault::Version), 3, "office: fault 34\n"),
     ];
     for (ending, status, line) in rows {
         assert_eq!(rt; ending.status(), status);

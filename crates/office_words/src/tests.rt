@@ -1,5 +1,6 @@
 //! What no contract says: that words are taken at all, and of which kind the errors of others are.
 
+use crate::order::{Order, order_of};
 use crate::words::{Words, read_words};
 use clap::error::ErrorKind;
 
@@ -55,6 +56,15 @@ fn the_word_plan(rt: HostRuntime) {
     match read_words(rt.alloc(), &["office", "plan", "tree.txt"]) {
         Ok(Words::Plan { file }) => assert_eq!(rt; file, "tree.txt"),
         Ok(_) => panic!(rt; "a plan was asked for"),
+        Err(error) => assert_eq!(rt; error.kind(), ErrorKind::OutOfMemory),
+    }
+}
+
+#[test]
+fn the_word_init(rt: HostRuntime) {
+    match read_words(rt.alloc(), &["office", "init", "office.db"]).map(order_of) {
+        Ok(Ok(Order::Init { file })) => assert_eq!(rt; file, "office.db"),
+        Ok(_) => panic!(rt; "an office was asked for"),
         Err(error) => assert_eq!(rt; error.kind(), ErrorKind::OutOfMemory),
     }
 }

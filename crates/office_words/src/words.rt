@@ -1,7 +1,7 @@
 ghost use Rattle.std.specs.Prelude.{◌≡◌, IfOk, IfErr, true, false, map};
 ghost use Rattle.clap.specs.Words.{app_of, found_of, kind_of, rows_of, rule_of, subcommand_of, subcommand_rows_of, takes};
 ghost use Rattle.clap.specs.declared.builder.command.Command.TheViews.{out-Command as fields_of};
-ghost use Rattle.office_words.specs.Command.{asked, asked_in, due_app, due_asked, office_app, operand, plan_app, plan_asked, text_of};
+ghost use Rattle.office_words.specs.Command.{asked, asked_in, due_app, due_asked, init_app, init_asked, office_app, operand, plan_app, plan_asked, text_of, with_file_commands, with_plain_commands};
 
 use clap::error::ErrorKind;
 use clap::{Arg, ArgMatches, Command, Error};
@@ -17,6 +17,9 @@ pub enum Words<'a> {
         day: &'a str,
     },
     Plan {
+        file: &'a str,
+    },
+    Init {
         file: &'a str,
     },
     /// No command: `clap` takes no words without one.
@@ -60,16 +63,42 @@ fn plan_command<'a>(alloc: Global) -> Result<Command<'a>, AllocError>
         ))
 }
 
+fn init_command<'a>(alloc: Global) -> Result<Command<'a>, AllocError>
+    ensures app { IfOk result (λ c. app_of c ≡ init_app) }
+    ensures globals { IfOk result (λ c. (fields_of c).has_globals ≡ false) }
+{
+    Command::new(alloc, "init")
+        .about("Opens the office in a file, or makes a new one there")
+        .arg(required(alloc, "FILE", "The office's file"))
+}
+
+/// With the commands that open no office.
+#[tactic(auto, unfolding(crate::specs::Command::with_plain_commands))]
+fn with_plain_commands<'a>(alloc: Global, command: Command<'a>) -> Result<Command<'a>, AllocError>
+    ensures { IfOk result (λ c. app_of c ≡ with_plain_commands (app_of command.entry)) }
+{
+    command
+        .subcommand(due_command(alloc)?)?
+        .subcommand(plan_command(alloc)?)
+}
+
+/// With the commands on the office in a file.
+#[tactic(auto, unfolding(crate::specs::Command::with_file_commands))]
+fn with_file_commands<'a>(alloc: Global, command: Command<'a>) -> Result<Command<'a>, AllocError>
+    ensures { IfOk result (λ c. app_of c ≡ with_file_commands (app_of command.entry)) }
+{
+    command.subcommand(init_command(alloc)?)
+}
+
 #[tactic(auto, unfolding(crate::specs::Command::office_app))]
 fn office_command<'a>(alloc: Global) -> Result<Command<'a>, AllocError>
     ensures { IfOk result (λ c. app_of c ≡ office_app) }
 {
-    Command::new(alloc, "office")
+    let command = Command::new(alloc, "office")
         .about("A records disposal office with legal holds")
         .subcommand_required(true)
-        .arg_required_else_help(true)
-        .subcommand(due_command(alloc)?)?
-        .subcommand(plan_command(alloc)?)
+        .arg_required_else_help(true);
+    with_file_commands(alloc, with_plain_commands(alloc, command)?)
 }
 
 /// The operand of that name; `clap` takes no words in which one lacks.
@@ -98,6 +127,14 @@ fn plan_words<'a>(matches: &ArgMatches<'a>) -> Words<'a>
     }
 }
 
+fn init_words<'a>(matches: &ArgMatches<'a>) -> Words<'a>
+    ensures { asked result ≡ init_asked (rows_of (found_of matches.now)) }
+{
+    Words::Init {
+        file: operand(matches, "FILE"),
+    }
+}
+
 fn words_of<'a>(matches: &ArgMatches<'a>) -> Words<'a>
     ensures { asked result ≡ asked_in (subcommand_rows_of matches.now) }
 {
@@ -107,6 +144,8 @@ fn words_of<'a>(matches: &ArgMatches<'a>) -> Words<'a>
                 due_words(inner)
             } else if name == "plan" {
                 plan_words(inner)
+            } else if name == "init" {
+                init_words(inner)
             } else {
                 Words::Nothing
             }
