@@ -3,6 +3,7 @@
 
 save_records.py each FILE COUNT   each record in a transaction of its own, journal WAL, synchronous FULL
 save_records.py whole FILE COUNT  all of them in one transaction, the log copied into the file at the end
+save_records.py scan FILE COUNT   nothing is written: the tables are fetched in the order of their keys
 """
 import hashlib
 import sqlite3
@@ -21,6 +22,10 @@ TABLES = [
     "CREATE TABLE entries(run INTEGER, record INTEGER, outcome TEXT NOT NULL, class TEXT NOT NULL, schedule TEXT NOT NULL, due INTEGER NOT NULL, confirmed_by TEXT NOT NULL, hold TEXT, PRIMARY KEY (run, record)) STRICT",
     "CREATE TABLE certificates(run INTEGER PRIMARY KEY, body TEXT NOT NULL) STRICT",
 ]
+KEYS = {
+    "office": "one", "schedules": "code", "classes": "code", "aggregations": "num", "records": "num", "contents": "record",
+    "holds": "code", "targets": "hold, kind, target", "runs": "num", "entries": "run, record", "certificates": "run",
+}
 DAY = 19724
 DIGEST = hashlib.sha256(b"abc").hexdigest()
 
@@ -44,8 +49,18 @@ def add(conn, number):
     conn.execute("INSERT OR REPLACE INTO office VALUES (1, 1, ?)", (DAY,))
 
 
+def scan(conn, count):
+    for table, wanted in KEYS.items():
+        rows = conn.execute(f"SELECT {'record' if table == 'contents' else '*'} FROM {table} ORDER BY {wanted}").fetchall()
+        if table == "records" and len(rows) != count:
+            sys.exit("another number of records")
+
+
 how, path, count = sys.argv[1], sys.argv[2], int(sys.argv[3])
 conn = sqlite3.connect(path, isolation_level=None)
+if how == "scan":
+    scan(conn, count)
+    sys.exit(0)
 conn.execute("PRAGMA journal_mode = WAL")
 conn.execute("PRAGMA synchronous = FULL")
 begin(conn)

@@ -1,2 +1,3 @@
 pub mod DecidedSteps
 pub mod Fronts
+pub mod Opened

@@ -9,23 +9,25 @@ ghost use Rattle.office_machine.specs.State.{State};
 ghost use Rattle.office_desk.specs.Leaving.{IsContentOf, IsContentTold, IsOtherContent, LeavesRowsOf, StandsAt};
 
 use crate::Desk;
-use office_machine::Machine;
 use office_proof::digest_of;
 use office_store::Fault;
-use office_tree::RecordNo;
+use office_tree::{Record, RecordNo, Tree};
 use sqlite::Alter;
 
-/// Whether the bytes have the length and the digest that stand in the record's head.
-fn is_content_of(machine: &Machine, record_no: RecordNo, bytes: &[u8]) -> bool
-    ensures yes { IsTrue result → (head : Record) → numbered machine.now.tree.records record_no ≡ Some head → IsContentOf head bytes.now }
-    ensures no { result ≡ false → (head : Record) × (numbered machine.now.tree.records record_no ≡ Some head) × (IsContentOf head bytes.now → ⊥) }
+/// Whether the bytes have the length and the digest that stand in the head.
+fn is_content_of(head: &Record, bytes: &[u8]) -> bool
+    ensures yes { IsTrue result → IsContentOf head.now bytes.now }
+    ensures no { result ≡ false → IsContentOf head.now bytes.now → ⊥ }
 {
-    let tree = machine.tree();
-    if !tree.has_record(record_no) {
-        return true;
-    }
-    let head = tree.record(record_no);
     bytes.len() == head.length as usize && digest_of(bytes) == head.digest
+}
+
+/// The same of the head of the record of that number; yes where there is none.
+fn is_content_in(tree: &Tree, record_no: RecordNo, bytes: &[u8]) -> bool
+    ensures yes { IsTrue result → (head : Record) → numbered tree.now.records record_no ≡ Some head → IsContentOf head bytes.now }
+    ensures no { result ≡ false → (head : Record) × (numbered tree.now.records record_no ≡ Some head) × (IsContentOf head bytes.now → ⊥) }
+{
+    !tree.has_record(record_no) || is_content_of(tree.record(record_no), bytes)
 }
 
 impl<S: Alter> Desk<S> {
@@ -50,7 +52,7 @@ impl<S: Alter> Desk<S> {
         }
         match self.store.content(record_no) {
             Ok(Some(bytes)) => {
-                if is_content_of(&self.machine, record_no, &bytes) {
+                if is_content_in(self.machine.tree(), record_no, &bytes) {
                     Ok(Some(bytes))
                 } else {
                     Err(Fault::Damaged)

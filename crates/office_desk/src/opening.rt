@@ -1,7 +1,9 @@
 //! An office is opened: made anew where there is none, else the one for which the tables stand.
-ghost use Rattle.std.specs.Prelude.{◌≡◌, ◌≢◌, IfErr, IfOk, false, true};
+ghost use Rattle.std.specs.Prelude.{◌≡◌, ◌≢◌, IfErr, IfOk, codes, false, is_some, true};
+ghost use Rattle.sqlite_schema.specs.Names.{table_named};
 ghost use Rattle.sqlite.specs.Held.{state};
 ghost use Rattle.sqlite.specs.State.{HasCleanDisk};
+ghost use Rattle.office_machine.specs.Sound.{IsSound};
 ghost use Rattle.office_machine.specs.State.{State, empty_state};
 ghost use Rattle.office_sql.specs.Names.{has_other_table};
 ghost use Rattle.office_sql.specs.Office.{IsAtRest, IsBlank};
@@ -12,7 +14,9 @@ ghost use Rattle.office_desk.specs.Opening.{StandFor, StandForNone};
 
 use crate::Desk;
 use office_machine::Machine;
+use office_machine::laws::soundness::law_of_soundness;
 use office_rows::Rebuild;
+use office_store::laws::{law_of_found_rows, law_of_read_rows};
 use office_store::{Fault, Store};
 use sqlite::{Alter, Connection};
 use std::alloc::Global;
@@ -21,11 +25,19 @@ use std::alloc::Global;
 fn of_rebuild(error: Rebuild) -> Fault
     ensures memory { error ≡ Rebuild.Memory → result ≡ Fault.Memory }
     ensures damaged { error ≡ Rebuild.Damaged → result ≡ Fault.Damaged }
+    ensures only { result ≡ Fault.Damaged → error ≡ Rebuild.Damaged }
 {
     match error {
         Rebuild::Memory => Fault::Memory,
         Rebuild::Damaged => Fault::Damaged,
     }
+}
+
+/// An office in which nothing is is sound.
+fn law_of_the_first_state()
+    ensures { IsSound empty_state }
+{
+    law_of_soundness();
 }
 
 impl<S: Alter> Desk<S> {
@@ -45,7 +57,7 @@ impl<S: Alter> Desk<S> {
         ensures version { IfErr result (λ e. HasCleanDisk (state S.Store e.1) → IsAtRest (state S.Store conn) → e.0 ≡ Fault.Version → IsOtherVersion (state S.Store conn).now.trees) }
         ensures damaged { IfErr result (λ e. HasCleanDisk (state S.Store e.1) → IsAtRest (state S.Store conn) → e.0 ≡ Fault.Damaged → StandForNone (state S.Store conn).now.trees) }
         ensures this_version { IfErr result (λ e. HasCleanDisk (state S.Store e.1) → IsAtRest (state S.Store conn) → e.0 ≡ Fault.Damaged → IsOtherVersion (state S.Store conn).now.trees → ⊥) }
-        ensures other_tables { IfErr result (λ e. IsBlank (state S.Store conn) → e.0 ≡ Fault.Damaged → has_other_table (state S.Store conn).now.schema ≡ true) }
+        ensures other_tables { IfErr result (λ e. is_some (table_named (state S.Store conn).now.schema (codes "office")) ≡ false → e.0 ≡ Fault.Damaged → has_other_table (state S.Store conn).now.schema ≡ true) }
         ensures leaves { IfErr result (λ e. HasCleanDisk (state S.Store e.1) → IsAtRest (state S.Store conn) → LeavesLess (state S.Store conn) (state S.Store e.1)) }
         ensures leaves_first { IfErr result (λ e. HasCleanDisk (state S.Store e.1) → IsBlank (state S.Store conn) → LeavesFirst (state S.Store conn) (state S.Store e.1)) }
         ensures faults { IfErr result (λ e. e.0 ≢ Fault.Reopen) }
@@ -53,13 +65,13 @@ impl<S: Alter> Desk<S> {
     {
         match Store::found(&mut conn) {
             Ok(true) => Desk::take_over(alloc, conn),
-            Ok(false) => Desk::make(alloc, conn),
+            Ok(false) => Desk::begin(alloc, conn),
             Err(fault) => Err((fault, conn)),
         }
     }
 
     /// Makes the tables of a new office.
-    fn make(alloc: Global, conn: Connection<S>) -> Result<Desk<S>, (Fault, Connection<S>)>
+    fn begin(alloc: Global, conn: Connection<S>) -> Result<Desk<S>, (Fault, Connection<S>)>
         requires { conn.in_transaction ≡ false }
         ensures made { IfOk result (λ desk. HasCleanDisk (state S.Store desk.held) → IsBlank (state S.Store conn) → StandsAt S.Store empty_state desk) }
         ensures open { IfOk result (λ desk. desk.is_given_up ≡ false) }
@@ -68,6 +80,7 @@ impl<S: Alter> Desk<S> {
         ensures faults { IfErr result (λ e. e.0 ≢ Fault.Reopen) }
         ensures ended { IfErr result (λ e. e.1.in_transaction ≡ false) }
     {
+        law_of_the_first_state();
         let store = Store::create(conn)?;
         Ok(Desk {
             machine: Machine::new(alloc),
@@ -89,6 +102,8 @@ impl<S: Alter> Desk<S> {
         ensures faults { IfErr result (λ e. e.0 ≢ Fault.Reopen) }
         ensures ended { IfErr result (λ e. e.1.in_transaction ≡ false) }
     {
+        law_of_read_rows();
+        law_of_found_rows();
         let (store, tables) = Store::adopt(alloc, conn)?;
         match Machine::of_tables(alloc, tables) {
             Ok(machine) => Ok(Desk {

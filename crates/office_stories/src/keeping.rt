@@ -1,23 +1,13 @@
-//! An office whose changes are saved in tables, as a story is told to it.
-ghost use Rattle.office_machine.specs.Acts.{CanBeMade};
-
+//! A desk over tables, as a story is told to it.
 use crate::acts::act_of;
+use crate::base::BASE;
 use crate::telling::must_be;
-use office_machine::{Act, Answer, Change, Decision, Machine, Tables};
-use office_store::{Fault, Store};
-use office_tree::Memory;
+use office_desk::Desk;
+use office_machine::{Act, Answer};
+use office_store::Fault;
 use sqlite::{Alter, Connection, MemStore};
 use std::alloc::Global;
 use std::test::Fail;
-
-/// The tables of a new office, over memory.
-pub(crate) fn new_tables(rt: &HostRuntime) -> Result<Store<MemStore>, Fail> {
-    let conn = Connection::open_in_memory(rt.alloc())?;
-    match Store::create(conn) {
-        Ok(store) => Ok(store),
-        Err(_) => Err(Fail::new("no tables were made")),
-    }
-}
 
 /// A fault fails a test.
 pub(crate) fn failed(fault: Fault) -> Fail {
@@ -30,69 +20,64 @@ pub(crate) fn failed(fault: Fault) -> Fail {
     }
 }
 
-/// Makes a change, and gives its answer.
-fn made(office: &mut Machine, change: Change) -> Result<Answer, Memory>
-    requires { CanBeMade office.old change }
-{
-    let answer = change.answer;
-    office.apply(change)?;
-    Ok(answer)
-}
-
-/// Saves a change.
-fn saved<S: Alter>(alloc: Global, store: &mut Store<S>, change: &Change) -> Result<(), Fail> {
-    store.save(alloc, change).map_err(failed)
-}
-
-/// Decides an act, saves what it changes, and makes it.
-fn kept<S: Alter>(
-    alloc: Global,
-    office: &mut Machine,
-    store: &mut Store<S>,
-    act: &Act,
-) -> Result<Answer, Fail> {
-    match office.decide(alloc, act)? {
-        Decision::Stay(answer) => Ok(answer),
-        Decision::Go(change) => {
-            saved(alloc, store, &change)?;
-            Ok(made(office, change)?)
-        }
+/// A desk over the tables behind a connection, or the fault with which they are not opened.
+pub(crate) fn opened<S: Alter + Drop>(
+    rt: &HostRuntime,
+    conn: Connection<S>,
+) -> Result<Result<Desk<S>, Fault>, Fail> {
+    if !conn.is_autocommit() {
+        return Err(Fail::new("a transaction is under way"));
+    }
+    match Desk::open(rt.alloc(), conn) {
+        Ok(desk) => Ok(Ok(desk)),
+        Err((fault, _)) => Ok(Err(fault)),
     }
 }
 
-/// What a line asks for is asked and saved, and must be answered as the line says.
-fn keep_line<S: Alter>(
+/// A desk that was closed and is opened again.
+pub(crate) fn reopened<S: Alter + Drop>(rt: &HostRuntime, desk: Desk<S>) -> Result<Desk<S>, Fail> {
+    opened(rt, desk.close())?.map_err(failed)
+}
+
+/// The answer to one act.
+pub(crate) fn answered<S: Alter>(
     alloc: Global,
-    office: &mut Machine,
-    store: &mut Store<S>,
-    line: &str,
-) -> Result<(), Fail> {
+    desk: &mut Desk<S>,
+    act: Act,
+) -> Result<Answer, Fail> {
+    let mut answers = Vec::new(alloc);
+    desk.perform_all(&[act], &mut answers).map_err(failed)?;
+    Ok(answers.pop().ok_or("no answer")?)
+}
+
+/// What a line asks for is done, and must be answered as the line says.
+fn keep_line<S: Alter>(alloc: Global, desk: &mut Desk<S>, line: &str) -> Result<(), Fail> {
     let (asks, answer) = line.split_once('=').ok_or("no answer")?;
     let words: Vec<&str> = asks.trim().split(' ').collect(alloc)?;
     let act = act_of(alloc, &words)?;
-    let given = kept(alloc, office, store, &act)?;
+    let given = answered(alloc, desk, act)?;
     must_be(alloc, given, answer.trim())
 }
 
-/// A story is told to the office, and each change saved.
+/// A story is told at a desk.
 pub(crate) fn keep<S: Alter>(
     rt: &HostRuntime,
-    office: &mut Machine,
-    store: &mut Store<S>,
+    desk: &mut Desk<S>,
     story: &str,
 ) -> Result<(), Fail> {
     for line in story.lines() {
         if !line.trim().is_empty() {
-            keep_line(rt.alloc(), office, store, line)?;
+            keep_line(rt.alloc(), desk, line)?;
         }
     }
     Ok(())
 }
 
-/// The tables as they are found when the store is adopted again.
-pub(crate) fn found<S: Alter + Drop>(rt: &HostRuntime, store: Store<S>) -> Result<Tables, Fault> {
-    match Store::adopt(rt.alloc(), store.release()) {
-        Ok((_, tables)) => Ok(tables),
-        Err((fault, _)) => Err(fault),
-    }
+/// A desk of the base office over memory, to which that was told.
+pub(crate) fn base_desk(rt: &HostRuntime, story: &str) -> Result<Desk<MemStore>, Fail> {
+    let conn = Connection::open_in_memory(rt.alloc())?;
+    let mut desk = opened(rt, conn)?.map_err(failed)?;
+    keep(rt, &mut desk, BASE)?;
+    keep(rt, &mut desk, story)?;
+    Ok(desk)
 }

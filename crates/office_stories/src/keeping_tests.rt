@@ -1,8 +1,8 @@
 //! What is saved is found again.
-use crate::base::BASE;
-use crate::keeping::{failed, found, keep, new_tables};
-use office_machine::{Machine, Tables};
-use office_store::{Fault, Store};
+use crate::keeping::{base_desk, failed, keep, opened, reopened};
+use office_desk::Desk;
+use office_machine::Tables;
+use office_store::Store;
 use sqlite::{Alter, Connection, Error, MemStore};
 use std::test::Fail;
 
@@ -54,13 +54,22 @@ fn papers(tables: &Tables) -> [usize; 5] {
     ]
 }
 
+/// The tables behind a desk, as they are adopted once it is closed.
+fn found<S: Alter + Drop>(rt: &HostRuntime, desk: Desk<S>) -> Result<Tables, Fail> {
+    let conn = desk.close();
+    if !conn.is_autocommit() {
+        return Err(Fail::new("a transaction is under way"));
+    }
+    match Store::adopt(rt.alloc(), conn) {
+        Ok((_, tables)) => Ok(tables),
+        Err((fault, _)) => Err(failed(fault)),
+    }
+}
+
 #[test]
 fn each_kind_of_change_is_saved_and_found(rt: HostRuntime) -> Result<(), Fail> {
-    let mut office = Machine::new(rt.alloc());
-    let mut store = new_tables(&rt)?;
-    keep(&rt, &mut office, &mut store, BASE)?;
-    keep(&rt, &mut office, &mut store, ALL_KINDS)?;
-    let tables = found(&rt, store).map_err(failed)?;
+    let desk = base_desk(&rt, ALL_KINDS)?;
+    let tables = found(&rt, desk)?;
     assert_eq!(rt; plans(&tables), [3, 2, 3, 4, 3]);
     assert_eq!(rt; papers(&tables), [1, 1, 1, 2, 1]);
     Ok(())
@@ -71,53 +80,79 @@ fn changed<S: Alter>(conn: &mut Connection<S>, statement: &str) -> Result<(), Er
     conn.execute_batch(statement)
 }
 
-/// The number of the fault with which tables are adopted, 0 where they are.
-fn fault_of<S: Alter + Drop>(rt: &HostRuntime, conn: Connection<S>) -> Result<u32, Fail> {
-    if !conn.is_autocommit() {
-        return Err(Fail::new("a transaction is under way"));
-    }
-    match Store::adopt(rt.alloc(), conn) {
-        Ok(_) => Ok(0),
-        Err((fault, _)) => Ok(fault.number()),
-    }
-}
-
-/// The base office's tables.
-fn base_tables(rt: &HostRuntime) -> Result<Connection<MemStore>, Fail> {
-    let mut office = Machine::new(rt.alloc());
-    let mut store = new_tables(rt)?;
-    keep(rt, &mut office, &mut store, BASE)?;
-    Ok(store.release())
-}
-
-/// That number after a statement on the base office's tables.
-fn fault_after(rt: &HostRuntime, statement: &str) -> Result<u32, Fail> {
-    let mut conn = base_tables(rt)?;
+/// The number of the fault with which a desk is opened after a statement on the tables of another, 0
+/// where it is opened.
+fn fault_after(rt: &HostRuntime, desk: Desk<MemStore>, statement: &str) -> Result<u32, Fail> {
+    let mut conn = desk.close();
     changed(&mut conn, statement)?;
-    fault_of(rt, conn)
+    match opened(rt, conn)? {
+        Ok(_) => Ok(0),
+        Err(fault) => Ok(fault.number()),
+    }
+}
+
+/// The same of the base office's tables.
+fn fault_of_base(rt: &HostRuntime, statement: &str) -> Result<u32, Fail> {
+    fault_after(rt, base_desk(rt, "")?, statement)
 }
 
 #[test]
 fn tables_of_another_version_are_told(rt: HostRuntime) -> Result<(), Fail> {
-    assert_eq!(rt; fault_after(&rt, "UPDATE office SET day = 20000")?, 0);
-    assert_eq!(rt; fault_after(&rt, "UPDATE office SET version = 9")?, 34);
+    assert_eq!(rt; fault_of_base(&rt, "UPDATE office SET day = 20000")?, 0);
+    assert_eq!(rt; fault_of_base(&rt, "UPDATE office SET version = 9")?, 34);
     Ok(())
 }
 
 #[test]
-fn damaged_tables_are_told(rt: HostRuntime) -> Result<(), Fail> {
+fn tables_of_no_form_are_told(rt: HostRuntime) -> Result<(), Fail> {
     assert_eq!(rt;
-        fault_after(&rt, "INSERT INTO office VALUES (2, 1, 20000)")?,
+        fault_of_base(&rt, "INSERT INTO office VALUES (2, 1, 20000)")?,
         33
     );
     assert_eq!(rt;
-        fault_after(&rt, "UPDATE records SET status = 'gone' WHERE num = 1")?,
+        fault_of_base(&rt, "UPDATE records SET status = 'gone' WHERE num = 1")?,
         33
     );
-    assert_eq!(rt; fault_after(&rt, "UPDATE classes SET title = ''")?, 33);
+    assert_eq!(rt; fault_of_base(&rt, "UPDATE classes SET title = ''")?, 33);
     assert_eq!(rt;
-        fault_after(&rt, "UPDATE aggregations SET closed = 400000")?,
+        fault_of_base(&rt, "UPDATE aggregations SET closed = 400000")?,
         33
     );
     Ok(())
+}
+
+/// A run that destroyed record 1.
+const RUN: &str = "
+    2025-01-02 confirm 1 destroy = done
+    2025-01-02 open-run = number 1
+    2025-01-02 run-step = step 1 destroyed
+";
+
+#[test]
+fn rows_of_their_form_that_stand_for_no_office_are_told(rt: HostRuntime) -> Result<(), Fail> {
+    let content = "INSERT INTO contents VALUES (1, x'616263')";
+    assert_eq!(rt; fault_after(&rt, base_desk(&rt, RUN)?, content)?, 33);
+    assert_eq!(rt;
+        fault_of_base(&rt, "DELETE FROM contents WHERE num = 2")?,
+        33
+    );
+    assert_eq!(rt;
+        fault_of_base(&rt, "DELETE FROM classes WHERE code = 'LEG'")?,
+        33
+    );
+    assert_eq!(rt; fault_of_base(&rt, "UPDATE office SET day = 0")?, 33);
+    Ok(())
+}
+
+#[test]
+fn an_open_run_stays_open_and_goes_on(rt: HostRuntime) -> Result<(), Fail> {
+    let mut desk = reopened(&rt, base_desk(&rt, RUN)?)?;
+    keep(
+        &rt,
+        &mut desk,
+        "
+        2025-01-02 open-run = refused 17
+        2025-01-02 run-step = closed 1
+        ",
+    )
 }

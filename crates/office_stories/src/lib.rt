@@ -11,6 +11,8 @@ mod acts;
 #[cfg(test)]
 mod base;
 #[cfg(test)]
+mod content_tests;
+#[cfg(test)]
 mod filing_tests;
 #[cfg(test)]
 mod hold_tests;

@@ -1,0 +1,60 @@
+-- What opening finds: the state for which the tables stand, with the contents that they have.
+use Rattle.std.proofs.Common.{◌≡◌, ◌∙◌, ℕ, Bool, true, false, codes, is_some, List, Option, Some, None, nat_cmp, refl, sym, ap, subst}
+use Rattle.std.specs.Prelude.{IsUtf8, String}
+use Rattle.std.specs.FinMap.{get-entries}
+use Rattle.std.specs.FinMap.Entries.{find}
+use Rattle.std.specs.Global.{Global}
+use Rattle.std.specs.Option.{option_map}
+use Rattle.std.specs.String.{string_bytes}
+use Rattle.std.proofs.lemmas.Str.{IsUtf8-string_bytes}
+use Rattle.sqlite.specs.State as sqlite
+use Rattle.sqlite_schema.specs.Names.{same_name, table_named}
+use Rattle.sqlite_trees.specs.Tree.{Trees}
+use Rattle.office_sql.specs.Office.{IsAtRest, IsBlank}
+use Rattle.office_sql.specs.Schema.{no_schema, office_schema}
+use Rattle.office_machine.specs.Founding.{AreTablesOf, HaveKeys}
+use Rattle.office_machine.specs.Rows.{rows_of}
+use Rattle.office_machine.specs.Sound.{IsSound}
+use Rattle.office_machine.specs.State.{ByteMap, Office, State, with_contents}
+use Rattle.office_machine.specs.Tables.{StandsFor}
+use Rattle.office_machine.specs.declared.tables.Tables.{Tables}
+use Rattle.office_machine.proofs.KeyedRows.{rows_by-find}
+use Rattle.office_store.specs.Stands.{HasContents, Stands}
+use Rattle.office_desk.specs.Opening.{AreCertificatesTexts, StandFor}
+
+text_of : (found : Option (String Global)) (text : List ℕ) → option_map (λ it. string_bytes it) found ≡ Some text → IsUtf8 text
+text_of (Some it) text same = let is : string_bytes it ≡ text = cc in subst IsUtf8 is (IsUtf8-string_bytes it)
+text_of None text same = absurd cc
+
+-- certificates that were read as strings are texts
+certificates_texts : (t : Tables) (s : State) → StandsFor t s → AreCertificatesTexts s
+unfolding rows_of
+certificates_texts t s stands run text there =
+    let rows = t.certificates.items in
+    text_of (find nat_cmp run rows) text
+    (sym (rows_by-find nat_cmp (λ (it : String Global). string_bytes it) run rows) ∙ ap (find nat_cmp run) stands.certificates ∙ sym (get-entries s.office.certificates run) ∙ there)
+
+-- the office that was built is that of a state which the database's tables stand for
+pub stand_found : (t : Tables) (db : Trees) (office : Office) → AreTablesOf t office → ((contents : ByteMap) → HaveKeys contents t.contents.items → IsSound (with_contents office contents))
+    → ((s : State) → StandsFor t s → HasContents db s.contents → Stands (rows_of s) db)
+    → (contents : ByteMap) → HaveKeys contents t.contents.items → HasContents db contents → StandFor db (with_contents office contents)
+stand_found t db office are sound law contents keys has =
+    let s = with_contents office contents in
+    let stands : StandsFor t s = are contents keys in
+    record { sound = sound contents keys; texts = certificates_texts t s stands; rows = law s stands has }
+
+both : (b : Bool) → b ≡ true → b ≡ false → ⊥
+both true p q = absurd cc
+both false p q = absurd cc
+
+-- a database without tables has no table of that name, and the office's tables have one
+pub none_of_blank : (s : sqlite.State) → IsBlank s → is_some (table_named s.now.schema (codes "office")) ≡ true → ⊥
+none_of_blank s blank there =
+    let none : is_some (table_named no_schema (codes "office")) ≡ true = subst (λ schema. is_some (table_named schema (codes "office")) ≡ true) blank.schema there in
+    absurd cc
+
+pub one_at_rest : (s : sqlite.State) → IsAtRest s → is_some (table_named s.now.schema (codes "office")) ≡ false → ⊥
+unfolding same_name
+one_at_rest s rest none =
+    let there : is_some (table_named office_schema (codes "office")) ≡ true = refl in
+    both (is_some (table_named office_schema (codes "office"))) there (subst (λ schema. is_some (table_named schema (codes "office")) ≡ false) rest.office.schema none)
