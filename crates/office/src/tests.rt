@@ -1,8 +1,13 @@
-//! What is told at the end, in its own letters.
+//! What is told at the end, in its own letters, and runs over one office.
 
 use crate::ending::Ending;
+use crate::running::run_on;
 use office_days::Refusal;
 use office_store::Fault;
+use office_words::Order;
+use sqlite::{Connection, MemStore, params};
+use std::io;
+use std::io::Write;
 use std::test::Fail;
 
 #[test]
@@ -31,6 +36,65 @@ fn what_is_said_at_the_end(rt: HostRuntime) -> Result<(), Fail> {
     for (ending, status, line) in rows {
         assert_eq!(rt; ending.status(), status);
         assert_eq!(rt; format!(in rt.alloc(); "{ending}")?.as_str(), line);
+    }
+    Ok(())
+}
+
+/// A connection to a database in memory.
+type Memory = Connection<MemStore>;
+
+/// Runs `init` over a connection: the status must be this one, and these the lines of an answer and of
+/// an ending.
+fn inits(
+    rt: &HostRuntime,
+    conn: Memory,
+    status: u8,
+    answer: &str,
+    line: &str,
+) -> Result<Memory, Fail> {
+    if !conn.is_autocommit() {
+        return Err(Fail::from("a transaction is under way"));
+    }
+    let order = Order::Init { file: "office.db" };
+    let (mut out, mut err) = (Vec::new(rt.alloc()), Vec::new(rt.alloc()));
+    let mut input: &[u8] = &[];
+    let (got, conn) = run_on(rt.alloc(), conn, &order, &mut input, &mut out, &mut err);
+    assert_eq!(rt; got, status);
+    assert_eq!(rt; out.as_slice(), answer.as_bytes());
+    assert_eq!(rt; err.as_slice(), line.as_bytes());
+    Ok(conn)
+}
+
+#[test]
+fn an_office_is_made_and_opened_again(rt: HostRuntime) -> Result<(), Fail> {
+    let conn = Connection::open_in_memory(rt.alloc())?;
+    let conn = inits(&rt, conn, 0, "version 1\n", "")?;
+    inits(&rt, conn, 0, "version 1\n", "")?;
+    Ok(())
+}
+
+/// Tables that `init` made, changed by a statement, must end so.
+fn ends_after(rt: &HostRuntime, statement: &str, line: &str) -> Result<(), Fail> {
+    let conn = Connection::open_in_memory(rt.alloc())?;
+    let mut conn = inits(rt, conn, 0, "version 1\n", "")?;
+    assert!(rt; conn.execute(statement, params![]).is_ok());
+    inits(rt, conn, 3, "", line)?;
+    Ok(())
+}
+
+#[test]
+fn tables_of_no_office(rt: HostRuntime) -> Result<(), Fail> {
+    let rows = [
+        ("UPDATE office SET version = 9", "office: fault 34\n"),
+        (
+            "INSERT INTO runs VALUES (1, 0, 'registrar', 1, 0)",
+            "office: fault 33\n",
+        ),
+        ("DELETE FROM office", "office: fault 33\n"),
+        ("DROP TABLE office", "office: fault 33\n"),
+    ];
+    for (statement, line) in rows {
+        ends_after(&rt, statement, line)?;
     }
     Ok(())
 }
