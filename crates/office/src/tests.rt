@@ -6,8 +6,8 @@ use office_days::Refusal;
 use office_store::Fault;
 use office_words::Order;
 use sqlite::{Connection, MemStore, params};
-use std::io;
-use std::io::Write;
+use std::alloc::AllocGlobal;
+use std::process::Abort;
 use std::test::Fail;
 
 #[test]
@@ -46,14 +46,14 @@ type Memory = Connection<MemStore>;
 /// Runs `init` over a connection: the status must be this one, and these the lines of an answer and of
 /// an ending.
 fn inits(
-    rt: &HostRuntime,
+    rt: &(impl Abort + AllocGlobal),
     conn: Memory,
     status: u8,
     answer: &str,
     line: &str,
 ) -> Result<Memory, Fail> {
     if !conn.is_autocommit() {
-        return Err(Fail::from("a transaction is under way"));
+        return Err(Fail::new("a transaction is under way"));
     }
     let order = Order::Init { file: "office.db" };
     let (mut out, mut err) = (Vec::new(rt.alloc()), Vec::new(rt.alloc()));
@@ -74,7 +74,7 @@ fn an_office_is_made_and_opened_again(rt: HostRuntime) -> Result<(), Fail> {
 }
 
 /// Tables that `init` made, changed by a statement, must end so.
-fn ends_after(rt: &HostRuntime, statement: &str, line: &str) -> Result<(), Fail> {
+fn ends_after(rt: &(impl Abort + AllocGlobal), statement: &str, line: &str) -> Result<(), Fail> {
     let conn = Connection::open_in_memory(rt.alloc())?;
     let mut conn = inits(rt, conn, 0, "version 1\n", "")?;
     assert!(rt; conn.execute(statement, params![]).is_ok());
