@@ -1,6 +1,1 @@
-pub mod FirstLine
-pub mod PartLemmas
-pub mod PlanLemmas
-pub mod Simple
-pub mod TextLemmas
-pub mod Utf8
+pub mod Endings

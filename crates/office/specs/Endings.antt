@@ -3,11 +3,13 @@ use Rattle.std.specs.Prelude.{ℕ, List, [], ◌∷◌, ◌++◌, codes, Option,
 use Rattle.std.specs.Fmt.{decimal}
 use Rattle.office_days.specs.declared.refusal.Refusal.{Refusal}
 use Rattle.office_days.specs.Refusals.{refusal_number}
-use Rattle.office.specs.declared.output.Io.{Io}
+use Rattle.office_plan.specs.declared.output.Io.{Io}
+use Rattle.office_store.specs.Faults.{fault_number}
+use Rattle.office_store.specs.declared.fault.Fault.TheVariants as fault
 use Rattle.office.specs.declared.ending.Ending.{Ending}
-use Rattle.office.specs.declared.ending.Ending.TheVariants.{Done, Refused, LineRefused, BadWords, File, Memory}
-use Rattle.office.specs.declared.input.PlanStop.{PlanStop}
-use Rattle.office.specs.declared.input.PlanStop.TheVariants as stop
+use Rattle.office.specs.declared.ending.Ending.TheVariants.{Done, Refused, LineRefused, BadWords, File, Fault}
+use Rattle.office_plan.specs.declared.input.PlanStop.{PlanStop}
+use Rattle.office_plan.specs.declared.input.PlanStop.TheVariants as stop
 
 -- a refusal is told as such, and a writer's error as that of a file
 abbrev pub ending_of : Result (Option Refusal) Io → Ending
@@ -20,16 +22,20 @@ abbrev pub ending_of_plan : Result (Option (ℕ × Refusal)) PlanStop → Ending
 ending_of_plan (Ok None) = Done
 ending_of_plan (Ok (Some p)) = LineRefused p.0 p.1
 ending_of_plan (Err stop.Io) = File
-ending_of_plan (Err stop.Memory) = Memory
+ending_of_plan (Err stop.Memory) = Fault fault.Memory
 
--- 0 done, 1 something refused, 2 bad words, 3 a file, 4 memory
+-- 0 done, 1 something refused, 2 bad words, 3 a file or the store, 4 memory
 abbrev pub exit_status : Ending → ℕ
 exit_status Done = 0
 exit_status (Refused refusal) = 1
 exit_status (LineRefused line refusal) = 1
 exit_status BadWords = 2
 exit_status File = 3
-exit_status Memory = 4
+exit_status (Fault fault.Memory) = 4
+exit_status (Fault fault.Store) = 3
+exit_status (Fault fault.Reopen) = 3
+exit_status (Fault fault.Damaged) = 3
+exit_status (Fault fault.Version) = 3
 
 -- the line on standard error, with its line feed, or nothing
 abbrev pub line_said : Ending → List ℕ
@@ -38,4 +44,4 @@ line_said (Refused refusal) = codes "office: refused " ++ decimal (refusal_numbe
 line_said (LineRefused line refusal) = codes "office: line " ++ decimal line ++ codes " refused " ++ decimal (refusal_number refusal) ++ 10 ∷ []
 line_said BadWords = []
 line_said File = codes "office: file" ++ 10 ∷ []
-line_said Memory = codes "office: fault 30" ++ 10 ∷ []
+line_said (Fault f) = codes "office: fault " ++ decimal (fault_number f) ++ 10 ∷ []

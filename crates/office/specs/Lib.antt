@@ -1,7 +1,2 @@
-pub mod Command
-pub mod DueCommand
 pub mod Endings
-pub mod Numbers
-pub mod Parts
-pub mod PlanFile
-pub mod PlanLines
+pub mod Running

@@ -1,8 +1,8 @@
 ghost use Rattle.std.specs.Prelude.{◌≡◌};
 
-use crate::input::PlanStop;
-use crate::output::Io;
 use office_days::Refusal;
+use office_plan::{Io, PlanStop};
+use office_store::Fault;
 use std::fmt;
 
 /// How the program ends. Its text is the line on standard error, with its line feed, or nothing.
@@ -18,8 +18,8 @@ pub enum Ending {
     BadWords,
     /// Standard output could not be written.
     File,
-    /// An allocation was refused: fault 30.
-    Memory,
+    /// It was begun, and a fault stopped it; of want of memory too.
+    Fault(Fault),
 }
 
 impl Ending {
@@ -44,7 +44,7 @@ impl Ending {
             Ok(None) => Ending::Done,
             Ok(Some((line, refusal))) => Ending::LineRefused(line, refusal),
             Err(PlanStop::Io) => Ending::File,
-            Err(PlanStop::Memory) => Ending::Memory,
+            Err(PlanStop::Memory) => Ending::Fault(Fault::Memory),
         }
     }
 
@@ -58,7 +58,8 @@ impl Ending {
             Ending::LineRefused(_, _) => 1,
             Ending::BadWords => 2,
             Ending::File => 3,
-            Ending::Memory => 4,
+            Ending::Fault(Fault::Memory) => 4,
+            Ending::Fault(_) => 3,
         }
     }
 }
@@ -77,7 +78,7 @@ impl fmt::Display for Ending {
                 writeln!(f, "office: line {line} refused {}", refusal.number())
             }
             Ending::File => writeln!(f, "office: file"),
-            Ending::Memory => writeln!(f, "office: fault 30"),
+            Ending::Fault(fault) => writeln!(f, "office: fault {}", fault.number()),
         }
     }
 }

@@ -1,53 +1,77 @@
 //! The program `office` of the records disposal office.
 //!
-//! Its words are read by `clap` (`words`), each command does its work over a writer whose bytes
-//! a contract can name (`due`), and `ending` says what the program tells the caller at the end:
-//! the exit status, and the line on standard error.
+//! Its words are read by `office_words`. The commands that open no office are done by `office_plan`;
+//! those on the office in a file run over a connection to it (`running`). `ending` says what the
+//! program tells the caller at the end: the exit status, and the line on standard error.
 #![tactic(auto)]
 
-mod due;
 mod ending;
-mod input;
-mod lines;
-mod number;
-mod output;
-mod parting;
-mod parts;
-mod plan;
-mod plan_line;
-mod plan_step;
-#[cfg(test)]
-mod plan_tests;
+mod running;
 #[cfg(test)]
 mod tests;
-mod text;
-mod words;
 
 use clap::error::ErrorKind;
-use due::due_to;
 use ending::Ending;
-use input::PlanStop;
-use plan::plan_to;
+use office_plan::{PlanStop, due_to, plan_to};
+use office_store::Fault;
+use office_words::{Order, Words, order_of, read_words};
+use running::{run_on, tell};
+use sqlite::{Connection, Wary};
 use std::fs::File;
 use std::process::ExitCode;
 use std::{env, io};
-use words::{Words, read_words};
 
-/// Does what the words ask for, on standard output.
-fn perform(rt: &HostRuntime, words: Words<'_>) -> Ending {
-    let mut out = io::writer(rt);
-    match words {
-        Words::Due {
+/// The exit status of an ending, whose line is told on standard error.
+fn ended(rt: &HostRuntime, ending: Ending) -> u8 {
+    let _ = tell(ending, &mut rt.stderr());
+    ending.status()
+}
+
+/// Prints the due days of a plan file.
+fn plan_in(rt: &HostRuntime, file: &str) -> Ending {
+    match File::open(rt, file) {
+        Ok(mut reader) => Ending::of_plan(plan_to(rt.alloc(), &mut reader, &mut io::writer(rt))),
+        Err(error) => Ending::of_plan(Err(PlanStop::of(&error))),
+    }
+}
+
+/// Carries out an order on the office in a file, which is made where there is none. A file that is no
+/// database's stays as it is.
+fn run_in(rt: &HostRuntime, file: &str, order: &Order<'_>) -> u8 {
+    let mut input: &[u8] = &[];
+    match Connection::open_from(rt, file, false, Wary) {
+        Ok(conn) => {
+            let (mut out, mut err) = (io::writer(rt), rt.stderr());
+            let (status, _) = run_on(rt.alloc(), conn, order, &mut input, &mut out, &mut err);
+            status
+        }
+        Err(_) => ended(rt, Ending::Fault(Fault::Store)),
+    }
+}
+
+/// Carries out an order.
+fn perform(rt: &HostRuntime, order: &Order<'_>) -> u8 {
+    match order {
+        Order::Due {
             unit,
             count,
             offset,
             day,
-        } => Ending::of(due_to(unit, count, offset, day, &mut out)),
-        Words::Plan { file } => match File::open(rt, file) {
-            Ok(mut reader) => Ending::of_plan(plan_to(rt.alloc(), &mut reader, &mut out)),
-            Err(error) => Ending::of_plan(Err(PlanStop::of(&error))),
-        },
-        Words::Nothing => Ending::BadWords,
+        } => {
+            let answer = due_to(unit, count, offset, day, &mut io::writer(rt));
+            ended(rt, Ending::of(answer))
+        }
+        Order::Plan { file } => ended(rt, plan_in(rt, file)),
+        Order::Init { file } => run_in(rt, file, order),
+        Order::Nothing => ended(rt, Ending::BadWords),
+    }
+}
+
+/// Does what the words ask for.
+fn obey(rt: &HostRuntime, words: Words<'_>) -> u8 {
+    match order_of(words) {
+        Ok(order) => perform(rt, &order),
+        Err(refusal) => ended(rt, Ending::Refused(refusal)),
     }
 }
 
@@ -58,34 +82,36 @@ fn words_of_process(rt: &HostRuntime) -> io::Result<Vec<String>> {
 }
 
 /// Reads the words and does what they ask for.
-fn run(rt: &HostRuntime, texts: &[String]) -> Result<Ending, std::alloc::AllocError> {
+fn run(rt: &HostRuntime, texts: &[String]) -> Result<u8, std::alloc::AllocError> {
     let mut words = Vec::new(rt.alloc());
     for text in texts {
         words.push(text.as_str())?;
     }
     match read_words(rt.alloc(), words.as_slice()) {
-        Ok(asked) => Ok(perform(rt, asked)),
-        Err(error) if error.kind() == ErrorKind::OutOfMemory => Ok(Ending::Memory),
+        Ok(words) => Ok(obey(rt, words)),
+        Err(error) if error.kind() == ErrorKind::OutOfMemory => Err(std::alloc::AllocError),
         Err(error) => {
             let _ = eprint!(rt; "{error}");
-            Ok(Ending::BadWords)
+            Ok(ended(rt, Ending::BadWords))
         }
     }
 }
 
-fn start(rt: &HostRuntime) -> Ending {
+fn start(rt: &HostRuntime) -> u8 {
+    let wanting = Ending::Fault(Fault::Memory);
     match words_of_process(rt) {
-        Ok(texts) => run(rt, texts.as_slice()).unwrap_or(Ending::Memory),
-        Err(error) if error.kind() == io::ErrorKind::OutOfMemory => Ending::Memory,
+        Ok(texts) => match run(rt, texts.as_slice()) {
+            Ok(status) => status,
+            Err(_) => ended(rt, wanting),
+        },
+        Err(error) if error.kind() == io::ErrorKind::OutOfMemory => ended(rt, wanting),
         Err(_) => {
             let _ = eprintln!(rt; "office: the words are not UTF-8 text");
-            Ending::BadWords
+            ended(rt, Ending::BadWords)
         }
     }
 }
 
 fn main(rt: HostRuntime) -> ExitCode {
-    let ending = start(&rt);
-    let _ = eprint!(rt; "{ending}");
-    ExitCode::from(ending.status())
+    ExitCode::from(start(&rt))
 }

@@ -1,0 +1,5 @@
+pub mod FirstLine
+pub mod PartLemmas
+pub mod PlanLemmas
+pub mod TextLemmas
+pub mod Utf8

@@ -1,0 +1,5 @@
+pub mod DueCommand
+pub mod Numbers
+pub mod Parts
+pub mod PlanFile
+pub mod PlanLines

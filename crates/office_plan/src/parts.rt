@@ -1,0 +1,93 @@
+ghost use Rattle.std.specs.Prelude.{◌≡◌, ◌≤◌, ◌↔◌, IsSome, IfSome, IfOk};
+ghost use Rattle.office_days.specs.Limits.{longest};
+ghost use Rattle.office_days.specs.Texts.{day_named};
+ghost use Rattle.office_plan.specs.Numbers.{thing_number};
+ghost use Rattle.office_plan.specs.Parts.{both, code_part, named_part, optional_part, period_part};
+
+use crate::number::read_number;
+use office_days::{Day, Period, Refusal, Unit, read_numeral};
+use office_tree::{AggNo, Code, Memory};
+use std::alloc::Global;
+
+/// Both parts, or the refusal with the least number.
+pub fn both<A: Drop, B: Drop>(
+    first: Result<A, Refusal>,
+    second: Result<B, Refusal>,
+) -> Result<(A, B), Refusal>
+    ensures { result ≡ both first second }
+{
+    match (first, second) {
+        (Ok(a), Ok(b)) => Ok((a, b)),
+        (Ok(_), Err(refusal)) => Err(refusal),
+        (Err(refusal), Ok(_)) => Err(refusal),
+        (Err(a), Err(b)) => Err(if a.number() <= b.number() { a } else { b }),
+    }
+}
+
+/// The period of so many units, where that is not over the unit's limit.
+fn period_of(unit: Unit, count: u64) -> Option<Period>
+    ensures within { IsSome result ↔ (count ≤ longest unit) }
+    ensures unit { IfSome result (λ p. p.unit ≡ unit) }
+    ensures count { IfSome result (λ p. p.count ≡ count) }
+{
+    Period::new(unit, u32::try_from(count).ok()?)
+}
+
+/// A period by the words for its unit and its count.
+#[tactic(auto, unfolding(crate::specs::Parts::period_part))]
+pub fn read_period(unit: &str, count: &str) -> Result<Period, Refusal>
+    ensures { result ≡ period_part unit.now count.now }
+{
+    let unit = Unit::read(unit).ok_or(Refusal::BadText)?;
+    let count = read_numeral(count).ok_or(Refusal::BadText)?;
+    period_of(unit, count).ok_or(Refusal::BadNumber)
+}
+
+/// A day by its text.
+pub fn read_day(word: &str) -> Result<Day, Refusal>
+    ensures { result ≡ named_part (day_named word.now) }
+{
+    Day::read(word).ok_or(Refusal::BadText)
+}
+
+/// A code; the word `-` is none here.
+pub fn read_code(alloc: Global, word: &str) -> Result<Result<Code, Refusal>, Memory>
+    ensures { IfOk result (λ code. code ≡ code_part word.now) }
+{
+    if word == "-" {
+        return Ok(Err(Refusal::BadText));
+    }
+    match Code::read(alloc, word)? {
+        Some(code) => Ok(Ok(code)),
+        None => Ok(Err(Refusal::BadText)),
+    }
+}
+
+/// A code that may be left out, as `-`.
+pub fn read_optional_code(
+    alloc: Global,
+    word: &str,
+) -> Result<Result<Option<Code>, Refusal>, Memory>
+    ensures { IfOk result (λ code. code ≡ optional_part code_part word.now) }
+{
+    if word == "-" {
+        return Ok(Ok(None));
+    }
+    match read_code(alloc, word)? {
+        Ok(code) => Ok(Ok(Some(code))),
+        Err(refusal) => Ok(Err(refusal)),
+    }
+}
+
+/// The number of an aggregation that may be left out, as `-`.
+pub fn read_optional_number(word: &str) -> Result<Option<AggNo>, Refusal>
+    ensures { result ≡ optional_part thing_number word.now }
+{
+    if word == "-" {
+        return Ok(None);
+    }
+    match read_number(word) {
+        Ok(number) => Ok(Some(number)),
+        Err(refusal) => Err(refusal),
+    }
+}

@@ -1,0 +1,99 @@
+ghost use Rattle.std.specs.Prelude.{◌≡◌, ◌++◌, length, IfErr, IfOk, IfSome, IsSome, IsTrue, OnOk};
+ghost use Rattle.std.specs.Io.KnownBytes.{Appends};
+ghost use Rattle.std.specs.Str.Lines.{lines};
+ghost use Rattle.office_tree.specs.Tree.{has_record};
+ghost use Rattle.office_plan.specs.PlanFile.{due_line, due_lines, due_word, plan_asked, plan_from, plan_refusal, plan_written, plan_result};
+
+use crate::input::{PlanStop, read_whole};
+use crate::lines::next_line;
+use crate::output::write_out;
+use crate::plan_step::take_line;
+use office_days::{DueDay, Refusal};
+use office_tree::{Memory, RecordNo, Tree};
+use std::alloc::{AllocError, Global};
+use std::io::{Read, Write};
+
+/// Takes line after line, from the first, until one is refused: its number, from 1, and why.
+fn take_lines(
+    alloc: Global,
+    tree: &mut Tree,
+    bytes: &[u8],
+) -> Result<Option<(u64, Refusal)>, Memory>
+    ensures { IfOk result (λ refused. plan_from 1 (lines bytes.now) tree.old ≡ plan_result refused tree.new) }
+{
+    let mut rest = bytes;
+    let mut number: u64 = 0;
+    while let Some((line, after)) = next_line(rest) {
+        number += 1;
+        if let Some(refusal) = take_line(alloc, tree, line)? {
+            return Ok(Some((number, refusal)));
+        }
+        rest = after;
+    }
+    Ok(None)
+}
+
+/// Appends the due day, or `-` where there is none.
+fn push_due(out: &mut Vec<u8>, due: Option<DueDay>) -> Result<(), AllocError>
+    ensures { OnOk result (out.new.items ≡ out.old.items ++ due_word due) }
+{
+    match due {
+        Some(day) => out.extend_from_slice(day.text().as_slice()),
+        None => out.extend_from_slice(b"-"),
+    }
+}
+
+/// Appends the line of a record: its number and its due day.
+#[tactic(auto, unfolding(crate::specs::PlanFile::due_line))]
+fn push_line(
+    alloc: Global,
+    out: &mut Vec<u8>,
+    tree: &Tree,
+    record_no: RecordNo,
+) -> Result<(), AllocError>
+    requires { IsTrue (has_record tree.now record_no) }
+    ensures { OnOk result (out.new.items ≡ out.old.items ++ due_line tree.now record_no) }
+{
+    let number = format!(in alloc; "{record_no} ")?;
+    out.extend_from_slice(number.as_bytes())?;
+    push_due(out, tree.due_of(record_no))?;
+    out.extend_from_slice(b"\n")
+}
+
+/// The lines of all records, by number.
+fn lines_of(alloc: Global, tree: &Tree) -> Result<Vec<u8>, AllocError>
+    ensures { IfOk result (λ out. out.items ≡ due_lines tree.now (length tree.now.records)) }
+{
+    let mut out = Vec::new(alloc);
+    for before in 0..tree.record_count() {
+        push_line(alloc, &mut out, tree, before + 1)?;
+    }
+    Ok(out)
+}
+
+/// `office plan FILE`: reads a plan file to its end and then writes, for each of its records, the
+/// number and the due day, or `-` where there is none. `None` after that was written; else the
+/// first line that is refused, counted from 1 with empty lines, and why, with nothing written.
+/// `Io` comes where the reader or the writer answered an error, `Memory` where an allocation was
+/// refused; at `Io` some of the lines may have gone out.
+pub fn plan_to<R: Read, W: Write>(
+    alloc: Global,
+    reader: &mut R,
+    out: &mut W,
+) -> Result<Option<(u64, Refusal)>, PlanStop>
+    ensures refusal { IfOk result (λ refused. IfSome (R.remaining reader.old) (λ bytes. refused ≡ plan_refusal (plan_asked bytes))) }
+    ensures written { OnOk result (IfSome (R.remaining reader.old) (λ bytes. Appends (W.contents out.old) (W.contents out.new) (plan_written (plan_asked bytes)))) }
+
+    // Where a line is refused, or memory, the writer is not touched.
+    ensures untouched { IfOk result (λ refused. IsSome refused → out.new ≡ out.old) }
+    ensures unwritten { IfErr result (λ stop. stop ≡ PlanStop.Memory → out.new ≡ out.old) }
+{
+    let bytes = read_whole(alloc, reader)?;
+    let mut tree = Tree::new(alloc);
+    if let Some(refused) = take_lines(alloc, &mut tree, bytes.as_slice())? {
+        return Ok(Some(refused));
+    }
+    let lines = lines_of(alloc, &tree)?;
+    write_out(lines.as_slice(), out)?;
+    Ok(None)
+}

@@ -1,0 +1,74 @@
+-- The command line of the office, as `clap` reads it, and what its words ask for. Source: own.
+use Rattle.std.specs.Prelude.{true, codes, List, [], Option, Some, None, unwrap_or, if◌then◌else◌}
+use Rattle.std.specs.Str.{bytes_eq}
+use Rattle.clap.specs.Words.{App, Row, Rule, Text, first_of, new_app, new_rule, with_rule, with_subcommand}
+use Rattle.office_words.specs.declared.words.Words.{Words}
+use Rattle.office_words.specs.declared.words.Words.TheVariants.{Due, Init, Nothing, Plan}
+
+-- an operand that must be there
+abbrev pub operand : Text → Rule
+operand name = record (new_rule name) { required = true }
+
+-- `due UNIT COUNT OFFSET DAY`
+abbrev pub due_app : App
+due_app =
+    with_rule (with_rule (with_rule (with_rule (new_app (codes "due"))
+    (operand (codes "UNIT"))) (operand (codes "COUNT"))) (operand (codes "OFFSET"))) (operand (codes "DAY"))
+
+-- `plan FILE`
+abbrev pub plan_app : App
+plan_app = with_rule (new_app (codes "plan")) (operand (codes "FILE"))
+
+-- `init FILE`
+abbrev pub init_app : App
+init_app = with_rule (new_app (codes "init")) (operand (codes "FILE"))
+
+-- a command that must have one of its subcommands, and shows its help where it has no word at all
+abbrev pub with_commands : App → App
+with_commands app = record app { top = record (app.top) { subcommand_required = true; arg_required_else_help = true } }
+
+-- with the commands that open no office
+unfoldable pub with_plain_commands : App → App
+with_plain_commands app = with_subcommand (with_subcommand app due_app.top) plan_app.top
+
+-- with the commands on the office in a file
+unfoldable pub with_file_commands : App → App
+with_file_commands app = with_subcommand app init_app.top
+
+-- `office COMMAND ..`
+unfoldable pub office_app : App
+office_app = with_file_commands (with_plain_commands (with_commands (new_app (codes "office"))))
+
+-- the text of an operand; `clap` takes no words in which one lacks
+abbrev pub text_of : Text → List Row → Text
+text_of name rows = unwrap_or (first_of name rows) []
+
+-- what the words ask for
+pub data Asked : Type 0 where
+  nothing_asked : Asked
+  due_day_asked : Text → Text → Text → Text → Asked
+  plan_file_asked : Text → Asked
+  init_file_asked : Text → Asked
+
+abbrev pub asked : Words → Asked
+asked (Due unit count offset day) = due_day_asked unit.now count.now offset.now day.now
+asked (Plan file) = plan_file_asked file.now
+asked (Init file) = init_file_asked file.now
+asked Nothing = nothing_asked
+
+abbrev pub due_asked : List Row → Asked
+due_asked rows = due_day_asked (text_of (codes "UNIT") rows) (text_of (codes "COUNT") rows) (text_of (codes "OFFSET") rows) (text_of (codes "DAY") rows)
+
+abbrev pub plan_asked : List Row → Asked
+plan_asked rows = plan_file_asked (text_of (codes "FILE") rows)
+
+abbrev pub init_asked : List Row → Asked
+init_asked rows = init_file_asked (text_of (codes "FILE") rows)
+
+-- what a subcommand with its matches asks for
+abbrev pub asked_in : Option (Text × List Row) → Asked
+asked_in None = nothing_asked
+asked_in (Some p) =
+    if bytes_eq p.0 (codes "due") then due_asked p.1
+    else (if bytes_eq p.0 (codes "plan") then plan_asked p.1
+    else (if bytes_eq p.0 (codes "init") then init_asked p.1 else nothing_asked))

@@ -1,0 +1,27 @@
+-- What the program is to do, with the operands of the words that name an office's file read. Source: own.
+use Rattle.std.specs.Prelude.{Result, Ok}
+use Rattle.clap.specs.Words.{Text}
+use Rattle.office_days.specs.declared.refusal.Refusal.{Refusal}
+use Rattle.office_words.specs.Command.{Asked, nothing_asked, due_day_asked, plan_file_asked, init_file_asked}
+use Rattle.office_words.specs.declared.order.Order.{Order}
+use Rattle.office_words.specs.declared.order.Order.TheVariants.{Due, Init, Nothing, Plan}
+
+-- what is ordered; `due` and `plan` read their operands themselves
+pub data Ordered : Type 0 where
+  nothing_ordered : Ordered
+  due_day_ordered : Text → Text → Text → Text → Ordered
+  plan_file_ordered : Text → Ordered
+  init_file_ordered : Text → Ordered
+
+abbrev pub ordered : Order → Ordered
+ordered (Due unit count offset day) = due_day_ordered unit.now count.now offset.now day.now
+ordered (Plan file) = plan_file_ordered file.now
+ordered (Init file) = init_file_ordered file.now
+ordered Nothing = nothing_ordered
+
+-- what is ordered by words that ask for something, or why an operand is refused
+abbrev pub order_asked : Asked → Result Ordered Refusal
+order_asked nothing_asked = Ok nothing_ordered
+order_asked (due_day_asked unit count offset day) = Ok (due_day_ordered unit count offset day)
+order_asked (plan_file_asked file) = Ok (plan_file_ordered file)
+order_asked (init_file_asked file) = Ok (init_file_ordered file)

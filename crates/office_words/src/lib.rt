@@ -1,0 +1,15 @@
+//! The words of the program `office`: what people may ask of it on the command line.
+//!
+//! [`read_words`] takes the words apart as `clap` does, and gives [`Words`], a command with its
+//! operands as they were written. What is wrong with the words is said in the text of `clap`.
+//! [`order_of`] then reads the operands of the words that name an office's file, before any file is
+//! looked at.
+#![tactic(auto)]
+
+mod order;
+#[cfg(test)]
+mod tests;
+mod words;
+
+pub use order::{Order, order_of};
+pub use words::{Words, read_words};

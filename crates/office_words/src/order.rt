@@ -1,0 +1,50 @@
+ghost use Rattle.std.specs.Prelude.{◌≡◌, Err, IfErr, IfOk, Ok};
+ghost use Rattle.office_words.specs.Command.{asked};
+ghost use Rattle.office_words.specs.Orders.{order_asked, ordered};
+
+use crate::words::Words;
+use office_days::Refusal;
+
+/// What the program is to do: its words, with the operands of those that name an office's file read.
+/// `due` and `plan`, which open no office, read theirs where they are done.
+#[derive(Drop)]
+pub enum Order<'a> {
+    Due {
+        unit: &'a str,
+        count: &'a str,
+        offset: &'a str,
+        day: &'a str,
+    },
+    Plan {
+        file: &'a str,
+    },
+    /// Opens the office in the file, or makes a new one there.
+    Init {
+        file: &'a str,
+    },
+    /// No command.
+    Nothing,
+}
+
+/// What the words order, or why an operand is refused; no file is looked at.
+pub fn order_of<'a>(words: Words<'a>) -> Result<Order<'a>, Refusal>
+    ensures ok { IfOk result (λ order. order_asked (asked words.entry) ≡ Ok (ordered order)) }
+    ensures err { IfErr result (λ refusal. order_asked (asked words.entry) ≡ Err refusal) }
+{
+    match words {
+        Words::Due {
+            unit,
+            count,
+            offset,
+            day,
+        } => Ok(Order::Due {
+            unit,
+            count,
+            offset,
+            day,
+        }),
+        Words::Plan { file } => Ok(Order::Plan { file }),
+        Words::Init { file } => Ok(Order::Init { file }),
+        Words::Nothing => Ok(Order::Nothing),
+    }
+}
