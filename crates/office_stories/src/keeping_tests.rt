@@ -133,7 +133,7 @@ fn rows_of_their_form_that_stand_for_no_office_are_told(rt: HostRuntime) -> Resu
     let content = "INSERT INTO contents VALUES (1, x'616263')";
     assert_eq!(rt; fault_after(&rt, base_desk(&rt, RUN)?, content)?, 33);
     assert_eq!(rt;
-        fault_of_base(&rt, "DELETE FROM contents WHERE num = 2")?,
+        fault_of_base(&rt, "DELETE FROM contents WHERE record = 2")?,
         33
     );
     assert_eq!(rt;
