@@ -2,8 +2,9 @@
 //!
 //! A [`Desk`] is opened of a connection: its office is the one for which the tables stand. It does acts
 //! one after another, each saved before it is answered, so that a stop at any moment leaves the tables
-//! after every answered act and at most one more. After a fault of the store the desk is given up: it
-//! answers no more, and is to be closed and opened again.
+//! after every answered act and at most one more. A run that was stopped is taken up again, and ends as
+//! one that never stopped. After a fault of the store the desk is given up: it answers no more, and is to
+//! be closed and opened again.
 #![tactic(auto)]
 
 mod content;
