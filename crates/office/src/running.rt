@@ -8,7 +8,9 @@ ghost use Rattle.office.specs.Endings.{exit_status, line_said};
 ghost use Rattle.office.specs.Running.{InitEnds, RunEnds, version_line};
 ghost use Rattle.office.specs.declared.ending.Ending.{Ending as AnyEnding};
 
+use crate::certifying::certificate_on;
 use crate::ending::Ending;
+use crate::resuming::resume_on;
 use office_desk::Desk;
 use office_plan::{Io, write_out};
 use office_words::Order;
@@ -67,6 +69,8 @@ pub fn run_on<R: Read, W: Write, E: Write, S: Alter>(
 {
     let (ending, conn) = match order {
         Order::Init { .. } => init_on(alloc, conn, out),
+        Order::Resume { .. } => resume_on(alloc, conn, out),
+        Order::Certificate { run, .. } => certificate_on(alloc, conn, *run, out),
         Order::Due { .. } | Order::Plan { .. } | Order::Nothing => (Ending::BadWords, conn),
     };
     let _ = tell(ending, err);
