@@ -1,1 +1,3 @@
+pub mod Certificates
 pub mod Endings
+pub mod Resumptions

@@ -5,7 +5,9 @@
 //! program tells the caller at the end: the exit status, and the line on standard error.
 #![tactic(auto)]
 
+mod certifying;
 mod ending;
+mod resuming;
 mod running;
 #[cfg(test)]
 mod tests;
@@ -62,7 +64,9 @@ fn perform(rt: &HostRuntime, order: &Order<'_>) -> u8 {
             ended(rt, Ending::of(answer))
         }
         Order::Plan { file } => ended(rt, plan_in(rt, file)),
-        Order::Init { file } => run_in(rt, file, order),
+        Order::Init { file } | Order::Resume { file } | Order::Certificate { file, .. } => {
+            run_in(rt, file, order)
+        }
         Order::Nothing => ended(rt, Ending::BadWords),
     }
 }

@@ -8,7 +8,9 @@ ghost use Rattle.office.specs.Endings.{exit_status, line_said};
 ghost use Rattle.office.specs.Running.{InitEnds, RunEnds, version_line};
 ghost use Rattle.office.specs.declared.ending.Ending.{Ending as AnyEnding};
 
+use crate::certifying::certificate_on;
 use crate::ending::Ending;
+use crate::resuming::resume_on;
 use office_desk::Desk;
 use office_plan::{Io, write_out};
 use office_words::Order;
@@ -50,6 +52,24 @@ pub fn tell<E: Write>(ending: Ending, err: &mut E) -> Result<(), Io>
     write!(err, "{ending}").or(Err(Io))
 }
 
+/// What an order does over a connection to the office's file.
+fn carry_out<W: Write, S: Alter>(
+    alloc: Global,
+    conn: Connection<S>,
+    order: &Order<'_>,
+    out: &mut W,
+) -> (Ending, Connection<S>)
+    requires { conn.in_transaction ≡ false }
+    ensures { RunEnds S.Store (ordered order.now) conn result.1 (W.contents out.old) (W.contents out.new) result.0 }
+{
+    match order {
+        Order::Init { .. } => init_on(alloc, conn, out),
+        Order::Resume { .. } => resume_on(alloc, conn, out),
+        Order::Certificate { run, .. } => certificate_on(alloc, conn, *run, out),
+        Order::Due { .. } | Order::Plan { .. } | Order::Nothing => (Ending::BadWords, conn),
+    }
+}
+
 /// Carries out an order over a connection to the office's file, outside a transaction: what it reads
 /// comes from `input`, what it answers goes to `out`, and the line of its ending to `err`. It gives the
 /// exit status, and the connection back. An order that names no office's file is no order here: status 2,
@@ -65,10 +85,7 @@ pub fn run_on<R: Read, W: Write, E: Write, S: Alter>(
     requires { conn.in_transaction ≡ false }
     ensures runs { (ending : AnyEnding) × (result.0 ≡ exit_status ending) × RunEnds S.Store (ordered order.now) conn result.1 (W.contents out.old) (W.contents out.new) ending }
 {
-    let (ending, conn) = match order {
-        Order::Init { .. } => init_on(alloc, conn, out),
-        Order::Due { .. } | Order::Plan { .. } | Order::Nothing => (Ending::BadWords, conn),
-    };
+    let (ending, conn) = carry_out(alloc, conn, order, out);
     let _ = tell(ending, err);
     (ending.status(), conn)
 }

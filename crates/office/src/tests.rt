@@ -2,8 +2,11 @@
 
 use crate::ending::Ending;
 use crate::running::run_on;
-use office_days::Refusal;
+use office_days::{Day, Refusal};
+use office_desk::Desk;
+use office_machine::Act;
 use office_store::Fault;
+use office_tree::Text;
 use office_words::Order;
 use sqlite::{Connection, MemStore, params};
 use std::alloc::AllocGlobal;
@@ -43,11 +46,12 @@ fn what_is_said_at_the_end(rt: HostRuntime) -> Result<(), Fail> {
 /// A connection to a database in memory.
 type Memory = Connection<MemStore>;
 
-/// Runs `init` over a connection: the status must be this one, and these the lines of an answer and of
-/// an ending.
-fn inits(
+/// Carries out an order over a connection: the status must be this one, and these what is answered and
+/// the line of an ending.
+fn runs(
     rt: &(impl Abort + AllocGlobal),
     conn: Memory,
+    order: &Order<'_>,
     status: u8,
     answer: &str,
     line: &str,
@@ -55,14 +59,25 @@ fn inits(
     if !conn.is_autocommit() {
         return Err(Fail::new("a transaction is under way"));
     }
-    let order = Order::Init { file: "office.db" };
     let (mut out, mut err) = (Vec::new(rt.alloc()), Vec::new(rt.alloc()));
     let mut input: &[u8] = &[];
-    let (got, conn) = run_on(rt.alloc(), conn, &order, &mut input, &mut out, &mut err);
+    let (got, conn) = run_on(rt.alloc(), conn, order, &mut input, &mut out, &mut err);
     assert_eq!(rt; got, status);
     assert_eq!(rt; out.as_slice(), answer.as_bytes());
     assert_eq!(rt; err.as_slice(), line.as_bytes());
     Ok(conn)
+}
+
+/// Runs `init` over a connection, which must end so.
+fn inits(
+    rt: &(impl Abort + AllocGlobal),
+    conn: Memory,
+    status: u8,
+    answer: &str,
+    line: &str,
+) -> Result<Memory, Fail> {
+    let order = Order::Init { file: "office.db" };
+    runs(rt, conn, &order, status, answer, line)
 }
 
 #[test]
@@ -96,5 +111,83 @@ fn tables_of_no_office(rt: HostRuntime) -> Result<(), Fail> {
     for (statement, line) in rows {
         ends_after(&rt, statement, line)?;
     }
+    Ok(())
+}
+
+/// Runs `resume` over a connection, which must end so.
+fn resumes(
+    rt: &(impl Abort + AllocGlobal),
+    conn: Memory,
+    status: u8,
+    answer: &str,
+    line: &str,
+) -> Result<Memory, Fail> {
+    let order = Order::Resume { file: "office.db" };
+    runs(rt, conn, &order, status, answer, line)
+}
+
+/// Asks for the certificate of that run over a connection, which must end so.
+fn certifies(
+    rt: &(impl Abort + AllocGlobal),
+    conn: Memory,
+    run: u32,
+    status: u8,
+    answer: &str,
+    line: &str,
+) -> Result<Memory, Fail> {
+    let file = "office.db";
+    runs(
+        rt,
+        conn,
+        &Order::Certificate { file, run },
+        status,
+        answer,
+        line,
+    )
+}
+
+#[test]
+fn a_new_office_has_no_run(rt: HostRuntime) -> Result<(), Fail> {
+    let conn = Connection::open_in_memory(rt.alloc())?;
+    let conn = resumes(&rt, conn, 1, "", "office: refused 18\n")?;
+    inits(&rt, conn, 0, "version 1\n", "")?;
+    let conn = Connection::open_in_memory(rt.alloc())?;
+    let conn = certifies(&rt, conn, 1, 1, "", "office: refused 5\n")?;
+    inits(&rt, conn, 0, "version 1\n", "")?;
+    Ok(())
+}
+
+/// Opens a run in the office behind a connection.
+fn with_run(rt: &(impl Abort + AllocGlobal), conn: Memory) -> Result<Memory, Fail> {
+    if !conn.is_autocommit() {
+        return Err(Fail::new("a transaction is under way"));
+    }
+    let day = Day::read("2025-01-02").ok_or("no day")?;
+    let by = Text::read(rt.alloc(), "registrar")?.ok_or("no text")?;
+    match Desk::open(rt.alloc(), conn) {
+        Ok(mut desk) => {
+            let mut answers = Vec::new(rt.alloc());
+            let done = desk.perform_all(&[Act::OpenRun { day, by }], &mut answers);
+            assert!(rt; done.is_ok());
+            Ok(desk.close())
+        }
+        Err(_) => Err(Fail::new("not opened")),
+    }
+}
+
+/// The certificate of the run of nothing that `with_run` opens.
+const TEXT: &str =
+    "CERTIFICATE 1\nDAY 2025-01-02\nBY registrar\nENDED 0\nSENT 0\nSKIPPED 0\nSPENT 0\nSHA256 045ce16f4fb05c273a45025e528fc936c6f459e0efd3c4ac5938925881b5a62a\n";
+
+#[test]
+fn an_open_run_is_resumed_once(rt: HostRuntime) -> Result<(), Fail> {
+    let conn = with_run(&rt, Connection::open_in_memory(rt.alloc())?)?;
+    let conn = certifies(&rt, conn, 1, 1, "", "office: refused 5\n")?;
+    let conn = resumes(&rt, conn, 0, "certificate 1\n", "")?;
+    let conn = certifies(&rt, conn, 1, 0, TEXT, "")?;
+    let conn = resumes(&rt, conn, 1, "", "office: refused 18\n")?;
+    let conn = resumes(&rt, with_run(&rt, conn)?, 0, "certificate 2\n", "")?;
+    let conn = certifies(&rt, conn, 1, 0, TEXT, "")?;
+    certifies(&rt, conn, 3, 1, "", "office: refused 5\n")?;
     Ok(())
 }

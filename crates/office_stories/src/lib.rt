@@ -27,6 +27,4 @@ mod reading_tests;
 #[cfg(test)]
 mod run_tests;
 #[cfg(test)]
-mod stopping_tests;
-#[cfg(test)]
 mod telling;

@@ -3,7 +3,7 @@ use Rattle.std.specs.Prelude.{true, codes, List, [], Option, Some, None, unwrap_
 use Rattle.std.specs.Str.{bytes_eq}
 use Rattle.clap.specs.Words.{App, Row, Rule, Text, first_of, new_app, new_rule, with_rule, with_subcommand}
 use Rattle.office_words.specs.declared.words.Words.{Words}
-use Rattle.office_words.specs.declared.words.Words.TheVariants.{Due, Init, Nothing, Plan}
+use Rattle.office_words.specs.declared.words.Words.TheVariants.{Certificate, Due, Init, Nothing, Plan, Resume}
 
 -- an operand that must be there
 abbrev pub operand : Text → Rule
@@ -23,6 +23,14 @@ plan_app = with_rule (new_app (codes "plan")) (operand (codes "FILE"))
 abbrev pub init_app : App
 init_app = with_rule (new_app (codes "init")) (operand (codes "FILE"))
 
+-- `resume FILE`
+abbrev pub resume_app : App
+resume_app = with_rule (new_app (codes "resume")) (operand (codes "FILE"))
+
+-- `certificate FILE N`
+abbrev pub certificate_app : App
+certificate_app = with_rule (with_rule (new_app (codes "certificate")) (operand (codes "FILE"))) (operand (codes "N"))
+
 -- a command that must have one of its subcommands, and shows its help where it has no word at all
 abbrev pub with_commands : App → App
 with_commands app = record app { top = record (app.top) { subcommand_required = true; arg_required_else_help = true } }
@@ -33,7 +41,7 @@ with_plain_commands app = with_subcommand (with_subcommand app due_app.top) plan
 
 -- with the commands on the office in a file
 unfoldable pub with_file_commands : App → App
-with_file_commands app = with_subcommand app init_app.top
+with_file_commands app = with_subcommand (with_subcommand (with_subcommand app init_app.top) resume_app.top) certificate_app.top
 
 -- `office COMMAND ..`
 unfoldable pub office_app : App
@@ -49,11 +57,15 @@ pub data Asked : Type 0 where
   due_day_asked : Text → Text → Text → Text → Asked
   plan_file_asked : Text → Asked
   init_file_asked : Text → Asked
+  resumption_asked : Text → Asked
+  certificate_asked : Text → Text → Asked
 
 abbrev pub asked : Words → Asked
 asked (Due unit count offset day) = due_day_asked unit.now count.now offset.now day.now
 asked (Plan file) = plan_file_asked file.now
 asked (Init file) = init_file_asked file.now
+asked (Resume file) = resumption_asked file.now
+asked (Certificate file number) = certificate_asked file.now number.now
 asked Nothing = nothing_asked
 
 abbrev pub due_asked : List Row → Asked
@@ -65,10 +77,18 @@ plan_asked rows = plan_file_asked (text_of (codes "FILE") rows)
 abbrev pub init_asked : List Row → Asked
 init_asked rows = init_file_asked (text_of (codes "FILE") rows)
 
+abbrev pub resume_asked : List Row → Asked
+resume_asked rows = resumption_asked (text_of (codes "FILE") rows)
+
+abbrev pub number_asked : List Row → Asked
+number_asked rows = certificate_asked (text_of (codes "FILE") rows) (text_of (codes "N") rows)
+
 -- what a subcommand with its matches asks for
 abbrev pub asked_in : Option (Text × List Row) → Asked
 asked_in None = nothing_asked
 asked_in (Some p) =
     if bytes_eq p.0 (codes "due") then due_asked p.1
     else (if bytes_eq p.0 (codes "plan") then plan_asked p.1
-    else (if bytes_eq p.0 (codes "init") then init_asked p.1 else nothing_asked))
+    else (if bytes_eq p.0 (codes "init") then init_asked p.1
+    else (if bytes_eq p.0 (codes "resume") then resume_asked p.1
+    else (if bytes_eq p.0 (codes "certificate") then number_asked p.1 else nothing_asked))))

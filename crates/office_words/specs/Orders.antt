@@ -1,10 +1,11 @@
 -- What the program is to do, with the operands of the words that name an office's file read. Source: own.
-use Rattle.std.specs.Prelude.{Result, Ok}
+use Rattle.std.specs.Prelude.{ℕ, Result, Ok, Err}
 use Rattle.clap.specs.Words.{Text}
 use Rattle.office_days.specs.declared.refusal.Refusal.{Refusal}
-use Rattle.office_words.specs.Command.{Asked, nothing_asked, due_day_asked, plan_file_asked, init_file_asked}
+use Rattle.office_words.specs.Numbers.{thing_number}
+use Rattle.office_words.specs.Command.{Asked, nothing_asked, due_day_asked, plan_file_asked, init_file_asked, resumption_asked, certificate_asked}
 use Rattle.office_words.specs.declared.order.Order.{Order}
-use Rattle.office_words.specs.declared.order.Order.TheVariants.{Due, Init, Nothing, Plan}
+use Rattle.office_words.specs.declared.order.Order.TheVariants.{Certificate, Due, Init, Nothing, Plan, Resume}
 
 -- what is ordered; `due` and `plan` read their operands themselves
 pub data Ordered : Type 0 where
@@ -12,12 +13,21 @@ pub data Ordered : Type 0 where
   due_day_ordered : Text → Text → Text → Text → Ordered
   plan_file_ordered : Text → Ordered
   init_file_ordered : Text → Ordered
+  resumption_ordered : Text → Ordered
+  certificate_ordered : Text → ℕ → Ordered
 
 abbrev pub ordered : Order → Ordered
 ordered (Due unit count offset day) = due_day_ordered unit.now count.now offset.now day.now
 ordered (Plan file) = plan_file_ordered file.now
 ordered (Init file) = init_file_ordered file.now
+ordered (Resume file) = resumption_ordered file.now
+ordered (Certificate file run) = certificate_ordered file.now run
 ordered Nothing = nothing_ordered
+
+-- the certificate of the run with that number, where a text was read as one
+abbrev pub certificate_of : Text → Result ℕ Refusal → Result Ordered Refusal
+certificate_of file (Ok run) = Ok (certificate_ordered file run)
+certificate_of file (Err refusal) = Err refusal
 
 -- what is ordered by words that ask for something, or why an operand is refused
 abbrev pub order_asked : Asked → Result Ordered Refusal
@@ -25,3 +35,5 @@ order_asked nothing_asked = Ok nothing_ordered
 order_asked (due_day_asked unit count offset day) = Ok (due_day_ordered unit count offset day)
 order_asked (plan_file_asked file) = Ok (plan_file_ordered file)
 order_asked (init_file_asked file) = Ok (init_file_ordered file)
+order_asked (resumption_asked file) = Ok (resumption_ordered file)
+order_asked (certificate_asked file number) = certificate_of file (thing_number number)

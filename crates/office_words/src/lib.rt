@@ -6,6 +6,7 @@
 //! looked at.
 #![tactic(auto)]
 
+mod number;
 mod order;
 #[cfg(test)]
 mod tests;

@@ -2,6 +2,7 @@ ghost use Rattle.std.specs.Prelude.{◌≡◌, Err, IfErr, IfOk, Ok};
 ghost use Rattle.office_words.specs.Command.{asked};
 ghost use Rattle.office_words.specs.Orders.{order_asked, ordered};
 
+use crate::number::read_number;
 use crate::words::Words;
 use office_days::Refusal;
 
@@ -22,11 +23,21 @@ pub enum Order<'a> {
     Init {
         file: &'a str,
     },
+    /// Takes the open run of the office in the file up again, to its end.
+    Resume {
+        file: &'a str,
+    },
+    /// Tells the certificate of that run.
+    Certificate {
+        file: &'a str,
+        run: u32,
+    },
     /// No command.
     Nothing,
 }
 
-/// What the words order, or why an operand is refused; no file is looked at.
+/// What the words order, or why an operand is refused; no file is looked at. The number of a run is one or
+/// more ASCII digits, from 1 to 4,294,967,295, leading zeros allowed.
 pub fn order_of<'a>(words: Words<'a>) -> Result<Order<'a>, Refusal>
     ensures ok { IfOk result (λ order. order_asked (asked words.entry) ≡ Ok (ordered order)) }
     ensures err { IfErr result (λ refusal. order_asked (asked words.entry) ≡ Err refusal) }
@@ -45,6 +56,11 @@ pub fn order_of<'a>(words: Words<'a>) -> Result<Order<'a>, Refusal>
         }),
         Words::Plan { file } => Ok(Order::Plan { file }),
         Words::Init { file } => Ok(Order::Init { file }),
+        Words::Resume { file } => Ok(Order::Resume { file }),
+        Words::Certificate { file, number } => {
+            let run = read_number(number)?;
+            Ok(Order::Certificate { file, run })
+        }
         Words::Nothing => Ok(Order::Nothing),
     }
 }

@@ -3,6 +3,7 @@
 use crate::order::{Order, order_of};
 use crate::words::{Words, read_words};
 use clap::error::ErrorKind;
+use office_days::Refusal;
 
 #[test]
 fn words_of_the_command_line(rt: HostRuntime) {
@@ -66,5 +67,59 @@ fn the_word_init(rt: HostRuntime) {
         Ok(Ok(Order::Init { file })) => assert_eq!(rt; file, "office.db"),
         Ok(_) => panic!(rt; "an office was asked for"),
         Err(error) => assert_eq!(rt; error.kind(), ErrorKind::OutOfMemory),
+    }
+}
+
+#[test]
+fn the_word_resume(rt: HostRuntime) {
+    match read_words(rt.alloc(), &["office", "resume", "office.db"]).map(order_of) {
+        Ok(Ok(Order::Resume { file })) => assert_eq!(rt; file, "office.db"),
+        Ok(_) => panic!(rt; "a resumption was asked for"),
+        Err(error) => assert_eq!(rt; error.kind(), ErrorKind::OutOfMemory),
+    }
+}
+
+/// Words that ask for a certificate must order that of this run.
+fn orders(rt: &HostRuntime, number: &str, run: u32) {
+    match read_words(rt.alloc(), &["office", "certificate", "office.db", number]).map(order_of) {
+        Ok(Ok(Order::Certificate { file, run: got })) => {
+            assert_eq!(rt; file, "office.db");
+            assert_eq!(rt; got, run);
+        }
+        Ok(_) => panic!(rt; "a certificate was asked for"),
+        Err(error) => assert_eq!(rt; error.kind(), ErrorKind::OutOfMemory),
+    }
+}
+
+#[test]
+fn the_word_certificate(rt: HostRuntime) {
+    let rows = [("1", 1), ("007", 7), ("4294967295", 4_294_967_295)];
+    for (number, run) in rows {
+        orders(&rt, number, run);
+    }
+}
+
+/// The refusal of words that ask for a certificate.
+fn refusal_of(rt: &HostRuntime, number: &str) -> Option<Refusal> {
+    match read_words(rt.alloc(), &["office", "certificate", "office.db", number]).map(order_of) {
+        Ok(Err(refusal)) => Some(refusal),
+        _ => None,
+    }
+}
+
+#[test]
+fn numbers_of_no_run(rt: HostRuntime) {
+    let rows = [
+        ("", Refusal::BadText),
+        ("one", Refusal::BadText),
+        ("+1", Refusal::BadText),
+        ("1 ", Refusal::BadText),
+        ("0", Refusal::BadNumber),
+        ("000", Refusal::BadNumber),
+        ("4294967296", Refusal::BadNumber),
+        ("99999999999999999999999", Refusal::BadNumber),
+    ];
+    for (number, refusal) in rows {
+        assert_eq!(rt; refusal_of(&rt, number), Some(refusal));
     }
 }

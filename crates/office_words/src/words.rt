@@ -1,7 +1,7 @@
 ghost use Rattle.std.specs.Prelude.{◌≡◌, IfOk, IfErr, true, false, map};
 ghost use Rattle.clap.specs.Words.{app_of, found_of, kind_of, rows_of, rule_of, subcommand_of, subcommand_rows_of, takes};
 ghost use Rattle.clap.specs.declared.builder.command.Command.TheViews.{out-Command as fields_of};
-ghost use Rattle.office_words.specs.Command.{asked, asked_in, due_app, due_asked, init_app, init_asked, office_app, operand, plan_app, plan_asked, text_of, with_file_commands, with_plain_commands};
+ghost use Rattle.office_words.specs.Command.{asked, asked_in, certificate_app, due_app, due_asked, init_app, init_asked, number_asked, office_app, operand, plan_app, plan_asked, resume_app, resume_asked, text_of, with_file_commands, with_plain_commands};
 
 use clap::error::ErrorKind;
 use clap::{Arg, ArgMatches, Command, Error};
@@ -21,6 +21,13 @@ pub enum Words<'a> {
     },
     Init {
         file: &'a str,
+    },
+    Resume {
+        file: &'a str,
+    },
+    Certificate {
+        file: &'a str,
+        number: &'a str,
     },
     /// No command: `clap` takes no words without one.
     Nothing,
@@ -72,6 +79,25 @@ fn init_command<'a>(alloc: Global) -> Result<Command<'a>, AllocError>
         .arg(required(alloc, "FILE", "The office's file"))
 }
 
+fn resume_command<'a>(alloc: Global) -> Result<Command<'a>, AllocError>
+    ensures app { IfOk result (λ c. app_of c ≡ resume_app) }
+    ensures globals { IfOk result (λ c. (fields_of c).has_globals ≡ false) }
+{
+    Command::new(alloc, "resume")
+        .about("Takes up the run that is open, to its end")
+        .arg(required(alloc, "FILE", "The office's file"))
+}
+
+fn certificate_command<'a>(alloc: Global) -> Result<Command<'a>, AllocError>
+    ensures app { IfOk result (λ c. app_of c ≡ certificate_app) }
+    ensures globals { IfOk result (λ c. (fields_of c).has_globals ≡ false) }
+{
+    Command::new(alloc, "certificate")
+        .about("Prints the certificate of a run")
+        .arg(required(alloc, "FILE", "The office's file"))?
+        .arg(required(alloc, "N", "The number of the run, from 1"))
+}
+
 /// With the commands that open no office.
 #[tactic(auto, unfolding(crate::specs::Command::with_plain_commands))]
 fn with_plain_commands<'a>(alloc: Global, command: Command<'a>) -> Result<Command<'a>, AllocError>
@@ -87,7 +113,10 @@ fn with_plain_commands<'a>(alloc: Global, command: Command<'a>) -> Result<Comman
 fn with_file_commands<'a>(alloc: Global, command: Command<'a>) -> Result<Command<'a>, AllocError>
     ensures { IfOk result (λ c. app_of c ≡ with_file_commands (app_of command.entry)) }
 {
-    command.subcommand(init_command(alloc)?)
+    command
+        .subcommand(init_command(alloc)?)?
+        .subcommand(resume_command(alloc)?)?
+        .subcommand(certificate_command(alloc)?)
 }
 
 #[tactic(auto, unfolding(crate::specs::Command::office_app))]
@@ -135,6 +164,23 @@ fn init_words<'a>(matches: &ArgMatches<'a>) -> Words<'a>
     }
 }
 
+fn resume_words<'a>(matches: &ArgMatches<'a>) -> Words<'a>
+    ensures { asked result ≡ resume_asked (rows_of (found_of matches.now)) }
+{
+    Words::Resume {
+        file: operand(matches, "FILE"),
+    }
+}
+
+fn certificate_words<'a>(matches: &ArgMatches<'a>) -> Words<'a>
+    ensures { asked result ≡ number_asked (rows_of (found_of matches.now)) }
+{
+    Words::Certificate {
+        file: operand(matches, "FILE"),
+        number: operand(matches, "N"),
+    }
+}
+
 fn words_of<'a>(matches: &ArgMatches<'a>) -> Words<'a>
     ensures { asked result ≡ asked_in (subcommand_rows_of matches.now) }
 {
@@ -146,6 +192,10 @@ fn words_of<'a>(matches: &ArgMatches<'a>) -> Words<'a>
                 plan_words(inner)
             } else if name == "init" {
                 init_words(inner)
+            } else if name == "resume" {
+                resume_words(inner)
+            } else if name == "certificate" {
+                certificate_words(inner)
             } else {
                 Words::Nothing
             }
