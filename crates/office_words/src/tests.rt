@@ -79,15 +79,11 @@ fn the_word_resume(rt: HostRuntime) {
     }
 }
 
-/// Words that ask for a certificate must order that of this run.
-fn orders(rt: &HostRuntime, number: &str, run: u32) {
+/// The run of words that ask for a certificate of the office in `office.db`.
+fn run_of(rt: &HostRuntime, number: &str) -> Option<u32> {
     match read_words(rt.alloc(), &["office", "certificate", "office.db", number]).map(order_of) {
-        Ok(Ok(Order::Certificate { file, run: got })) => {
-            assert_eq!(rt; file, "office.db");
-            assert_eq!(rt; got, run);
-        }
-        Ok(_) => panic!(rt; "a certificate was asked for"),
-        Err(error) => assert_eq!(rt; error.kind(), ErrorKind::OutOfMemory),
+        Ok(Ok(Order::Certificate { file, run })) if file == "office.db" => Some(run),
+        _ => None,
     }
 }
 
@@ -95,7 +91,7 @@ fn orders(rt: &HostRuntime, number: &str, run: u32) {
 fn the_word_certificate(rt: HostRuntime) {
     let rows = [("1", 1), ("007", 7), ("4294967295", 4_294_967_295)];
     for (number, run) in rows {
-        orders(&rt, number, run);
+        assert_eq!(rt; run_of(&rt, number), Some(run));
     }
 }
 
