@@ -7,7 +7,8 @@ use Rattle.office_store.specs.declared.fault.Fault.TheVariants as fault
 use Rattle.sqlite.specs.Held.{Held, state}
 use Rattle.sqlite.specs.State.{State as FileState}
 use Rattle.sqlite_trees.specs.declared.store.Store.{Ghosts}
-use Rattle.office.specs.Running.{CertificateEnds, Certifies, IsCertificate, IsOfOpened, IsOpened}
+use Rattle.office.specs.Certifying.{CertificateEnds, Certifies, IsCertificate}
+use Rattle.office.specs.Opening.{IsOfOpened, IsOpened}
 use Rattle.office.specs.declared.ending.Ending.{Ending}
 use Rattle.office.specs.declared.ending.Ending.TheVariants as how
 
@@ -16,6 +17,9 @@ pub certifies_of : (Of Others : (State → Type 0) → Type 0) → ((P : State �
 certifies_of Of Others to run written after how.Done h = (h.0, to _ h.1, h.2)
 certifies_of Of Others to run written after (how.Refused refusal) h = (h.0, to _ h.1, h.2)
 certifies_of Of Others to run written after (how.LineRefused line refusal) h = h
+certifies_of Of Others to run written after how.SomeRefused h = h
+certifies_of Of Others to run written after (how.ActRefused place refusal) h = h
+certifies_of Of Others to run written after how.NotJson h = h
 certifies_of Of Others to run written after how.BadWords h = h
 certifies_of Of Others to run written after how.File h = (h.0, to _ h.1)
 certifies_of Of Others to run written after (how.Fault f) h = h

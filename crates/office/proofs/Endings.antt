@@ -2,7 +2,8 @@
 use Rattle.std.proofs.Common.{◌≡◌, ◌⊎◌, inl, inr, ℕ, List, Option, sym, subst}
 use Rattle.std.specs.Io.KnownBytes.{Appends}
 use Rattle.sqlite.specs.State.{State as FileState}
-use Rattle.office.specs.Running.{InitEnds, IsOpened, version_line}
+use Rattle.office.specs.Opening.{IsOpened}
+use Rattle.office.specs.Running.{InitEnds, version_line}
 use Rattle.office.specs.declared.ending.Ending.{Ending}
 use Rattle.office.specs.declared.ending.Ending.TheVariants.{Done, File}
 

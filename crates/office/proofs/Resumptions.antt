@@ -4,7 +4,8 @@ use Rattle.sqlite.specs.Held.{Held, state}
 use Rattle.sqlite.specs.State.{State as FileState}
 use Rattle.sqlite_trees.specs.declared.store.Store.{Ghosts}
 use Rattle.office_machine.specs.State.{State}
-use Rattle.office.specs.Running.{IsAnswerTold, IsNoRun, IsOfOpened, IsResumed, ResumeEnds, Resumes}
+use Rattle.office.specs.Opening.{IsOfOpened}
+use Rattle.office.specs.Resuming.{IsAnswerTold, IsNoRun, IsResumed, ResumeEnds, Resumes}
 use Rattle.office.specs.declared.ending.Ending.{Ending}
 use Rattle.office.specs.declared.ending.Ending.TheVariants as how
 
@@ -13,6 +14,9 @@ pub resumes_of : (Of Others : (State → Type 0) → Type 0) → ((P : State →
 resumes_of Of Others to new written after how.Done h = (h.0, to _ h.1, h.2)
 resumes_of Of Others to new written after (how.Refused refusal) h = (h.0, to _ h.1, h.2)
 resumes_of Of Others to new written after (how.LineRefused line refusal) h = h
+resumes_of Of Others to new written after how.SomeRefused h = h
+resumes_of Of Others to new written after (how.ActRefused place refusal) h = h
+resumes_of Of Others to new written after how.NotJson h = h
 resumes_of Of Others to new written after how.BadWords h = h
 resumes_of Of Others to new written after how.File h = (h.0, to _ h.1)
 resumes_of Of Others to new written after (how.Fault f) h = (to _ h.0, h.1)

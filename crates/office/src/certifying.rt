@@ -3,7 +3,7 @@ ghost use Rattle.std.specs.Prelude.{◌≡◌, ◌⊎◌, false};
 ghost use Rattle.std.specs.Io.KnownBytes.{Appends};
 ghost use Rattle.sqlite.specs.Held.{state};
 ghost use Rattle.office_machine.specs.State.{State};
-ghost use Rattle.office.specs.Running.{CertificateEnds, Certifies};
+ghost use Rattle.office.specs.Certifying.{CertificateEnds, Certifies};
 
 use crate::ending::Ending;
 use office_days::Refusal;

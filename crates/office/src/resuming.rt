@@ -6,7 +6,7 @@ ghost use Rattle.sqlite.specs.State.{HasCleanDisk};
 ghost use Rattle.office_machine.specs.State.{State};
 ghost use Rattle.office_desk.specs.Leaving.{StandsAt};
 ghost use Rattle.office_desk.specs.Resuming.{resumed_answer};
-ghost use Rattle.office.specs.Running.{IsAnswerTold, ResumeEnds, Resumes, certificate_line};
+ghost use Rattle.office.specs.Resuming.{IsAnswerTold, ResumeEnds, Resumes, certificate_line};
 
 use crate::ending::Ending;
 use office_desk::Desk;

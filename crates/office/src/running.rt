@@ -8,6 +8,7 @@ ghost use Rattle.office.specs.Endings.{exit_status, line_said};
 ghost use Rattle.office.specs.Running.{InitEnds, RunEnds, version_line};
 ghost use Rattle.office.specs.declared.ending.Ending.{Ending as AnyEnding};
 
+use crate::applying::apply_on;
 use crate::certifying::certificate_on;
 use crate::ending::Ending;
 use crate::resuming::resume_on;
@@ -53,17 +54,19 @@ pub fn tell<E: Write>(ending: Ending, err: &mut E) -> Result<(), Io>
 }
 
 /// What an order does over a connection to the office's file.
-fn carry_out<W: Write, S: Alter>(
+fn carry_out<R: Read, W: Write, S: Alter>(
     alloc: Global,
     conn: Connection<S>,
     order: &Order<'_>,
+    input: &mut R,
     out: &mut W,
 ) -> (Ending, Connection<S>)
     requires { conn.in_transaction ≡ false }
-    ensures { RunEnds S.Store (ordered order.now) conn result.1 (W.contents out.old) (W.contents out.new) result.0 }
+    ensures { RunEnds S.Store (ordered order.now) (R.remaining input.old) conn result.1 (W.contents out.old) (W.contents out.new) result.0 }
 {
     match order {
         Order::Init { .. } => init_on(alloc, conn, out),
+        Order::Apply { .. } => apply_on(alloc, conn, input, out),
         Order::Resume { .. } => resume_on(alloc, conn, out),
         Order::Certificate { run, .. } => certificate_on(alloc, conn, *run, out),
         Order::Due { .. } | Order::Plan { .. } | Order::Nothing => (Ending::BadWords, conn),
@@ -78,14 +81,14 @@ pub fn run_on<R: Read, W: Write, E: Write, S: Alter>(
     alloc: Global,
     conn: Connection<S>,
     order: &Order<'_>,
-    _input: &mut R,
+    input: &mut R,
     out: &mut W,
     err: &mut E,
 ) -> (u8, Connection<S>)
     requires { conn.in_transaction ≡ false }
-    ensures runs { (ending : AnyEnding) × (result.0 ≡ exit_status ending) × RunEnds S.Store (ordered order.now) conn result.1 (W.contents out.old) (W.contents out.new) ending }
+    ensures runs { (ending : AnyEnding) × (result.0 ≡ exit_status ending) × RunEnds S.Store (ordered order.now) (R.remaining input.old) conn result.1 (W.contents out.old) (W.contents out.new) ending }
 {
-    let (ending, conn) = carry_out(alloc, conn, order, out);
+    let (ending, conn) = carry_out(alloc, conn, order, input, out);
     let _ = tell(ending, err);
     (ending.status(), conn)
 }

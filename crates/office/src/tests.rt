@@ -28,6 +28,13 @@ fn what_is_said_at_the_end(rt: HostRuntime) -> Result<(), Fail> {
             1,
             "office: line 11 refused 10\n",
         ),
+        (Ending::SomeRefused, 1, ""),
+        (
+            Ending::ActRefused(0, Refusal::BadNumber),
+            1,
+            "office: act 0 refused 3\n",
+        ),
+        (Ending::NotJson, 1, "office: json\n"),
         (Ending::BadWords, 2, ""),
         (Ending::File, 3, "office: file\n"),
         (Ending::Fault(Fault::Memory), 4, "office: fault 30\n"),
@@ -46,12 +53,13 @@ fn what_is_said_at_the_end(rt: HostRuntime) -> Result<(), Fail> {
 /// A connection to a database in memory.
 type Memory = Connection<MemStore>;
 
-/// Carries out an order over a connection: the status must be this one, and these what is answered and
-/// the line of an ending.
-fn runs(
+/// Carries out an order that reads a text over a connection: the status must be this one, and these what
+/// is answered and the line of an ending.
+fn reads(
     rt: &(impl Abort + AllocGlobal),
     conn: Memory,
     order: &Order<'_>,
+    text: &str,
     status: u8,
     answer: &str,
     line: &str,
@@ -60,12 +68,24 @@ fn runs(
         return Err(Fail::new("a transaction is under way"));
     }
     let (mut out, mut err) = (Vec::new(rt.alloc()), Vec::new(rt.alloc()));
-    let mut input: &[u8] = &[];
+    let mut input = text.as_bytes();
     let (got, conn) = run_on(rt.alloc(), conn, order, &mut input, &mut out, &mut err);
     assert_eq!(rt; got, status);
     assert_eq!(rt; out.as_slice(), answer.as_bytes());
     assert_eq!(rt; err.as_slice(), line.as_bytes());
     Ok(conn)
+}
+
+/// The same, where nothing is read.
+fn runs(
+    rt: &(impl Abort + AllocGlobal),
+    conn: Memory,
+    order: &Order<'_>,
+    status: u8,
+    answer: &str,
+    line: &str,
+) -> Result<Memory, Fail> {
+    reads(rt, conn, order, "", status, answer, line)
 }
 
 /// Runs `init` over a connection, which must end so.
@@ -189,5 +209,69 @@ fn an_open_run_is_resumed_once(rt: HostRuntime) -> Result<(), Fail> {
     let conn = resumes(&rt, with_run(&rt, conn)?, 0, "certificate 2\n", "")?;
     let conn = certifies(&rt, conn, 1, 0, TEXT, "")?;
     certifies(&rt, conn, 3, 1, "", "office: refused 5\n")?;
+    Ok(())
+}
+
+/// Does the acts of a text over a connection, which must end so.
+fn applies(
+    rt: &(impl Abort + AllocGlobal),
+    conn: Memory,
+    text: &str,
+    status: u8,
+    answers: &str,
+    line: &str,
+) -> Result<Memory, Fail> {
+    let order = Order::Apply {
+        file: "office.db",
+        acts: "acts.json",
+    };
+    reads(rt, conn, &order, text, status, answers, line)
+}
+
+/// A schedule, a class, an aggregation, a record and a step where no run is open.
+const ACTS: &str =
+    r#"[{"act":"add-schedule","day":"2024-01-02","code":"D1","trigger":"added","unit":"years","count":1,"offset":"none","action":"destroy"},
+{"act":"add-class","day":"2024-01-02","code":"FIN","title":"Finance","schedule":"D1"},
+{"act":"add-aggregation","day":"2024-01-02","ref":"A","title":"A","class":"FIN"},
+{"act":"add-record","day":"2024-01-02","ref":"r1","title":"r1","originated":"2024-01-02","aggregation":1,"content":"YWJj"},
+{"act":"run-step"}]
+"#;
+
+const FIRST: &str = r#"{"done":true}
+{"done":true}
+{"number":1}
+{"number":1}
+{"refused":18}
+"#;
+
+const SECOND: &str = r#"{"refused":4}
+{"refused":4}
+{"refused":4}
+{"number":1,"same":true}
+{"refused":18}
+"#;
+
+#[test]
+fn acts_are_done_once(rt: HostRuntime) -> Result<(), Fail> {
+    let conn = Connection::open_in_memory(rt.alloc())?;
+    let conn = applies(&rt, conn, ACTS, 1, FIRST, "")?;
+    let conn = applies(&rt, conn, ACTS, 1, SECOND, "")?;
+    let opened = r#"[{"act":"open-run","day":"2024-01-03","by":"registrar"}]"#;
+    let conn = applies(&rt, conn, opened, 0, "{\"number\":1}\n", "")?;
+    applies(&rt, conn, "[]", 0, "", "")?;
+    Ok(())
+}
+
+#[test]
+fn what_is_no_list_of_acts_does_nothing(rt: HostRuntime) -> Result<(), Fail> {
+    let conn = Connection::open_in_memory(rt.alloc())?;
+    let conn = applies(&rt, conn, "", 1, "", "office: json\n")?;
+    let conn = applies(&rt, conn, "{}", 1, "", "office: json\n")?;
+    let opened =
+        r#"[{"act":"open-run","day":"2024-01-03","by":"registrar"},{"act":"run-step","day":"2024-01-03"}]"#;
+    let conn = applies(&rt, conn, opened, 1, "", "office: act 1 refused 2\n")?;
+    let far = r#"[{"act":"close-aggregation","day":"2024-01-03","aggregation":0}]"#;
+    let conn = applies(&rt, conn, far, 1, "", "office: act 0 refused 3\n")?;
+    certifies(&rt, conn, 1, 1, "", "office: refused 5\n")?;
     Ok(())
 }

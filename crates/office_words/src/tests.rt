@@ -71,6 +71,18 @@ fn the_word_init(rt: HostRuntime) {
 }
 
 #[test]
+fn the_word_apply(rt: HostRuntime) {
+    match read_words(rt.alloc(), &["office", "apply", "office.db", "acts.json"]).map(order_of) {
+        Ok(Ok(Order::Apply { file, acts })) => {
+            assert_eq!(rt; file, "office.db");
+            assert_eq!(rt; acts, "acts.json");
+        }
+        Ok(_) => panic!(rt; "acts were asked for"),
+        Err(error) => assert_eq!(rt; error.kind(), ErrorKind::OutOfMemory),
+    }
+}
+
+#[test]
 fn the_word_resume(rt: HostRuntime) {
     match read_words(rt.alloc(), &["office", "resume", "office.db"]).map(order_of) {
         Ok(Ok(Order::Resume { file })) => assert_eq!(rt; file, "office.db"),

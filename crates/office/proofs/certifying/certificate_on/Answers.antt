@@ -1,7 +1,7 @@
 use Rattle.std.proofs.Common.{◌≡◌, inl, refl, sym, rules}
 use Rattle.sqlite.specs.Held.{state}
 use Rattle.office_machine.specs.State.{State, empty_state}
-use Rattle.office.specs.Running.{IsOfOpened, IsOpened}
+use Rattle.office.specs.Opening.{IsOfOpened, IsOpened}
 use Rattle.office.proofs.Certificates.{certifies_of, closed_certifies}
 use Rattle.office.proofs.certifying.certificate_on.Goals as goal
 

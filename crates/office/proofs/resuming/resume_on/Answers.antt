@@ -3,7 +3,7 @@ use Rattle.sqlite.specs.Held.{state}
 use Rattle.sqlite.specs.State.{HasCleanDisk}
 use Rattle.office_machine.specs.State.{State, empty_state}
 use Rattle.office_desk.specs.Leaving.{StandsAt}
-use Rattle.office.specs.Running.{IsOfOpened}
+use Rattle.office.specs.Opening.{IsOfOpened}
 use Rattle.office.proofs.Resumptions.{closed_resumes, resumes_of}
 use Rattle.office.proofs.resuming.resume_on.Goals as goal
 

@@ -4,7 +4,7 @@ use Rattle.office_days.specs.declared.refusal.Refusal.TheVariants.{NoRun}
 use Rattle.office_machine.specs.declared.answer.Answer.{Answer}
 use Rattle.office_machine.specs.declared.answer.Answer.TheVariants as answer
 use Rattle.office_desk.specs.Resuming.{resumed_answer}
-use Rattle.office.specs.Running.{IsAnswerTold}
+use Rattle.office.specs.Resuming.{IsAnswerTold}
 use Rattle.office.specs.declared.ending.Ending.{Ending}
 use Rattle.office.specs.declared.ending.Ending.TheVariants as how
 use Rattle.office.proofs.resuming.tell_answer.Goals as goal

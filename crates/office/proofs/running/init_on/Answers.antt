@@ -1,6 +1,6 @@
 use Rattle.std.proofs.Common.{sym, subst}
 use Rattle.sqlite.specs.Held.{state}
-use Rattle.office.specs.Running.{IsOpened}
+use Rattle.office.specs.Opening.{IsOpened}
 use Rattle.office.proofs.Endings.{opened-ends}
 use Rattle.office.proofs.running.init_on.Goals as goal
 
