@@ -17,10 +17,6 @@ mod parts;
 mod plan;
 mod plan_line;
 mod plan_step;
-#[cfg(test)]
-mod plan_tests;
-#[cfg(test)]
-mod tests;
 mod text;
 
 pub use due::due_to;

@@ -8,8 +8,6 @@
 
 mod number;
 mod order;
-#[cfg(test)]
-mod tests;
 mod words;
 
 pub use order::{Order, order_of};

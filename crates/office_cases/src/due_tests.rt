@@ -1,9 +1,8 @@
 //! What no contract says: that the clauses mean what people worked out by hand, that a call can
 //! succeed at all, and what a failing writer leaves.
 
-use crate::due::due_to;
-use crate::output::Io;
 use office_days::{Day, Refusal};
+use office_plan::{Io, due_to};
 use std::alloc::AllocGlobal;
 use std::io;
 use std::io::Write;

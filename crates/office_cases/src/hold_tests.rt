@@ -1,6 +1,6 @@
 //! What holds cover, in a tree worked out by hand.
-use crate::{Holds, Target};
 use office_days::{Day, Offset, Period, Refusal, Unit};
+use office_holds::{Holds, Target};
 use office_tree::{
     Action, AggNo, Class, Classified, Code, Record, RecordNo, Schedule, Text, Tree, Trigger,
 };

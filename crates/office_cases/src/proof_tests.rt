@@ -1,7 +1,7 @@
 //! What no contract says: that digests are those that other programs work out, and which words there are.
-use crate::{Entry, Outcome, certificate_text, digest_of, entry_line};
 use hex::FromHex;
 use office_days::{Day, DueDay};
+use office_proof::{Entry, Outcome, certificate_text, digest_of, entry_line};
 use office_tree::{Code, Record, Text, Tree};
 use std::test::Fail;
 

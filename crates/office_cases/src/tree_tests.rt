@@ -1,6 +1,8 @@
 //! What is spent, in a tree worked out by hand.
-use crate::{Action, AggNo, Class, Code, Record, RecordNo, Schedule, Status, Text, Tree, Trigger};
 use office_days::{Day, Offset, Period, Unit};
+use office_tree::{
+    Action, AggNo, Class, Code, Record, RecordNo, Schedule, Status, Text, Tree, Trigger,
+};
 use std::test::Fail;
 
 fn day(text: &str) -> Result<Day, Fail> {

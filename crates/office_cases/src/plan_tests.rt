@@ -1,8 +1,7 @@
 //! Plan files worked out by hand, and what a failing reader or writer leaves.
 
-use crate::input::PlanStop;
-use crate::plan::plan_to;
 use office_days::Refusal;
+use office_plan::{PlanStop, plan_to};
 use office_tree::{Code, Status, Text};
 use std::io;
 use std::io::{Read, Write};

@@ -1,9 +1,8 @@
 //! What no contract says: that words are taken at all, and of which kind the errors of others are.
 
-use crate::order::{Order, order_of};
-use crate::words::{Words, read_words};
 use clap::error::ErrorKind;
 use office_days::Refusal;
+use office_words::{Order, Words, order_of, read_words};
 
 #[test]
 fn words_of_the_command_line(rt: HostRuntime) {
