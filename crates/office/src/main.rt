@@ -1,24 +1,14 @@
 //! The program `office` of the records disposal office.
 //!
 //! Its words are read by `office_words`. The commands that open no office are done by `office_plan`;
-//! those on the office in a file run over a connection to it (`running`). `ending` says what the
-//! program tells the caller at the end: the exit status, and the line on standard error.
+//! those on the office in a file by `office_run`, over a connection to it.
 #![tactic(auto)]
 
-mod applying;
-mod certifying;
-mod ending;
-mod resuming;
-mod running;
-#[cfg(test)]
-mod tests;
-
 use clap::error::ErrorKind;
-use ending::Ending;
 use office_plan::{PlanStop, due_to, plan_to, read_whole};
+use office_run::{Ending, run_on, tell};
 use office_store::Fault;
 use office_words::{Order, Words, order_of, read_words};
-use running::{run_on, tell};
 use sqlite::{Connection, Wary};
 use std::fs::File;
 use std::process::ExitCode;

@@ -20,6 +20,6 @@ mod plan_step;
 mod text;
 
 pub use due::due_to;
-pub use input::PlanStop;
+pub use input::{PlanStop, read_whole};
 pub use output::{Io, write_out};
 pub use plan::plan_to;
