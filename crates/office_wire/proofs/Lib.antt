@@ -1,0 +1,5 @@
+pub mod Encodings
+pub mod Faults
+pub mod Made
+pub mod Pairs
+pub mod Stripped
