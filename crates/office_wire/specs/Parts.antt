@@ -9,6 +9,7 @@ use Rattle.office_days.specs.declared.refusal.Refusal.TheVariants.{BadText, BadN
 use Rattle.office_days.specs.declared.unit.Unit.{Unit}
 use Rattle.office_days.specs.Limits.{longest}
 use Rattle.office_days.specs.Periods.{RetentionPeriod}
+use Rattle.office_days.specs.Refusals.{refusal_number}
 use Rattle.office_days.specs.Texts.{day_named}
 use Rattle.office_days.specs.Words.{offset_named, unit_named}
 use Rattle.office_tree.specs.declared.action.Action.{Action}
@@ -20,10 +21,9 @@ use Rattle.office_wire.specs.Members.{is_given}
 use Rattle.office_wire.specs.declared.read_fault.ReadFault.{ReadFault}
 use Rattle.office_wire.specs.declared.read_fault.ReadFault.TheVariants.{Refused, Memory}
 
--- of two refusals the one to tell: 2 where either is 2, else 3
+-- of two refusals the one with the least number
 abbrev pub least : Refusal → Refusal → Refusal
-least BadText other = BadText
-least first other = other
+least e f = if nat_le (refusal_number e) (refusal_number f) then e else f
 
 -- both parts, or why they are refused
 abbrev pub both : {A B : Type 0} → Result A Refusal → Result B Refusal → Result (A × B) Refusal

@@ -15,15 +15,17 @@ impl ReadFault {
     ghost use Rattle.std.specs.Prelude.{◌≡◌};
     ghost use Rattle.office_wire.specs.Parts.{lesser};
 
-    /// Of two faults the one to tell: a refusal before want of memory, and `BadText` before `BadNumber`.
+    /// Of two faults the one to tell: a refusal before want of memory, and of two refusals that with the
+    /// least number.
     pub(crate) fn lesser(self, other: ReadFault) -> ReadFault
         ensures { result ≡ lesser self other }
     {
         match (self, other) {
             (ReadFault::Memory, other) => other,
             (first, ReadFault::Memory) => first,
-            (ReadFault::Refused(Refusal::BadText), ReadFault::Refused(_)) => self,
-            (ReadFault::Refused(_), ReadFault::Refused(_)) => other,
+            (ReadFault::Refused(a), ReadFault::Refused(b)) => {
+                ReadFault::Refused(if a.number() <= b.number() { a } else { b })
+            }
         }
     }
 }

@@ -28,7 +28,7 @@ pub(crate) struct Heading {
 
 /// The heading of the members of a value.
 #[tactic(auto, unfolding(crate::specs::Acts::heading_part))]
-fn heading(alloc: Global, value: &Value) -> Result<Heading, ReadFault>
+fn read_heading(alloc: Global, value: &Value) -> Result<Heading, ReadFault>
     ensures { IsReadAs (heading_part (view value.now)) result }
 {
     let placed = both(day_at(value, "day"), number_at(value, "aggregation"));
@@ -110,7 +110,7 @@ pub(crate) fn add_record(alloc: Global, value: &Value) -> Result<Act, ReadFault>
     if !has_only(value, &names) {
         return Err(ReadFault::Refused(Refusal::BadText));
     }
-    let heading = heading(alloc, value);
+    let heading = read_heading(alloc, value);
     let content = content_at(alloc, value, "content")?;
     match both(heading, told(content)) {
         Ok((heading, content)) => Ok(act_of(heading, content)),

@@ -2,7 +2,7 @@ use Rattle.std.proofs.Common.{◌≡◌, ◌∙◌, ap, sym}
 use Rattle.office_wire.specs.Acts.{headed, heading_part}
 use Rattle.office_wire.specs.Parts.{made}
 use Rattle.office_wire.proofs.Made.{fault_made}
-use Rattle.office_wire.proofs.acts.new_record.heading.Goals as goal
+use Rattle.office_wire.proofs.acts.new_record.read_heading.Goals as goal
 
 pub returns-in-Ok : goal.returns-in-Ok
 unfolding heading_part
