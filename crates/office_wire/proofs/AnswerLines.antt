@@ -1,5 +1,5 @@
 -- The line of each kind of answer, letter by letter.
-use Rattle.std.proofs.Common.{◌≡◌, refl, ℕ, List, ◌++◌, append_assoc, codes, decimal}
+use Rattle.std.proofs.Common.{◌≡◌, refl, ℕ, ◌++◌, append_assoc, codes, decimal}
 use Rattle.serde_json.proofs.OnLiterals.{serde_json_on_literals}
 use Rattle.office_days.specs.Refusals.{refusal_number}
 use Rattle.office_days.specs.declared.refusal.Refusal.{Refusal}

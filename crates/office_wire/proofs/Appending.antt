@@ -1,5 +1,5 @@
 -- What two writes append, one after the other.
-use Rattle.std.proofs.Common.{◌≡◌, ◌∙◌, ap, sym, ℕ, List, [], ◌++◌, append-nil, append_assoc, Option, Some, None}
+use Rattle.std.proofs.Common.{◌∙◌, ap, sym, ℕ, List, [], ◌++◌, append-nil, append_assoc, Option, Some, None}
 use Rattle.std.specs.Io.KnownBytes.{Appends, Keeps}
 
 pub appends_both : (old mid new : Option (List ℕ)) (a b : List ℕ) → Appends old mid a → Appends mid new b → Appends old new (a ++ b)
