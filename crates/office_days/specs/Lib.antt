@@ -8,4 +8,5 @@ pub mod Refusals
 pub mod Search
 pub mod Spans
 pub mod Texts
+pub mod ThingNumbers
 pub mod Words

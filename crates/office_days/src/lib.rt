@@ -20,6 +20,7 @@ mod offset_day;
 mod period;
 mod refusal;
 mod text;
+mod thing_number;
 mod unit;
 
 pub use day::Day;
@@ -29,4 +30,5 @@ pub use numeral::read_numeral;
 pub use offset::Offset;
 pub use period::Period;
 pub use refusal::Refusal;
+pub use thing_number::read_thing_number;
 pub use unit::Unit;

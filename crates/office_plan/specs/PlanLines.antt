@@ -9,12 +9,12 @@ use Rattle.office_days.specs.declared.refusal.Refusal.{Refusal}
 use Rattle.office_days.specs.declared.refusal.Refusal.TheVariants.{BadText}
 use Rattle.office_days.specs.Periods.{RetentionPeriod}
 use Rattle.office_days.specs.Texts.{day_named}
+use Rattle.office_days.specs.ThingNumbers.{thing_number}
 use Rattle.office_days.specs.Words.{offset_named}
 use Rattle.office_tree.specs.declared.action.Action.{Action}
 use Rattle.office_tree.specs.declared.schedule.Schedule.{Schedule as DisposalSchedule}
 use Rattle.office_tree.specs.declared.trigger.Trigger.{Trigger}
 use Rattle.office_tree.specs.Words.{action_named, trigger_named}
-use Rattle.office_plan.specs.Numbers.{thing_number}
 use Rattle.office_plan.specs.Parts.{both, made, named_part, code_part, optional_part, period_part}
 use Rattle.office_plan.specs.declared.plan_line.PlanLine.{PlanLine}
 use Rattle.office_plan.specs.declared.plan_line.PlanLine.TheVariants.{Schedule, Class, Aggregation, Close, Record}

@@ -10,7 +10,6 @@
 mod due;
 mod input;
 mod lines;
-mod number;
 mod output;
 mod parting;
 mod parts;

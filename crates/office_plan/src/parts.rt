@@ -1,11 +1,10 @@
 ghost use Rattle.std.specs.Prelude.{◌≡◌, ◌≤◌, ◌↔◌, IsSome, IfSome, IfOk};
 ghost use Rattle.office_days.specs.Limits.{longest};
 ghost use Rattle.office_days.specs.Texts.{day_named};
-ghost use Rattle.office_plan.specs.Numbers.{thing_number};
+ghost use Rattle.office_days.specs.ThingNumbers.{thing_number};
 ghost use Rattle.office_plan.specs.Parts.{both, code_part, named_part, optional_part, period_part};
 
-use crate::number::read_number;
-use office_days::{Day, Period, Refusal, Unit, read_numeral};
+use office_days::{Day, Period, Refusal, Unit, read_numeral, read_thing_number};
 use office_tree::{AggNo, Code, Memory};
 use std::alloc::Global;
 
@@ -86,7 +85,7 @@ pub fn read_optional_number(word: &str) -> Result<Option<AggNo>, Refusal>
     if word == "-" {
         return Ok(None);
     }
-    match read_number(word) {
+    match read_thing_number(word) {
         Ok(number) => Ok(Some(number)),
         Err(refusal) => Err(refusal),
     }

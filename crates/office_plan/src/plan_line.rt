@@ -1,12 +1,11 @@
 ghost use Rattle.std.specs.Prelude.{◌≡◌, ◌<◌, ◌==◌, map, IfOk};
 ghost use Rattle.office_plan.specs.PlanLines.{action_at, aggregation_line, class_line, close_line, code_at, day_at, days_at, disposal_at, is_line, keeping_at, line_asked, line_by_words, number_at, offset_at, optional_code_at, optional_number_at, period_at, place_at, record_line, schedule_at, schedule_line, trigger_at, word_at};
 
-use crate::number::read_number;
 use crate::parting::words_of;
 use crate::parts::{
     both, read_code, read_day, read_optional_code, read_optional_number, read_period,
 };
-use office_days::{Day, Offset, Period, Refusal};
+use office_days::{Day, Offset, Period, Refusal, read_thing_number};
 use office_tree::{Action, AggNo, Code, Memory, Schedule, Trigger};
 use std::alloc::Global;
 
@@ -52,7 +51,7 @@ fn optional_code_at(
 fn number_at(words: &[&str], i: usize) -> Result<AggNo, Refusal>
     ensures { result ≡ number_at (map (λ word. word.now) words.now) i }
 {
-    read_number(word_at(words, i))
+    read_thing_number(word_at(words, i))
 }
 
 /// The number of an aggregation at a place, or none.

@@ -1,8 +1,8 @@
 -- What the program is to do, with the operands of the words that name an office's file read. Source: own.
 use Rattle.std.specs.Prelude.{ℕ, Result, Ok, Err}
 use Rattle.clap.specs.Words.{Text}
+use Rattle.office_days.specs.ThingNumbers.{thing_number}
 use Rattle.office_days.specs.declared.refusal.Refusal.{Refusal}
-use Rattle.office_words.specs.Numbers.{thing_number}
 use Rattle.office_words.specs.Command.{Asked, nothing_asked, due_day_asked, plan_file_asked, init_file_asked, resumption_asked, certificate_asked}
 use Rattle.office_words.specs.declared.order.Order.{Order}
 use Rattle.office_words.specs.declared.order.Order.TheVariants.{Certificate, Due, Init, Nothing, Plan, Resume}

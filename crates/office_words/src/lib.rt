@@ -6,7 +6,6 @@
 //! looked at.
 #![tactic(auto)]
 
-mod number;
 mod order;
 #[cfg(test)]
 mod tests;

@@ -2,9 +2,8 @@ ghost use Rattle.std.specs.Prelude.{◌≡◌, Err, IfErr, IfOk, Ok};
 ghost use Rattle.office_words.specs.Command.{asked};
 ghost use Rattle.office_words.specs.Orders.{order_asked, ordered};
 
-use crate::number::read_number;
 use crate::words::Words;
-use office_days::Refusal;
+use office_days::{Refusal, read_thing_number};
 
 /// What the program is to do: its words, with the operands of those that name an office's file read.
 /// `due` and `plan`, which open no office, read theirs where they are done.
@@ -58,7 +57,7 @@ pub fn order_of<'a>(words: Words<'a>) -> Result<Order<'a>, Refusal>
         Words::Init { file } => Ok(Order::Init { file }),
         Words::Resume { file } => Ok(Order::Resume { file }),
         Words::Certificate { file, number } => {
-            let run = read_number(number)?;
+            let run = read_thing_number(number)?;
             Ok(Order::Certificate { file, run })
         }
         Words::Nothing => Ok(Order::Nothing),

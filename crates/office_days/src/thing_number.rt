@@ -1,11 +1,12 @@
 ghost use Rattle.std.specs.Prelude.{◌≡◌};
-ghost use Rattle.office_words.specs.Numbers.{thing_number};
+ghost use Rattle.office_days.specs.ThingNumbers.{thing_number};
 
-use office_days::{Refusal, read_numeral};
+use crate::numeral::read_numeral;
+use crate::refusal::Refusal;
 
 /// The number of a thing: one or more ASCII digits, from 1 to 4,294,967,295, leading zeros
 /// allowed. A text that is no number is told before a number that is none of a thing.
-pub fn read_number(text: &str) -> Result<u32, Refusal>
+pub fn read_thing_number(text: &str) -> Result<u32, Refusal>
     ensures { result ≡ thing_number text.now }
 {
     let number = read_numeral(text).ok_or(Refusal::BadText)?;
