@@ -1,23 +1,14 @@
 //! The program `office` of the records disposal office.
 //!
 //! Its words are read by `office_words`. The commands that open no office are done by `office_plan`;
-//! those on the office in a file run over a connection to it (`running`). `ending` says what the
-//! program tells the caller at the end: the exit status, and the line on standard error.
+//! those on the office in a file by `office_run`, over a connection to it.
 #![tactic(auto)]
 
-mod certifying;
-mod ending;
-mod resuming;
-mod running;
-#[cfg(test)]
-mod tests;
-
 use clap::error::ErrorKind;
-use ending::Ending;
-use office_plan::{PlanStop, due_to, plan_to};
+use office_plan::{PlanStop, due_to, plan_to, read_whole};
+use office_run::{Ending, run_on, tell};
 use office_store::Fault;
 use office_words::{Order, Words, order_of, read_words};
-use running::{run_on, tell};
 use sqlite::{Connection, Wary};
 use std::fs::File;
 use std::process::ExitCode;
@@ -37,10 +28,22 @@ fn plan_in(rt: &HostRuntime, file: &str) -> Ending {
     }
 }
 
-/// Carries out an order on the office in a file, which is made where there is none. A file that is no
-/// database's stays as it is.
-fn run_in(rt: &HostRuntime, file: &str, order: &Order<'_>) -> u8 {
-    let mut input: &[u8] = &[];
+/// The bytes of a file, or how the program ends where they are not read.
+fn bytes_of(rt: &HostRuntime, file: &str) -> Result<Vec<u8>, Ending> {
+    let read = match File::open(rt, file) {
+        Ok(mut reader) => read_whole(rt.alloc(), &mut reader),
+        Err(error) => Err(PlanStop::of(&error)),
+    };
+    match read {
+        Ok(bytes) => Ok(bytes),
+        Err(stop) => Err(Ending::of_plan(Err(stop))),
+    }
+}
+
+/// Carries out an order on the office in a file, which is made where there is none; `text` is what the
+/// order reads. A file that is no database's stays as it is.
+fn run_in(rt: &HostRuntime, file: &str, order: &Order<'_>, text: &[u8]) -> u8 {
+    let mut input = text;
     match Connection::open_from(rt, file, false, Wary) {
         Ok(conn) => {
             let (mut out, mut err) = (io::writer(rt), rt.stderr());
@@ -48,6 +51,14 @@ fn run_in(rt: &HostRuntime, file: &str, order: &Order<'_>) -> u8 {
             status
         }
         Err(_) => ended(rt, Ending::Fault(Fault::Store)),
+    }
+}
+
+/// Does the acts of a file, which are read before the office's file is opened.
+fn apply_in(rt: &HostRuntime, file: &str, acts: &str, order: &Order<'_>) -> u8 {
+    match bytes_of(rt, acts) {
+        Ok(text) => run_in(rt, file, order, text.as_slice()),
+        Err(ending) => ended(rt, ending),
     }
 }
 
@@ -64,8 +75,9 @@ fn perform(rt: &HostRuntime, order: &Order<'_>) -> u8 {
             ended(rt, Ending::of(answer))
         }
         Order::Plan { file } => ended(rt, plan_in(rt, file)),
+        Order::Apply { file, acts } => apply_in(rt, file, acts, order),
         Order::Init { file } | Order::Resume { file } | Order::Certificate { file, .. } => {
-            run_in(rt, file, order)
+            run_in(rt, file, order, &[])
         }
         Order::Nothing => ended(rt, Ending::BadWords),
     }

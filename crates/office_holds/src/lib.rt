@@ -20,8 +20,6 @@ mod row;
 mod sets;
 mod storing;
 mod target;
-#[cfg(test)]
-mod tests;
 
 pub use hold::Hold;
 pub use holds::Holds;

@@ -16,13 +16,9 @@ mod parts;
 mod plan;
 mod plan_line;
 mod plan_step;
-#[cfg(test)]
-mod plan_tests;
-#[cfg(test)]
-mod tests;
 mod text;
 
 pub use due::due_to;
-pub use input::PlanStop;
+pub use input::{PlanStop, read_whole};
 pub use output::{Io, write_out};
 pub use plan::plan_to;

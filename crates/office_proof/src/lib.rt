@@ -15,8 +15,6 @@ mod entry;
 pub mod laws;
 mod lines;
 mod outcome;
-#[cfg(test)]
-mod tests;
 mod words;
 
 pub use certificate::{certificate_text, entry_line};

@@ -35,8 +35,6 @@ mod schedule;
 mod scheduling;
 mod spending;
 mod status;
-#[cfg(test)]
-mod tests;
 mod text;
 mod tree;
 mod trigger;

@@ -3,7 +3,7 @@ use Rattle.std.specs.Prelude.{true, codes, List, [], Option, Some, None, unwrap_
 use Rattle.std.specs.Str.{bytes_eq}
 use Rattle.clap.specs.Words.{App, Row, Rule, Text, first_of, new_app, new_rule, with_rule, with_subcommand}
 use Rattle.office_words.specs.declared.words.Words.{Words}
-use Rattle.office_words.specs.declared.words.Words.TheVariants.{Certificate, Due, Init, Nothing, Plan, Resume}
+use Rattle.office_words.specs.declared.words.Words.TheVariants.{Apply, Certificate, Due, Init, Nothing, Plan, Resume}
 
 -- an operand that must be there
 abbrev pub operand : Text → Rule
@@ -23,6 +23,10 @@ plan_app = with_rule (new_app (codes "plan")) (operand (codes "FILE"))
 abbrev pub init_app : App
 init_app = with_rule (new_app (codes "init")) (operand (codes "FILE"))
 
+-- `apply FILE ACTS`
+abbrev pub apply_app : App
+apply_app = with_rule (with_rule (new_app (codes "apply")) (operand (codes "FILE"))) (operand (codes "ACTS"))
+
 -- `resume FILE`
 abbrev pub resume_app : App
 resume_app = with_rule (new_app (codes "resume")) (operand (codes "FILE"))
@@ -41,11 +45,15 @@ with_plain_commands app = with_subcommand (with_subcommand app due_app.top) plan
 
 -- with the commands on the office in a file
 unfoldable pub with_file_commands : App → App
-with_file_commands app = with_subcommand (with_subcommand (with_subcommand app init_app.top) resume_app.top) certificate_app.top
+with_file_commands app = with_subcommand (with_subcommand app init_app.top) apply_app.top
+
+-- with the commands on the runs of that office
+unfoldable pub with_run_commands : App → App
+with_run_commands app = with_subcommand (with_subcommand app resume_app.top) certificate_app.top
 
 -- `office COMMAND ..`
 unfoldable pub office_app : App
-office_app = with_file_commands (with_plain_commands (with_commands (new_app (codes "office"))))
+office_app = with_run_commands (with_file_commands (with_plain_commands (with_commands (new_app (codes "office")))))
 
 -- the text of an operand; `clap` takes no words in which one lacks
 abbrev pub text_of : Text → List Row → Text
@@ -57,6 +65,7 @@ pub data Asked : Type 0 where
   due_day_asked : Text → Text → Text → Text → Asked
   plan_file_asked : Text → Asked
   init_file_asked : Text → Asked
+  application_asked : Text → Text → Asked
   resumption_asked : Text → Asked
   certificate_asked : Text → Text → Asked
 
@@ -64,6 +73,7 @@ abbrev pub asked : Words → Asked
 asked (Due unit count offset day) = due_day_asked unit.now count.now offset.now day.now
 asked (Plan file) = plan_file_asked file.now
 asked (Init file) = init_file_asked file.now
+asked (Apply file acts) = application_asked file.now acts.now
 asked (Resume file) = resumption_asked file.now
 asked (Certificate file number) = certificate_asked file.now number.now
 asked Nothing = nothing_asked
@@ -76,6 +86,9 @@ plan_asked rows = plan_file_asked (text_of (codes "FILE") rows)
 
 abbrev pub init_asked : List Row → Asked
 init_asked rows = init_file_asked (text_of (codes "FILE") rows)
+
+abbrev pub apply_asked : List Row → Asked
+apply_asked rows = application_asked (text_of (codes "FILE") rows) (text_of (codes "ACTS") rows)
 
 abbrev pub resume_asked : List Row → Asked
 resume_asked rows = resumption_asked (text_of (codes "FILE") rows)
@@ -90,5 +103,6 @@ asked_in (Some p) =
     if bytes_eq p.0 (codes "due") then due_asked p.1
     else (if bytes_eq p.0 (codes "plan") then plan_asked p.1
     else (if bytes_eq p.0 (codes "init") then init_asked p.1
+    else (if bytes_eq p.0 (codes "apply") then apply_asked p.1
     else (if bytes_eq p.0 (codes "resume") then resume_asked p.1
-    else (if bytes_eq p.0 (codes "certificate") then number_asked p.1 else nothing_asked))))
+    else (if bytes_eq p.0 (codes "certificate") then number_asked p.1 else nothing_asked)))))

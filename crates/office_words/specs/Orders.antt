@@ -3,9 +3,9 @@ use Rattle.std.specs.Prelude.{ℕ, Result, Ok, Err}
 use Rattle.clap.specs.Words.{Text}
 use Rattle.office_days.specs.ThingNumbers.{thing_number}
 use Rattle.office_days.specs.declared.refusal.Refusal.{Refusal}
-use Rattle.office_words.specs.Command.{Asked, nothing_asked, due_day_asked, plan_file_asked, init_file_asked, resumption_asked, certificate_asked}
+use Rattle.office_words.specs.Command.{Asked, nothing_asked, application_asked, due_day_asked, plan_file_asked, init_file_asked, resumption_asked, certificate_asked}
 use Rattle.office_words.specs.declared.order.Order.{Order}
-use Rattle.office_words.specs.declared.order.Order.TheVariants.{Certificate, Due, Init, Nothing, Plan, Resume}
+use Rattle.office_words.specs.declared.order.Order.TheVariants.{Apply, Certificate, Due, Init, Nothing, Plan, Resume}
 
 -- what is ordered; `due` and `plan` read their operands themselves
 pub data Ordered : Type 0 where
@@ -13,6 +13,7 @@ pub data Ordered : Type 0 where
   due_day_ordered : Text → Text → Text → Text → Ordered
   plan_file_ordered : Text → Ordered
   init_file_ordered : Text → Ordered
+  application_ordered : Text → Text → Ordered
   resumption_ordered : Text → Ordered
   certificate_ordered : Text → ℕ → Ordered
 
@@ -20,6 +21,7 @@ abbrev pub ordered : Order → Ordered
 ordered (Due unit count offset day) = due_day_ordered unit.now count.now offset.now day.now
 ordered (Plan file) = plan_file_ordered file.now
 ordered (Init file) = init_file_ordered file.now
+ordered (Apply file acts) = application_ordered file.now acts.now
 ordered (Resume file) = resumption_ordered file.now
 ordered (Certificate file run) = certificate_ordered file.now run
 ordered Nothing = nothing_ordered
@@ -35,5 +37,6 @@ order_asked nothing_asked = Ok nothing_ordered
 order_asked (due_day_asked unit count offset day) = Ok (due_day_ordered unit count offset day)
 order_asked (plan_file_asked file) = Ok (plan_file_ordered file)
 order_asked (init_file_asked file) = Ok (init_file_ordered file)
+order_asked (application_asked file acts) = Ok (application_ordered file acts)
 order_asked (resumption_asked file) = Ok (resumption_ordered file)
 order_asked (certificate_asked file number) = certificate_of file (thing_number number)

@@ -7,8 +7,6 @@
 #![tactic(auto)]
 
 mod order;
-#[cfg(test)]
-mod tests;
 mod words;
 
 pub use order::{Order, order_of};

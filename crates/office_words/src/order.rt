@@ -22,6 +22,11 @@ pub enum Order<'a> {
     Init {
         file: &'a str,
     },
+    /// Does the acts of that file at the office in the other one.
+    Apply {
+        file: &'a str,
+        acts: &'a str,
+    },
     /// Takes the open run of the office in the file up again, to its end.
     Resume {
         file: &'a str,
@@ -55,6 +60,7 @@ pub fn order_of<'a>(words: Words<'a>) -> Result<Order<'a>, Refusal>
         }),
         Words::Plan { file } => Ok(Order::Plan { file }),
         Words::Init { file } => Ok(Order::Init { file }),
+        Words::Apply { file, acts } => Ok(Order::Apply { file, acts }),
         Words::Resume { file } => Ok(Order::Resume { file }),
         Words::Certificate { file, number } => {
             let run = read_thing_number(number)?;

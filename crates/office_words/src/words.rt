@@ -1,7 +1,7 @@
 ghost use Rattle.std.specs.Prelude.{◌≡◌, IfOk, IfErr, true, false, map};
 ghost use Rattle.clap.specs.Words.{app_of, found_of, kind_of, rows_of, rule_of, subcommand_of, subcommand_rows_of, takes};
 ghost use Rattle.clap.specs.declared.builder.command.Command.TheViews.{out-Command as fields_of};
-ghost use Rattle.office_words.specs.Command.{asked, asked_in, certificate_app, due_app, due_asked, init_app, init_asked, number_asked, office_app, operand, plan_app, plan_asked, resume_app, resume_asked, text_of, with_file_commands, with_plain_commands};
+ghost use Rattle.office_words.specs.Command.{apply_app, apply_asked, asked, asked_in, certificate_app, due_app, due_asked, init_app, init_asked, number_asked, office_app, operand, plan_app, plan_asked, resume_app, resume_asked, text_of, with_file_commands, with_plain_commands, with_run_commands};
 
 use clap::error::ErrorKind;
 use clap::{Arg, ArgMatches, Command, Error};
@@ -21,6 +21,10 @@ pub enum Words<'a> {
     },
     Init {
         file: &'a str,
+    },
+    Apply {
+        file: &'a str,
+        acts: &'a str,
     },
     Resume {
         file: &'a str,
@@ -79,6 +83,16 @@ fn init_command<'a>(alloc: Global) -> Result<Command<'a>, AllocError>
         .arg(required(alloc, "FILE", "The office's file"))
 }
 
+fn apply_command<'a>(alloc: Global) -> Result<Command<'a>, AllocError>
+    ensures app { IfOk result (λ c. app_of c ≡ apply_app) }
+    ensures globals { IfOk result (λ c. (fields_of c).has_globals ≡ false) }
+{
+    Command::new(alloc, "apply")
+        .about("Does the acts of a JSON array, one after another")
+        .arg(required(alloc, "FILE", "The office's file"))?
+        .arg(required(alloc, "ACTS", "A file with the JSON array of acts"))
+}
+
 fn resume_command<'a>(alloc: Global) -> Result<Command<'a>, AllocError>
     ensures app { IfOk result (λ c. app_of c ≡ resume_app) }
     ensures globals { IfOk result (λ c. (fields_of c).has_globals ≡ false) }
@@ -115,6 +129,15 @@ fn with_file_commands<'a>(alloc: Global, command: Command<'a>) -> Result<Command
 {
     command
         .subcommand(init_command(alloc)?)?
+        .subcommand(apply_command(alloc)?)
+}
+
+/// With the commands on the runs of that office.
+#[tactic(auto, unfolding(crate::specs::Command::with_run_commands))]
+fn with_run_commands<'a>(alloc: Global, command: Command<'a>) -> Result<Command<'a>, AllocError>
+    ensures { IfOk result (λ c. app_of c ≡ with_run_commands (app_of command.entry)) }
+{
+    command
         .subcommand(resume_command(alloc)?)?
         .subcommand(certificate_command(alloc)?)
 }
@@ -127,7 +150,8 @@ fn office_command<'a>(alloc: Global) -> Result<Command<'a>, AllocError>
         .about("A records disposal office with legal holds")
         .subcommand_required(true)
         .arg_required_else_help(true);
-    with_file_commands(alloc, with_plain_commands(alloc, command)?)
+    let command = with_plain_commands(alloc, command)?;
+    with_run_commands(alloc, with_file_commands(alloc, command)?)
 }
 
 /// The operand of that name; `clap` takes no words in which one lacks.
@@ -164,6 +188,15 @@ fn init_words<'a>(matches: &ArgMatches<'a>) -> Words<'a>
     }
 }
 
+fn apply_words<'a>(matches: &ArgMatches<'a>) -> Words<'a>
+    ensures { asked result ≡ apply_asked (rows_of (found_of matches.now)) }
+{
+    Words::Apply {
+        file: operand(matches, "FILE"),
+        acts: operand(matches, "ACTS"),
+    }
+}
+
 fn resume_words<'a>(matches: &ArgMatches<'a>) -> Words<'a>
     ensures { asked result ≡ resume_asked (rows_of (found_of matches.now)) }
 {
@@ -192,6 +225,8 @@ fn words_of<'a>(matches: &ArgMatches<'a>) -> Words<'a>
                 plan_words(inner)
             } else if name == "init" {
                 init_words(inner)
+            } else if name == "apply" {
+                apply_words(inner)
             } else if name == "resume" {
                 resume_words(inner)
             } else if name == "certificate" {

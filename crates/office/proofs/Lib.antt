@@ -1,3 +1,0 @@
-pub mod Certificates
-pub mod Endings
-pub mod Resumptions

@@ -1,0 +1,5 @@
+pub mod Applications
+pub mod Certificates
+pub mod DeskActs
+pub mod Endings
+pub mod Resumptions

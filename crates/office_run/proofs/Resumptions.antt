@@ -1,0 +1,34 @@
+-- How a resumption ends.
+use Rattle.std.proofs.Common.{◌≡◌, inl, inr, ℕ, List, Option, Some, None, refl, sym, subst}
+use Rattle.sqlite.specs.Held.{Held, state}
+use Rattle.sqlite.specs.State.{State as FileState}
+use Rattle.sqlite_trees.specs.declared.store.Store.{Ghosts}
+use Rattle.office_machine.specs.State.{State}
+use Rattle.office_run.specs.Opening.{IsOfOpened}
+use Rattle.office_run.specs.Resuming.{IsAnswerTold, IsNoRun, IsResumed, ResumeEnds, Resumes}
+use Rattle.office_run.specs.declared.ending.Ending.{Ending}
+use Rattle.office_run.specs.declared.ending.Ending.TheVariants as how
+
+-- a resumption that is so of the states that are told in one way is so of those told in another
+pub resumes_of : (Of Others : (State → Type 0) → Type 0) → ((P : State → Type 0) → Of P → Others P) → (new : FileState) (written after : Option (List ℕ)) (e : Ending) → Resumes Of new written after e → Resumes Others new written after e
+resumes_of Of Others to new written after how.Done h = (h.0, to _ h.1, h.2)
+resumes_of Of Others to new written after (how.Refused refusal) h = (h.0, to _ h.1, h.2)
+resumes_of Of Others to new written after (how.LineRefused line refusal) h = h
+resumes_of Of Others to new written after how.SomeRefused h = h
+resumes_of Of Others to new written after (how.ActRefused place refusal) h = h
+resumes_of Of Others to new written after how.NotJson h = h
+resumes_of Of Others to new written after how.BadWords h = h
+resumes_of Of Others to new written after how.File h = (h.0, to _ h.1)
+resumes_of Of Others to new written after (how.Fault f) h = (to _ h.0, h.1)
+
+-- the answer told, a resumption ends so where the run that was open is closed, and where none was
+pub told_resumes : (Of : (State → Type 0) → Type 0) (new : FileState) (written after : Option (List ℕ)) (open_run : Option ℕ) (e : Ending) → IsAnswerTold open_run written after e
+    → ((run : ℕ) → open_run ≡ Some run → Of (IsResumed run new)) → (open_run ≡ None → Of (IsNoRun new)) → Resumes Of new written after e
+told_resumes Of new written after None e told closed none = subst (λ (x : Ending). Resumes Of new written after x) (sym told.0) (refl, none refl, told.1)
+told_resumes Of new written after (Some run) e (inl done) closed none = subst (λ (x : Ending). Resumes Of new written after x) (sym done.0) (run, closed run refl, done.1)
+told_resumes Of new written after (Some run) e (inr file) closed none = subst (λ (x : Ending). Resumes Of new written after x) (sym file) (run, closed run refl)
+
+-- a resumption over a connection is one over the one that a closing gives back
+pub closed_resumes : {S : Type 0} (g : Ghosts S) (old : FileState) (held closed : Held S) (written after : Option (List ℕ)) (e : Ending) → closed ≡ held
+    → Resumes (IsOfOpened old (state g held)) (state g held) written after e → ResumeEnds old (state g closed) written after e
+closed_resumes g old held closed written after e same told = subst (λ (h : Held _). ResumeEnds old (state g h) written after e) (sym same) (inr told)

@@ -1,0 +1,26 @@
+use Rattle.std.proofs.Common.{inl, refl, sym, rules}
+use Rattle.sqlite.specs.Held.{state}
+use Rattle.sqlite.specs.State.{HasCleanDisk}
+use Rattle.office_machine.specs.State.{State, empty_state}
+use Rattle.office_desk.specs.Leaving.{StandsAt}
+use Rattle.office_run.specs.Opening.{IsOfOpened}
+use Rattle.office_run.proofs.Applications.{applies_of, closed_applies}
+use Rattle.office_run.proofs.applying.apply_text.Goals as goal
+
+pub returns-in-Ok : goal.returns-in-Ok
+returns-in-Ok g c =
+    let old = state g.S.Store c.args.conn in
+    let new = state g.S.Store c.apply_at-ending.new.desk.held in
+    let opened = c.in-Ok.ensures in
+    let ended = c.apply_at-ending.ensures in
+    closed_applies g.S.Store c.args.text.now old c.apply_at-ending.new.desk.held _ _ _ c.apply_at-ending.result c.close.ensures
+    (applies_of (λ (P : State → Type 0). (t : State) → HasCleanDisk new → StandsAt g.S.Store t c.in-Ok.desk → P t) (IsOfOpened old new)
+    (λ P told.
+    record {
+      made = λ clean blank. told empty_state clean (opened.made (ended.clean clean) blank);
+      found = λ clean rest. let f = opened.found (ended.clean clean) rest in (f.0, f.1, told f.0 clean f.2);
+    })
+    _ new _ _ _ ended.applies)
+
+pub returns-in-Err : goal.returns-in-Err
+returns-in-Err g c = inl (c.in-Err.fault, refl, search rules, refl)

@@ -1,0 +1,27 @@
+use Rattle.std.proofs.Common.{◌≡◌, inl, refl, sym, rules}
+use Rattle.sqlite.specs.Held.{state}
+use Rattle.office_machine.specs.State.{State, empty_state}
+use Rattle.office_run.specs.Opening.{IsOfOpened, IsOpened}
+use Rattle.office_run.proofs.Certificates.{certifies_of, closed_certifies}
+use Rattle.office_run.proofs.certifying.certificate_on.Goals as goal
+
+pub returns-in-Ok : goal.returns-in-Ok
+returns-in-Ok g c =
+    let old = state g.S.Store c.args.conn in
+    let new = state g.S.Store c.in-Ok.desk.held in
+    let it = c.in-Ok.ensures in
+    let opened : IsOpened old new = record {
+      made = λ clean blank. (it.made clean blank).rows;
+      found = λ clean rest. let f = it.found clean rest in (f.0, f.1, f.2.rows, f.3);
+    } in
+    closed_certifies g.S.Store c.args.run old c.in-Ok.desk.held _ _ _ c.certificate_at-ending.result c.close.ensures opened
+    (certifies_of (λ (P : State → Type 0). (s : State) → s.office ≡ c.in-Ok.desk.office → P s) (IsOfOpened old new)
+    (λ P told.
+    record {
+      made = λ clean blank. told empty_state (sym (it.made clean blank).office);
+      found = λ clean rest. let f = it.found clean rest in (f.0, f.1, told f.0 (sym f.2.office));
+    })
+    c.args.run _ _ _ c.certificate_at-ending.ensures)
+
+pub returns-in-Err : goal.returns-in-Err
+returns-in-Err g c = inl (c.in-Err.fault, refl, search rules, refl)

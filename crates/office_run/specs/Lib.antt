@@ -1,0 +1,6 @@
+pub mod Applying
+pub mod Certifying
+pub mod Endings
+pub mod Opening
+pub mod Resuming
+pub mod Running

@@ -1,0 +1,92 @@
+//! The acts of a JSON array, at the office in a file.
+ghost use Rattle.std.specs.Prelude.{◌≡◌, ◌⊎◌, ℕ, IfSome, List, Ok, Option, false};
+ghost use Rattle.sqlite.specs.Held.{state};
+ghost use Rattle.sqlite.specs.State.{HasCleanDisk};
+ghost use Rattle.office_machine.specs.State.{State};
+ghost use Rattle.office_desk.specs.Leaving.{StandsAt};
+ghost use Rattle.office_run.specs.Applying.{Applies, ApplyEnds, Performs, TextEnds};
+ghost use Rattle.office_run.specs.Endings.{ending_of_acts};
+
+use crate::ending::Ending;
+use office_desk::Desk;
+use office_machine::Act;
+use office_plan::{PlanStop, read_whole};
+use office_store::Fault;
+use office_wire::{ListFault, read_acts, write_answers};
+use sqlite::{Alter, Connection};
+use std::alloc::Global;
+use std::io::{Read, Write};
+
+/// Does acts at a desk that is open, and tells their answers.
+fn perform_at<W: Write, S: Alter>(
+    alloc: Global,
+    desk: &mut Desk<S>,
+    acts: &[Act],
+    out: &mut W,
+) -> Ending
+    requires { desk.old.is_given_up ≡ false }
+    ensures clean { HasCleanDisk (state S.Store desk.new.held) → HasCleanDisk (state S.Store desk.old.held) }
+    ensures performs { Performs (λ P. (t : State) → HasCleanDisk (state S.Store desk.new.held) → StandsAt S.Store t desk.old → P t) acts.now (state S.Store desk.new.held) (W.contents out.old) (W.contents out.new) result }
+{
+    let mut answers = Vec::new(alloc);
+    let done = desk.perform_all(acts, &mut answers);
+    match write_answers(answers.as_slice(), out) {
+        Ok(()) => Ending::of_acts(done, answers.as_slice()),
+        Err(_) => Ending::File,
+    }
+}
+
+/// Does the acts of a text at a desk that is open.
+fn apply_at<W: Write, S: Alter>(
+    alloc: Global,
+    desk: &mut Desk<S>,
+    text: &[u8],
+    out: &mut W,
+) -> Ending
+    requires { desk.old.is_given_up ≡ false }
+    ensures clean { HasCleanDisk (state S.Store desk.new.held) → HasCleanDisk (state S.Store desk.old.held) }
+    ensures applies { Applies (λ P. (t : State) → HasCleanDisk (state S.Store desk.new.held) → StandsAt S.Store t desk.old → P t) text.now (state S.Store desk.new.held) (W.contents out.old) (W.contents out.new) result }
+{
+    match read_acts(alloc, text) {
+        Ok(acts) => perform_at(alloc, desk, acts.as_slice(), out),
+        Err(ListFault::NotJson) => Ending::NotJson,
+        Err(ListFault::BadAct(place, refusal)) => Ending::ActRefused(place, refusal),
+        Err(ListFault::Memory) => Ending::Fault(Fault::Memory),
+    }
+}
+
+/// Does the acts of a text over a connection to the office's file.
+fn apply_text<W: Write, S: Alter>(
+    alloc: Global,
+    conn: Connection<S>,
+    text: &[u8],
+    out: &mut W,
+) -> (Ending, Connection<S>)
+    requires { conn.in_transaction ≡ false }
+    ensures { TextEnds text.now (state S.Store conn) (state S.Store result.1) (W.contents out.old) (W.contents out.new) result.0 }
+{
+    match Desk::open(alloc, conn) {
+        Ok(mut desk) => {
+            let ending = apply_at(alloc, &mut desk, text, out);
+            (ending, desk.close())
+        }
+        Err((fault, conn)) => (Ending::Fault(fault), conn),
+    }
+}
+
+/// `apply FILE ACTS` over a connection to the file; `input` is the text of acts.
+pub fn apply_on<R: Read, W: Write, S: Alter>(
+    alloc: Global,
+    conn: Connection<S>,
+    input: &mut R,
+    out: &mut W,
+) -> (Ending, Connection<S>)
+    requires { conn.in_transaction ≡ false }
+    ensures { IfSome (R.remaining input.old) (λ text. ApplyEnds text (state S.Store conn) (state S.Store result.1) (W.contents out.old) (W.contents out.new) result.0) }
+{
+    match read_whole(alloc, input) {
+        Ok(text) => apply_text(alloc, conn, text.as_slice(), out),
+        Err(PlanStop::Io) => (Ending::File, conn),
+        Err(PlanStop::Memory) => (Ending::Fault(Fault::Memory), conn),
+    }
+}

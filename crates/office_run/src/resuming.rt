@@ -1,0 +1,79 @@
+//! The open run of the office in a file, taken up again to its end.
+ghost use Rattle.std.specs.Prelude.{◌≡◌, ℕ, Option, Some, false, OnOk};
+ghost use Rattle.std.specs.Io.KnownBytes.{Appends};
+ghost use Rattle.sqlite.specs.Held.{state};
+ghost use Rattle.sqlite.specs.State.{HasCleanDisk};
+ghost use Rattle.office_machine.specs.State.{State};
+ghost use Rattle.office_desk.specs.Leaving.{StandsAt};
+ghost use Rattle.office_desk.specs.Resuming.{resumed_answer};
+ghost use Rattle.office_run.specs.Resuming.{IsAnswerTold, ResumeEnds, Resumes, certificate_line};
+
+use crate::ending::Ending;
+use office_desk::Desk;
+use office_machine::Answer;
+use office_machine::laws::resuming::law_of_resumption;
+use office_plan::Io;
+use sqlite::{Alter, Connection};
+use std::alloc::Global;
+use std::io::Write;
+
+/// Writes the line that tells the run that was closed, and flushes.
+fn write_closed<W: Write>(run: u32, out: &mut W) -> Result<(), Io>
+    ensures { OnOk result (Appends (W.contents out.old) (W.contents out.new) (certificate_line run)) }
+{
+    writeln!(out, "certificate {run}").or(Err(Io))?;
+    out.flush().or(Err(Io))
+}
+
+/// Tells the run that was closed.
+fn tell_closed<W: Write>(run: u32, out: &mut W) -> Ending
+    ensures { IsAnswerTold (Some run) (W.contents out.old) (W.contents out.new) result }
+{
+    match write_closed(run, out) {
+        Ok(()) => Ending::Done,
+        Err(Io) => Ending::File,
+    }
+}
+
+/// Tells what a resumption answers, which is one of two answers.
+fn tell_answer<W: Write>(answer: Answer, out: &mut W) -> Ending
+    requires { (was_open : Option ℕ) × (answer ≡ resumed_answer was_open) }
+    ensures { (was_open : Option ℕ) → answer ≡ resumed_answer was_open → IsAnswerTold was_open (W.contents out.old) (W.contents out.new) result }
+{
+    match answer {
+        Answer::RunClosed(run) => tell_closed(run, out),
+        Answer::Refused(refusal) => Ending::Refused(refusal),
+        _ => unreachable!(),
+    }
+}
+
+/// Resumes the open run at a desk that is open.
+fn resume_at<W: Write, S: Alter>(desk: &mut Desk<S>, out: &mut W) -> Ending
+    requires { desk.old.is_given_up ≡ false }
+    ensures clean { HasCleanDisk (state S.Store desk.new.held) → HasCleanDisk (state S.Store desk.old.held) }
+    ensures resumes { Resumes (λ P. (t : State) → HasCleanDisk (state S.Store desk.new.held) → StandsAt S.Store t desk.old → P t) (state S.Store desk.new.held) (W.contents out.old) (W.contents out.new) result }
+{
+    law_of_resumption();
+    match desk.resume() {
+        Ok(answer) => tell_answer(answer, out),
+        Err(fault) => Ending::Fault(fault),
+    }
+}
+
+/// `resume FILE` over a connection to the file.
+pub fn resume_on<W: Write, S: Alter>(
+    alloc: Global,
+    conn: Connection<S>,
+    out: &mut W,
+) -> (Ending, Connection<S>)
+    requires { conn.in_transaction ≡ false }
+    ensures { ResumeEnds (state S.Store conn) (state S.Store result.1) (W.contents out.old) (W.contents out.new) result.0 }
+{
+    match Desk::open(alloc, conn) {
+        Ok(mut desk) => {
+            let ending = resume_at(&mut desk, out);
+            (ending, desk.close())
+        }
+        Err((fault, conn)) => (Ending::Fault(fault), conn),
+    }
+}

@@ -1,0 +1,94 @@
+//! The orders that run on the office in a file, over a connection to it.
+ghost use Rattle.std.specs.Prelude.{◌≡◌, ◌⊎◌, false, OnOk};
+ghost use Rattle.std.specs.Io.KnownBytes.{Appends};
+ghost use Rattle.sqlite.specs.Held.{state};
+ghost use Rattle.office_store.specs.declared.fault.Fault.{Fault as AnyFault};
+ghost use Rattle.office_words.specs.Orders.{ordered};
+ghost use Rattle.office_run.specs.Endings.{exit_status, line_said};
+ghost use Rattle.office_run.specs.Running.{InitEnds, RunEnds, version_line};
+ghost use Rattle.office_run.specs.declared.ending.Ending.{Ending as AnyEnding};
+
+use crate::applying::apply_on;
+use crate::certifying::certificate_on;
+use crate::ending::Ending;
+use crate::resuming::resume_on;
+use office_desk::Desk;
+use office_plan::{Io, write_out};
+use office_words::Order;
+use sqlite::{Alter, Connection};
+use std::alloc::Global;
+use std::io::{Read, Write};
+
+/// Tells the version of the office's file.
+fn tell_version<W: Write>(out: &mut W) -> Ending
+    ensures endings { (result ≡ Ending.Done) ⊎ (result ≡ Ending.File) }
+    ensures written { result ≡ Ending.Done → Appends (W.contents out.old) (W.contents out.new) version_line }
+{
+    match write_out(b"version 1\n", out) {
+        Ok(()) => Ending::Done,
+        Err(Io) => Ending::File,
+    }
+}
+
+/// `init FILE` over a connection to the file.
+fn init_on<W: Write, S: Alter>(
+    alloc: Global,
+    conn: Connection<S>,
+    out: &mut W,
+) -> (Ending, Connection<S>)
+    requires { conn.in_transaction ≡ false }
+    ensures ends { InitEnds (state S.Store conn) (state S.Store result.1) (W.contents out.old) (W.contents out.new) result.0 }
+    ensures untouched { (fault : AnyFault) → result.0 ≡ Ending.Fault fault → out.new ≡ out.old }
+{
+    match Desk::open(alloc, conn) {
+        Ok(desk) => (tell_version(out), desk.close()),
+        Err((fault, conn)) => (Ending::Fault(fault), conn),
+    }
+}
+
+/// Tells the line of an ending.
+pub fn tell<E: Write>(ending: Ending, err: &mut E) -> Result<(), Io>
+    ensures { OnOk result (Appends (E.contents err.old) (E.contents err.new) (line_said ending)) }
+{
+    write!(err, "{ending}").or(Err(Io))
+}
+
+/// What an order does over a connection to the office's file.
+fn carry_out<R: Read, W: Write, S: Alter>(
+    alloc: Global,
+    conn: Connection<S>,
+    order: &Order<'_>,
+    input: &mut R,
+    out: &mut W,
+) -> (Ending, Connection<S>)
+    requires { conn.in_transaction ≡ false }
+    ensures { RunEnds S.Store (ordered order.now) (R.remaining input.old) conn result.1 (W.contents out.old) (W.contents out.new) result.0 }
+{
+    match order {
+        Order::Init { .. } => init_on(alloc, conn, out),
+        Order::Apply { .. } => apply_on(alloc, conn, input, out),
+        Order::Resume { .. } => resume_on(alloc, conn, out),
+        Order::Certificate { run, .. } => certificate_on(alloc, conn, *run, out),
+        Order::Due { .. } | Order::Plan { .. } | Order::Nothing => (Ending::BadWords, conn),
+    }
+}
+
+/// Carries out an order over a connection to the office's file, outside a transaction: what it reads
+/// comes from `input`, what it answers goes to `out`, and the line of its ending to `err`. It gives the
+/// exit status, and the connection back. An order that names no office's file is no order here: status 2,
+/// with nothing done.
+pub fn run_on<R: Read, W: Write, E: Write, S: Alter>(
+    alloc: Global,
+    conn: Connection<S>,
+    order: &Order<'_>,
+    input: &mut R,
+    out: &mut W,
+    err: &mut E,
+) -> (u8, Connection<S>)
+    requires { conn.in_transaction ≡ false }
+    ensures runs { (ending : AnyEnding) × (result.0 ≡ exit_status ending) × RunEnds S.Store (ordered order.now) (R.remaining input.old) conn result.1 (W.contents out.old) (W.contents out.new) ending }
+{
+    let (ending, conn) = carry_out(alloc, conn, order, input, out);
+    let _ = tell(ending, err);
+    (ending.status(), conn)
+}
