@@ -1,0 +1,6 @@
+pub mod Acts
+pub mod Answers
+pub mod Contents
+pub mod Members
+pub mod Parts
+pub mod Targets

@@ -1,0 +1,3 @@
+/// A reader or a writer answered an error in this call.
+#[derive(Clone, Copy, PartialEq, Eq, Debug)]
+pub struct Io;
