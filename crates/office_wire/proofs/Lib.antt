@@ -2,6 +2,8 @@ pub mod AnswerLines
 pub mod Appending
 pub mod Encodings
 pub mod Faults
+pub mod ListSteps
 pub mod Made
 pub mod Pairs
 pub mod Stripped
+pub mod Texts

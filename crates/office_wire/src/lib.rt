@@ -3,7 +3,8 @@
 //! Acts come in as values of JSON. [`read_act`] tells which act a value asks for, or why it asks for
 //! none, and takes each act exactly as it is written down: no member too many, each text and each
 //! number of its form. What is refused here never reaches the office. Of several faults the least is
-//! told: first a text or a shape that is not of its form, then a number out of its range. Answers go
+//! told: first a text or a shape that is not of its form, then a number out of its range. [`read_acts`]
+//! reads an array of them. Answers go
 //! out by [`answer_value`], and one a line by [`write_answers`].
 #![tactic(auto)]
 
@@ -15,6 +16,7 @@ mod answer_lines;
 mod answer_tests;
 mod answers;
 mod content;
+mod lists;
 mod members;
 mod output;
 mod parts;
@@ -25,5 +27,6 @@ pub use acts::read_act;
 pub use answer_lines::{law_of_answer_texts, write_answers};
 pub use answers::answer_value;
 pub use content::law_of_contents;
+pub use lists::{ListFault, read_acts};
 pub use output::Io;
 pub use read_fault::ReadFault;
