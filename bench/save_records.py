@@ -4,8 +4,10 @@
 save_records.py each FILE COUNT   each record in a transaction of its own, journal WAL, synchronous FULL
 save_records.py whole FILE COUNT  all of them in one transaction, the log copied into the file at the end
 save_records.py scan FILE COUNT   nothing is written: the tables are fetched in the order of their keys
+save_records.py acts FILE COUNT   the acts that lead to these rows, as one JSON array in place of a database
 """
 import hashlib
+import json
 import sqlite3
 import sys
 
@@ -49,6 +51,19 @@ def add(conn, number):
     conn.execute("INSERT OR REPLACE INTO office VALUES (1, 1, ?)", (DAY,))
 
 
+def acts(path, count):
+    day = "2024-01-02"
+    asked = [
+        {"act": "add-schedule", "day": day, "code": "D1", "trigger": "added", "unit": "years", "count": 1, "offset": "none", "action": "destroy"},
+        {"act": "add-class", "day": day, "code": "FIN", "title": "Finance", "schedule": "D1"},
+        {"act": "add-aggregation", "day": day, "ref": "A", "title": "A", "parent": None, "class": "FIN"},
+    ]
+    for name in (f"r{number}" for number in range(count)):
+        asked.append({"act": "add-record", "day": day, "ref": name, "title": name, "originated": day, "aggregation": 1, "content": "YWJj"})
+    with open(path, "w", encoding="utf-8") as out:
+        json.dump(asked, out)
+
+
 def scan(conn, count):
     for table, wanted in KEYS.items():
         rows = conn.execute(f"SELECT {'record' if table == 'contents' else '*'} FROM {table} ORDER BY {wanted}").fetchall()
@@ -57,6 +72,9 @@ def scan(conn, count):
 
 
 how, path, count = sys.argv[1], sys.argv[2], int(sys.argv[3])
+if how == "acts":
+    acts(path, count)
+    sys.exit(0)
 conn = sqlite3.connect(path, isolation_level=None)
 if how == "scan":
     scan(conn, count)

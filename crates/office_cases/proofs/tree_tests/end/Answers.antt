@@ -7,7 +7,7 @@ use Rattle.office_tree.specs.declared.head.Record.{Record}
 use Rattle.office_tree.specs.declared.status.Status.{Status}
 use Rattle.office_tree.proofs.Places.{numbered_within}
 use Rattle.office_tree.proofs.Putting.{put_same, length-put}
-use Rattle.office_tree.proofs.tests.end.Goals as goal
+use Rattle.office_cases.proofs.tree_tests.end.Goals as goal
 
 -- a record that is there may get another status
 with_status : (tree : TreeState) (r : ℕ) (head : Record) (status : Status) → IsSound tree → numbered tree.records r ≡ Some head → IsSound (put_record tree r head status)
