@@ -37,7 +37,7 @@ array_acts (Some (boolean b)) = Err not_json
 array_acts (Some (number n)) = Err not_json
 array_acts (Some (string s)) = Err not_json
 array_acts (Some (array values)) = acts_from 0 values
-array_acts (Some (object members)) = Err not_json
+array_acts (Some (object rest)) = Err not_json
 
 -- the acts that bytes ask for
 unfoldable pub acts_in : List ℕ → Result (List Asked) NoActs

@@ -2,7 +2,8 @@
 ghost use Rattle.std.specs.Prelude.{◌≡◌, option_map};
 ghost use Rattle.serde_json.specs.Find.{get};
 ghost use Rattle.serde_json.specs.View.{view};
-ghost use Rattle.office_wire.specs.Parts.{IsReadAs};
+ghost use Rattle.office_tree.specs.declared.classified.Classified.TheVariants as classified;
+ghost use Rattle.office_wire.specs.Parts.{IsReadAs, made};
 ghost use Rattle.office_wire.specs.Targets.{after, classified_named, classified_part, is_plain, target_named, target_part, targeted, thing_named};
 
 use crate::ReadFault;
@@ -44,18 +45,36 @@ fn read_thing(digits: &str) -> Result<u32, Refusal>
     }
 }
 
+/// The aggregation that digits name.
+fn read_aggregation(digits: &str) -> Result<Classified, Refusal>
+    ensures { result ≡ made (λ n. classified.Aggregation n) (thing_named digits.now) }
+{
+    match read_thing(digits) {
+        Ok(number) => Ok(Classified::Aggregation(number)),
+        Err(refusal) => Err(refusal),
+    }
+}
+
+/// The record that digits name.
+fn read_record(digits: &str) -> Result<Classified, Refusal>
+    ensures { result ≡ made (λ n. classified.Record n) (thing_named digits.now) }
+{
+    match read_thing(digits) {
+        Ok(number) => Ok(Classified::Record(number)),
+        Err(refusal) => Err(refusal),
+    }
+}
+
 /// The aggregation or the record that a text names.
 #[tactic(auto, unfolding(crate::specs::Targets::classified_named))]
 fn read_classified(text: &str) -> Result<Classified, Refusal>
     ensures { result ≡ classified_named text.now }
 {
-    if let Some(digits) = after(text, "aggregation:") {
-        return Ok(Classified::Aggregation(read_thing(digits)?));
+    match (after(text, "aggregation:"), after(text, "record:")) {
+        (Some(digits), _) => read_aggregation(digits),
+        (None, Some(digits)) => read_record(digits),
+        (None, None) => Err(Refusal::BadText),
     }
-    if let Some(digits) = after(text, "record:") {
-        return Ok(Classified::Record(read_thing(digits)?));
-    }
-    Err(Refusal::BadText)
 }
 
 /// What has a class, as a target.

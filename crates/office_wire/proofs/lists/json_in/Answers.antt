@@ -5,5 +5,5 @@ use Rattle.office_wire.proofs.lists.json_in.Goals as goal
 pub returns-in-Ok : goal.returns-in-Ok
 returns-in-Ok c = sym (json_some _ _ c.in-Ok.ensures.ok.0 c.in-Ok.ensures.ok.1)
 
-pub returns-in-Err-second : goal.returns-in-Err-second
-returns-in-Err-second c = sym (json_none _ (c.in-Err.ensures.err (search rules)))
+pub returns-in-Err-2 : goal.returns-in-Err-2
+returns-in-Err-2 c = sym (json_none _ (c.in-Err.ensures.err (search rules)))

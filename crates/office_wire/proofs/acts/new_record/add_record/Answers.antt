@@ -21,4 +21,4 @@ unfolding add_record_asked
 returns-in-Err-clause-err c =
     let plain : c.has_only.result ≡ true = search rules in
     let content : IsReadAs (content_part (get (codes "content") (view c.args.value.now))) c.told.result = subst (λ (part : Result (List ℕ) Refusal). IsReadAs part c.told.result) c.in_ok-content.ensures.part c.told.ensures in
-    plain_fault _ _ _ (act_fault _ added _ _ (sym c.has_only.ensures ∙ plain) (c.in-Err.ensures _ _ c.read_heading-heading.ensures content))
+    plain_fault (view c.args.value.now) _ _ (act_fault _ added _ _ (sym c.has_only.ensures ∙ plain) (c.in-Err.ensures _ _ c.read_heading-heading.ensures content))
