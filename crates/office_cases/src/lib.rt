@@ -1,11 +1,17 @@
-//! Cases worked out by hand, as tests of the layers below the machine and of the program's words: due days,
-//! plan files, what is spent, what is held, digests and certificates, words.
+//! Cases worked out by hand, as tests of the layers below the machine, of acts and answers in JSON, and of the
+//! program's words: due days, plan files, what is spent, what is held, digests and certificates, words.
 #![tactic(auto)]
 
+#[cfg(test)]
+mod act_tests;
+#[cfg(test)]
+mod answer_tests;
 #[cfg(test)]
 mod due_tests;
 #[cfg(test)]
 mod hold_tests;
+#[cfg(test)]
+mod list_tests;
 #[cfg(test)]
 mod plan_tests;
 #[cfg(test)]

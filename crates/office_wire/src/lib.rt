@@ -8,12 +8,8 @@
 //! out by [`answer_value`], and one a line by [`write_answers`].
 #![tactic(auto)]
 
-#[cfg(test)]
-mod act_tests;
 mod acts;
 mod answer_lines;
-#[cfg(test)]
-mod answer_tests;
 mod answers;
 mod content;
 mod lists;

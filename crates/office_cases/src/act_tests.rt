@@ -1,10 +1,10 @@
 //! What no contract says: that each kind of act can be read as people write it, and that the definitions
 //! mean what people worked out by hand.
-use crate::{ReadFault, read_act};
 use office_days::Day;
 use office_holds::Target;
-use office_machine::Act;
+use office_machine::{Act, NewRecord};
 use office_tree::Classified;
+use office_wire::{ReadFault, read_act};
 use serde_json::Value;
 use std::alloc::AllocGlobal;
 use std::process::Abort;
@@ -63,7 +63,7 @@ fn each_kind_of_act_is_read(rt: HostRuntime) -> Result<(), Fail> {
 }
 
 #[test]
-fn each_member_goes_to_its_place(rt: HostRuntime) -> Result<(), Fail> {
+fn each_member_of_a_hold_goes_to_its_place(rt: HostRuntime) -> Result<(), Fail> {
     let hold = read(
         &rt,
         r#"{"by":"the court","reason":"a lawsuit","code":"H1","day":"2024-01-02","act":"place-hold"}"#,
@@ -81,20 +81,27 @@ fn each_member_goes_to_its_place(rt: HostRuntime) -> Result<(), Fail> {
     };
     assert!(rt; Some(day) == Day::read("2024-01-02"));
     assert_eq!(rt; (reason.text(), by.text()), ("a lawsuit", "the court"));
-    let added = read(
+    Ok(())
+}
+
+/// A new record and its day.
+fn added(rt: &(impl Abort + AllocGlobal), text: &str) -> Result<(Day, NewRecord), Fail> {
+    match read(rt, text)? {
+        Ok(Act::AddRecord { day, record }) => Ok((day, record)),
+        _ => Err(Fail::new("no record")),
+    }
+}
+
+#[test]
+fn each_member_of_a_record_goes_to_its_place(rt: HostRuntime) -> Result<(), Fail> {
+    let (day, record) = added(
         &rt,
         r#"{"act":"add-record","day":"2024-01-02","ref":"r1","title":"Offer","originated":"2023-12-31","aggregation":7,"schedule":"D1","content":"YWJj"}"#,
     )?;
-    let Ok(Act::AddRecord { day, record }) = added else {
-        return Err(Fail::new("no record"));
-    };
-    assert!(rt;
-        Some(day) == Day::read("2024-01-02") && Some(record.originated) == Day::read("2023-12-31")
-    );
-    assert_eq!(rt;
-        (record.ref_text.text(), record.title.text()),
-        ("r1", "Offer")
-    );
+    assert!(rt; Some(day) == Day::read("2024-01-02"));
+    assert!(rt; Some(record.originated) == Day::read("2023-12-31"));
+    assert_eq!(rt; record.ref_text.text(), "r1");
+    assert_eq!(rt; record.title.text(), "Offer");
     assert!(rt; record.aggregation == 7 && record.class.is_none() && record.schedule.is_some());
     assert_eq!(rt; record.content.as_slice(), b"abc".as_slice());
     Ok(())

@@ -1,10 +1,10 @@
 //! What no contract says: that the lines of answers are those that people wrote down, and what a
 //! failing writer leaves.
 
-use crate::{Io, answer_value, write_answers};
 use office_days::Refusal;
 use office_machine::Answer;
 use office_proof::Outcome;
+use office_wire::{Io, answer_value, write_answers};
 use std::io;
 use std::io::Write;
 use std::test::Fail;
