@@ -62,7 +62,7 @@ fn the_word_plan(rt: HostRuntime) {
 
 #[test]
 fn the_word_init(rt: HostRuntime) {
-    match read_words(rt.alloc(), &["office", "init", "office.db"]).map(order_of) {
+    match read_words(rt.alloc(), &["office", "init", "office.db"]).map(|words| order_of(words)) {
         Ok(Ok(Order::Init { file })) => assert_eq!(rt; file, "office.db"),
         Ok(_) => panic!(rt; "an office was asked for"),
         Err(error) => assert_eq!(rt; error.kind(), ErrorKind::OutOfMemory),
@@ -71,7 +71,7 @@ fn the_word_init(rt: HostRuntime) {
 
 #[test]
 fn the_word_apply(rt: HostRuntime) {
-    match read_words(rt.alloc(), &["office", "apply", "office.db", "acts.json"]).map(order_of) {
+    match read_words(rt.alloc(), &["office", "apply", "office.db", "acts.json"]).map(|words| order_of(words)) {
         Ok(Ok(Order::Apply { file, acts })) => {
             assert_eq!(rt; file, "office.db");
             assert_eq!(rt; acts, "acts.json");
@@ -83,7 +83,7 @@ fn the_word_apply(rt: HostRuntime) {
 
 #[test]
 fn the_word_resume(rt: HostRuntime) {
-    match read_words(rt.alloc(), &["office", "resume", "office.db"]).map(order_of) {
+    match read_words(rt.alloc(), &["office", "resume", "office.db"]).map(|words| order_of(words)) {
         Ok(Ok(Order::Resume { file })) => assert_eq!(rt; file, "office.db"),
         Ok(_) => panic!(rt; "a resumption was asked for"),
         Err(error) => assert_eq!(rt; error.kind(), ErrorKind::OutOfMemory),
@@ -92,7 +92,7 @@ fn the_word_resume(rt: HostRuntime) {
 
 /// The run of words that ask for a certificate of the office in `office.db`.
 fn run_of(rt: &HostRuntime, number: &str) -> Option<u32> {
-    match read_words(rt.alloc(), &["office", "certificate", "office.db", number]).map(order_of) {
+    match read_words(rt.alloc(), &["office", "certificate", "office.db", number]).map(|words| order_of(words)) {
         Ok(Ok(Order::Certificate { file, run })) if file == "office.db" => Some(run),
         _ => None,
     }
@@ -108,7 +108,7 @@ fn the_word_certificate(rt: HostRuntime) {
 
 /// The refusal of words that ask for a certificate.
 fn refusal_of(rt: &HostRuntime, number: &str) -> Option<Refusal> {
-    match read_words(rt.alloc(), &["office", "certificate", "office.db", number]).map(order_of) {
+    match read_words(rt.alloc(), &["office", "certificate", "office.db", number]).map(|words| order_of(words)) {
         Ok(Err(refusal)) => Some(refusal),
         _ => None,
     }
