@@ -11,7 +11,9 @@ use Rattle.office_machine.specs.State.{State}
 use Rattle.office_machine.specs.declared.act.Act.{Act}
 use Rattle.office_machine.specs.declared.answer.Answer.{Answer}
 use Rattle.office_store.specs.declared.fault.Fault.{Fault}
+use Rattle.office_wire.specs.Acts.{asked}
 use Rattle.office_wire.specs.Answers.{answer_lines}
+use Rattle.office_wire.specs.Lists.{acts_in}
 use Rattle.office_run.specs.Applying.{AreDone, AreStopped, AreAnswered, AreCutShort, Applies, IsUnread, Performs, TextEnds}
 use Rattle.office_run.specs.Endings.{ending_of_acts, is_refusal}
 use Rattle.office_run.specs.Opening.{IsOfOpened}
@@ -69,3 +71,8 @@ pub untold_performs : (A : Type 0) (B : State → Type 0) (acts : List Act) (new
     → Performs (λ P. (t : State) → A → B t → P t) acts new written after how.File
 untold_performs A B acts new written after (Ok it) given done stopped = λ t a b. inl (done t a b).0
 untold_performs A B acts new written after (Err f) given done stopped = λ t a b. let stop = stopped t a b in inr (f, stop.0, stop.1)
+
+-- the acts of a text that were performed were applied
+pub performs_applies : (Of : (State → Type 0) → Type 0) (text : List ℕ) (new : FileState) (written after : Option (List ℕ)) (e : Ending) (acts items : List Act) → acts ≡ items → acts_in text ≡ Ok (map asked items)
+    → Performs Of acts new written after e → Applies Of text new written after e
+performs_applies Of text new written after e acts items same is_read done = inr (acts, subst (λ (all : List Act). acts_in text ≡ Ok (map asked all)) (sym same) is_read, done)

@@ -2,7 +2,9 @@
 use Rattle.std.specs.Prelude.{◌≡◌, ◌≢◌, ◌⊎◌, ◌+◌, ◌<◌, ◌≤◌, ℕ, Bool, true, false, List, length, map, take, Option, Ok, Err}
 use Rattle.std.specs.List.{list_any}
 use Rattle.std.specs.Io.KnownBytes.{Appends}
+use Rattle.sqlite.specs.Held.{Held, state}
 use Rattle.sqlite.specs.State.{State as FileState}
+use Rattle.sqlite_trees.specs.declared.store.Store.{Ghosts}
 use Rattle.office_machine.specs.Acts.{after as after_acts, answers}
 use Rattle.office_machine.specs.Rows.{rows_of}
 use Rattle.office_machine.specs.State.{State}
@@ -78,9 +80,9 @@ abbrev pub TextEnds : List ℕ → FileState → FileState → Option (List ℕ)
 TextEnds text old new written after ending = IsNotOpened old new written after ending ⊎ Applies (IsOfOpened old new) text new written after ending
 
 -- the text of acts was not read to its end, or memory was wanting for it, and nothing was done
-abbrev pub IsNoText : FileState → FileState → Option (List ℕ) → Option (List ℕ) → Ending → Type 0
+abbrev pub IsNoText : {S : Type 0} → Held S → Held S → Option (List ℕ) → Option (List ℕ) → Ending → Type 0
 IsNoText old new written after ending = ((ending ≡ how.File) ⊎ (ending ≡ how.Fault fault.Memory)) × (new ≡ old) × (after ≡ written)
 
 -- `apply FILE ACTS`, by the ending
-abbrev pub ApplyEnds : List ℕ → FileState → FileState → Option (List ℕ) → Option (List ℕ) → Ending → Type 0
-ApplyEnds text old new written after ending = IsNoText old new written after ending ⊎ TextEnds text old new written after ending
+abbrev pub ApplyEnds : {S : Type 0} → Ghosts S → List ℕ → Held S → Held S → Option (List ℕ) → Option (List ℕ) → Ending → Type 0
+ApplyEnds g text old new written after ending = IsNoText old new written after ending ⊎ TextEnds text (state g old) (state g new) written after ending

@@ -38,6 +38,6 @@ RunEnds g nothing_ordered text old new written after ending = IsNotRun old new w
 RunEnds g (due_day_ordered unit count offset day) text old new written after ending = IsNotRun old new written after ending
 RunEnds g (plan_file_ordered file) text old new written after ending = IsNotRun old new written after ending
 RunEnds g (init_file_ordered file) text old new written after ending = InitEnds (state g old) (state g new) written after ending
-RunEnds g (application_ordered file acts) text old new written after ending = IfSome text (λ it. ApplyEnds it (state g old) (state g new) written after ending)
+RunEnds g (application_ordered file acts) text old new written after ending = IfSome text (λ it. ApplyEnds g it old new written after ending)
 RunEnds g (resumption_ordered file) text old new written after ending = ResumeEnds (state g old) (state g new) written after ending
 RunEnds g (certificate_ordered file run) text old new written after ending = CertificateEnds run (state g old) (state g new) written after ending

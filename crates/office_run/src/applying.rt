@@ -82,7 +82,7 @@ pub fn apply_on<R: Read, W: Write, S: Alter>(
     out: &mut W,
 ) -> (Ending, Connection<S>)
     requires { conn.in_transaction ≡ false }
-    ensures { IfSome (R.remaining input.old) (λ text. ApplyEnds text (state S.Store conn) (state S.Store result.1) (W.contents out.old) (W.contents out.new) result.0) }
+    ensures { IfSome (R.remaining input.old) (λ text. ApplyEnds S.Store text conn result.1 (W.contents out.old) (W.contents out.new) result.0) }
 {
     match read_whole(alloc, input) {
         Ok(text) => apply_text(alloc, conn, text.as_slice(), out),

@@ -1,3 +1,4 @@
+ghost use Rattle.std.specs.List.{list_any};
 ghost use Rattle.std.specs.Prelude.{◌≡◌};
 ghost use Rattle.office_run.specs.Endings.{is_refusal};
 
@@ -37,6 +38,13 @@ fn is_refusal(answer: &Answer) -> bool
     matches!(answer, Answer::Refused(_))
 }
 
+/// Whether one of the answers is a refusal.
+fn has_refusal(answers: &[Answer]) -> bool
+    ensures { result ≡ list_any is_refusal answers.now }
+{
+    answers.iter().any(|answer| is_refusal(answer))
+}
+
 impl Ending {
     ghost use Rattle.office_run.specs.Endings.{ending_of, ending_of_acts, ending_of_plan, exit_status};
 
@@ -68,7 +76,7 @@ impl Ending {
         ensures { result ≡ ending_of_acts done answers.now }
     {
         match done {
-            Ok(()) if answers.iter().any(is_refusal) => Ending::SomeRefused,
+            Ok(()) if has_refusal(answers) => Ending::SomeRefused,
             Ok(()) => Ending::Done,
             Err(fault) => Ending::Fault(fault),
         }
