@@ -66,7 +66,10 @@ fn each_kind_of_act_is_read(rt: HostRuntime) -> Result<(), Fail> {
 fn is_lawsuit(act: &Act) -> bool {
     match act {
         Act::PlaceHold {
-            day, reason, by, ..
+            day,
+            reason,
+            by,
+            ..
         } => {
             Some(*day) == Day::read("2024-01-02")
                 && reason.text() == "a lawsuit"

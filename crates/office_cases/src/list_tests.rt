@@ -5,6 +5,7 @@ use std::alloc::AllocGlobal;
 use std::process::Abort;
 
 const STEP: &str = r#"{"act":"run-step"}"#;
+
 const RUN: &str = r#"{"act":"open-run","day":"2024-01-02","by":"an archivist"}"#;
 
 /// How many acts a text has, or the fault.
@@ -34,10 +35,21 @@ fn what_is_no_array_is_told(rt: HostRuntime) {
 
 #[test]
 fn the_first_bad_act_is_told_by_its_place(rt: HostRuntime) -> Result<(), std::alloc::AllocError> {
-    assert_eq!(rt; read(&rt, "[7]"), Err(ListFault::BadAct(0, Refusal::BadText)));
-    let third = format!(in rt.alloc(); "[{STEP},{RUN},{{\"act\":\"lift-hold\",\"day\":\"2024-01-02\"}},1]")?;
-    assert_eq!(rt; read(&rt, third.as_str()), Err(ListFault::BadAct(2, Refusal::BadText)));
+    assert_eq!(rt;
+        read(&rt, "[7]"),
+        Err(ListFault::BadAct(0, Refusal::BadText))
+    );
+    let third = format!(in rt.alloc();
+        "[{STEP},{RUN},{{\"act\":\"lift-hold\",\"day\":\"2024-01-02\"}},1]"
+    )?;
+    assert_eq!(rt;
+        read(&rt, third.as_str()),
+        Err(ListFault::BadAct(2, Refusal::BadText))
+    );
     let number = "[{\"act\":\"close-aggregation\",\"day\":\"2024-01-02\",\"aggregation\":0}]";
-    assert_eq!(rt; read(&rt, number), Err(ListFault::BadAct(0, Refusal::BadNumber)));
+    assert_eq!(rt;
+        read(&rt, number),
+        Err(ListFault::BadAct(0, Refusal::BadNumber))
+    );
     Ok(())
 }

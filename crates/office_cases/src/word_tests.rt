@@ -71,7 +71,9 @@ fn the_word_init(rt: HostRuntime) {
 
 #[test]
 fn the_word_apply(rt: HostRuntime) {
-    match read_words(rt.alloc(), &["office", "apply", "office.db", "acts.json"]).map(|words| order_of(words)) {
+    match read_words(rt.alloc(), &["office", "apply", "office.db", "acts.json"]).map(
+        |words| order_of(words),
+    ) {
         Ok(Ok(Order::Apply { file, acts })) => {
             assert_eq!(rt; file, "office.db");
             assert_eq!(rt; acts, "acts.json");
@@ -92,7 +94,9 @@ fn the_word_resume(rt: HostRuntime) {
 
 /// The run of words that ask for a certificate of the office in `office.db`.
 fn run_of(rt: &HostRuntime, number: &str) -> Option<u32> {
-    match read_words(rt.alloc(), &["office", "certificate", "office.db", number]).map(|words| order_of(words)) {
+    match read_words(rt.alloc(), &["office", "certificate", "office.db", number]).map(
+        |words| order_of(words),
+    ) {
         Ok(Ok(Order::Certificate { file, run })) if file == "office.db" => Some(run),
         _ => None,
     }
@@ -108,7 +112,9 @@ fn the_word_certificate(rt: HostRuntime) {
 
 /// The refusal of words that ask for a certificate.
 fn refusal_of(rt: &HostRuntime, number: &str) -> Option<Refusal> {
-    match read_words(rt.alloc(), &["office", "certificate", "office.db", number]).map(|words| order_of(words)) {
+    match read_words(rt.alloc(), &["office", "certificate", "office.db", number]).map(
+        |words| order_of(words),
+    ) {
         Ok(Err(refusal)) => Some(refusal),
         _ => None,
     }

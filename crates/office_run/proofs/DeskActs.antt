@@ -29,6 +29,8 @@ pub stopped_at : {S : Type 0} (g : Ghosts S) (acts : List Act) (t : State) (old 
     → HasCleanDisk (state g desk.held) → StandsAt g t old → LeavesFates t acts (state g desk.held)
     → IfErr done (λ f. (n : ℕ) × AreStopped f acts n (state g desk.held) t × (given ≡ answers t (take n acts)))
 stopped_at g acts t old desk (Ok it) front given none stop clean stands fates = tt
-stopped_at g acts t old desk (Err f) front given none stop clean stands fates =
-    (stop.0, record { within = stop.1.within; one_more = stop.1.one_more; leaves = stop.3 clean stands; fates = fates },
-    stop.1.answered ∙ ap (λ (told : List Answer). told ++ answers t (take stop.0 acts)) none)
+stopped_at g acts t old desk (Err f) front given none stop clean stands fates = (
+  stop.0,
+  record { within = stop.1.within; one_more = stop.1.one_more; leaves = stop.3 clean stands; fates = fates },
+  stop.1.answered ∙ ap (λ (told : List Answer). told ++ answers t (take stop.0 acts)) none,
+)
