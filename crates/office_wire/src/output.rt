@@ -1,3 +1,0 @@
-/// A reader or a writer answered an error in this call.
-#[derive(Clone, Copy, PartialEq, Eq, Debug)]
-pub struct Io;
