@@ -27,12 +27,32 @@ pub fn check_reply(check: Check) -> Reply
     match check {
         Check::Host => fixed(Status::BadRequest, Allow::Any, b"{\"error\":\"host\"}"),
         Check::Path => fixed(Status::NotFound, Allow::Any, b"{\"error\":\"path\"}"),
-        Check::NotGet => fixed(Status::MethodNotAllowed, Allow::Get, b"{\"error\":\"method\"}"),
-        Check::NotPost => fixed(Status::MethodNotAllowed, Allow::Post, b"{\"error\":\"method\"}"),
-        Check::TransferCoding => fixed(Status::NotImplemented, Allow::Any, b"{\"error\":\"coding\"}"),
-        Check::LengthMissing => fixed(Status::LengthRequired, Allow::Any, b"{\"error\":\"length\"}"),
+        Check::NotGet => fixed(
+            Status::MethodNotAllowed,
+            Allow::Get,
+            b"{\"error\":\"method\"}",
+        ),
+        Check::NotPost => fixed(
+            Status::MethodNotAllowed,
+            Allow::Post,
+            b"{\"error\":\"method\"}",
+        ),
+        Check::TransferCoding => fixed(
+            Status::NotImplemented,
+            Allow::Any,
+            b"{\"error\":\"coding\"}",
+        ),
+        Check::LengthMissing => fixed(
+            Status::LengthRequired,
+            Allow::Any,
+            b"{\"error\":\"length\"}",
+        ),
         Check::LengthInvalid => fixed(Status::BadRequest, Allow::Any, b"{\"error\":\"length\"}"),
-        Check::ContentTooLarge => fixed(Status::PayloadTooLarge, Allow::Any, b"{\"error\":\"size\"}"),
+        Check::ContentTooLarge => fixed(
+            Status::PayloadTooLarge,
+            Allow::Any,
+            b"{\"error\":\"size\"}",
+        ),
     }
 }
 
@@ -45,7 +65,11 @@ pub fn failure_reply(failure: Failure) -> Reply
         Failure::Head => fixed(Status::BadRequest, Allow::Any, b"{\"error\":\"head\"}"),
         Failure::Body => fixed(Status::BadRequest, Allow::Any, b"{\"error\":\"body\"}"),
         Failure::Json => fixed(Status::BadRequest, Allow::Any, b"{\"error\":\"json\"}"),
-        Failure::Memory => fixed(Status::ServiceUnavailable, Allow::Any, b"{\"error\":\"memory\"}"),
+        Failure::Memory => fixed(
+            Status::ServiceUnavailable,
+            Allow::Any,
+            b"{\"error\":\"memory\"}",
+        ),
         Failure::Record => fixed(Status::NotFound, Allow::Any, b"{\"error\":\"record\"}"),
         Failure::Content => fixed(Status::NotFound, Allow::Any, b"{\"error\":\"content\"}"),
         Failure::Certificate => fixed(Status::NotFound, Allow::Any, b"{\"error\":\"certificate\"}"),

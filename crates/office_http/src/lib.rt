@@ -20,9 +20,11 @@ mod paths;
 mod plan;
 mod reading;
 mod reply;
-mod status;
 #[cfg(test)]
-mod tests;
+mod reply_tests;
+#[cfg(test)]
+mod request_tests;
+mod status;
 mod want;
 mod writing;
 

@@ -71,7 +71,13 @@ fn get_plan(method: &[u8], want: Want) -> Plan
 }
 
 /// What is done for a method at a path that names this.
-fn resource_plan(buf: &[u8], headers: &[HeaderSpan], resource: Resource, path: &str, method: &[u8]) -> Plan
+fn resource_plan(
+    buf: &[u8],
+    headers: &[HeaderSpan],
+    resource: Resource,
+    path: &str,
+    method: &[u8],
+) -> Plan
     requires { All (IsHeaderWithin (length buf.now)) headers.now }
     ensures plan { result ≡ resource_plan resource path.now method.now (map (header_bytes buf.now) headers.now) }
     ensures sized { IsSized result }
@@ -82,14 +88,22 @@ fn resource_plan(buf: &[u8], headers: &[HeaderSpan], resource: Resource, path: &
         Resource::Content => get_plan(method, Want::Content(segment_number(segment))),
         Resource::Due => get_plan(method, Want::Due(Day::read(segment))),
         Resource::Certificate => get_plan(method, Want::Certificate(segment_number(segment))),
-        Resource::Acts | Resource::OpenRun if method != b"POST".as_slice() => Plan::Refuse(Check::NotPost),
+        Resource::Acts | Resource::OpenRun if method != b"POST".as_slice() => Plan::Refuse(
+            Check::NotPost,
+        ),
         Resource::Acts => acts_plan(buf, headers),
         Resource::OpenRun => Plan::Serve(Want::Resume),
     }
 }
 
 /// What is done for a path.
-fn path_plan(alloc: Global, buf: &[u8], headers: &[HeaderSpan], path: &str, method: &[u8]) -> Result<Plan, AllocError>
+fn path_plan(
+    alloc: Global,
+    buf: &[u8],
+    headers: &[HeaderSpan],
+    path: &str,
+    method: &[u8],
+) -> Result<Plan, AllocError>
     requires { All (IsHeaderWithin (length buf.now)) headers.now }
     ensures plan { IfOk result (λ plan. plan ≡ path_plan (resource_at path.now) path.now method.now (map (header_bytes buf.now) headers.now)) }
     ensures sized { IfOk result (λ plan. IsSized plan) }
@@ -101,7 +115,13 @@ fn path_plan(alloc: Global, buf: &[u8], headers: &[HeaderSpan], path: &str, meth
 }
 
 /// What is done for a target.
-fn target_plan(alloc: Global, buf: &[u8], headers: &[HeaderSpan], target: &[u8], method: &[u8]) -> Result<Plan, AllocError>
+fn target_plan(
+    alloc: Global,
+    buf: &[u8],
+    headers: &[HeaderSpan],
+    target: &[u8],
+    method: &[u8],
+) -> Result<Plan, AllocError>
     requires { All (IsHeaderWithin (length buf.now)) headers.now }
     ensures plan { IfOk result (λ plan. plan ≡ target_plan target.now method.now (map (header_bytes buf.now) headers.now)) }
     ensures sized { IfOk result (λ plan. IsSized plan) }
@@ -126,7 +146,12 @@ fn has_host(buf: &[u8], headers: &[HeaderSpan], minor: u8) -> bool
 
 /// What is done for a head that [`read_head`](crate::read_head) found in the buffer. Memory is taken
 /// for the routes alone.
-pub fn plan_in(alloc: Global, buf: &[u8], head: &RequestSpans, headers: &[HeaderSpan]) -> Result<Plan, AllocError>
+pub fn plan_in(
+    alloc: Global,
+    buf: &[u8],
+    head: &RequestSpans,
+    headers: &[HeaderSpan],
+) -> Result<Plan, AllocError>
     requires { IsRequestWithin buf.now headers.now head.now }
     ensures plan { IfOk result (λ plan. plan ≡ plan_in buf.now head.now headers.now) }
     ensures sized { IfOk result (λ plan. IsSized plan) }

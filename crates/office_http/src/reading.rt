@@ -71,7 +71,11 @@ fn see_any(buf: &[u8], headers: &mut [HeaderSpan]) -> Seen
 }
 
 /// Reads some bytes onto the end of a buffer, which then has at most that many.
-pub(crate) fn read_piece<R: Read>(reader: &mut R, buf: &mut Vec<u8>, most: usize) -> Result<usize, ReadStop>
+pub(crate) fn read_piece<R: Read>(
+    reader: &mut R,
+    buf: &mut Vec<u8>,
+    most: usize,
+) -> Result<usize, ReadStop>
     requires { length buf.old.items < most }
     ensures fits { OnOk result (length buf.new.items ≤ most) }
     ensures count { IfOk result (λ n. length buf.new.items ≡ length buf.old.items + n) }
@@ -93,7 +97,11 @@ pub(crate) fn read_piece<R: Read>(reader: &mut R, buf: &mut Vec<u8>, most: usize
 
 /// Reads into an empty buffer until a head is whole, or there will be none. The buffer may then have
 /// bytes that follow the head.
-pub fn read_head<R: Read>(reader: &mut R, buf: &mut Vec<u8>, headers: &mut [HeaderSpan]) -> Result<Head, ReadStop>
+pub fn read_head<R: Read>(
+    reader: &mut R,
+    buf: &mut Vec<u8>,
+    headers: &mut [HeaderSpan],
+) -> Result<Head, ReadStop>
     requires empty { buf.old.items ≡ [] }
     requires room { length headers.old ≡ 64 }
     ensures read { OnOk result (Consumes (R.remaining reader.old) (R.remaining reader.new) buf.new.items) }
@@ -122,5 +130,4 @@ pub fn read_head<R: Read>(reader: &mut R, buf: &mut Vec<u8>, headers: &mut [Head
 /// The law that all bytes of a connection are one request only.
 pub fn law_of_requests()
     ensures { (bytes : List ℕ) (q r : Request) → IsRequest q bytes → IsRequest r bytes → q ≡ r }
-{
-}
+{}

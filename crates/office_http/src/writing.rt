@@ -99,7 +99,13 @@ fn put_status_line<W: Write>(writer: &mut W, status: Status) -> Result<(), Io>
 
 /// Writes the head of an answer.
 #[tactic(auto, using(crate::proofs::Appending::appends_then))]
-fn put_head<W: Write>(writer: &mut W, status: Status, kind: Kind, size: usize, allow: Allow) -> Result<(), Io>
+fn put_head<W: Write>(
+    writer: &mut W,
+    status: Status,
+    kind: Kind,
+    size: usize,
+    allow: Allow,
+) -> Result<(), Io>
     ensures { OnOk result (Appends (W.contents writer.old) (W.contents writer.new) (head_text status kind size allow)) }
 {
     put_status_line(writer, status)?;
@@ -125,9 +131,5 @@ fn put_reply<W: Write>(reply: &Reply, is_head: bool, writer: &mut W) -> Result<(
 {
     let body = reply.body.as_bytes();
     put_head(writer, reply.status, reply.kind, body.len(), reply.allow)?;
-    if is_head {
-        Ok(())
-    } else {
-        put(writer, body)
-    }
+    if is_head { Ok(()) } else { put(writer, body) }
 }
