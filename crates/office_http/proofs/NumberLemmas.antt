@@ -1,5 +1,5 @@
 -- Which bytes write a number.
-use Rattle.std.proofs.Common.{◌≡◌, ◌∙◌, sym, ap, refl, ℕ, zero, suc, ◌<◌, ◌≤◌, ◌-◌, ◌^◌, lit<, rules, ◌&&◌, List, [], ◌∷◌, length, Bool, true, false, nat_lt, min, arith, Option, Some, None, if◌then◌else◌}
+use Rattle.std.proofs.Common.{◌≡◌, ap, refl, ℕ, zero, suc, ◌<◌, ◌≤◌, ◌-◌, ◌^◌, lit<, rules, ◌&&◌, List, [], ◌∷◌, length, Bool, true, false, nat_lt, min, arith, Some, None, if◌then◌else◌}
 use Rattle.std.proofs.lemmas.Bool.Decides.{nat_tests}
 use Rattle.std.proofs.lemmas.Str.{IsUtf8-from_ascii}
 use Rattle.std.proofs.lemmas.Int.Digits.{digits_value-lt}

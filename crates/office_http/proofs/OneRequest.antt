@@ -1,4 +1,4 @@
-use Rattle.std.proofs.Common.{◌≡◌, ◌≢◌, ap, refl, sym, ℕ, List, [], length, true, ◌==◌}
+use Rattle.std.proofs.Common.{◌≡◌, refl, ℕ, List, []}
 use Rattle.httparse.specs.Grammar.{RequestHead, ReadsRequest}
 use Rattle.httparse.proofs.GrammarLemmas.{request_unique}
 use Rattle.office_http.proofs.HeadLemmas.{nothing_has_none}

@@ -1,5 +1,5 @@
 -- The numbers in a head: the length of a body, and the number of a thing in a path.
-use Rattle.std.specs.Prelude.{ℕ, ◌==◌, Bool, true, false, List, [], ◌∷◌, length, nat_lt, Option, Some, None, if◌then◌else◌}
+use Rattle.std.specs.Prelude.{ℕ, ◌==◌, Bool, false, List, [], ◌∷◌, length, nat_lt, Option, None, if◌then◌else◌}
 use Rattle.std.specs.Result.{result_ok}
 use Rattle.office_days.specs.Numerals.{number_named}
 use Rattle.office_days.specs.ThingNumbers.{thing_number}

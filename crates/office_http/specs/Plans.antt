@@ -8,7 +8,6 @@ use Rattle.office_days.specs.Texts.{day_named}
 use Rattle.office_http.specs.Fields.{Values, missing, one, many, found_named}
 use Rattle.office_http.specs.Numbers.{content_length, segment_number}
 use Rattle.office_http.specs.Paths.{is_path, named_segment, resource_at}
-use Rattle.office_http.specs.declared.check.Check.{Check}
 use Rattle.office_http.specs.declared.check.Check.TheVariants as checks
 use Rattle.office_http.specs.declared.paths.Resource.{Resource}
 use Rattle.office_http.specs.declared.paths.Resource.TheVariants as resources

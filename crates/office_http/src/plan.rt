@@ -84,15 +84,13 @@ fn resource_plan(
 {
     let segment = named_segment(path);
     match resource {
+        Resource::Acts if method == b"POST".as_slice() => acts_plan(buf, headers),
+        Resource::OpenRun if method == b"POST".as_slice() => Plan::Serve(Want::Resume),
+        Resource::Acts | Resource::OpenRun => Plan::Refuse(Check::NotPost),
         Resource::Record => get_plan(method, Want::Record(segment_number(segment))),
         Resource::Content => get_plan(method, Want::Content(segment_number(segment))),
         Resource::Due => get_plan(method, Want::Due(Day::read(segment))),
         Resource::Certificate => get_plan(method, Want::Certificate(segment_number(segment))),
-        Resource::Acts | Resource::OpenRun if method != b"POST".as_slice() => Plan::Refuse(
-            Check::NotPost,
-        ),
-        Resource::Acts => acts_plan(buf, headers),
-        Resource::OpenRun => Plan::Serve(Want::Resume),
     }
 }
 

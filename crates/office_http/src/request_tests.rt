@@ -263,7 +263,10 @@ fn what_is_done_for_each_head(rt: HostRuntime) -> Result<(), Fail> {
     ];
     for (text, plan) in &rows {
         for most in [1, 2, 7, 4_096] {
-            assert!(rt; is_planned(rt.alloc(), text.as_bytes(), most, plan), "{text}");
+            assert!(rt;
+                is_planned(rt.alloc(), text.as_bytes(), most, plan),
+                "{text}"
+            );
         }
     }
     Ok(())

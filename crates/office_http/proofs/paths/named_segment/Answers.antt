@@ -1,5 +1,4 @@
-use Rattle.std.proofs.Common.{◌≡◌, ◌==◌, lit<, refl}
-use Rattle.std.specs.List.{slice_split}
+use Rattle.std.proofs.Common.{lit<, refl}
 use Rattle.std.proofs.lemmas.Iterator.Consumers.{nth_from_yields_List}
 use Rattle.std.proofs.lemmas.Iterator.Splits.{YieldsList-from_str_split}
 use Rattle.office_http.proofs.SegmentLemmas.{text_at}
