@@ -3,5 +3,6 @@ pub mod BodyLemmas
 pub mod HeadLemmas
 pub mod NumberLemmas
 pub mod OneRequest
+pub mod RequestLemmas
 pub mod SegmentLemmas
 pub mod Utf8Lemmas
