@@ -13,7 +13,7 @@ use Rattle.std.specs.Str.Parse.{digits_value}
 use Rattle.office_days.specs.Numerals.{number_named}
 use Rattle.office_http.specs.Numbers.{content_length}
 
-both_true : (a b : Bool) → (a && b) ≡ true → (a ≡ true) × (b ≡ true)
+pub both_true : (a b : Bool) → (a && b) ≡ true → (a ≡ true) × (b ≡ true)
 both_true true b e = (refl, e)
 both_true false b e = absurd (cc)
 
@@ -37,13 +37,13 @@ number_named-not_utf8 bs h = none_by (nat_lt 0 (length bs)) (list_all is_ascii_d
 tells_digits : IsDigitsTest (λ ds. list_all is_ascii_digit ds ≡ true)
 tells_digits = search rules
 
-model : IsNumeralModel (λ ds. list_all is_ascii_digit ds ≡ true) (digits_value 10)
-model = numerals_by_value _ tells_digits
+pub digits_model : IsNumeralModel (λ ds. list_all is_ascii_digit ds ≡ true) (digits_value 10)
+digits_model = numerals_by_value _ tells_digits
 
 -- 19 digits write less than 2 ^ 64
 fits : (bs : List ℕ) → length bs ≤ 19 → list_all is_ascii_digit bs ≡ true → digits_value 10 bs < 2 ^ 64
 fits bs short all =
-    let below = digits_value-lt 10 bs (model.to bs all) in
+    let below = digits_value-lt 10 bs (digits_model.to bs all) in
     let most : 10 ^ length bs ≤ 10 ^ 19 = pow-le-pow_right (lit< tt) {i = length bs} {j = 19} short in
     let same : 10 ^ 19 ≡ 10_000_000_000_000_000_000 = refl in
     let top : 2 ^ 64 ≡ 18_446_744_073_709_551_616 = refl in

@@ -1,5 +1,6 @@
 pub mod Bodies
 pub mod Fields
+pub mod Messages
 pub mod Numbers
 pub mod Paths
 pub mod Plans

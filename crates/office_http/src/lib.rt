@@ -38,4 +38,4 @@ pub use reading::{Head, ReadStop, law_of_requests, read_head};
 pub use reply::{Allow, Body, Kind, Reply};
 pub use status::Status;
 pub use want::Want;
-pub use writing::write_reply;
+pub use writing::{law_of_replies, write_reply};

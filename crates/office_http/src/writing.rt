@@ -1,6 +1,8 @@
-ghost use Rattle.std.specs.Prelude.{◌≡◌, ◌++◌, IfOk, OnOk, decimal, length};
+ghost use Rattle.std.specs.Prelude.{◌≡◌, ◌<◌, ◌^◌, ◌++◌, IfOk, OnOk, [], decimal, false, length, true};
 ghost use Rattle.std.specs.Io.KnownBytes.{Appends};
-ghost use Rattle.office_http.specs.Replies.{allow_line, from_allow, from_kind, from_length, head_text, kind_line, length_line, line_end, response, response_text, status_line, status_number, status_words};
+ghost use Rattle.httparse.specs.Grammar.{ReadsResponse};
+ghost use Rattle.office_http.specs.Messages.{message_head};
+ghost use Rattle.office_http.specs.Replies.{Response, allow_line, from_allow, from_kind, from_length, head_text, kind_line, length_line, line_end, response, response_text, status_line, status_number, status_words};
 
 use crate::output::{Io, put, put_number, put_status};
 use crate::reply::{Allow, Kind, Reply};
@@ -113,7 +115,8 @@ fn put_head<W: Write>(
 }
 
 /// Writes an answer, to HEAD its head alone, flushes the writer, and gives the status code. At an
-/// error some of the bytes may have gone out.
+/// error some of the bytes may have gone out. The parts of the answer are written one by one, so
+/// give it a buffered writer where a write is dear.
 #[tactic(auto, using(crate::proofs::Appending::appends_then))]
 pub fn write_reply<W: Write>(reply: &Reply, is_head: bool, writer: &mut W) -> Result<u16, Io>
     ensures bytes { OnOk result (Appends (W.contents writer.old) (W.contents writer.new) (response_text is_head (response reply.now))) }
@@ -133,3 +136,10 @@ fn put_reply<W: Write>(reply: &Reply, is_head: bool, writer: &mut W) -> Result<(
     put_head(writer, reply.status, reply.kind, body.len(), reply.allow)?;
     if is_head { Ok(()) } else { put(writer, body) }
 }
+
+/// The law that an answer is a message of HTTP, with these field lines and no others, and that to
+/// HEAD it is the same message without its body.
+pub fn law_of_replies()
+    ensures message { (r : Response) → length r.body < 2 ^ 64 → ReadsResponse (response_text false r) (message_head r) r.body }
+    ensures head { (r : Response) → length r.body < 2 ^ 64 → ReadsResponse (response_text true r) (message_head r) [] }
+{}
