@@ -4,6 +4,5 @@ pub mod HeadLemmas
 pub mod MessageLemmas
 pub mod NumberLemmas
 pub mod OneRequest
-pub mod RequestLemmas
 pub mod SegmentLemmas
 pub mod Utf8Lemmas

@@ -1,5 +1,5 @@
 -- Which bytes are which request, up to the end of the head. Source: RFC 9112 section 2 as `httparse` reads it; the limits are own.
-use Rattle.std.specs.Prelude.{◌≡◌, ◌≢◌, ℕ, ◌≤◌, List, [], ◌++◌, length}
+use Rattle.std.specs.Prelude.{◌≡◌, ◌≢◌, ℕ, ◌≤◌, List, [], ◌++◌, drop, length}
 use Rattle.httparse.specs.Grammar.{RequestHead, print_request, ReadsRequest, HasNoRequest}
 use Rattle.httparse.specs.declared.spans.HeaderSpan.{HeaderSpan}
 use Rattle.httparse.specs.declared.spans.RequestSpans.{RequestSpans}
@@ -51,3 +51,9 @@ abbrev pub IsRead : Head → List ℕ → Type 0
 IsRead (Found spans) bytes = Unit {0}
 IsRead Missing bytes = IsRequest headless bytes
 IsRead Empty bytes = IsRequest nothing bytes
+
+-- where a head was found, what all bytes are: that head, then what the buffer has after it and what is left in the reader
+abbrev pub IsAsked : Head → List ℕ → List ℕ → List HeaderSpan → List ℕ → Type 0
+IsAsked (Found spans) bytes buf headers left = (h : RequestHead) × IsRequestAt buf headers spans h × IsRequest (asks h (drop spans.len buf ++ left)) bytes
+IsAsked Missing bytes buf headers left = Unit {0}
+IsAsked Empty bytes buf headers left = Unit {0}

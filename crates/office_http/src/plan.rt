@@ -1,8 +1,9 @@
 ghost use Rattle.std.specs.Prelude.{◌≡◌, ℕ, ◌≤◌, List, length, map, take, codes, All, IfOk};
-ghost use Rattle.httparse.specs.Spans.{header_bytes, span_bytes, IsHeaderWithin, IsRequestWithin};
+ghost use Rattle.httparse.specs.Grammar.{RequestHead};
+ghost use Rattle.httparse.specs.Spans.{header_bytes, span_bytes, IsHeaderWithin, IsRequestAt, IsRequestWithin};
 ghost use Rattle.office_http.specs.Fields.{found_named};
 ghost use Rattle.office_http.specs.Paths.{resource_at};
-ghost use Rattle.office_http.specs.Plans.{acts_plan, get_plan, has_host, is_head_method, length_plan, path_plan, plan_in, plan_of, resource_plan, sized_plan, target_plan, IsSized};
+ghost use Rattle.office_http.specs.Plans.{acts_plan, get_plan, has_host, is_head_method, length_plan, path_plan, plan_at, plan_in, plan_of, resource_plan, sized_plan, target_plan, IsSized};
 
 use crate::check::Check;
 use crate::fields::{Found, find_named};
@@ -152,6 +153,7 @@ pub fn plan_in(
 ) -> Result<Plan, AllocError>
     requires { IsRequestWithin buf.now headers.now head.now }
     ensures plan { IfOk result (λ plan. plan ≡ plan_in buf.now head.now headers.now) }
+    ensures head { IfOk result (λ plan. (h : RequestHead) → IsRequestAt buf.now headers.now head.now h → plan ≡ plan_at h) }
     ensures sized { IfOk result (λ plan. IsSized plan) }
 {
     let headers = &headers[..head.headers];

@@ -1,6 +1,6 @@
 ghost use Rattle.std.specs.Prelude.{◌≡◌, ◌≢◌, ℕ, ◌+◌, ◌≤◌, ◌<◌, List, [], ◌++◌, length, IfOk, OnOk, IfSome};
 ghost use Rattle.std.specs.Io.KnownBytes.{Consumes, IsAtEnd};
-ghost use Rattle.office_http.specs.Requests.{IsHeadOf, IsSeen, IsRead, Request, IsRequest};
+ghost use Rattle.office_http.specs.Requests.{IsAsked, IsHeadOf, IsSeen, IsRead, Request, IsRequest};
 
 use httparse::Status;
 use httparse::spans::{HeaderSpan, RequestSpans, parse_request};
@@ -107,6 +107,8 @@ pub fn read_head<R: Read>(
     ensures read { OnOk result (Consumes (R.remaining reader.old) (R.remaining reader.new) buf.new.items) }
     ensures head { IfOk result (λ head. IfSome (R.remaining reader.old) (λ bytes. IsRead head bytes)) }
     ensures spans { IfOk result (λ head. IsHeadOf head buf.new.items headers.new) }
+    ensures asked { IfOk result (λ head. IfSome (R.remaining reader.old) (λ bytes. IfSome (R.remaining reader.new) (λ left.
+        IsAsked head bytes buf.new.items headers.new left))) }
 {
     loop {
         match see_any(buf.as_slice(), headers) {
