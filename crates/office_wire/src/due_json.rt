@@ -4,7 +4,7 @@ ghost use Rattle.serde_json.specs.View.{members_view, view};
 ghost use Rattle.serde_json.specs.Written.{has_float};
 ghost use Rattle.office_wire.specs.DueJson.{due_data, due_row_data, put_plan, put_rest};
 
-use crate::told_parts::{code_value, due_value as due_day_value, put_number, put_text};
+use crate::told_parts::{code_value, due_day_value, put_number, put_text};
 use office_machine::RecordView;
 use office_tree::Memory;
 use serde_json::{Map, Value};

@@ -6,6 +6,10 @@
 //! told: first a text or a shape that is not of its form, then a number out of its range. [`read_acts`]
 //! reads an array of them. Answers go
 //! out by [`answer_value`], and one a line by [`write_answers`].
+//!
+//! What the office tells of a record goes out by [`record_value`], and what is due on a day by
+//! [`due_value`]. [`answers_value`], [`stopped_value`], [`fault_value`] and [`bad_act_value`] are the
+//! replies to a list of acts. Each is a value of JSON without a float, so [`text_of`] gives its text.
 #![tactic(auto)]
 
 #[cfg(test)]
@@ -24,6 +28,8 @@ mod output;
 mod parts;
 mod read_fault;
 mod record_json;
+#[cfg(test)]
+mod record_tests;
 mod replies;
 mod targets;
 mod told_parts;

@@ -5,7 +5,7 @@ ghost use Rattle.serde_json.specs.Written.{has_float};
 ghost use Rattle.office_wire.specs.RecordJson.{confirmed_data, ended_data, or_null, put_first, put_last, put_second, put_third, record_data};
 
 use crate::digits::put_digest;
-use crate::told_parts::{code_value, day_value, due_value, put_day, put_number, put_text};
+use crate::told_parts::{code_value, day_value, due_day_value, put_day, put_number, put_text};
 use office_machine::RecordView;
 use office_proof::Entry;
 use office_tree::{Confirmation, Memory};
@@ -18,7 +18,7 @@ fn confirmation_value(alloc: Global, it: &Confirmation) -> Result<Value, AllocEr
     ensures { IfOk result (λ value. view value ≡ confirmed_data it.now) }
 {
     let day = day_value(alloc, it.day)?;
-    let due = due_value(alloc, Some(it.due))?;
+    let due = due_day_value(alloc, Some(it.due))?;
     json!(in alloc; {"action": it.action.text(), "by": it.by.text(), "day": day, "due": due})
 }
 
@@ -77,7 +77,7 @@ fn put_second(
     ensures { OnOk result (members_view map.new.entries ≡ put_second told.now (option_copied ending.entry) (members_view map.old.entries)) }
 {
     put_digest(map, alloc, "digest", &told.digest)?;
-    let due = due_value(alloc, told.due)?;
+    let due = due_day_value(alloc, told.due)?;
     serde_json::put(map, alloc, "due", due)?;
     let ended = ended_value(alloc, ending)?;
     serde_json::put(map, alloc, "ended", ended)?;

@@ -31,7 +31,7 @@ pub(crate) fn day_value(alloc: Global, day: Day) -> Result<Value, AllocError>
 
 /// A due day, as `2024-02-29`, or null.
 #[tactic(auto, using(office_proof::proofs::DateBytes::date_is_text))]
-pub(crate) fn due_value(alloc: Global, due: Option<DueDay>) -> Result<Value, AllocError>
+pub(crate) fn due_day_value(alloc: Global, due: Option<DueDay>) -> Result<Value, AllocError>
     ensures { IfOk result (λ value. view value ≡ or_null day_data due) }
 {
     match due {
