@@ -42,11 +42,11 @@ code_has_none (Some text) = refl
 pub record_has_none : (r : RecordView) (ending : Option Entry) → has_float (record_data r ending) ≡ false
 unfolding record_data
 record_has_none r ending = rw (
-    or_null_has_none confirmed_data confirmed_has_none r.confirmed,
-    or_null_has_none day_data (λ day. refl) r.due,
-    or_null_has_none ended_data ended_has_none ending,
-    code_has_none r.held,
-  ) refl
+  or_null_has_none confirmed_data confirmed_has_none r.confirmed,
+  or_null_has_none day_data (λ day. refl) r.due,
+  or_null_has_none ended_data ended_has_none ending,
+  code_has_none r.held,
+) refl
 
 pub due_row_has_none : (r : RecordView) → has_float (due_row_data r) ≡ false
 unfolding due_row_data

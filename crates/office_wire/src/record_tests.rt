@@ -145,7 +145,10 @@ fn a_due_list(rt: HostRuntime) -> Result<(), Fail> {
 fn answers_to_acts(rt: HostRuntime) -> Result<(), Fail> {
     let answers = [Answer::Number(1), Answer::Refused(Refusal::NoSuch)];
     let all = answers_value(rt.alloc(), &answers)?;
-    assert_eq!(rt; text_of(rt.alloc(), &all)?.as_str(), r#"[{"number":1},{"refused":5}]"#);
+    assert_eq!(rt;
+        text_of(rt.alloc(), &all)?.as_str(),
+        r#"[{"number":1},{"refused":5}]"#
+    );
     let none = answers_value(rt.alloc(), &[])?;
     assert_eq!(rt; text_of(rt.alloc(), &none)?.as_str(), "[]");
     let stopped = stopped_value(rt.alloc(), &answers, 31)?;
