@@ -4,7 +4,7 @@ use office_days::Day;
 use office_holds::Target;
 use office_machine::{Act, NewRecord};
 use office_tree::Classified;
-use office_wire::{ReadFault, read_act};
+use office_json::{ReadFault, read_act};
 use serde_json::Value;
 use std::alloc::AllocGlobal;
 use std::process::Abort;

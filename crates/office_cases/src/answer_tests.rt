@@ -4,7 +4,7 @@
 use office_days::Refusal;
 use office_machine::Answer;
 use office_proof::Outcome;
-use office_wire::{Io, answer_value, write_answers};
+use office_json::{Io, answer_value, write_answers};
 use std::io;
 use std::io::Write;
 use std::test::Fail;

@@ -20,10 +20,6 @@ mod paths;
 mod plan;
 mod reading;
 mod reply;
-#[cfg(test)]
-mod reply_tests;
-#[cfg(test)]
-mod request_tests;
 mod status;
 mod want;
 mod writing;
@@ -32,7 +28,7 @@ pub use body::read_body;
 pub use check::Check;
 pub use failure::Failure;
 pub use fixed::{check_reply, failure_reply};
-pub use output::Io;
+pub use office_plan::Io;
 pub use plan::{Plan, is_head_in, plan_in};
 pub use reading::{Head, ReadStop, law_of_requests, read_head};
 pub use reply::{Allow, Body, Kind, Reply};

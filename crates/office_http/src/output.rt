@@ -3,11 +3,8 @@ ghost use Rattle.std.specs.Io.KnownBytes.{Appends};
 ghost use Rattle.office_http.specs.Replies.{status_words};
 
 use crate::status::Status;
+use office_plan::Io;
 use std::io::Write;
-
-/// A writer answered an error in this call.
-#[derive(Clone, Copy, PartialEq, Eq, Debug)]
-pub struct Io;
 
 /// Writes all of the bytes.
 pub(crate) fn put<W: Write>(writer: &mut W, bytes: &[u8]) -> Result<(), Io>

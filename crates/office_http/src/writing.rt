@@ -4,7 +4,8 @@ ghost use Rattle.httparse.specs.Grammar.{ReadsResponse};
 ghost use Rattle.office_http.specs.Messages.{message_head};
 ghost use Rattle.office_http.specs.Replies.{Response, allow_line, from_allow, from_kind, from_length, head_text, kind_line, length_line, line_end, response, response_text, status_line, status_number, status_words};
 
-use crate::output::{Io, put, put_number, put_status};
+use crate::output::{put, put_number, put_status};
+use office_plan::Io;
 use crate::reply::{Allow, Kind, Reply};
 use crate::status::Status;
 use std::io::Write;

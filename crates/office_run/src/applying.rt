@@ -12,7 +12,7 @@ use office_desk::Desk;
 use office_machine::Act;
 use office_plan::{PlanStop, read_whole};
 use office_store::Fault;
-use office_wire::{ListFault, read_acts, write_answers};
+use office_json::{ListFault, read_acts, write_answers};
 use sqlite::{Alter, Connection};
 use std::alloc::Global;
 use std::io::{Read, Write};
