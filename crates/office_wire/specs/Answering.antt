@@ -1,13 +1,13 @@
 -- What is answered to what is asked of the office, and where the desk stands then. Source: own.
 use Rattle.std.specs.FinMap.{get}
-use Rattle.std.specs.Prelude.{◌≡◌, ◌≢◌, ◌⊎◌, ◌+◌, ◌<◌, ◌≤◌, ℕ, ℤ, suc, IsTrue, List, length, map, take, Option, Some, None, Result, Ok, Err}
+use Rattle.std.specs.Prelude.{◌≡◌, ◌≢◌, ◌⊎◌, ◌+◌, ◌<◌, ◌≤◌, ℕ, ℤ, suc, IsTrue, List, [], ◌∷◌, length, map, take, Option, Some, None, Result, Ok, Err}
 use Rattle.sqlite.specs.Held.{state}
 use Rattle.sqlite_trees.specs.declared.store.Store.{Ghosts}
 use Rattle.office_days.specs.declared.refusal.Refusal.TheVariants as refusal
 use Rattle.office_machine.specs.Acts.{after, answers}
 use Rattle.office_machine.specs.Readings.{IsDueList, ending_entry, record_view}
 use Rattle.office_machine.specs.Runs.{IsMidway, after_steps, open_run, whole}
-use Rattle.office_machine.specs.State.{State}
+use Rattle.office_machine.specs.State.{Office, State}
 use Rattle.office_machine.specs.declared.act.Act.{Act}
 use Rattle.office_machine.specs.declared.answer.Answer.TheVariants.{Refused, RunClosed}
 use Rattle.office_machine.specs.declared.record_view.RecordView.{RecordView}
@@ -21,6 +21,7 @@ use Rattle.office_json.specs.Acts.{Asked, asked}
 use Rattle.office_json.specs.Lists.{NoActs, not_json, bad_act, acts_in}
 use Rattle.office_http.specs.Replies.{Response, check_response, failure_response}
 use Rattle.office_http.specs.declared.failure.Failure.TheVariants as failure
+use Rattle.office_wire.specs.declared.answering.Told.{Told}
 use Rattle.office_wire.specs.Receiving.{Wanted, refused, cut, acts, resumption, record_told, content_told, due_told, certificate_told}
 use Rattle.office_wire.specs.Replies.{acts_response, answer_response, bad_act_response, certificate_response, content_response, due_response, fault_response, record_response, stopped_response}
 
@@ -108,9 +109,18 @@ abbrev pub TellsContent : {S : Type 0} → (Response → Type 0) → Ghosts S �
 TellsContent Told g t None desk = TellsNone Told g t (failure_response failure.Content) desk
 TellsContent Told g t (Some r) desk = IsTold Told g t r desk ⊎ ((f : Fault) × IsUntold Told g t r f desk)
 
--- the records of a due list
+-- what is told of the records of a list
+abbrev pub and_told : Option RecordView → List RecordView → List RecordView
+and_told None rows = rows
+and_told (Some row) rows = row ∷ rows
+
+abbrev pub told_of : Office → List ℕ → List RecordView
+told_of s [] = []
+told_of s (r ∷ rs) = and_told (record_view s r) (told_of s rs)
+
+-- the records of the due list of a day, as they are told
 abbrev pub AreDueRows : State → ℤ → List RecordView → Type 0
-AreDueRows t day rows = (list : List ℕ) × IsDueList t.office.tree day list × (map (record_view t.office) list ≡ map (λ row. Some row) rows)
+AreDueRows t day rows = (list : List ℕ) × IsDueList t.office.tree day list × (rows ≡ told_of t.office list)
 
 abbrev pub TellsDue : {S : Type 0} → (Response → Type 0) → Ghosts S → State → Option ℤ → DeskState S → Type 0
 TellsDue Told g t None desk = TellsNone Told g t (failure_response failure.Day) desk
@@ -119,6 +129,13 @@ TellsDue Told g t (Some day) desk = (((rows : List RecordView) × AreDueRows t d
 abbrev pub TellsCertificate : {S : Type 0} → (Response → Type 0) → Ghosts S → State → Option ℕ → DeskState S → Type 0
 TellsCertificate Told g t None desk = TellsNone Told g t (failure_response failure.Certificate) desk
 TellsCertificate Told g t (Some run) desk = Tells Told g t (certificate_response (get t.office.certificates run)) desk
+
+-- ---- what the code answers
+
+-- what was read of a record in an office
+abbrev pub IsToldOf : Office → ℕ → Option Told → Type 0
+IsToldOf s r None = record_view s r ≡ None
+IsToldOf s r (Some it) = (record_view s r ≡ Some it.view) × (ending_entry s r ≡ it.ending)
 
 -- ---- all of it
 

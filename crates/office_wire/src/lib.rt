@@ -8,7 +8,6 @@
 
 mod answering;
 mod body;
-mod reading;
 mod receiving;
 mod replies;
 mod serving;
