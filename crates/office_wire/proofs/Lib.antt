@@ -1,0 +1,5 @@
+pub mod Performed
+pub mod Resumed
+pub mod Rows
+pub mod Told
+pub mod Untold

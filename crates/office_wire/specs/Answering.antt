@@ -57,7 +57,7 @@ PerformsAsked Told g t (Err (bad_act place why)) desk = Told (bad_act_response p
 pub record IsResumed {S : Type 0} (Told : Response → Type 0) (g : Ghosts S) (t : State) (run : ℕ) (desk : DeskState S) : Type 0 where
   pub was_open : open_run t.office ≡ Some run
   pub told : Told (answer_response (RunClosed run))
-  pub whole : StandsAt g (whole t run) desk
+  pub closed : StandsAt g (whole t run) desk
   pub never_stopped : (s : State) → open_run s.office ≡ Some run → IsMidway s run t → StandsAt g (whole s run) desk
   pub fates : LeavesStepFates t (state g desk.held)
 

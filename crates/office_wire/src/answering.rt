@@ -20,6 +20,7 @@ use office_days::Day;
 use office_desk::Desk;
 use office_http::{Failure, Reply, check_reply, failure_reply};
 use office_json::{ListFault, read_acts};
+use office_machine::laws::resuming::law_of_resumption;
 use office_machine::{Act, RecordView};
 use office_proof::Entry;
 use office_store::Fault;
@@ -64,6 +65,7 @@ fn resume<S: Alter>(alloc: Global, desk: &mut Desk<S>) -> Result<Reply, Memory>
     ensures ok { IfOk result (λ reply. (t : State) → HasCleanDisk (state S.Store desk.new.held) → StandsAt S.Store t desk.old → Resumes (λ told. response reply ≡ told) S.Store t desk.new) }
     ensures err { OnErr result ((t : State) → HasCleanDisk (state S.Store desk.new.held) → StandsAt S.Store t desk.old → Resumes (λ told. Unit {0}) S.Store t desk.new) }
 {
+    law_of_resumption();
     match desk.resume() {
         Ok(answer) => answer_reply(alloc, &answer),
         Err(fault) => fault_reply(alloc, fault),
@@ -129,6 +131,7 @@ fn tell_content<S: Alter>(
 }
 
 /// What is told of the records of a list.
+#[tactic(auto, using(crate::proofs::Rows::one_told))]
 fn rows_of<S: Alter>(
     alloc: Global,
     desk: &Desk<S>,
