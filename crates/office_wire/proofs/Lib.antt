@@ -1,4 +1,5 @@
 pub mod Performed
+pub mod Replied
 pub mod Resumed
 pub mod Rows
 pub mod Told

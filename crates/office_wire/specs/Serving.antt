@@ -6,7 +6,9 @@ use Rattle.office_machine.specs.State.{State}
 use Rattle.office_desk.specs.Desk.{DeskState}
 use Rattle.office_desk.specs.Leaving.{StandsAt}
 use Rattle.office_http.specs.Plans.{is_head_method}
-use Rattle.office_http.specs.Replies.{Response, failure_response, response_text, status_number}
+use Rattle.office_http.specs.declared.failure.Failure.{Failure}
+use Rattle.office_wire.specs.declared.serving.Sending.{Sending}
+use Rattle.office_http.specs.Replies.{Response, response, failure_response, response_text, status_number}
 use Rattle.office_http.specs.Requests.{Request, IsRequest, nothing, headless, asks}
 use Rattle.office_http.specs.declared.failure.Failure.TheVariants as failure
 use Rattle.office_wire.specs.Answering.{Answers, Starves}
@@ -45,3 +47,20 @@ Replies g t bytes unread status written after desk =
 -- it was not written whole: the writer answered an error, and the desk stands as if it had been
 abbrev pub Breaks : {S : Type 0} → Ghosts S → State → List ℕ → Type 0 → DeskState S → Type 0
 Breaks g t bytes unread desk = (is_head : Bool) × (r : Response) × IsReply g t bytes unread is_head r desk
+
+-- ---- what the code sends
+
+-- an answer from fixed bytes is to be written
+abbrev pub IsFailed : Failure → Bool → Option Sending → Type 0
+IsFailed why is_head None = ⊥
+IsFailed why is_head (Some it) = (response it.reply ≡ failure_response why) × (it.is_head ≡ is_head)
+
+-- what is to be written is the answer to all bytes of a connection
+abbrev pub IsToSend : {S : Type 0} → Ghosts S → State → List ℕ → Type 0 → Option Sending → DeskState S → Type 0
+IsToSend g t bytes unread None desk = IsRequest nothing bytes × StandsAt g t desk
+IsToSend g t bytes unread (Some it) desk = IsReply g t bytes unread it.is_head (response it.reply) desk
+
+-- it was written, and the status is its
+abbrev pub IsSent : Option Sending → ℕ → Option (List ℕ) → Option (List ℕ) → Type 0
+IsSent None status written after = (status ≡ 0) × (after ≡ written)
+IsSent (Some it) status written after = Writes it.is_head (response it.reply) status written after
