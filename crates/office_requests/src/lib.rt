@@ -1,7 +1,0 @@
-//! Requests of HTTP at an office in memory, worked out by hand, each with its whole answer.
-#![tactic(auto)]
-
-#[cfg(test)]
-mod asking;
-#[cfg(test)]
-mod tests;
