@@ -1,11 +1,11 @@
 //! Answers worked out by hand, and what a writer that fails leaves.
 
 use crate::request_tests::Pieces;
-use office_http::{
-    Allow, Body, Check, Failure, Head, Io, Kind, LONGEST_HEAD, Plan, Reply, Status, check_reply, failure_reply,
-    is_head_in, plan_in, read_head, write_reply,
-};
 use httparse::spans::HeaderSpan;
+use office_http::{
+    Allow, Body, Check, Failure, Head, Io, Kind, LONGEST_HEAD, Plan, Reply, Status, check_reply,
+    failure_reply, is_head_in, plan_in, read_head, write_reply,
+};
 use std::alloc::Global;
 use std::io;
 use std::io::Write;

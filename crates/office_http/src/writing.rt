@@ -5,9 +5,9 @@ ghost use Rattle.office_http.specs.Messages.{message_head};
 ghost use Rattle.office_http.specs.Replies.{Response, allow_line, from_allow, from_kind, from_length, head_text, kind_line, length_line, line_end, response, response_text, status_line, status_number, status_words};
 
 use crate::output::{put, put_number, put_status};
-use office_plan::Io;
 use crate::reply::{Allow, Kind, Reply};
 use crate::status::Status;
+use office_plan::Io;
 use std::io::Write;
 
 /// The line of the media type.

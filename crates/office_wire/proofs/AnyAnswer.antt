@@ -17,14 +17,18 @@ any r = Unit {0}
 
 performed_any : {S : Type 0} (Told : Response → Type 0) (g : Ghosts S) (t : State) (done : List Act) (desk : DeskState S) → ArePerformed Told g t done desk → ArePerformed any g t done desk
 performed_any Told g t done desk (inl it) = inl (record { told = tt; stands = it.stands; fates = it.fates })
-performed_any Told g t done desk (inr it) = inr (it.0, it.1, record {
-  within = it.2.within;
-  one_more = it.2.one_more;
-  told = tt;
-  stops = it.2.stops;
-  leaves = it.2.leaves;
-  fates = it.2.fates;
-})
+performed_any Told g t done desk (inr it) = inr (
+  it.0,
+  it.1,
+  record {
+    within = it.2.within;
+    one_more = it.2.one_more;
+    told = tt;
+    stops = it.2.stops;
+    leaves = it.2.leaves;
+    fates = it.2.fates;
+  },
+)
 
 asked_any : {S : Type 0} (Told : Response → Type 0) (g : Ghosts S) (t : State) (asked : Result (List Asked) NoActs) (desk : DeskState S) → PerformsAsked Told g t asked desk → PerformsAsked any g t asked desk
 asked_any Told g t (Ok all) desk it = (it.0, it.1, performed_any Told g t it.0 desk it.2)
@@ -32,33 +36,42 @@ asked_any Told g t (Err not_json) desk it = (tt, it.1)
 asked_any Told g t (Err (bad_act place why)) desk it = (tt, it.1)
 
 resumed_any : {S : Type 0} (Told : Response → Type 0) (g : Ghosts S) (t : State) (desk : DeskState S) → Resumes Told g t desk → Resumes any g t desk
-resumed_any Told g t desk (inl it) = inl (it.0, record {
-  was_open = it.1.was_open;
-  told = tt;
-  closed = it.1.closed;
-  never_stopped = it.1.never_stopped;
-  fates = it.1.fates;
-})
+resumed_any Told g t desk (inl it) = inl (
+  it.0,
+  record {
+    was_open = it.1.was_open;
+    told = tt;
+    closed = it.1.closed;
+    never_stopped = it.1.never_stopped;
+    fates = it.1.fates;
+  },
+)
 resumed_any Told g t desk (inr (inl it)) = inr (inl (record { none_open = it.none_open; told = tt; stands = it.stands }))
-resumed_any Told g t desk (inr (inr it)) = inr (inr (it.0, record {
-  told = tt;
-  stopped = it.1.stopped;
-  midway = it.1.midway;
-  none_open = it.1.none_open;
-  fates = it.1.fates;
-}))
+resumed_any Told g t desk (inr (inr it)) = inr (inr (
+  it.0,
+  record {
+    told = tt;
+    stopped = it.1.stopped;
+    midway = it.1.midway;
+    none_open = it.1.none_open;
+    fates = it.1.fates;
+  },
+))
 
 content_any : {S : Type 0} (Told : Response → Type 0) (g : Ghosts S) (t : State) (r : Option ℕ) (desk : DeskState S) → TellsContent Told g t r desk → TellsContent any g t r desk
 content_any Told g t None desk it = (tt, it.1)
 content_any Told g t (Some r) desk (inl it) = inl (it.0, it.1, tt, it.3)
-content_any Told g t (Some r) desk (inr it) = inr (it.0, record {
-  told = tt;
-  damaged = it.1.damaged;
-  kept = it.1.kept;
-  given_up = it.1.given_up;
-  leaves = it.1.leaves;
-  no_other = it.1.no_other;
-})
+content_any Told g t (Some r) desk (inr it) = inr (
+  it.0,
+  record {
+    told = tt;
+    damaged = it.1.damaged;
+    kept = it.1.kept;
+    given_up = it.1.given_up;
+    leaves = it.1.leaves;
+    no_other = it.1.no_other;
+  },
+)
 
 record_any : {S : Type 0} (Told : Response → Type 0) (g : Ghosts S) (t : State) (r : Option ℕ) (desk : DeskState S) → TellsRecord Told g t r desk → TellsRecord any g t r desk
 record_any Told g t None desk it = (tt, it.1)

@@ -22,11 +22,15 @@ pub stopped : {S : Type 0} (g : Ghosts S) (done : List Act) (t : State) (old des
     → (Told : Response → Type 0) → Told (stopped_response seen f) → ArePerformed Told g t done desk
 stopped g done t old desk f front given seen none same stop clean stands fates Told told =
     let answered : seen ≡ answers t (take stop.0 done) = same ∙ (stop.1.answered ∙ ap (λ (x : List Answer). x ++ answers t (take stop.0 done)) none) in
-    inr (f, stop.0, record {
-      within = stop.1.within;
-      one_more = stop.1.one_more;
-      told = subst (λ (x : List Answer). Told (stopped_response x f)) answered told;
-      stops = stop.2;
-      leaves = stop.3 clean stands;
-      fates = fates;
-    })
+    inr (
+      f,
+      stop.0,
+      record {
+        within = stop.1.within;
+        one_more = stop.1.one_more;
+        told = subst (λ (x : List Answer). Told (stopped_response x f)) answered told;
+        stops = stop.2;
+        leaves = stop.3 clean stands;
+        fates = fates;
+      },
+    )

@@ -23,13 +23,16 @@ pub resumed : {S : Type 0} (g : Ghosts S) (t : State) (desk : DeskState S) (answ
 resumed g t desk answer None is answered closed own none fates Told told =
     inr (inl (record { none_open = is; told = subst (λ (x : Answer). Told (answer_response x)) answered told; stands = none is }))
 resumed g t desk answer (Some run) is answered closed own none fates Told told =
-    inl (run, record {
-      was_open = is;
-      told = subst (λ (x : Answer). Told (answer_response x)) answered told;
-      closed = closed t run is (own run is);
-      never_stopped = λ s first midway. closed s run first midway;
-      fates = fates;
-    })
+    inl (
+      run,
+      record {
+        was_open = is;
+        told = subst (λ (x : Answer). Told (answer_response x)) answered told;
+        closed = closed t run is (own run is);
+        never_stopped = λ s first midway. closed s run first midway;
+        fates = fates;
+      },
+    )
 
 -- and of one that a fault stopped
 pub run_stopped : {S : Type 0} (g : Ghosts S) (t : State) (old desk : DeskState S) (f : Fault)
@@ -38,10 +41,13 @@ pub run_stopped : {S : Type 0} (g : Ghosts S) (t : State) (old desk : DeskState 
     → ((s : State) (run : ℕ) → open_run s.office ≡ Some run → IsMidway s run t → LeavesMidway s run (state g desk.held))
     → (open_run t.office ≡ None → LeavesRowsOf t (state g desk.held)) → LeavesStepFates t (state g desk.held)
     → (Told : Response → Type 0) → Told (fault_response f) → Resumes Told g t desk
-run_stopped g t old desk f stop clean stands midway none fates Told told = inr (inr (f, record {
-  told = told;
-  stopped = (stop.0, stop.1, stop.2 clean stands);
-  midway = midway;
-  none_open = none;
-  fates = fates;
-}))
+run_stopped g t old desk f stop clean stands midway none fates Told told = inr (inr (
+  f,
+  record {
+    told = told;
+    stopped = (stop.0, stop.1, stop.2 clean stands);
+    midway = midway;
+    none_open = none;
+    fates = fates;
+  },
+))

@@ -19,11 +19,14 @@ pub untold : {A S : Type 0} (g : Ghosts S) (t : State) (r : ℕ) (f : Fault) (de
     → (read ≡ Err fault.Damaged → IsOtherContent t r) → (f ≢ fault.Store → StandsAt g t desk) → (read ≡ Err fault.Store → IsTrue desk.is_given_up)
     → LeavesRowsOf t (state g desk.held) → (f ≢ fault.Reopen) × (f ≢ fault.Version)
     → (Told : Response → Type 0) → Told (fault_response f) → TellsContent Told g t (Some r) desk
-untold g t r f desk read is damaged kept given_up leaves no_other Told told = inr (f, record {
-  told = told;
-  damaged = λ e. damaged (is ∙ ap err_of e);
-  kept = kept;
-  given_up = λ e. given_up (is ∙ ap err_of e);
-  leaves = leaves;
-  no_other = no_other;
-})
+untold g t r f desk read is damaged kept given_up leaves no_other Told told = inr (
+  f,
+  record {
+    told = told;
+    damaged = λ e. damaged (is ∙ ap err_of e);
+    kept = kept;
+    given_up = λ e. given_up (is ∙ ap err_of e);
+    leaves = leaves;
+    no_other = no_other;
+  },
+)

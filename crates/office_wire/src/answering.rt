@@ -42,11 +42,7 @@ fn perform<S: Alter>(alloc: Global, desk: &mut Desk<S>, acts: &[Act]) -> Result<
 }
 
 /// Does the acts of a body, and answers them.
-fn perform_body<S: Alter>(
-    alloc: Global,
-    desk: &mut Desk<S>,
-    body: &[u8],
-) -> Result<Reply, Memory>
+fn perform_body<S: Alter>(alloc: Global, desk: &mut Desk<S>, body: &[u8]) -> Result<Reply, Memory>
     ensures clean { HasCleanDisk (state S.Store desk.new.held) → HasCleanDisk (state S.Store desk.old.held) }
     ensures ok { IfOk result (λ reply. (t : State) → HasCleanDisk (state S.Store desk.new.held) → StandsAt S.Store t desk.old → PerformsAsked (λ told. response reply ≡ told) S.Store t (acts_in body.now) desk.new) }
     ensures err { OnErr result ((t : State) → HasCleanDisk (state S.Store desk.new.held) → StandsAt S.Store t desk.old → StandsAt S.Store t desk.new ⊎ PerformsAsked (λ told. Unit {0}) S.Store t (acts_in body.now) desk.new) }
@@ -159,11 +155,7 @@ fn due_rows<S: Alter>(alloc: Global, desk: &Desk<S>, day: Day) -> Result<Vec<Rec
 }
 
 /// Tells what is due on a day.
-fn tell_due<S: Alter>(
-    alloc: Global,
-    desk: &Desk<S>,
-    day: Option<Day>,
-) -> Result<Reply, Memory>
+fn tell_due<S: Alter>(alloc: Global, desk: &Desk<S>, day: Option<Day>) -> Result<Reply, Memory>
     ensures { IfOk result (λ reply. (t : State) → StandsAt S.Store t desk.now → TellsDue (λ told. response reply ≡ told) S.Store t day desk.now) }
 {
     let Some(day) = day else {
@@ -194,11 +186,7 @@ fn tell_certificate<S: Alter>(
 
 /// Does at the desk what is asked, and gives the answer. `Memory` comes where memory was refused for the
 /// answer; what was done stands then.
-pub fn answer<S: Alter>(
-    alloc: Global,
-    desk: &mut Desk<S>,
-    asking: &Asking,
-) -> Result<Reply, Memory>
+pub fn answer<S: Alter>(alloc: Global, desk: &mut Desk<S>, asking: &Asking) -> Result<Reply, Memory>
     ensures clean { HasCleanDisk (state S.Store desk.new.held) → HasCleanDisk (state S.Store desk.old.held) }
     ensures ok { IfOk result (λ reply. (t : State) → HasCleanDisk (state S.Store desk.new.held) → StandsAt S.Store t desk.old → Answers S.Store t (asked_for asking.now) (response reply) desk.new) }
     ensures err { OnErr result ((t : State) → HasCleanDisk (state S.Store desk.new.held) → StandsAt S.Store t desk.old → Starves S.Store t (asked_for asking.now) desk.new) }
