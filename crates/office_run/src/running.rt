@@ -69,14 +69,16 @@ fn carry_out<R: Read, W: Write, S: Alter>(
         Order::Apply { .. } => apply_on(alloc, conn, input, out),
         Order::Resume { .. } => resume_on(alloc, conn, out),
         Order::Certificate { run, .. } => certificate_on(alloc, conn, *run, out),
-        Order::Due { .. } | Order::Plan { .. } | Order::Nothing => (Ending::BadWords, conn),
+        Order::Due { .. } | Order::Plan { .. } | Order::Serve { .. } | Order::Nothing => {
+            (Ending::BadWords, conn)
+        }
     }
 }
 
 /// Carries out an order over a connection to the office's file, outside a transaction: what it reads
 /// comes from `input`, what it answers goes to `out`, and the line of its ending to `err`. It gives the
-/// exit status, and the connection back. An order that names no office's file is no order here: status 2,
-/// with nothing done.
+/// exit status, and the connection back. An order that is not carried out over a connection is no order
+/// here: status 2, with nothing done.
 pub fn run_on<R: Read, W: Write, E: Write, S: Alter>(
     alloc: Global,
     conn: Connection<S>,
