@@ -1,5 +1,6 @@
 -- How an order on the office in a file ends. Source: own.
 use Rattle.std.specs.Prelude.{◌≡◌, ℕ, List, ◌∷◌, [], ◌++◌, codes, IfSome, Option}
+use Rattle.std.specs.Fmt.{decimal}
 use Rattle.std.specs.Io.KnownBytes.{Appends}
 use Rattle.sqlite.specs.Held.{Held, state}
 use Rattle.sqlite_trees.specs.declared.store.Store.{Ghosts}
@@ -15,6 +16,10 @@ use Rattle.office_run.specs.Resuming.{ResumeEnds}
 -- the line that tells the version of the office's file
 abbrev pub version_line : List ℕ
 version_line = codes "version 1" ++ 10 ∷ []
+
+-- the line that tells where a service listens
+abbrev pub listening_line : ℕ → List ℕ
+listening_line port = codes "listening 127.0.0.1:" ++ decimal port ++ 10 ∷ []
 
 -- `init FILE`, by its ending: the version is written where it is done, and nothing at a fault
 abbrev pub InitEnds : FileState → FileState → Option (List ℕ) → Option (List ℕ) → Ending → Type 0

@@ -5,7 +5,7 @@ ghost use Rattle.sqlite.specs.Held.{state};
 ghost use Rattle.office_store.specs.declared.fault.Fault.{Fault as AnyFault};
 ghost use Rattle.office_words.specs.Orders.{ordered};
 ghost use Rattle.office_run.specs.Endings.{exit_status, line_said};
-ghost use Rattle.office_run.specs.Running.{InitEnds, RunEnds, version_line};
+ghost use Rattle.office_run.specs.Running.{InitEnds, RunEnds, listening_line, version_line};
 ghost use Rattle.office_run.specs.declared.ending.Ending.{Ending as AnyEnding};
 
 use crate::applying::apply_on;
@@ -51,6 +51,14 @@ pub fn tell<E: Write>(ending: Ending, err: &mut E) -> Result<(), Io>
     ensures { OnOk result (Appends (E.contents err.old) (E.contents err.new) (line_said ending)) }
 {
     write!(err, "{ending}").or(Err(Io))
+}
+
+/// Tells the port of this machine at which a service listens, and sends the line out.
+pub fn tell_listening<W: Write>(port: u16, out: &mut W) -> Result<(), Io>
+    ensures { OnOk result (Appends (W.contents out.old) (W.contents out.new) (listening_line port)) }
+{
+    writeln!(out, "listening 127.0.0.1:{port}").or(Err(Io))?;
+    out.flush().or(Err(Io))
 }
 
 /// What an order does over a connection to the office's file.
