@@ -1,6 +1,6 @@
 pub mod AnyAnswer
-pub mod Asked
 pub mod Connected
+pub mod Kept
 pub mod Performed
 pub mod Replied
 pub mod Resumed

@@ -91,13 +91,15 @@ where
 }
 
 /// Whether the desk was given up: it is asked for no acts.
-#[tactic(auto, using(crate::proofs::Asked::kept_by_none))]
 fn is_given_up<S: Alter>(alloc: Global, desk: &mut Desk<S>) -> bool
     ensures kept { IsKept S.Store desk.old desk.new }
     ensures told { IsTrue result → IsTrue desk.new.is_given_up }
 {
     let mut none = Vec::new(alloc);
-    desk.perform_all(&[], &mut none) == Err(Fault::Reopen)
+    match desk.perform_all(&[], &mut none) {
+        Err(Fault::Reopen) => true,
+        _ => false,
+    }
 }
 
 /// Whether the desk was given up, which is asked after an answer 503.
