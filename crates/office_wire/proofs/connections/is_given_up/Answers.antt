@@ -25,4 +25,4 @@ pub returns-in-Err-Reopen-clause-told : goal.returns-in-Err-Reopen-clause-told
 returns-in-Err-Reopen-clause-told g c =
     let s : State = record empty_state { office = c.args.desk.now.office } in
     λ yes. told_gone c.args.desk.now c.perform_all.new.self _ refl (λ gone. (c.perform_all.ensures.gone gone).2)
-    (λ open. (rw c.in-Err-Reopen.field-0-is at (c.in-Err-Reopen.ensures.err s open refl)).2)
+    (λ is_open. (rw c.in-Err-Reopen.field-0-is at (c.in-Err-Reopen.ensures.err s is_open refl)).2)
