@@ -93,13 +93,21 @@ fn failed_by(earlier: bool, served: Result<u16, Io>) -> bool
     earlier || served.is_err()
 }
 
+/// Tells that a connection has failed, where it has.
+fn tell_failure<E: Write>(served: Result<u16, Io>, err: &mut E) {
+    if served.is_err() {
+        let _ = err.write_all(b"office: socket\n");
+    }
+}
+
 /// Serves so many connections, one after another, and fewer only where the desk was given up. One that
 /// fails counts too.
-pub fn serve_all<L: OpenListener, D: Desk>(
+pub fn serve_all<L: OpenListener, D: Desk, E: Write>(
     alloc: Global,
     listener: &L,
     count: u32,
     desk: &mut D,
+    err: &mut E,
 ) -> Ending
 where
     L::Stream: Read + Write + OpenStream,
@@ -111,6 +119,7 @@ where
     let mut has_failed = false;
     for before in 0..count {
         let served = serve_next(alloc, listener, desk);
+        tell_failure(served, err);
         has_failed = failed_by(has_failed, served);
         if has_given_up(desk, served) {
             return Ending {

@@ -67,8 +67,10 @@ fn serves_those_that_wait(rt: HostRuntime) -> Result<(), Fail> {
     let second = peer(&rt, addr, b"pi")?;
     let third = peer(&rt, addr, b"pong, and more")?;
     let mut desk = Mirror { is_given_up: false };
-    let ending = serve_all(rt.alloc(), &listener, 3, &mut desk);
+    let mut err = Vec::new(rt.alloc());
+    let ending = serve_all(rt.alloc(), &listener, 3, &mut desk, &mut err);
     assert_eq!(rt; ending, Ending { connections: 3, has_failed: true, is_given_up: false });
+    assert_eq!(rt; err.as_slice(), b"office: socket\n".as_slice());
     assert_eq!(rt; answer(&rt, first)?.as_str(), "ping");
     assert_eq!(rt; answer(&rt, second)?.as_str(), "");
     assert_eq!(rt; answer(&rt, third)?.as_str(), "pong");
@@ -81,7 +83,8 @@ fn stops_where_given_up(rt: HostRuntime) -> Result<(), Fail> {
     let addr = listener.local_addr()?;
     let first = peer(&rt, addr, b"stop")?;
     let mut desk = Mirror { is_given_up: false };
-    let ending = serve_all(rt.alloc(), &listener, 9, &mut desk);
+    let mut err = Vec::new(rt.alloc());
+    let ending = serve_all(rt.alloc(), &listener, 9, &mut desk, &mut err);
     assert_eq!(rt; ending, Ending { connections: 1, has_failed: false, is_given_up: true });
     assert_eq!(rt; answer(&rt, first)?.as_str(), "stop");
     Ok(())
@@ -93,7 +96,8 @@ fn counts_an_accept_that_fails(rt: HostRuntime) -> Result<(), Fail> {
     let first = peer(&rt, listener.local_addr()?, b"ping")?;
     listener.set_nonblocking(true)?;
     let mut desk = Mirror { is_given_up: false };
-    let ending = serve_all(rt.alloc(), &listener, 3, &mut desk);
+    let mut err = Vec::new(rt.alloc());
+    let ending = serve_all(rt.alloc(), &listener, 3, &mut desk, &mut err);
     assert_eq!(rt; ending, Ending { connections: 3, has_failed: true, is_given_up: false });
     assert_eq!(rt; answer(&rt, first)?.as_str(), "ping");
     Ok(())
@@ -113,7 +117,8 @@ fn hears_out_a_peer_that_stays(rt: HostRuntime) -> Result<(), Fail> {
     let mut first = TcpStream::connect(&rt, listener.local_addr()?)?;
     first.write_all(b"ping")?;
     let mut desk = Mirror { is_given_up: false };
-    let ending = serve_all(rt.alloc(), &listener, 1, &mut desk);
+    let mut err = Vec::new(rt.alloc());
+    let ending = serve_all(rt.alloc(), &listener, 1, &mut desk, &mut err);
     assert_eq!(rt; ending, Ending { connections: 1, has_failed: false, is_given_up: false });
     assert_eq!(rt; answer(&rt, first)?.as_str(), "ping");
     Ok(())
@@ -127,7 +132,8 @@ fn a_peer_that_has_gone(rt: HostRuntime) -> Result<(), Fail> {
     drop(peer(&rt, addr, b"ping")?);
     let third = peer(&rt, addr, b"pong")?;
     let mut desk = Mirror { is_given_up: false };
-    let ending = serve_all(rt.alloc(), &listener, 3, &mut desk);
+    let mut err = Vec::new(rt.alloc());
+    let ending = serve_all(rt.alloc(), &listener, 3, &mut desk, &mut err);
     assert_eq!(rt; ending, Ending { connections: 3, has_failed: true, is_given_up: false });
     assert_eq!(rt; answer(&rt, third)?.as_str(), "pong");
     Ok(())
