@@ -142,9 +142,9 @@ fn service_of(rt: &HostRuntime, port: &str, count: &str) -> Option<Result<(u16, 
     match read_words(rt.alloc(), &["office", "serve", "office.db", port, count]).map(
         |words| order_of(words),
     ) {
-        Ok(Ok(Order::Serve { file, port, count })) if file == "office.db" => Some(
-            Ok((port, count)),
-        ),
+        Ok(Ok(Order::Serve { file, port, count })) if file == "office.db" => Some(Ok((
+            port, count,
+        ))),
         Ok(Err(refusal)) => Some(Err(refusal)),
         _ => None,
     }
