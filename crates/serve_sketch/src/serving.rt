@@ -67,7 +67,11 @@ fn serve_stream<S: Read + Write + OpenStream + Drop, D: Desk>(
 }
 
 /// Waits for a connection and serves it.
-fn serve_next<L: OpenListener, D: Desk>(alloc: Global, listener: &L, desk: &mut D) -> Result<u16, Io>
+fn serve_next<L: OpenListener, D: Desk>(
+    alloc: Global,
+    listener: &L,
+    desk: &mut D,
+) -> Result<u16, Io>
 where
     L::Stream: Read + Write + OpenStream,
     ensures { Turn D.Serves desk.old result desk.new }

@@ -69,7 +69,14 @@ fn serves_those_that_wait(rt: HostRuntime) -> Result<(), Fail> {
     let mut desk = Mirror { is_given_up: false };
     let mut err = Vec::new(rt.alloc());
     let ending = serve_all(rt.alloc(), &listener, 3, &mut desk, &mut err);
-    assert_eq!(rt; ending, Ending { connections: 3, has_failed: true, is_given_up: false });
+    assert_eq!(rt;
+        ending,
+        Ending {
+            connections: 3,
+            has_failed: true,
+            is_given_up: false
+        }
+    );
     assert_eq!(rt; err.as_slice(), b"office: socket\n".as_slice());
     assert_eq!(rt; answer(&rt, first)?.as_str(), "ping");
     assert_eq!(rt; answer(&rt, second)?.as_str(), "");
@@ -85,7 +92,14 @@ fn stops_where_given_up(rt: HostRuntime) -> Result<(), Fail> {
     let mut desk = Mirror { is_given_up: false };
     let mut err = Vec::new(rt.alloc());
     let ending = serve_all(rt.alloc(), &listener, 9, &mut desk, &mut err);
-    assert_eq!(rt; ending, Ending { connections: 1, has_failed: false, is_given_up: true });
+    assert_eq!(rt;
+        ending,
+        Ending {
+            connections: 1,
+            has_failed: false,
+            is_given_up: true
+        }
+    );
     assert_eq!(rt; answer(&rt, first)?.as_str(), "stop");
     Ok(())
 }
@@ -98,7 +112,14 @@ fn counts_an_accept_that_fails(rt: HostRuntime) -> Result<(), Fail> {
     let mut desk = Mirror { is_given_up: false };
     let mut err = Vec::new(rt.alloc());
     let ending = serve_all(rt.alloc(), &listener, 3, &mut desk, &mut err);
-    assert_eq!(rt; ending, Ending { connections: 3, has_failed: true, is_given_up: false });
+    assert_eq!(rt;
+        ending,
+        Ending {
+            connections: 3,
+            has_failed: true,
+            is_given_up: false
+        }
+    );
     assert_eq!(rt; answer(&rt, first)?.as_str(), "ping");
     Ok(())
 }
@@ -107,7 +128,10 @@ fn counts_an_accept_that_fails(rt: HostRuntime) -> Result<(), Fail> {
 fn tells_a_port_that_is_taken(rt: HostRuntime) -> Result<(), Fail> {
     let listener = listen(&rt, 0)?;
     let port = listener.local_addr()?.port();
-    assert_eq!(rt; listen(&rt, port).err().map(|e| e.kind()), Some(ErrorKind::AddrInUse));
+    assert_eq!(rt;
+        listen(&rt, port).err().map(|e| e.kind()),
+        Some(ErrorKind::AddrInUse)
+    );
     Ok(())
 }
 
@@ -119,7 +143,14 @@ fn hears_out_a_peer_that_stays(rt: HostRuntime) -> Result<(), Fail> {
     let mut desk = Mirror { is_given_up: false };
     let mut err = Vec::new(rt.alloc());
     let ending = serve_all(rt.alloc(), &listener, 1, &mut desk, &mut err);
-    assert_eq!(rt; ending, Ending { connections: 1, has_failed: false, is_given_up: false });
+    assert_eq!(rt;
+        ending,
+        Ending {
+            connections: 1,
+            has_failed: false,
+            is_given_up: false
+        }
+    );
     assert_eq!(rt; answer(&rt, first)?.as_str(), "ping");
     Ok(())
 }
@@ -134,7 +165,14 @@ fn a_peer_that_has_gone(rt: HostRuntime) -> Result<(), Fail> {
     let mut desk = Mirror { is_given_up: false };
     let mut err = Vec::new(rt.alloc());
     let ending = serve_all(rt.alloc(), &listener, 3, &mut desk, &mut err);
-    assert_eq!(rt; ending, Ending { connections: 3, has_failed: true, is_given_up: false });
+    assert_eq!(rt;
+        ending,
+        Ending {
+            connections: 3,
+            has_failed: true,
+            is_given_up: false
+        }
+    );
     assert_eq!(rt; answer(&rt, third)?.as_str(), "pong");
     Ok(())
 }

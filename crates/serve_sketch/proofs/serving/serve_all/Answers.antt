@@ -7,9 +7,9 @@ loop-before-init g c = served_none _ _
 pub loop-before-preserved : goal.loop-before-preserved
 loop-before-preserved g c =
     rw (c.has_given_up.ensures.kept, c.failed_by-has_failed.ensures)
-        (served_more _ _ _ _ _ _ _ c.loop-before.invariant c.serve_next-served.ensures)
+    (served_more _ _ _ _ _ _ _ c.loop-before.invariant c.serve_next-served.ensures)
 
 pub returns-then-has_given_up-clause-served : goal.returns-then-has_given_up-clause-served
 returns-then-has_given_up-clause-served g c =
     rw (c.has_given_up.ensures.kept, c.failed_by-has_failed.ensures)
-        (served_more _ _ _ _ _ _ _ c.loop-before.invariant c.serve_next-served.ensures)
+    (served_more _ _ _ _ _ _ _ c.loop-before.invariant c.serve_next-served.ensures)
