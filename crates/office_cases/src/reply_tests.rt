@@ -2,7 +2,7 @@
 
 use crate::request_tests::Pieces;
 use office_http::{
-    Allow, Body, Check, Failure, Head, Io, Kind, Plan, Reply, Status, check_reply, failure_reply,
+    Allow, Body, Check, Failure, Head, Io, Kind, LONGEST_HEAD, Plan, Reply, Status, check_reply, failure_reply,
     is_head_in, plan_in, read_head, write_reply,
 };
 use httparse::spans::HeaderSpan;
@@ -13,7 +13,7 @@ use std::test::Fail;
 
 /// The answer to a head that does not pass a check, read in pieces.
 fn refused(alloc: Global, bytes: &[u8], most: usize) -> Option<Vec<u8>> {
-    let mut buf = Vec::new(alloc);
+    let mut buf = Vec::with_capacity(alloc, LONGEST_HEAD).ok()?;
     let mut headers = [HeaderSpan::default(); 64];
     let Ok(Head::Found(head)) = read_head(&mut Pieces { bytes, most }, &mut buf, &mut headers)
     else {

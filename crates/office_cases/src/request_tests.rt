@@ -2,7 +2,9 @@
 
 use httparse::spans::HeaderSpan;
 use office_days::Day;
-use office_http::{Check, Head, Plan, ReadStop, Want, plan_in, read_body, read_head};
+use office_http::{
+    Check, Head, Io, LONGEST_HEAD, Plan, ReadStop, Want, plan_in, read_body, read_head,
+};
 use std::alloc::Global;
 use std::io;
 use std::io::Read;
@@ -46,7 +48,9 @@ impl Read for Broken<'_> {
 
 /// Whether this is done for the head of some bytes that come in pieces.
 fn is_planned(alloc: Global, bytes: &[u8], most: usize, plan: &Plan) -> bool {
-    let mut buf = Vec::new(alloc);
+    let Ok(mut buf) = Vec::with_capacity(alloc, LONGEST_HEAD) else {
+        return false;
+    };
     let mut headers = [HeaderSpan::default(); 64];
     match read_head(&mut Pieces { bytes, most }, &mut buf, &mut headers) {
         Ok(Head::Found(head)) => match plan_in(alloc, &buf, &head, &headers) {
@@ -59,7 +63,9 @@ fn is_planned(alloc: Global, bytes: &[u8], most: usize, plan: &Plan) -> bool {
 
 /// Whether some bytes begin with a head within the limits.
 fn has_head(alloc: Global, bytes: &[u8]) -> bool {
-    let mut buf = Vec::new(alloc);
+    let Ok(mut buf) = Vec::with_capacity(alloc, LONGEST_HEAD) else {
+        return false;
+    };
     let mut headers = [HeaderSpan::default(); 64];
     let head = read_head(&mut Pieces { bytes, most: 4_096 }, &mut buf, &mut headers);
     matches!(head, Ok(Head::Found(_)))
@@ -68,7 +74,7 @@ fn has_head(alloc: Global, bytes: &[u8]) -> bool {
 /// The body of that many bytes that follows the head of some bytes, and whether it is whole.
 fn body_of(alloc: Global, bytes: &[u8], most: usize, size: usize) -> Option<(bool, Vec<u8>)> {
     let mut reader = Pieces { bytes, most };
-    let mut buf = Vec::new(alloc);
+    let mut buf = Vec::with_capacity(alloc, LONGEST_HEAD).ok()?;
     let mut headers = [HeaderSpan::default(); 64];
     let Ok(Head::Found(head)) = read_head(&mut reader, &mut buf, &mut headers) else {
         return None;
@@ -284,7 +290,7 @@ fn bytes_without_a_head(rt: HostRuntime) -> Result<(), Fail> {
     ];
     for text in rows {
         for most in [1, 2, 7] {
-            let mut buf = Vec::new(rt.alloc());
+            let mut buf = Vec::with_capacity(rt.alloc(), LONGEST_HEAD)?;
             let mut headers = [HeaderSpan::default(); 64];
             let mut reader = Pieces {
                 bytes: text.as_bytes(),
@@ -294,7 +300,7 @@ fn bytes_without_a_head(rt: HostRuntime) -> Result<(), Fail> {
             assert!(rt; matches!(head, Ok(Head::Missing)), "{text}");
         }
     }
-    let mut buf = Vec::new(rt.alloc());
+    let mut buf = Vec::with_capacity(rt.alloc(), LONGEST_HEAD)?;
     let mut headers = [HeaderSpan::default(); 64];
     let head = read_head(
         &mut Pieces {
@@ -350,15 +356,16 @@ fn bodies_whole_and_cut(rt: HostRuntime) -> Result<(), Fail> {
 }
 
 #[test]
-fn a_reader_that_fails_at_each_byte(rt: HostRuntime) {
+fn a_reader_that_fails_at_each_byte(rt: HostRuntime) -> Result<(), Fail> {
     let text = b"GET /records/1 HTTP/1.1\r\nHost: h\r\n\r\n";
     for end in 0..text.len() {
-        let mut buf = Vec::new(rt.alloc());
+        let mut buf = Vec::with_capacity(rt.alloc(), LONGEST_HEAD)?;
         let mut headers = [HeaderSpan::default(); 64];
         let bytes = text.get(..end).unwrap_or(b"");
         let head = read_head(&mut Broken { bytes }, &mut buf, &mut headers);
-        assert!(rt; matches!(head, Err(ReadStop::Io)));
+        assert!(rt; matches!(head, Err(Io)));
         let body = read_body(&mut Broken { bytes }, &mut buf, 0, 4_096);
         assert!(rt; matches!(body, Err(ReadStop::Io)));
     }
+    Ok(())
 }

@@ -3,7 +3,6 @@ use Rattle.std.proofs.Common.{◌≡◌, ◌∙◌, sym, ap, refl, subst, ℕ, �
 use Rattle.std.specs.Io.KnownBytes.{Consumes, IsAtEnd}
 use Rattle.std.proofs.lemmas.List.{take-append-le, drop-append-le}
 use Rattle.office_http.specs.Bodies.{IsBody}
-use Rattle.office_http.specs.declared.reading.ReadStop.{ReadStop}
 
 moved : (start : ℕ) (buf piece left : List ℕ) → start ≤ length buf → drop start buf ++ (piece ++ left) ≡ drop start (buf ++ piece) ++ left
 moved start buf piece left h = sym (append_assoc (drop start buf) piece left) ∙ ap (λ (t : List ℕ). t ++ left) (sym (drop-append-le start buf piece h))
@@ -26,7 +25,7 @@ cut_is start end buf held piece left all body s eh ea el l =
     let ll : length left ≡ 0 = ap length el in
     simp (length-append, length-drop) (omega (arith, s, l, lh, la, ll))
 
-pub reads_body : (r : Result Bool ReadStop) (old new : Option (List ℕ)) (start end : ℕ) (buf held : List ℕ) → start ≤ end → start ≤ length buf → OnOk r ((piece : List ℕ) × (held ≡ buf ++ piece) × Consumes old new piece) → IfOk r (λ w. IsTrue w → end ≤ length held) → IfOk r (λ w. IsFalse w → (length held < end) × IsAtEnd new) → IfOk r (λ w. IfSome old (λ left. IsBody w (end - start) (drop start buf ++ left) (slice_range held start end)))
+pub reads_body : {E : Type 0} (r : Result Bool E) (old new : Option (List ℕ)) (start end : ℕ) (buf held : List ℕ) → start ≤ end → start ≤ length buf → OnOk r ((piece : List ℕ) × (held ≡ buf ++ piece) × Consumes old new piece) → IfOk r (λ w. IsTrue w → end ≤ length held) → IfOk r (λ w. IsFalse w → (length held < end) × IsAtEnd new) → IfOk r (λ w. IfSome old (λ left. IsBody w (end - start) (drop start buf ++ left) (slice_range held start end)))
 reads_body (Err e) old new start end buf held o s h k l = tt
 reads_body (Ok w) None new start end buf held o s h k l = tt
 reads_body (Ok w) (Some all) None start end buf held o s h k l = absurd h.2

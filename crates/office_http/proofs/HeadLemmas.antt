@@ -1,3 +1,4 @@
+-- What the bytes that were read so far say of all bytes of a connection.
 use Rattle.std.proofs.Common.{◌≡◌, ◌≢◌, ◌∙◌, sym, ap, refl, ℕ, List, [], ◌∷◌, ◌++◌, ◌<◌, ◌==◌, true, length, length-append, take, drop, ◌≤◌, ◌+◌, arith, Option, Some, None, IfSome}
 use Rattle.std.proofs.lemmas.Bool.{eqb-true}
 use Rattle.std.proofs.lemmas.List.{take-append-le, take-append-drop}

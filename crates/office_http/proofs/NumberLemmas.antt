@@ -1,4 +1,4 @@
--- Which bytes write a number.
+-- Which bytes write a number, and that no length of 19 digits is cut.
 use Rattle.std.proofs.Common.{◌≡◌, ap, refl, ℕ, zero, suc, ◌<◌, ◌≤◌, ◌-◌, ◌^◌, lit<, rules, ◌&&◌, List, [], ◌∷◌, length, Bool, true, false, nat_lt, min, arith, Some, None, if◌then◌else◌}
 use Rattle.std.proofs.lemmas.Bool.Decides.{nat_tests}
 use Rattle.std.proofs.lemmas.Str.{IsUtf8-from_ascii}

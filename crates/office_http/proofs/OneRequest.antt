@@ -1,3 +1,4 @@
+-- All bytes of a connection are one request only.
 use Rattle.std.proofs.Common.{◌≡◌, refl, ℕ, List, []}
 use Rattle.httparse.specs.Grammar.{RequestHead, ReadsRequest}
 use Rattle.httparse.proofs.GrammarLemmas.{request_unique}

@@ -24,13 +24,13 @@ mod status;
 mod want;
 mod writing;
 
-pub use body::read_body;
+pub use body::{ReadStop, read_body};
 pub use check::Check;
 pub use failure::Failure;
 pub use fixed::{check_reply, failure_reply};
 pub use office_plan::Io;
 pub use plan::{Plan, is_head_in, plan_in};
-pub use reading::{Head, ReadStop, law_of_requests, read_head};
+pub use reading::{Head, LONGEST_HEAD, MOST_FIELDS, law_of_requests, read_head};
 pub use reply::{Allow, Body, Kind, Reply};
 pub use status::Status;
 pub use want::Want;

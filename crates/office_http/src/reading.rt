@@ -1,9 +1,11 @@
 ghost use Rattle.std.specs.Prelude.{◌≡◌, ◌≢◌, ℕ, ◌+◌, ◌≤◌, ◌<◌, List, [], ◌++◌, length, IfOk, OnOk, IfSome};
 ghost use Rattle.std.specs.Io.KnownBytes.{Consumes, IsAtEnd};
+ghost use Rattle.std.specs.Vec.{vec_capacity};
 ghost use Rattle.office_http.specs.Requests.{IsAsked, IsHeadOf, IsSeen, IsRead, Request, IsRequest};
 
 use httparse::Status;
 use httparse::spans::{HeaderSpan, RequestSpans, parse_request};
+use office_plan::Io;
 use std::io::Read;
 
 /// What a buffer tells of the head of a request.
@@ -28,17 +30,11 @@ pub enum Head {
     Empty,
 }
 
-/// Why reading stopped.
-#[derive(Clone, Copy, PartialEq, Eq, Debug)]
-pub enum ReadStop {
-    /// The reader answered an error.
-    Io,
-    /// An allocation was refused.
-    Memory,
-}
-
 /// The most bytes of a head.
-const LONGEST: usize = 16_384;
+pub const LONGEST_HEAD: usize = 16_384;
+
+/// The most lines of fields of a head.
+pub const MOST_FIELDS: usize = 64;
 
 /// The most bytes that are read at once.
 const PIECE: usize = 4_096;
@@ -70,39 +66,43 @@ fn see_any(buf: &[u8], headers: &mut [HeaderSpan]) -> Seen
     }
 }
 
-/// Reads some bytes onto the end of a buffer, which then has at most that many.
+/// Reads some bytes onto the end of a buffer, which then has at most that many and has room for them.
 pub(crate) fn read_piece<R: Read>(
     reader: &mut R,
     buf: &mut Vec<u8>,
     most: usize,
-) -> Result<usize, ReadStop>
-    requires { length buf.old.items < most }
+) -> Result<usize, Io>
+    requires short { length buf.old.items < most }
+    requires room { most ≤ vec_capacity buf.old }
     ensures fits { OnOk result (length buf.new.items ≤ most) }
     ensures count { IfOk result (λ n. length buf.new.items ≡ length buf.old.items + n) }
     ensures bytes { OnOk result ((piece : List ℕ) × (buf.new.items ≡ buf.old.items ++ piece) × Consumes (R.remaining reader.old) (R.remaining reader.new) piece) }
     ensures end { IfOk result (λ n. n ≡ 0 → IsAtEnd (R.remaining reader.new)) }
+    ensures room { OnOk result (most ≤ vec_capacity buf.new) }
 {
     let mut piece = [0u8; PIECE];
     let room = (most - buf.len()).min(PIECE);
     match reader.read(&mut piece[..room]) {
         Ok(n) => {
             if buf.extend_from_slice(&piece[..n]).is_err() {
-                return Err(ReadStop::Memory);
+                unreachable!()
             }
             Ok(n)
         }
-        Err(_) => Err(ReadStop::Io),
+        Err(_) => Err(Io),
     }
 }
 
-/// Reads into an empty buffer until a head is whole, or there will be none. The buffer may then have
-/// bytes that follow the head.
+/// Reads into an empty buffer, which has room for the longest head, until a head is whole, or there will be
+/// none. The buffer may then have bytes that follow the head. No memory is asked for. `Io` comes where
+/// the reader answered an error.
 pub fn read_head<R: Read>(
     reader: &mut R,
     buf: &mut Vec<u8>,
     headers: &mut [HeaderSpan],
-) -> Result<Head, ReadStop>
+) -> Result<Head, Io>
     requires empty { buf.old.items ≡ [] }
+    requires place { 16_384 ≤ vec_capacity buf.old }
     requires room { length headers.old ≡ 64 }
     ensures read { OnOk result (Consumes (R.remaining reader.old) (R.remaining reader.new) buf.new.items) }
     ensures head { IfOk result (λ head. IfSome (R.remaining reader.old) (λ bytes. IsRead head bytes)) }
@@ -116,10 +116,10 @@ pub fn read_head<R: Read>(
             Seen::Never => return Ok(Head::Missing),
             Seen::Part => {}
         }
-        if buf.len() >= LONGEST {
+        if buf.len() >= LONGEST_HEAD {
             return Ok(Head::Missing);
         }
-        if read_piece(reader, buf, LONGEST)? == 0 {
+        if read_piece(reader, buf, LONGEST_HEAD)? == 0 {
             return Ok(if buf.is_empty() {
                 Head::Empty
             } else {

@@ -55,7 +55,7 @@ due_row_has_none r = rw (or_null_has_none day_data (λ day. refl) r.due, code_ha
 pub due_has_none : (values : Vec Value Global) (rows : List RecordView) → map view values.items ≡ map due_row_data rows → has_float (view (Array values)) ≡ false
 due_has_none values rows told = rw (view-Array values, told) (array_has_none due_row_data due_row_has_none rows)
 
-answer_has_none : (answer : Answer) → has_float (answer_data answer) ≡ false
+pub answer_has_none : (answer : Answer) → has_float (answer_data answer) ≡ false
 answer_has_none Done = refl
 answer_has_none (Number n) = refl
 answer_has_none (Same n) = refl

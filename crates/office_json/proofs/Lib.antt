@@ -1,6 +1,5 @@
 pub mod AnswerLines
 pub mod Appending
-pub mod DigitBytes
 pub mod DueMembers
 pub mod Encodings
 pub mod Faults

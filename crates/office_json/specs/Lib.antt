@@ -1,7 +1,6 @@
 pub mod Acts
 pub mod Answers
 pub mod Contents
-pub mod Digits
 pub mod DueJson
 pub mod Lists
 pub mod Members

@@ -8,7 +8,7 @@ use Rattle.office_tree.specs.declared.head.Confirmation.{Confirmation}
 use Rattle.office_proof.specs.Outcomes.{outcome_word}
 use Rattle.office_proof.specs.declared.entry.Entry.{Entry}
 use Rattle.office_machine.specs.declared.record_view.RecordView.{RecordView}
-use Rattle.office_json.specs.Digits.{base_16}
+use Rattle.hex.specs.Hex.{encode_lower}
 
 -- a day in its ten bytes
 abbrev pub day_data : ℤ → Data
@@ -38,7 +38,7 @@ record_data r ending = object
     (member (codes "aggregation") (number (unsigned r.aggregation))
     (member (codes "class") (string r.class)
     (member (codes "confirmed") (or_null confirmed_data r.confirmed)
-    (member (codes "digest") (string (base_16 r.digest))
+    (member (codes "digest") (string (encode_lower r.digest))
     (member (codes "due") (or_null day_data r.due)
     (member (codes "ended") (or_null ended_data ending)
     (member (codes "held") (or_null string r.held)
@@ -58,7 +58,7 @@ put_first r ms = put (codes "confirmed") (or_null confirmed_data r.confirmed) (p
 
 unfoldable pub put_second : RecordView → Option Entry → Members → Members
 put_second r ending ms = put (codes "held") (or_null string r.held) (put (codes "ended") (or_null ended_data ending)
-    (put (codes "due") (or_null day_data r.due) (put (codes "digest") (string (base_16 r.digest)) ms)))
+    (put (codes "due") (or_null day_data r.due) (put (codes "digest") (string (encode_lower r.digest)) ms)))
 
 unfoldable pub put_third : RecordView → Members → Members
 put_third r ms = put (codes "ref") (string r.ref_text) (put (codes "originated") (day_data r.originated)

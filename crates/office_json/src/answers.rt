@@ -1,5 +1,6 @@
-ghost use Rattle.std.specs.Prelude.{◌≡◌, codes, IfOk};
+ghost use Rattle.std.specs.Prelude.{◌≡◌, codes, false, IfOk};
 ghost use Rattle.serde_json.specs.View.{view};
+ghost use Rattle.serde_json.specs.Written.{has_float};
 ghost use Rattle.office_json.specs.Answers.{answer_data, numbered_data, same_data, step_data};
 
 use office_machine::Answer;
@@ -50,8 +51,10 @@ fn refused_value(alloc: Global, number: u8) -> Result<Value, AllocError>
 }
 
 /// An answer in JSON. `Memory` comes where an allocation was refused.
+#[tactic(auto, using(crate::proofs::Floatless::answer_has_none))]
 pub fn answer_value(alloc: Global, answer: &Answer) -> Result<Value, Memory>
-    ensures { IfOk result (λ value. view value ≡ answer_data answer.now) }
+    ensures value { IfOk result (λ value. view value ≡ answer_data answer.now) }
+    ensures no_float { IfOk result (λ value. has_float (view value) ≡ false) }
 {
     let value = match *answer {
         Answer::Done => done_value(alloc)?,

@@ -1,0 +1,4 @@
+pub mod Answering
+pub mod Receiving
+pub mod Replies
+pub mod Serving
