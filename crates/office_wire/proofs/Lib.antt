@@ -1,3 +1,4 @@
+pub mod AnyAnswer
 pub mod Performed
 pub mod Replied
 pub mod Resumed

@@ -48,6 +48,10 @@ Replies g t bytes unread status written after desk =
 abbrev pub Breaks : {S : Type 0} → Ghosts S → State → List ℕ → Type 0 → DeskState S → Type 0
 Breaks g t bytes unread desk = (is_head : Bool) × (r : Response) × IsReply g t bytes unread is_head r desk
 
+-- whatever came, the desk stands where serving something may leave it
+abbrev pub LeavesServed : {S : Type 0} → Ghosts S → State → DeskState S → Type 0
+LeavesServed g t desk = (it : Wanted) × Starves g t it desk
+
 -- ---- what the code sends
 
 -- an answer from fixed bytes is to be written

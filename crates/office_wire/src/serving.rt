@@ -6,7 +6,7 @@ ghost use Rattle.office_machine.specs.State.{State};
 ghost use Rattle.office_desk.specs.Leaving.{StandsAt};
 ghost use Rattle.office_http.specs.Replies.{response};
 ghost use Rattle.office_wire.specs.Receiving.{asked_for};
-ghost use Rattle.office_wire.specs.Serving.{Breaks, IsFailed, IsSent, IsServed, IsToSend, Replies};
+ghost use Rattle.office_wire.specs.Serving.{Breaks, IsFailed, IsSent, IsServed, IsToSend, LeavesServed, Replies};
 
 use crate::answering::answer;
 use crate::receiving::{Asked, Asking, ReceiveStop, Received, receive};
@@ -50,6 +50,7 @@ fn answered<S: Alter>(alloc: Global, desk: &mut Desk<S>, asked: Asked) -> Sendin
     ensures clean { HasCleanDisk (state S.Store desk.new.held) → HasCleanDisk (state S.Store desk.old.held) }
     ensures is_head { result.is_head ≡ asked.is_head }
     ensures served { (t : State) → HasCleanDisk (state S.Store desk.new.held) → StandsAt S.Store t desk.old → IsServed S.Store t (asked_for asked.asking) (response result.reply) desk.new }
+    ensures leaves { (t : State) → HasCleanDisk (state S.Store desk.new.held) → StandsAt S.Store t desk.old → LeavesServed S.Store t desk.new }
 {
     let reply = served(alloc, desk, &asked.asking);
     Sending {
@@ -66,6 +67,7 @@ fn answer_next<R: Read, S: Alter>(
 ) -> Result<Option<Sending>, Io>
     ensures clean { HasCleanDisk (state S.Store desk.new.held) → HasCleanDisk (state S.Store desk.old.held) }
     ensures ok { IfOk result (λ it. IfSome (R.remaining reader.old) (λ bytes. (t : State) → HasCleanDisk (state S.Store desk.new.held) → StandsAt S.Store t desk.old → IsToSend S.Store t bytes (reader.new ≡ reader.old) it desk.new)) }
+    ensures leaves { (t : State) → HasCleanDisk (state S.Store desk.new.held) → StandsAt S.Store t desk.old → LeavesServed S.Store t desk.new }
     ensures err { OnErr result (desk.new ≡ desk.old) }
 {
     match receive(alloc, reader) {
@@ -94,7 +96,8 @@ fn send<W: Write>(sending: Option<Sending>, writer: &mut W) -> Result<u16, Io>
 /// depend on how the bytes were cut.
 ///
 /// `Io` comes where the reader answered an error, and then nothing was done; or where the writer did, and
-/// then the desk stands as if the answer had been written.
+/// then the desk stands as if the answer had been written. Where the reader does not tell its bytes, as a
+/// socket's does not, the desk still stands where serving something leaves it.
 pub fn serve_one<R: Read, W: Write, S: Alter>(
     alloc: Global,
     desk: &mut Desk<S>,
@@ -103,6 +106,7 @@ pub fn serve_one<R: Read, W: Write, S: Alter>(
 ) -> Result<u16, Io>
     ensures clean { HasCleanDisk (state S.Store desk.new.held) → HasCleanDisk (state S.Store desk.old.held) }
     ensures ok { IfOk result (λ status. IfSome (R.remaining reader.old) (λ bytes. (t : State) → HasCleanDisk (state S.Store desk.new.held) → StandsAt S.Store t desk.old → Replies S.Store t bytes (reader.new ≡ reader.old) status (W.contents writer.old) (W.contents writer.new) desk.new)) }
+    ensures leaves { (t : State) → HasCleanDisk (state S.Store desk.new.held) → StandsAt S.Store t desk.old → LeavesServed S.Store t desk.new }
     ensures err { OnErr result (IfSome (R.remaining reader.old) (λ bytes. ((desk.new ≡ desk.old) × (writer.new ≡ writer.old)) ⊎ ((t : State) → HasCleanDisk (state S.Store desk.new.held) → StandsAt S.Store t desk.old → Breaks S.Store t bytes (reader.new ≡ reader.old) desk.new))) }
 {
     let sending = answer_next(alloc, desk, reader)?;
