@@ -2,9 +2,9 @@
 //! mean what people worked out by hand.
 use office_days::Day;
 use office_holds::Target;
+use office_json::{ReadFault, read_act};
 use office_machine::{Act, NewRecord};
 use office_tree::Classified;
-use office_wire::{ReadFault, read_act};
 use serde_json::Value;
 use std::alloc::AllocGlobal;
 use std::process::Abort;

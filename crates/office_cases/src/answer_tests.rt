@@ -2,9 +2,9 @@
 //! failing writer leaves.
 
 use office_days::Refusal;
+use office_json::{Io, answer_value, write_answers};
 use office_machine::Answer;
 use office_proof::Outcome;
-use office_wire::{Io, answer_value, write_answers};
 use std::io;
 use std::io::Write;
 use std::test::Fail;

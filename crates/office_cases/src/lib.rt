@@ -1,4 +1,4 @@
-//! Cases worked out by hand, as tests of the layers below the machine, of acts and answers in JSON, and of the
+//! Cases worked out by hand, as tests of the layers below the machine, of JSON and HTTP, and of the
 //! program's words: due days, plan files, what is spent, what is held, digests and certificates, words.
 #![tactic(auto)]
 
@@ -16,6 +16,12 @@ mod list_tests;
 mod plan_tests;
 #[cfg(test)]
 mod proof_tests;
+#[cfg(test)]
+mod record_tests;
+#[cfg(test)]
+mod reply_tests;
+#[cfg(test)]
+mod request_tests;
 #[cfg(test)]
 mod tree_tests;
 #[cfg(test)]

@@ -1,6 +1,6 @@
 //! What no contract says: lists of acts as people write them, and which fault is told of a bad one.
 use office_days::Refusal;
-use office_wire::{ListFault, read_acts};
+use office_json::{ListFault, read_acts};
 use std::alloc::AllocGlobal;
 use std::process::Abort;
 

@@ -11,9 +11,9 @@ use Rattle.office_machine.specs.State.{State}
 use Rattle.office_machine.specs.declared.act.Act.{Act}
 use Rattle.office_machine.specs.declared.answer.Answer.{Answer}
 use Rattle.office_store.specs.declared.fault.Fault.{Fault}
-use Rattle.office_wire.specs.Acts.{asked}
-use Rattle.office_wire.specs.Answers.{answer_lines}
-use Rattle.office_wire.specs.Lists.{acts_in}
+use Rattle.office_json.specs.Acts.{asked}
+use Rattle.office_json.specs.Answers.{answer_lines}
+use Rattle.office_json.specs.Lists.{acts_in}
 use Rattle.office_run.specs.Applying.{AreDone, AreStopped, AreAnswered, AreCutShort, Applies, IsUnread, Performs, TextEnds}
 use Rattle.office_run.specs.Endings.{ending_of_acts, is_refusal}
 use Rattle.office_run.specs.Opening.{IsOfOpened}

@@ -14,9 +14,9 @@ use Rattle.office_store.specs.declared.fault.Fault.{Fault}
 use Rattle.office_store.specs.declared.fault.Fault.TheVariants as fault
 use Rattle.office_desk.specs.Fates.{LeavesFates}
 use Rattle.office_desk.specs.Leaving.{StopsLeaving}
-use Rattle.office_wire.specs.Acts.{asked}
-use Rattle.office_wire.specs.Answers.{answer_lines}
-use Rattle.office_wire.specs.Lists.{acts_in, not_json, bad_act}
+use Rattle.office_json.specs.Acts.{asked}
+use Rattle.office_json.specs.Answers.{answer_lines}
+use Rattle.office_json.specs.Lists.{acts_in, not_json, bad_act}
 use Rattle.office_run.specs.declared.ending.Ending.{Ending}
 use Rattle.office_run.specs.declared.ending.Ending.TheVariants as how
 use Rattle.office_run.specs.Endings.{is_refusal}

@@ -9,10 +9,10 @@ ghost use Rattle.office_run.specs.Endings.{ending_of_acts};
 
 use crate::ending::Ending;
 use office_desk::Desk;
+use office_json::{ListFault, read_acts, write_answers};
 use office_machine::Act;
 use office_plan::{PlanStop, read_whole};
 use office_store::Fault;
-use office_wire::{ListFault, read_acts, write_answers};
 use sqlite::{Alter, Connection};
 use std::alloc::Global;
 use std::io::{Read, Write};

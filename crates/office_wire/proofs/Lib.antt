@@ -1,9 +1,7 @@
-pub mod AnswerLines
-pub mod Appending
-pub mod Encodings
-pub mod Faults
-pub mod ListSteps
-pub mod Made
-pub mod Pairs
-pub mod Stripped
-pub mod Texts
+pub mod AnyAnswer
+pub mod Performed
+pub mod Replied
+pub mod Resumed
+pub mod Rows
+pub mod Told
+pub mod Untold

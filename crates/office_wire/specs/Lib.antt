@@ -1,7 +1,4 @@
-pub mod Acts
-pub mod Answers
-pub mod Contents
-pub mod Lists
-pub mod Members
-pub mod Parts
-pub mod Targets
+pub mod Answering
+pub mod Receiving
+pub mod Replies
+pub mod Serving

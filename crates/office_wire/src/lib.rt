@@ -1,27 +1,19 @@
-//! The office on the wire: what comes in and goes out as JSON.
+//! The office on the wire: one request of HTTP is read, what it asks for is done at the desk, and the
+//! answer is written.
 //!
-//! Acts come in as values of JSON. [`read_act`] tells which act a value asks for, or why it asks for
-//! none, and takes each act exactly as it is written down: no member too many, each text and each
-//! number of its form. What is refused here never reaches the office. Of several faults the least is
-//! told: first a text or a shape that is not of its form, then a number out of its range. [`read_acts`]
-//! reads an array of them. Answers go
-//! out by [`answer_value`], and one a line by [`write_answers`].
+//! [`receive`] reads all of a request and touches no desk; [`answer`] does what it asks for and reads
+//! nothing; [`serve_one`] joins them and writes the answer. Acts and answers in JSON are those of
+//! `office_json`, heads and the bytes of an answer those of `office_http`.
 #![tactic(auto)]
 
-mod acts;
-mod answer_lines;
-mod answers;
-mod content;
-mod lists;
-mod members;
-mod parts;
-mod read_fault;
-mod targets;
+mod answering;
+mod body;
+mod receiving;
+mod replies;
+mod serving;
 
-pub use acts::read_act;
-pub use answer_lines::{law_of_answer_texts, write_answers};
-pub use answers::answer_value;
-pub use content::law_of_contents;
-pub use lists::{ListFault, read_acts};
-pub use office_plan::Io;
-pub use read_fault::ReadFault;
+pub use answering::answer;
+pub use body::ActsBody;
+pub use office_json::{Io, ReadFault, answer_value, read_act};
+pub use receiving::{Asked, Asking, ReceiveStop, Received, receive};
+pub use serving::serve_one;

@@ -1,0 +1,8 @@
+pub mod Bodies
+pub mod Fields
+pub mod Messages
+pub mod Numbers
+pub mod Paths
+pub mod Plans
+pub mod Replies
+pub mod Requests

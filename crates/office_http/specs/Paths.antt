@@ -1,0 +1,45 @@
+-- What a request target names. Source: own; the origin form without a query of RFC 9112 section 3.2.1, and routes as `matchit` reads them.
+use Rattle.std.specs.Prelude.{ℕ, ◌==◌, ◌&&◌, Bool, List, [], codes, Option, option_map, Result, Ok, Err, unwrap_or, slice_get, not}
+use Rattle.std.specs.List.{list_any, slice_split}
+use Rattle.std.specs.Str.{is_utf8}
+use Rattle.matchit.specs.Rows.{RowsOf}
+use Rattle.matchit.specs.Order.{placed}
+use Rattle.matchit.specs.Router.{RouteOf, route_from}
+use Rattle.matchit.specs.Route.{Scan, parse_route}
+use Rattle.matchit.specs.Seek.{first}
+use Rattle.matchit.specs.declared.error.InsertError.{InsertError}
+use Rattle.office_http.specs.declared.paths.Resource.{Resource}
+use Rattle.office_http.specs.declared.paths.Resource.TheVariants.{Acts, OpenRun, Record, Content, Due, Certificate}
+
+abbrev pub Routes : Type 0
+Routes = RowsOf (RouteOf Resource)
+
+abbrev pub with_scanned : Result Scan InsertError → Resource → Routes → Routes
+with_scanned (Ok s) resource routes = placed ((route_from s resource).pattern, route_from s resource) routes
+with_scanned (Err e) resource routes = routes
+
+-- the routes with one more, as it is written down
+abbrev pub with_route : List ℕ → Resource → Routes → Routes
+with_route text resource routes = with_scanned (parse_route text) resource routes
+
+-- the paths that there are; `{n}` and `{day}` are one segment of at least one byte
+unfoldable pub office_routes : Routes
+office_routes =
+    with_route (codes "/certificates/{n}") Certificate
+    (with_route (codes "/due/{day}") Due
+    (with_route (codes "/records/{n}/content") Content
+    (with_route (codes "/records/{n}") Record
+    (with_route (codes "/run/resume") OpenRun
+    (with_route (codes "/acts") Acts [])))))
+
+-- a target may be a path: it has no query, and is UTF-8
+abbrev pub is_path : List ℕ → Bool
+is_path target = not (list_any (λ byte. byte == 63) target) && is_utf8 target
+
+-- what a path names
+abbrev pub resource_at : List ℕ → Option Resource
+resource_at path = option_map (λ route. route.value) (first office_routes path)
+
+-- the segment of a path that tells which record, day or certificate is meant: the second, after `/records/`, `/due/` or `/certificates/`
+abbrev pub named_segment : List ℕ → List ℕ
+named_segment path = unwrap_or (slice_get (slice_split (λ byte. byte == 47) path) 2) []

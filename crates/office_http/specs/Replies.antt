@@ -1,0 +1,134 @@
+-- The bytes of an answer. Source: the message of RFC 9112 section 2.1; field lines, their order and the bodies are own.
+use Rattle.std.specs.Prelude.{ℕ, List, [], ◌∷◌, ◌++◌, codes, decimal, length, Bool, if◌then◌else◌, string_bytes}
+use Rattle.office_http.specs.declared.check.Check.{Check}
+use Rattle.office_http.specs.declared.check.Check.TheVariants as checks
+use Rattle.office_http.specs.declared.failure.Failure.{Failure}
+use Rattle.office_http.specs.declared.failure.Failure.TheVariants as failures
+use Rattle.office_http.specs.declared.status.Status.{Status}
+use Rattle.office_http.specs.declared.status.Status.TheVariants as statuses
+use Rattle.office_http.specs.declared.reply.Allow.{Allow}
+use Rattle.office_http.specs.declared.reply.Allow.TheVariants as allows
+use Rattle.office_http.specs.declared.reply.Body.{Body}
+use Rattle.office_http.specs.declared.reply.Body.TheVariants as bodies
+use Rattle.office_http.specs.declared.reply.Kind.{Kind}
+use Rattle.office_http.specs.declared.reply.Kind.TheVariants as kinds
+use Rattle.office_http.specs.declared.reply.Reply.{Reply}
+
+abbrev pub line_end : List ℕ
+line_end = 13 ∷ 10 ∷ []
+
+abbrev pub status_number : Status → ℕ
+status_number statuses.Fine = 200
+status_number statuses.BadRequest = 400
+status_number statuses.NotFound = 404
+status_number statuses.MethodNotAllowed = 405
+status_number statuses.Conflict = 409
+status_number statuses.LengthRequired = 411
+status_number statuses.PayloadTooLarge = 413
+status_number statuses.NotImplemented = 501
+status_number statuses.ServiceUnavailable = 503
+
+-- the reason phrases of RFC 9110 section 15; that of 413 is the one of RFC 7231
+abbrev pub reason_phrase : Status → List ℕ
+reason_phrase statuses.Fine = codes "OK"
+reason_phrase statuses.BadRequest = codes "Bad Request"
+reason_phrase statuses.NotFound = codes "Not Found"
+reason_phrase statuses.MethodNotAllowed = codes "Method Not Allowed"
+reason_phrase statuses.Conflict = codes "Conflict"
+reason_phrase statuses.LengthRequired = codes "Length Required"
+reason_phrase statuses.PayloadTooLarge = codes "Payload Too Large"
+reason_phrase statuses.NotImplemented = codes "Not Implemented"
+reason_phrase statuses.ServiceUnavailable = codes "Service Unavailable"
+
+-- the status code and its phrase
+unfoldable pub status_words : Status → List ℕ
+status_words status = decimal (status_number status) ++ codes " " ++ reason_phrase status
+
+abbrev pub status_line : Status → List ℕ
+status_line status = codes "HTTP/1.1 " ++ (status_words status ++ line_end)
+
+-- the media type of the body
+abbrev pub media_type : Kind → List ℕ
+media_type kinds.Json = codes "application/json"
+media_type kinds.Octets = codes "application/octet-stream"
+media_type kinds.Plain = codes "text/plain; charset=utf-8"
+
+unfoldable pub kind_line : Kind → List ℕ
+kind_line kind = codes "Content-Type: " ++ media_type kind ++ line_end
+
+-- which method the path takes, where another came
+unfoldable pub allow_line : Allow → List ℕ
+allow_line allows.Any = []
+allow_line allows.Get = codes "Allow: GET" ++ line_end
+allow_line allows.Post = codes "Allow: POST" ++ line_end
+
+abbrev pub length_line : ℕ → List ℕ
+length_line n = codes "Content-Length: " ++ (decimal n ++ line_end)
+
+-- the last field line, and the empty line
+abbrev pub close_lines : List ℕ
+close_lines = codes "Connection: close" ++ line_end ++ line_end
+
+-- what follows the length
+abbrev pub from_allow : Allow → List ℕ
+from_allow allow = allow_line allow ++ close_lines
+
+-- what follows the kind
+abbrev pub from_length : ℕ → Allow → List ℕ
+from_length size allow = length_line size ++ from_allow allow
+
+-- what follows the status
+abbrev pub from_kind : Kind → ℕ → Allow → List ℕ
+from_kind kind size allow = kind_line kind ++ from_length size allow
+
+-- the head of an answer
+abbrev pub head_text : Status → Kind → ℕ → Allow → List ℕ
+head_text status kind size allow = status_line status ++ from_kind kind size allow
+
+-- an answer, wherever its body lies
+pub record Response : Type 0 where
+  pub status : Status
+  pub kind : Kind
+  pub allow : Allow
+  pub body : List ℕ
+
+abbrev pub body_bytes : Body → List ℕ
+body_bytes (bodies.Fixed bytes) = bytes.now
+body_bytes (bodies.Text text) = string_bytes text
+body_bytes (bodies.Bytes bytes) = bytes.items
+
+abbrev pub response : Reply → Response
+response reply = record { status = reply.status; kind = reply.kind; allow = reply.allow; body = body_bytes reply.body }
+
+abbrev pub response_head : Response → List ℕ
+response_head r = head_text r.status r.kind (length r.body) r.allow
+
+-- the bytes of an answer; to HEAD those of its head alone
+abbrev pub response_text : Bool → Response → List ℕ
+response_text is_head r = if is_head then response_head r else response_head r ++ r.body
+
+-- an answer that names an error by a word
+abbrev pub error_response : Status → Allow → List ℕ → Response
+error_response status allow word = record { status = status; kind = kinds.Json; allow = allow; body = codes "{\"error\":\"" ++ word ++ codes "\"}" }
+
+-- the answer where a check of the head fails
+unfoldable pub check_response : Check → Response
+check_response checks.Host = error_response statuses.BadRequest allows.Any (codes "host")
+check_response checks.Path = error_response statuses.NotFound allows.Any (codes "path")
+check_response checks.NotGet = error_response statuses.MethodNotAllowed allows.Get (codes "method")
+check_response checks.NotPost = error_response statuses.MethodNotAllowed allows.Post (codes "method")
+check_response checks.TransferCoding = error_response statuses.NotImplemented allows.Any (codes "coding")
+check_response checks.LengthMissing = error_response statuses.LengthRequired allows.Any (codes "length")
+check_response checks.LengthInvalid = error_response statuses.BadRequest allows.Any (codes "length")
+check_response checks.ContentTooLarge = error_response statuses.PayloadTooLarge allows.Any (codes "size")
+
+-- the answer where anything else fails that needs no number told
+unfoldable pub failure_response : Failure → Response
+failure_response failures.Head = error_response statuses.BadRequest allows.Any (codes "head")
+failure_response failures.Body = error_response statuses.BadRequest allows.Any (codes "body")
+failure_response failures.Json = error_response statuses.BadRequest allows.Any (codes "json")
+failure_response failures.Memory = error_response statuses.ServiceUnavailable allows.Any (codes "memory")
+failure_response failures.Record = error_response statuses.NotFound allows.Any (codes "record")
+failure_response failures.Content = error_response statuses.NotFound allows.Any (codes "content")
+failure_response failures.Certificate = error_response statuses.NotFound allows.Any (codes "certificate")
+failure_response failures.Day = error_response statuses.BadRequest allows.Any (codes "day")

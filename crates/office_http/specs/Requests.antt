@@ -1,0 +1,59 @@
+-- Which bytes are which request, up to the end of the head. Source: RFC 9112 section 2 as `httparse` reads it; the limits are own.
+use Rattle.std.specs.Prelude.{◌≡◌, ◌≢◌, ℕ, ◌≤◌, List, [], ◌++◌, drop, length}
+use Rattle.httparse.specs.Grammar.{RequestHead, print_request, ReadsRequest, HasNoRequest}
+use Rattle.httparse.specs.declared.spans.HeaderSpan.{HeaderSpan}
+use Rattle.httparse.specs.declared.spans.RequestSpans.{RequestSpans}
+use Rattle.httparse.specs.Spans.{IsRequestAt, IsRequestWithin}
+use Rattle.office_http.specs.declared.reading.Seen.{Seen}
+use Rattle.office_http.specs.declared.reading.Seen.TheVariants.{Whole, Part, Never}
+use Rattle.office_http.specs.declared.reading.Head.{Head}
+use Rattle.office_http.specs.declared.reading.Head.TheVariants.{Found, Missing, Empty}
+
+-- a head within the limits: its bytes, and its field lines
+pub record IsShort (h : RequestHead) : Type 0 where
+  pub bytes : length (print_request h) ≤ 16_384
+  pub lines : length h.fields ≤ 64
+
+-- what all bytes of a connection are: none at all, bytes without a head, or a head and the bytes after it
+pub data Request : Type 0 where
+  nothing : Request
+  headless : Request
+  asks : RequestHead → List ℕ → Request
+
+-- the bytes do not begin with a head within the limits
+abbrev pub IsHeadless : List ℕ → Type 0
+IsHeadless bytes = (h : RequestHead) (rest : List ℕ) → ReadsRequest bytes h rest → ¬ (IsShort h)
+
+-- all bytes of a connection are this request
+abbrev pub IsRequest : Request → List ℕ → Type 0
+IsRequest nothing bytes = bytes ≡ []
+IsRequest headless bytes = (bytes ≢ []) × IsHeadless bytes
+IsRequest (asks h rest) bytes = ReadsRequest bytes h rest × IsShort h
+
+-- the spans cover the parts of a short head with which the buffer begins
+abbrev pub IsHeadAt : RequestSpans → List ℕ → List HeaderSpan → Type 0
+IsHeadAt spans buf headers = IsRequestWithin buf headers spans × ((h : RequestHead) × IsRequestAt buf headers spans h × IsShort h)
+
+-- what a buffer tells of all bytes that may begin with it
+abbrev pub IsSeen : Seen → List ℕ → List HeaderSpan → Type 0
+IsSeen (Whole spans) buf headers = IsHeadAt spans buf headers
+IsSeen Part buf headers = HasNoRequest buf
+IsSeen Never buf headers = (more : List ℕ) → IsHeadless (buf ++ more)
+
+-- where a head was found, it is in the buffer
+abbrev pub IsHeadOf : Head → List ℕ → List HeaderSpan → Type 0
+IsHeadOf (Found spans) buf headers = IsHeadAt spans buf headers
+IsHeadOf Missing buf headers = Unit {0}
+IsHeadOf Empty buf headers = Unit {0}
+
+-- where none was found, what all bytes are
+abbrev pub IsRead : Head → List ℕ → Type 0
+IsRead (Found spans) bytes = Unit {0}
+IsRead Missing bytes = IsRequest headless bytes
+IsRead Empty bytes = IsRequest nothing bytes
+
+-- where a head was found, what all bytes are: that head, then what the buffer has after it and what is left in the reader
+abbrev pub IsAsked : Head → List ℕ → List ℕ → List HeaderSpan → List ℕ → Type 0
+IsAsked (Found spans) bytes buf headers left = (h : RequestHead) × IsRequestAt buf headers spans h × IsRequest (asks h (drop spans.len buf ++ left)) bytes
+IsAsked Missing bytes buf headers left = Unit {0}
+IsAsked Empty bytes buf headers left = Unit {0}

@@ -1,0 +1,76 @@
+ghost use Rattle.std.specs.Prelude.{◌≡◌, ℕ, ◌-◌, ◌≤◌, ◌<◌, List, ◌++◌, length, drop, slice_range, IfOk, IfSome, OnOk, IsTrue, IsFalse};
+ghost use Rattle.std.specs.Io.KnownBytes.{Consumes, IsAtEnd};
+ghost use Rattle.std.specs.Vec.{vec_capacity};
+ghost use Rattle.office_http.specs.Bodies.{IsBody};
+
+use crate::reading::read_piece;
+use office_plan::Io;
+use std::io::Read;
+
+/// Why a body was not read.
+#[derive(Clone, Copy, PartialEq, Eq, Debug)]
+pub enum ReadStop {
+    /// The reader answered an error.
+    Io,
+    /// An allocation was refused.
+    Memory,
+}
+
+/// Reads until a buffer has so many bytes, for which it has room. Whether it came to that.
+fn fill<R: Read>(reader: &mut R, buf: &mut Vec<u8>, end: usize) -> Result<bool, Io>
+    requires { end ≤ vec_capacity buf.old }
+    ensures bytes { OnOk result ((piece : List ℕ) × (buf.new.items ≡ buf.old.items ++ piece) × Consumes (R.remaining reader.old) (R.remaining reader.new) piece) }
+    ensures whole { IfOk result (λ whole. IsTrue whole → end ≤ length buf.new.items) }
+    ensures cut { IfOk result (λ whole. IsFalse whole → (length buf.new.items < end) × IsAtEnd (R.remaining reader.new)) }
+{
+    while buf.len() < end {
+        if read_piece(reader, buf, end)? == 0 {
+            return Ok(false);
+        }
+    }
+    Ok(true)
+}
+
+/// Reads the rest of a body into a buffer that has room for it.
+fn read_rest<R: Read>(
+    reader: &mut R,
+    buf: &mut Vec<u8>,
+    start: usize,
+    end: usize,
+) -> Result<bool, Io>
+    requires ordered { start ≤ end }
+    requires start_in { start ≤ length buf.old.items }
+    requires room { end ≤ vec_capacity buf.old }
+    ensures body { IfOk result (λ whole. IfSome (R.remaining reader.old) (λ left.
+        IsBody whole (end - start) (drop start buf.old.items ++ left) (slice_range buf.new.items start end))) }
+    ensures long { IfOk result (λ whole. IsTrue whole → end ≤ length buf.new.items) }
+    ensures read { OnOk result ((piece : List ℕ) × (buf.new.items ≡ buf.old.items ++ piece) × Consumes (R.remaining reader.old) (R.remaining reader.new) piece) }
+{
+    fill(reader, buf, end)
+}
+
+/// Reads the rest of a body, which is to lie from `start` to `end` in the buffer. Whether it is
+/// whole: `false` where the connection ends before it does. Room for all of it is asked for first, so
+/// that `Memory` comes before a byte is read.
+pub fn read_body<R: Read>(
+    reader: &mut R,
+    buf: &mut Vec<u8>,
+    start: usize,
+    end: usize,
+) -> Result<bool, ReadStop>
+    requires ordered { start ≤ end }
+    requires start_in { start ≤ length buf.old.items }
+    ensures body { IfOk result (λ whole. IfSome (R.remaining reader.old) (λ left.
+        IsBody whole (end - start) (drop start buf.old.items ++ left) (slice_range buf.new.items start end))) }
+    ensures long { IfOk result (λ whole. IsTrue whole → end ≤ length buf.new.items) }
+    ensures read { OnOk result ((piece : List ℕ) × (buf.new.items ≡ buf.old.items ++ piece) × Consumes (R.remaining reader.old) (R.remaining reader.new) piece) }
+{
+    let missing = end.saturating_sub(buf.len());
+    if buf.try_reserve(missing).is_err() {
+        return Err(ReadStop::Memory);
+    }
+    match read_rest(reader, buf, start, end) {
+        Ok(whole) => Ok(whole),
+        Err(Io) => Err(ReadStop::Io),
+    }
+}

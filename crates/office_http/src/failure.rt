@@ -1,0 +1,20 @@
+/// Why a request is not served, apart from the checks of its head.
+#[derive(Clone, Copy, PartialEq, Eq, Debug)]
+pub enum Failure {
+    /// The bytes do not begin with a head within the limits.
+    Head,
+    /// The connection ends before the body does.
+    Body,
+    /// The body is no array of JSON.
+    Json,
+    /// Memory was refused.
+    Memory,
+    /// There is no such record.
+    Record,
+    /// There is no such record, or its content is gone.
+    Content,
+    /// There is no such certificate.
+    Certificate,
+    /// The path's last segment is no day.
+    Day,
+}

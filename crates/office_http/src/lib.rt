@@ -1,0 +1,37 @@
+//! One request of HTTP and the bytes of its answer: what a web client asks of the office, and no
+//! more.
+//!
+//! [`read_head`] reads until the head of a request is whole or there will be none, and [`plan_in`]
+//! tells what is done for it: the first check that fails, as a [`Check`], or what is asked for, as
+//! a [`Want`]. [`read_body`] reads the body that a head announces. The answer is a [`Reply`], and
+//! [`write_reply`] writes it; [`check_reply`] and [`failure_reply`] give the answers whose bytes are
+//! fixed. What is asked for is done by others, who know the office: here are heads, fields, paths
+//! and lengths alone.
+#![tactic(auto)]
+
+mod body;
+mod check;
+mod failure;
+mod fields;
+mod fixed;
+mod numbers;
+mod output;
+mod paths;
+mod plan;
+mod reading;
+mod reply;
+mod status;
+mod want;
+mod writing;
+
+pub use body::{ReadStop, read_body};
+pub use check::Check;
+pub use failure::Failure;
+pub use fixed::{check_reply, failure_reply};
+pub use office_plan::Io;
+pub use plan::{Plan, is_head_in, plan_in};
+pub use reading::{Head, LONGEST_HEAD, MOST_FIELDS, law_of_requests, read_head};
+pub use reply::{Allow, Body, Kind, Reply};
+pub use status::Status;
+pub use want::Want;
+pub use writing::{law_of_replies, write_reply};

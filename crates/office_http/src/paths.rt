@@ -1,0 +1,84 @@
+ghost use Rattle.std.specs.Prelude.{◌≡◌, ◌==◌, IfOk, true, false, MatchOption, None, Some};
+ghost use Rattle.std.specs.List.{list_any};
+ghost use Rattle.matchit.specs.Seek.{first};
+ghost use Rattle.office_http.specs.Paths.{is_path, named_segment, office_routes, resource_at};
+
+use matchit::{InsertError, Router};
+use std::alloc::{AllocError, Global};
+
+/// What a path names.
+#[derive(Clone, Copy, PartialEq, Eq, Debug, Drop)]
+pub(crate) enum Resource {
+    /// The acts that are handed in.
+    Acts,
+    /// The run that is open.
+    OpenRun,
+    /// A record.
+    Record,
+    /// The content of a record.
+    Content,
+    /// The records that are due on a day.
+    Due,
+    /// The certificate of a run.
+    Certificate,
+}
+
+/// The routes of all paths that there are.
+#[tactic(auto, unfolding(crate::specs::Paths::office_routes))]
+fn office_router(alloc: Global) -> Result<Router<Resource>, InsertError>
+    ensures { IfOk result (λ router. router ≡ office_routes) }
+{
+    let mut router = Router::new(alloc);
+    router.insert("/acts", Resource::Acts)?;
+    router.insert("/run/resume", Resource::OpenRun)?;
+    router.insert("/records/{n}", Resource::Record)?;
+    router.insert("/records/{n}/content", Resource::Content)?;
+    router.insert("/due/{day}", Resource::Due)?;
+    router.insert("/certificates/{n}", Resource::Certificate)?;
+    Ok(router)
+}
+
+/// What a path names among the routes.
+fn routed(router: &Router<Resource>, path: &str) -> Option<Resource>
+    ensures { MatchOption (first router.now path.now) (result ≡ None) (λ route. result ≡ Some route.value) }
+{
+    match router.at(path) {
+        Ok(found) => Some(*found.value),
+        Err(_) => None,
+    }
+}
+
+/// What a path names.
+pub(crate) fn resource_at(alloc: Global, path: &str) -> Result<Option<Resource>, AllocError>
+    ensures { IfOk result (λ resource. resource ≡ resource_at path.now) }
+{
+    match office_router(alloc) {
+        Ok(router) => Ok(routed(&router, path)),
+        Err(_) => Err(AllocError),
+    }
+}
+
+/// Whether the target has a query.
+fn has_query(target: &[u8]) -> bool
+    ensures { result ≡ list_any (λ byte. byte == 63) target.now }
+{
+    target.iter().any(|byte| *byte == b'?')
+}
+
+/// The target as a path; `None` where it has a query or is not UTF-8.
+pub(crate) fn path_of(target: &[u8]) -> Option<&str>
+    ensures { MatchOption result (is_path target.now ≡ false) (λ path. (is_path target.now ≡ true) × (path.now ≡ target.now)) }
+{
+    if has_query(target) {
+        None
+    } else {
+        str::from_utf8(target).ok()
+    }
+}
+
+/// The segment of a path that tells which record, day or certificate is meant.
+pub(crate) fn named_segment(path: &str) -> &str
+    ensures { result.now ≡ named_segment path.now }
+{
+    path.split('/').nth(2).unwrap_or("")
+}

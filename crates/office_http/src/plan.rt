@@ -1,0 +1,174 @@
+ghost use Rattle.std.specs.Prelude.{◌≡◌, ℕ, ◌≤◌, List, length, map, take, codes, All, IfOk};
+ghost use Rattle.httparse.specs.Grammar.{RequestHead};
+ghost use Rattle.httparse.specs.Spans.{header_bytes, span_bytes, IsHeaderWithin, IsRequestAt, IsRequestWithin};
+ghost use Rattle.office_http.specs.Fields.{found_named};
+ghost use Rattle.office_http.specs.Paths.{resource_at};
+ghost use Rattle.office_http.specs.Plans.{acts_plan, get_plan, has_host, is_head_method, length_plan, path_plan, plan_at, plan_in, plan_of, resource_plan, sized_plan, target_plan, IsSized};
+
+use crate::check::Check;
+use crate::fields::{Found, find_named};
+use crate::numbers::{content_length, segment_number};
+use crate::paths::{Resource, named_segment, path_of, resource_at};
+use crate::want::Want;
+use httparse::spans::{HeaderSpan, RequestSpans};
+use office_days::Day;
+use std::alloc::{AllocError, Global};
+
+/// What is done for the head of a request.
+#[derive(Clone, Copy, PartialEq, Eq, Debug)]
+pub enum Plan {
+    /// A check fails, and its answer is given.
+    Refuse(Check),
+    /// What is asked for is done.
+    Serve(Want),
+}
+
+/// What is done for a body of that length.
+fn sized_plan(size: Option<u64>) -> Plan
+    ensures plan { result ≡ sized_plan size }
+    ensures sized { IsSized result }
+{
+    match size {
+        None => Plan::Refuse(Check::LengthInvalid),
+        Some(size) if size > 1_048_576 => Plan::Refuse(Check::ContentTooLarge),
+        Some(size) => Plan::Serve(Want::Acts(size)),
+    }
+}
+
+/// What is done for acts, by the line that says their length.
+fn length_plan(buf: &[u8], headers: &[HeaderSpan]) -> Plan
+    requires { All (IsHeaderWithin (length buf.now)) headers.now }
+    ensures plan { result ≡ length_plan (found_named (codes "content-length") (map (header_bytes buf.now) headers.now)) }
+    ensures sized { IsSized result }
+{
+    match find_named(buf, headers, b"content-length") {
+        Found::Missing => Plan::Refuse(Check::LengthMissing),
+        Found::One(value) => sized_plan(content_length(value.of(buf))),
+        Found::Many => Plan::Refuse(Check::LengthInvalid),
+    }
+}
+
+/// What is done for acts.
+fn acts_plan(buf: &[u8], headers: &[HeaderSpan]) -> Plan
+    requires { All (IsHeaderWithin (length buf.now)) headers.now }
+    ensures plan { result ≡ acts_plan (map (header_bytes buf.now) headers.now) }
+    ensures sized { IsSized result }
+{
+    match find_named(buf, headers, b"transfer-encoding") {
+        Found::Missing => length_plan(buf, headers),
+        _ => Plan::Refuse(Check::TransferCoding),
+    }
+}
+
+/// What a GET asks for, or why it is none.
+fn get_plan(method: &[u8], want: Want) -> Plan
+    ensures { result ≡ get_plan method.now (Plan.Serve want) }
+{
+    if method == b"GET".as_slice() {
+        Plan::Serve(want)
+    } else {
+        Plan::Refuse(Check::NotGet)
+    }
+}
+
+/// What is done for a method at a path that names this.
+fn resource_plan(
+    buf: &[u8],
+    headers: &[HeaderSpan],
+    resource: Resource,
+    path: &str,
+    method: &[u8],
+) -> Plan
+    requires { All (IsHeaderWithin (length buf.now)) headers.now }
+    ensures plan { result ≡ resource_plan resource path.now method.now (map (header_bytes buf.now) headers.now) }
+    ensures sized { IsSized result }
+{
+    let segment = named_segment(path);
+    match resource {
+        Resource::Acts if method == b"POST".as_slice() => acts_plan(buf, headers),
+        Resource::OpenRun if method == b"POST".as_slice() => Plan::Serve(Want::Resume),
+        Resource::Acts | Resource::OpenRun => Plan::Refuse(Check::NotPost),
+        Resource::Record => get_plan(method, Want::Record(segment_number(segment))),
+        Resource::Content => get_plan(method, Want::Content(segment_number(segment))),
+        Resource::Due => get_plan(method, Want::Due(Day::read(segment))),
+        Resource::Certificate => get_plan(method, Want::Certificate(segment_number(segment))),
+    }
+}
+
+/// What is done for a path.
+fn path_plan(
+    alloc: Global,
+    buf: &[u8],
+    headers: &[HeaderSpan],
+    path: &str,
+    method: &[u8],
+) -> Result<Plan, AllocError>
+    requires { All (IsHeaderWithin (length buf.now)) headers.now }
+    ensures plan { IfOk result (λ plan. plan ≡ path_plan (resource_at path.now) path.now method.now (map (header_bytes buf.now) headers.now)) }
+    ensures sized { IfOk result (λ plan. IsSized plan) }
+{
+    match resource_at(alloc, path)? {
+        None => Ok(Plan::Refuse(Check::Path)),
+        Some(resource) => Ok(resource_plan(buf, headers, resource, path, method)),
+    }
+}
+
+/// What is done for a target.
+fn target_plan(
+    alloc: Global,
+    buf: &[u8],
+    headers: &[HeaderSpan],
+    target: &[u8],
+    method: &[u8],
+) -> Result<Plan, AllocError>
+    requires { All (IsHeaderWithin (length buf.now)) headers.now }
+    ensures plan { IfOk result (λ plan. plan ≡ target_plan target.now method.now (map (header_bytes buf.now) headers.now)) }
+    ensures sized { IfOk result (λ plan. IsSized plan) }
+{
+    match path_of(target) {
+        None => Ok(Plan::Refuse(Check::Path)),
+        Some(path) => path_plan(alloc, buf, headers, path, method),
+    }
+}
+
+/// Whether a head has the Host line that its version wants.
+fn has_host(buf: &[u8], headers: &[HeaderSpan], minor: u8) -> bool
+    requires { All (IsHeaderWithin (length buf.now)) headers.now }
+    ensures { result ≡ has_host minor (found_named (codes "host") (map (header_bytes buf.now) headers.now)) }
+{
+    if minor == 1 {
+        matches!(find_named(buf, headers, b"host"), Found::One(_))
+    } else {
+        true
+    }
+}
+
+/// What is done for a head that [`read_head`](crate::read_head) found in the buffer. Memory is taken
+/// for the routes alone.
+pub fn plan_in(
+    alloc: Global,
+    buf: &[u8],
+    head: &RequestSpans,
+    headers: &[HeaderSpan],
+) -> Result<Plan, AllocError>
+    requires { IsRequestWithin buf.now headers.now head.now }
+    ensures plan { IfOk result (λ plan. plan ≡ plan_in buf.now head.now headers.now) }
+    ensures head { IfOk result (λ plan. (h : RequestHead) → IsRequestAt buf.now headers.now head.now h → plan ≡ plan_at h) }
+    ensures sized { IfOk result (λ plan. IsSized plan) }
+{
+    let headers = &headers[..head.headers];
+    if has_host(buf, headers, head.version) {
+        target_plan(alloc, buf, headers, head.path.of(buf), head.method.of(buf))
+    } else {
+        Ok(Plan::Refuse(Check::Host))
+    }
+}
+
+/// Whether the method of a head is HEAD, so that the head of the answer alone is written.
+pub fn is_head_in(buf: &[u8], head: &RequestSpans) -> bool
+    requires ordered { head.now.method.start ≤ head.now.method.end }
+    requires in_range { head.now.method.end ≤ length buf.now }
+    ensures { result ≡ is_head_method (span_bytes buf.now head.now.method) }
+{
+    head.method.of(buf) == b"HEAD".as_slice()
+}

@@ -1,0 +1,135 @@
+ghost use Rattle.std.specs.Prelude.{◌≡◌, ◌≢◌, ℕ, ◌+◌, ◌≤◌, ◌<◌, List, [], ◌++◌, length, IfOk, OnOk, IfSome};
+ghost use Rattle.std.specs.Io.KnownBytes.{Consumes, IsAtEnd};
+ghost use Rattle.std.specs.Vec.{vec_capacity};
+ghost use Rattle.office_http.specs.Requests.{IsAsked, IsHeadOf, IsSeen, IsRead, Request, IsRequest};
+
+use httparse::Status;
+use httparse::spans::{HeaderSpan, RequestSpans, parse_request};
+use office_plan::Io;
+use std::io::Read;
+
+/// What a buffer tells of the head of a request.
+#[derive(Clone, Copy, Debug)]
+pub(crate) enum Seen {
+    /// It begins with a whole head, whose parts lie there.
+    Whole(RequestSpans),
+    /// It has no whole head yet.
+    Part,
+    /// It will never begin with a head within the limits.
+    Never,
+}
+
+/// What the bytes of a connection begin with.
+#[derive(Clone, Copy, Debug)]
+pub enum Head {
+    /// A head within the limits, whose parts lie there.
+    Found(RequestSpans),
+    /// No head, one beyond the limits, or one that does not come to its end.
+    Missing,
+    /// The connection ended before any byte.
+    Empty,
+}
+
+/// The most bytes of a head.
+pub const LONGEST_HEAD: usize = 16_384;
+
+/// The most lines of fields of a head.
+pub const MOST_FIELDS: usize = 64;
+
+/// The most bytes that are read at once.
+const PIECE: usize = 4_096;
+
+/// What a buffer tells of a head.
+fn see(buf: &[u8], headers: &mut [HeaderSpan]) -> Seen
+    requires short { length buf.now ≤ 16_384 }
+    requires room { length headers.old ≡ 64 }
+    ensures { IsSeen result buf.now headers.new }
+{
+    match parse_request(buf, headers) {
+        Ok(Status::Complete(head)) => Seen::Whole(head),
+        Ok(Status::Partial) => Seen::Part,
+        Err(_) => Seen::Never,
+    }
+}
+
+/// The same, also of no bytes.
+fn see_any(buf: &[u8], headers: &mut [HeaderSpan]) -> Seen
+    requires short { length buf.now ≤ 16_384 }
+    requires room { length headers.old ≡ 64 }
+    ensures seen { IsSeen result buf.now headers.new }
+    ensures some { result ≡ Seen.Never → buf.now ≢ [] }
+{
+    if buf.is_empty() {
+        Seen::Part
+    } else {
+        see(buf, headers)
+    }
+}
+
+/// Reads some bytes onto the end of a buffer, which then has at most that many and has room for them.
+pub(crate) fn read_piece<R: Read>(
+    reader: &mut R,
+    buf: &mut Vec<u8>,
+    most: usize,
+) -> Result<usize, Io>
+    requires short { length buf.old.items < most }
+    requires room { most ≤ vec_capacity buf.old }
+    ensures fits { OnOk result (length buf.new.items ≤ most) }
+    ensures count { IfOk result (λ n. length buf.new.items ≡ length buf.old.items + n) }
+    ensures bytes { OnOk result ((piece : List ℕ) × (buf.new.items ≡ buf.old.items ++ piece) × Consumes (R.remaining reader.old) (R.remaining reader.new) piece) }
+    ensures end { IfOk result (λ n. n ≡ 0 → IsAtEnd (R.remaining reader.new)) }
+    ensures room { OnOk result (most ≤ vec_capacity buf.new) }
+{
+    let mut piece = [0u8; PIECE];
+    let room = (most - buf.len()).min(PIECE);
+    match reader.read(&mut piece[..room]) {
+        Ok(n) => {
+            if buf.extend_from_slice(&piece[..n]).is_err() {
+                unreachable!()
+            }
+            Ok(n)
+        }
+        Err(_) => Err(Io),
+    }
+}
+
+/// Reads into an empty buffer, which has room for the longest head, until a head is whole, or there will be
+/// none. The buffer may then have bytes that follow the head. No memory is asked for. `Io` comes where
+/// the reader answered an error.
+pub fn read_head<R: Read>(
+    reader: &mut R,
+    buf: &mut Vec<u8>,
+    headers: &mut [HeaderSpan],
+) -> Result<Head, Io>
+    requires empty { buf.old.items ≡ [] }
+    requires place { 16_384 ≤ vec_capacity buf.old }
+    requires room { length headers.old ≡ 64 }
+    ensures read { OnOk result (Consumes (R.remaining reader.old) (R.remaining reader.new) buf.new.items) }
+    ensures head { IfOk result (λ head. IfSome (R.remaining reader.old) (λ bytes. IsRead head bytes)) }
+    ensures spans { IfOk result (λ head. IsHeadOf head buf.new.items headers.new) }
+    ensures asked { IfOk result (λ head. IfSome (R.remaining reader.old) (λ bytes. IfSome (R.remaining reader.new) (λ left.
+        IsAsked head bytes buf.new.items headers.new left))) }
+{
+    loop {
+        match see_any(buf.as_slice(), headers) {
+            Seen::Whole(head) => return Ok(Head::Found(head)),
+            Seen::Never => return Ok(Head::Missing),
+            Seen::Part => {}
+        }
+        if buf.len() >= LONGEST_HEAD {
+            return Ok(Head::Missing);
+        }
+        if read_piece(reader, buf, LONGEST_HEAD)? == 0 {
+            return Ok(if buf.is_empty() {
+                Head::Empty
+            } else {
+                Head::Missing
+            });
+        }
+    }
+}
+
+/// The law that all bytes of a connection are one request only.
+pub fn law_of_requests()
+    ensures { (bytes : List ℕ) (q r : Request) → IsRequest q bytes → IsRequest r bytes → q ≡ r }
+{}

@@ -1,0 +1,59 @@
+ghost use Rattle.std.specs.Prelude.{◌≡◌};
+ghost use Rattle.office_http.specs.Replies.{body_bytes};
+
+use crate::status::Status;
+
+/// What the body of an answer is.
+#[derive(Clone, Copy, PartialEq, Eq, Debug)]
+pub enum Kind {
+    /// JSON.
+    Json,
+    /// Bytes of no kind that the office knows.
+    Octets,
+    /// Plain text in UTF-8.
+    Plain,
+}
+
+/// The method that a path takes, which is told where another came.
+#[derive(Clone, Copy, PartialEq, Eq, Debug)]
+pub enum Allow {
+    /// Nothing is told.
+    Any,
+    /// GET.
+    Get,
+    /// POST.
+    Post,
+}
+
+/// The body of an answer.
+#[derive(Drop)]
+pub enum Body {
+    /// Bytes that take no memory.
+    Fixed(&'static [u8]),
+    /// A text.
+    Text(String),
+    /// Bytes.
+    Bytes(Vec<u8>),
+}
+
+impl Body {
+    /// The bytes of the body.
+    pub(crate) fn as_bytes(&self) -> &[u8]
+        ensures { result.now ≡ body_bytes self.now }
+    {
+        match self {
+            Body::Fixed(bytes) => bytes,
+            Body::Text(text) => text.as_bytes(),
+            Body::Bytes(bytes) => bytes.as_slice(),
+        }
+    }
+}
+
+/// An answer.
+#[derive(Drop)]
+pub struct Reply {
+    pub status: Status,
+    pub kind: Kind,
+    pub allow: Allow,
+    pub body: Body,
+}

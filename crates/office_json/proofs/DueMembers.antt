@@ -1,0 +1,14 @@
+-- The members of a record that is due, put a few at a time, stand in the order of their names.
+use Rattle.std.proofs.Common.{◌≡◌, refl}
+use Rattle.serde_json.proofs.OnLiterals.{serde_json_on_literals}
+use Rattle.serde_json.specs.Data.{Members, object, no_members}
+use Rattle.office_machine.specs.declared.record_view.RecordView.{RecordView}
+use Rattle.office_json.specs.DueJson.{due_row_data, put_plan, put_rest}
+
+in_order : (r : RecordView) → object (put_rest r (put_plan r no_members)) ≡ due_row_data r
+unfolding serde_json_on_literals put_plan put_rest due_row_data
+in_order r = refl
+
+-- members to which both parts were put
+pub all_put : (r : RecordView) (plan rest : Members) → plan ≡ put_plan r no_members → rest ≡ put_rest r plan → object rest ≡ due_row_data r
+all_put r plan rest a b = rw (b, a) (in_order r)

@@ -1,0 +1,31 @@
+-- What is told of an act: what is told of its parts.
+use Rattle.std.proofs.Common.{◌≡◌, ◌∙◌, ◌⊎◌, Bool, true, cond, Result, Ok, Err, IsOk, IfErr, IfOk, MatchResult, refl, sym, ap, inl}
+use Rattle.serde_json.specs.Data.{Data}
+use Rattle.office_days.specs.declared.refusal.Refusal.{Refusal}
+use Rattle.office_days.specs.declared.refusal.Refusal.TheVariants.{BadText}
+use Rattle.office_machine.specs.declared.act.Act.{Act}
+use Rattle.office_json.specs.Acts.{Asked, asked, IsActRead, IsReadFault}
+use Rattle.office_json.specs.Parts.{fault_of, made}
+use Rattle.office_json.specs.declared.read_fault.ReadFault.{ReadFault}
+use Rattle.office_json.specs.declared.read_fault.ReadFault.TheVariants.{Refused, Memory}
+use Rattle.office_json.proofs.Made.{fault_made}
+
+-- the parts of an object without strange members are there
+pub act_ok : {A : Type 0} (plain : Bool) (f : A → Asked) (part : Result A Refusal) (p : A) → plain ≡ true → part ≡ Ok p → cond plain (made f part) (Err BadText) ≡ Ok (f p)
+act_ok plain f part p h k = rw (h, k) refl
+
+-- they are not
+pub act_fault : {A : Type 0} (plain : Bool) (f : A → Asked) (part : Result A Refusal) (fault : ReadFault) → plain ≡ true → fault ≡ fault_of part → fault ≡ fault_of (cond plain (made f part) (Err BadText))
+act_fault plain f part fault h k = rw h (k ∙ sym (fault_made f part))
+
+-- a fault that is told of an act without a content
+pub plain_fault : (d : Data) (part : Result Asked Refusal) (fault : ReadFault) → fault ≡ fault_of part → IsReadFault d part fault
+plain_fault d (Ok it) (Refused refusal) h = absurd cc
+plain_fault d (Err e) (Refused refusal) h = cc
+plain_fault d (Ok it) Memory h = inl refl
+plain_fault d (Err e) Memory h = absurd cc
+
+-- what was read of an act without a content, as the office tells it
+pub told_act : (d : Data) (part : Result Asked Refusal) (read : Result Act ReadFault) → IsActRead part read → IfOk read (λ it. part ≡ Ok (asked it)) × IfErr read (λ fault. IsReadFault d part fault)
+told_act d part (Ok it) h = (h, tt)
+told_act d part (Err fault) h = (tt, plain_fault d part fault h)

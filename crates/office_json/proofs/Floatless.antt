@@ -1,0 +1,70 @@
+-- What is told has no floats.
+use Rattle.std.proofs.Common.{Vec, ◌≡◌, refl, ℕ, List, [], ◌∷◌, map, Option, Some, None, false}
+use Rattle.std.specs.declared.alloc.Global.{Global}
+use Rattle.serde_json.proofs.Views.{view-Array}
+use Rattle.serde_json.specs.Data.{Data, string}
+use Rattle.serde_json.specs.View.{items_of, view}
+use Rattle.serde_json.specs.Written.{has_float, items_have_float}
+use Rattle.serde_json.specs.declared.value.Value.{Value}
+use Rattle.serde_json.specs.declared.value.Value.TheVariants.{Array}
+use Rattle.office_tree.specs.declared.head.Confirmation.{Confirmation}
+use Rattle.office_proof.specs.declared.entry.Entry.{Entry}
+use Rattle.office_machine.specs.declared.answer.Answer.{Answer}
+use Rattle.office_machine.specs.declared.answer.Answer.TheVariants.{Done, Number, Same, Step, RunClosed, Refused}
+use Rattle.office_machine.specs.declared.record_view.RecordView.{RecordView}
+use Rattle.office_json.specs.Answers.{answer_data}
+use Rattle.office_json.specs.DueJson.{due_row_data}
+use Rattle.office_json.specs.RecordJson.{confirmed_data, day_data, ended_data, or_null, record_data}
+use Rattle.office_json.specs.Replies.{stopped_data}
+
+-- where what is told of each thing has none, what is told of one or of none has none
+or_null_has_none : {A : Type 0} (told : A → Data) → ((x : A) → has_float (told x) ≡ false) → (o : Option A) → has_float (or_null told o) ≡ false
+or_null_has_none told each None = refl
+or_null_has_none told each (Some x) = each x
+
+-- and an array of it has none
+array_has_none : {A : Type 0} (told : A → Data) → ((x : A) → has_float (told x) ≡ false) → (xs : List A) → items_have_float (items_of (map told xs)) ≡ false
+array_has_none told each [] = refl
+array_has_none told each (x ∷ xs) = rw (each x) (array_has_none told each xs)
+
+confirmed_has_none : (c : Confirmation) → has_float (confirmed_data c) ≡ false
+unfolding confirmed_data
+confirmed_has_none c = refl
+
+ended_has_none : (e : Entry) → has_float (ended_data e) ≡ false
+unfolding ended_data
+ended_has_none e = refl
+
+code_has_none : (code : Option (List ℕ)) → has_float (or_null string code) ≡ false
+code_has_none None = refl
+code_has_none (Some text) = refl
+
+pub record_has_none : (r : RecordView) (ending : Option Entry) → has_float (record_data r ending) ≡ false
+unfolding record_data
+record_has_none r ending = rw (
+  or_null_has_none confirmed_data confirmed_has_none r.confirmed,
+  or_null_has_none day_data (λ day. refl) r.due,
+  or_null_has_none ended_data ended_has_none ending,
+  code_has_none r.held,
+) refl
+
+pub due_row_has_none : (r : RecordView) → has_float (due_row_data r) ≡ false
+unfolding due_row_data
+due_row_has_none r = rw (or_null_has_none day_data (λ day. refl) r.due, code_has_none r.held) refl
+
+pub due_has_none : (values : Vec Value Global) (rows : List RecordView) → map view values.items ≡ map due_row_data rows → has_float (view (Array values)) ≡ false
+due_has_none values rows told = rw (view-Array values, told) (array_has_none due_row_data due_row_has_none rows)
+
+pub answer_has_none : (answer : Answer) → has_float (answer_data answer) ≡ false
+answer_has_none Done = refl
+answer_has_none (Number n) = refl
+answer_has_none (Same n) = refl
+answer_has_none (Step n outcome) = refl
+answer_has_none (RunClosed n) = refl
+answer_has_none (Refused refusal) = refl
+
+pub answers_have_none : (values : Vec Value Global) (answers : List Answer) → map view values.items ≡ map answer_data answers → has_float (view (Array values)) ≡ false
+answers_have_none values answers told = rw (view-Array values, told) (array_has_none answer_data answer_has_none answers)
+
+pub stopped_has_none : (answers : List Answer) (n : ℕ) → has_float (stopped_data answers n) ≡ false
+stopped_has_none answers n = rw (array_has_none answer_data answer_has_none answers) refl

@@ -1,0 +1,12 @@
+pub mod AnswerLines
+pub mod Appending
+pub mod DueMembers
+pub mod Encodings
+pub mod Faults
+pub mod Floatless
+pub mod ListSteps
+pub mod Made
+pub mod Pairs
+pub mod RecordMembers
+pub mod Stripped
+pub mod Texts

@@ -1,0 +1,13 @@
+use Rattle.std.proofs.Common.{◌≡◌, ◌∙◌, ap, sym}
+use Rattle.office_json.specs.Acts.{headed, heading_part}
+use Rattle.office_json.specs.Parts.{made}
+use Rattle.office_json.proofs.Made.{fault_made}
+use Rattle.office_json.proofs.acts.new_record.read_heading.Goals as goal
+
+pub returns-in-Ok : goal.returns-in-Ok
+unfolding heading_part
+returns-in-Ok c = ap (made headed) (c.in-Ok.ensures _ _ (c.both-placed.ensures _ _ c.day_at.ensures c.number_at.ensures) (c.both-2.ensures _ _ (c.both-named.ensures _ _ c.words_at.ensures c.words_at-2.ensures) (c.both.ensures _ _ c.day_at-originated.ensures (c.both-planned.ensures _ _ c.optional_code_at.ensures c.optional_code_at-2.ensures))))
+
+pub returns-in-Err : goal.returns-in-Err
+unfolding heading_part
+returns-in-Err c = c.in-Err.ensures _ _ (c.both-placed.ensures _ _ c.day_at.ensures c.number_at.ensures) (c.both-2.ensures _ _ (c.both-named.ensures _ _ c.words_at.ensures c.words_at-2.ensures) (c.both.ensures _ _ c.day_at-originated.ensures (c.both-planned.ensures _ _ c.optional_code_at.ensures c.optional_code_at-2.ensures))) ∙ sym (fault_made headed _)

@@ -1,0 +1,5 @@
+use Rattle.office_json.proofs.Stripped.{stripped}
+use Rattle.office_json.proofs.targets.after.Goals as goal
+
+pub returns : goal.returns
+returns c = stripped c.strip_prefix.result c.args.front.now c.args.text.now c.strip_prefix.ensures.cases

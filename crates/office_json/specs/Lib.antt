@@ -1,0 +1,10 @@
+pub mod Acts
+pub mod Answers
+pub mod Contents
+pub mod DueJson
+pub mod Lists
+pub mod Members
+pub mod Parts
+pub mod RecordJson
+pub mod Replies
+pub mod Targets

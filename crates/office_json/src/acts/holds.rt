@@ -1,0 +1,86 @@
+//! The acts on holds.
+ghost use Rattle.serde_json.specs.View.{view};
+ghost use Rattle.office_json.specs.Acts.{IsActRead, hold_off_asked, hold_on_asked, lift_hold_asked, place_hold_asked};
+
+use crate::ReadFault;
+use crate::members::has_only;
+use crate::parts::{both, code_at, day_at, words_at};
+use crate::targets::target_at;
+use office_days::Refusal;
+use office_machine::Act;
+use serde_json::Value;
+use std::alloc::Global;
+
+/// `place-hold`: a hold is placed under a new code.
+#[tactic(auto, unfolding(crate::specs::Acts::place_hold_asked, crate::specs::Acts::asked))]
+pub(crate) fn place_hold(alloc: Global, value: &Value) -> Result<Act, ReadFault>
+    ensures { IsActRead (place_hold_asked (view value.now)) result }
+{
+    if !has_only(value, &["act", "day", "code", "reason", "by"]) {
+        return Err(ReadFault::Refused(Refusal::BadText));
+    }
+    let named = both(day_at(value, "day"), code_at(alloc, value, "code"));
+    let told = both(
+        words_at(alloc, value, "reason"),
+        words_at(alloc, value, "by"),
+    );
+    match both(named, told) {
+        Ok(((day, code), (reason, by))) => Ok(Act::PlaceHold {
+            day,
+            code,
+            reason,
+            by,
+        }),
+        Err(fault) => Err(fault),
+    }
+}
+
+/// `hold-on`: a target is put on a hold.
+#[tactic(auto, unfolding(crate::specs::Acts::hold_on_asked, crate::specs::Acts::asked))]
+pub(crate) fn hold_on(alloc: Global, value: &Value) -> Result<Act, ReadFault>
+    ensures { IsActRead (hold_on_asked (view value.now)) result }
+{
+    if !has_only(value, &["act", "day", "hold", "target"]) {
+        return Err(ReadFault::Refused(Refusal::BadText));
+    }
+    let what = both(
+        code_at(alloc, value, "hold"),
+        target_at(alloc, value, "target"),
+    );
+    match both(day_at(value, "day"), what) {
+        Ok((day, (code, target))) => Ok(Act::HoldOn { day, code, target }),
+        Err(fault) => Err(fault),
+    }
+}
+
+/// `hold-off`: a target is taken off a hold.
+#[tactic(auto, unfolding(crate::specs::Acts::hold_off_asked, crate::specs::Acts::asked))]
+pub(crate) fn hold_off(alloc: Global, value: &Value) -> Result<Act, ReadFault>
+    ensures { IsActRead (hold_off_asked (view value.now)) result }
+{
+    if !has_only(value, &["act", "day", "hold", "target"]) {
+        return Err(ReadFault::Refused(Refusal::BadText));
+    }
+    let what = both(
+        code_at(alloc, value, "hold"),
+        target_at(alloc, value, "target"),
+    );
+    match both(day_at(value, "day"), what) {
+        Ok((day, (code, target))) => Ok(Act::HoldOff { day, code, target }),
+        Err(fault) => Err(fault),
+    }
+}
+
+/// `lift-hold`: a hold is lifted for good.
+#[tactic(auto, unfolding(crate::specs::Acts::lift_hold_asked, crate::specs::Acts::asked))]
+pub(crate) fn lift_hold(alloc: Global, value: &Value) -> Result<Act, ReadFault>
+    ensures { IsActRead (lift_hold_asked (view value.now)) result }
+{
+    if !has_only(value, &["act", "day", "hold"]) {
+        return Err(ReadFault::Refused(Refusal::BadText));
+    }
+    match both(day_at(value, "day"), code_at(alloc, value, "hold")) {
+        Ok((day, code)) => Ok(Act::LiftHold { day, code }),
+        Err(fault) => Err(fault),
+    }
+}

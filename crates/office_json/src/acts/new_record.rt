@@ -1,0 +1,119 @@
+//! The act that adds a record with its content.
+ghost use Rattle.std.specs.Prelude.{◌≡◌, ◌≤◌, IfErr, IfOk, Ok, length};
+ghost use Rattle.serde_json.specs.View.{view};
+ghost use Rattle.office_json.specs.Acts.{IsReadFault, add_record_asked, added, asked, heading_part};
+ghost use Rattle.office_json.specs.Parts.{IsReadAs};
+
+use crate::ReadFault;
+use crate::content::{Content, content_at};
+use crate::members::has_only;
+use crate::parts::{both, day_at, number_at, optional_code_at, words_at};
+use office_days::{Day, Refusal};
+use office_machine::{Act, NewRecord};
+use office_tree::{AggNo, Code, Text};
+use serde_json::Value;
+use std::alloc::Global;
+
+/// All of an act that adds a record but the content.
+#[derive(Drop)]
+pub(crate) struct Heading {
+    day: Day,
+    ref_text: Text,
+    title: Text,
+    originated: Day,
+    aggregation: AggNo,
+    class: Option<Code>,
+    schedule: Option<Code>,
+}
+
+/// The heading of the members of a value.
+#[tactic(auto, unfolding(crate::specs::Acts::heading_part))]
+fn read_heading(alloc: Global, value: &Value) -> Result<Heading, ReadFault>
+    ensures { IsReadAs (heading_part (view value.now)) result }
+{
+    let placed = both(day_at(value, "day"), number_at(value, "aggregation"));
+    let named = both(
+        words_at(alloc, value, "ref"),
+        words_at(alloc, value, "title"),
+    );
+    let originated = day_at(value, "originated");
+    let planned = both(
+        optional_code_at(alloc, value, "class"),
+        optional_code_at(alloc, value, "schedule"),
+    );
+    match both(placed, both(named, both(originated, planned))) {
+        Ok(((day, aggregation), ((ref_text, title), (originated, (class, schedule))))) => {
+            Ok(Heading {
+                day,
+                ref_text,
+                title,
+                originated,
+                aggregation,
+                class,
+                schedule,
+            })
+        }
+        Err(fault) => Err(fault),
+    }
+}
+
+/// The act of a heading with a content.
+#[tactic(auto, unfolding(crate::specs::Acts::asked))]
+fn act_of(heading: Heading, content: Content) -> Act
+    ensures { asked result ≡ added (heading, content) }
+{
+    let record = NewRecord::new(
+        heading.ref_text,
+        heading.title,
+        heading.originated,
+        heading.aggregation,
+        heading.class,
+        heading.schedule,
+        content.into_bytes(),
+    );
+    match record {
+        Some(record) => Act::AddRecord {
+            day: heading.day,
+            record,
+        },
+        None => unreachable!(),
+    }
+}
+
+/// What was read without memory.
+fn told(content: Result<Content, Refusal>) -> Result<Content, ReadFault>
+    ensures { IsReadAs content result }
+{
+    match content {
+        Ok(content) => Ok(content),
+        Err(refusal) => Err(ReadFault::Refused(refusal)),
+    }
+}
+
+/// `add-record`: a record is added with its content.
+#[tactic(auto, unfolding(crate::specs::Acts::add_record_asked))]
+pub(crate) fn add_record(alloc: Global, value: &Value) -> Result<Act, ReadFault>
+    ensures ok { IfOk result (λ act. add_record_asked (view value.now) ≡ Ok (asked act)) }
+    ensures err { IfErr result (λ fault. IsReadFault (view value.now) (add_record_asked (view value.now)) fault) }
+{
+    let names = [
+        "act",
+        "day",
+        "ref",
+        "title",
+        "originated",
+        "aggregation",
+        "class",
+        "schedule",
+        "content",
+    ];
+    if !has_only(value, &names) {
+        return Err(ReadFault::Refused(Refusal::BadText));
+    }
+    let heading = read_heading(alloc, value);
+    let content = content_at(alloc, value, "content")?;
+    match both(heading, told(content)) {
+        Ok((heading, content)) => Ok(act_of(heading, content)),
+        Err(fault) => Err(fault),
+    }
+}

@@ -1,0 +1,78 @@
+//! The acts on records that are there.
+ghost use Rattle.serde_json.specs.View.{view};
+ghost use Rattle.office_json.specs.Acts.{IsActRead, confirm_asked, review_asked, set_record_schedule_asked};
+
+use crate::ReadFault;
+use crate::members::has_only;
+use crate::parts::{action_at, both, day_at, number_at, optional_code_at, words_at};
+use office_days::Refusal;
+use office_machine::Act;
+use serde_json::Value;
+use std::alloc::Global;
+
+/// `set-record-schedule`: a record gets an own schedule, or loses it.
+#[tactic(auto, unfolding(crate::specs::Acts::set_record_schedule_asked, crate::specs::Acts::asked))]
+pub(crate) fn set_record_schedule(alloc: Global, value: &Value) -> Result<Act, ReadFault>
+    ensures { IsActRead (set_record_schedule_asked (view value.now)) result }
+{
+    if !has_only(value, &["act", "day", "record", "schedule"]) {
+        return Err(ReadFault::Refused(Refusal::BadText));
+    }
+    let what = both(
+        number_at(value, "record"),
+        optional_code_at(alloc, value, "schedule"),
+    );
+    match both(day_at(value, "day"), what) {
+        Ok((day, (record_no, schedule))) => Ok(Act::SetRecordSchedule {
+            day,
+            record_no,
+            schedule,
+        }),
+        Err(fault) => Err(fault),
+    }
+}
+
+/// `confirm`: a due record may be disposed of as its plan says.
+#[tactic(auto, unfolding(crate::specs::Acts::confirm_asked, crate::specs::Acts::asked))]
+pub(crate) fn confirm(alloc: Global, value: &Value) -> Result<Act, ReadFault>
+    ensures { IsActRead (confirm_asked (view value.now)) result }
+{
+    if !has_only(value, &["act", "day", "record", "action", "by"]) {
+        return Err(ReadFault::Refused(Refusal::BadText));
+    }
+    let which = both(day_at(value, "day"), number_at(value, "record"));
+    let how = both(action_at(value, "action"), words_at(alloc, value, "by"));
+    match both(which, how) {
+        Ok(((day, record_no), (action, by))) => Ok(Act::Confirm {
+            day,
+            record_no,
+            action,
+            by,
+        }),
+        Err(fault) => Err(fault),
+    }
+}
+
+/// `review`: a due record was reviewed, and gets an own schedule where one is named.
+#[tactic(auto, unfolding(crate::specs::Acts::review_asked, crate::specs::Acts::asked))]
+pub(crate) fn review(alloc: Global, value: &Value) -> Result<Act, ReadFault>
+    ensures { IsActRead (review_asked (view value.now)) result }
+{
+    if !has_only(value, &["act", "day", "record", "schedule", "by"]) {
+        return Err(ReadFault::Refused(Refusal::BadText));
+    }
+    let which = both(day_at(value, "day"), number_at(value, "record"));
+    let how = both(
+        optional_code_at(alloc, value, "schedule"),
+        words_at(alloc, value, "by"),
+    );
+    match both(which, how) {
+        Ok(((day, record_no), (schedule, by))) => Ok(Act::Review {
+            day,
+            record_no,
+            schedule,
+            by,
+        }),
+        Err(fault) => Err(fault),
+    }
+}

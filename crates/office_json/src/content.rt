@@ -1,0 +1,88 @@
+//! The content of a record as a text in base64.
+ghost use Rattle.std.specs.Prelude.{◌≡◌, ◌≤◌, IfOk, IsSome, OnErr, Some, length, option_and_then, option_map};
+ghost use Rattle.serde_json.specs.Find.{as_str, get};
+ghost use Rattle.serde_json.specs.View.{view};
+ghost use Rattle.office_json.specs.Contents.{TakesEncodings, content_named, content_of, content_part};
+
+use crate::members::text_at;
+use base64::DecodeAllocError;
+use base64::engine::general_purpose::STANDARD;
+use office_days::Refusal;
+use office_tree::Memory;
+use serde_json::Value;
+use std::alloc::Global;
+use std::marker::Model;
+
+/// The bytes of a record's content, at most 262,144. Contracts see them as a list.
+#[derive(Drop)]
+pub(crate) struct Content {
+    bytes: Vec<u8>,
+}
+
+impl Model for Content {
+    ghost use Rattle.std.specs.Prelude.{◌≤◌, List, length, ℕ};
+
+    ghost Value = { List ℕ };
+
+    ghost view = { λ content. content.bytes.items };
+
+    ghost invariant = { λ content. length content.bytes.items ≤ 262_144 };
+}
+
+impl Content {
+    /// These bytes as a content; `BadNumber` where there are too many.
+    fn of(bytes: Vec<u8>) -> Result<Content, Refusal>
+        ensures { result ≡ content_of (Some bytes.items) }
+    {
+        if bytes.len() > 262_144 {
+            return Err(Refusal::BadNumber);
+        }
+        Ok(Content { bytes })
+    }
+
+    /// The bytes themselves.
+    pub(crate) fn into_bytes(self) -> Vec<u8>
+        ensures value { result.items ≡ self }
+        ensures few { length result.items ≤ 262_144 }
+    {
+        self.bytes
+    }
+}
+
+/// The bytes that a text encodes; `None` where it is not what encoding writes.
+#[tactic(auto, unfolding(base64::specs::GeneralPurpose::decoded_of))]
+fn decoded(alloc: Global, text: &str) -> Result<Option<Vec<u8>>, Memory>
+    ensures { IfOk result (λ o. option_map (λ v. v.items) o ≡ content_named text.now) }
+{
+    match STANDARD.decode(alloc, text.as_bytes()) {
+        Ok(bytes) => Ok(Some(bytes)),
+        Err(DecodeAllocError::OutOfMemory) => Err(Memory),
+        Err(_) => Ok(None),
+    }
+}
+
+/// A content. A text is decoded before it is known to be one, so memory may be wanting for one that
+/// is refused.
+#[tactic(auto, unfolding(crate::specs::Contents::content_part))]
+pub(crate) fn content_at(
+    alloc: Global,
+    value: &Value,
+    name: &str,
+) -> Result<Result<Content, Refusal>, Memory>
+    ensures part { IfOk result (λ part. part ≡ content_part (get name.now (view value.now))) }
+    ensures text { OnErr result (IsSome (option_and_then as_str (get name.now (view value.now)))) }
+{
+    let Some(text) = text_at(value, name) else {
+        return Ok(Err(Refusal::BadText));
+    };
+    match decoded(alloc, text)? {
+        Some(bytes) => Ok(Content::of(bytes)),
+        None => Ok(Err(Refusal::BadText)),
+    }
+}
+
+/// Tells in proofs that a text is taken as a content's bytes exactly where it is what encoding them
+/// writes; a call does nothing.
+pub fn law_of_contents()
+    ensures { TakesEncodings }
+{}

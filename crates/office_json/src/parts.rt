@@ -1,0 +1,180 @@
+//! The parts of an act: days, codes, texts, words and numbers, each a member of its name.
+ghost use Rattle.std.specs.Prelude.{◌≡◌, ◌↔◌, ◌≤◌, IfSome, IsSome, Result, codes, ok_or};
+ghost use Rattle.serde_json.specs.Find.{get};
+ghost use Rattle.serde_json.specs.View.{view};
+ghost use Rattle.office_days.specs.declared.refusal.Refusal.{Refusal};
+ghost use Rattle.office_days.specs.declared.refusal.Refusal.TheVariants.{BadText};
+ghost use Rattle.office_days.specs.Limits.{longest};
+ghost use Rattle.office_tree.specs.Codes.{code_named};
+ghost use Rattle.office_json.specs.Parts.{both, IsReadAs, action_part, code_part, count_part, day_part, number_part, offset_part, optional, period_part, text_part, trigger_part};
+
+use crate::ReadFault;
+use crate::members::{is_given, text_at};
+use office_days::{Day, Offset, Period, Refusal, Unit};
+use office_tree::{Action, AggNo, Code, Text, Trigger};
+use serde_json::Value;
+use std::alloc::Global;
+
+/// Both parts, or the fault that is to be told of them.
+pub(crate) fn both<A: Drop, B: Drop>(
+    first: Result<A, ReadFault>,
+    second: Result<B, ReadFault>,
+) -> Result<(A, B), ReadFault>
+    ensures { (a : Result A Refusal) (b : Result B Refusal) → IsReadAs a first → IsReadAs b second → IsReadAs (both a b) result }
+{
+    match first {
+        Ok(a) => match second {
+            Ok(b) => Ok((a, b)),
+            Err(fault) => Err(fault),
+        },
+        Err(fault) => match second {
+            Ok(_) => Err(fault),
+            Err(other) => Err(fault.lesser(other)),
+        },
+    }
+}
+
+/// A day.
+#[tactic(auto, unfolding(crate::specs::Parts::day_part))]
+pub(crate) fn day_at(value: &Value, name: &str) -> Result<Day, ReadFault>
+    ensures { IsReadAs (day_part (get name.now (view value.now))) result }
+{
+    let text = text_at(value, name).ok_or(Refusal::BadText)?;
+    let day = Day::read(text).ok_or(Refusal::BadText)?;
+    Ok(day)
+}
+
+/// The code that a text is.
+pub(crate) fn read_code(alloc: Global, text: &str) -> Result<Code, ReadFault>
+    ensures { IsReadAs (ok_or (code_named text.now) BadText) result }
+{
+    let code = Code::read(alloc, text)?.ok_or(Refusal::BadText)?;
+    Ok(code)
+}
+
+/// A code.
+#[tactic(auto, unfolding(crate::specs::Parts::code_part))]
+pub(crate) fn code_at(alloc: Global, value: &Value, name: &str) -> Result<Code, ReadFault>
+    ensures { IsReadAs (code_part (get name.now (view value.now))) result }
+{
+    let text = text_at(value, name).ok_or(Refusal::BadText)?;
+    read_code(alloc, text)
+}
+
+/// A text in words, as a title.
+#[tactic(auto, unfolding(crate::specs::Parts::text_part))]
+pub(crate) fn words_at(alloc: Global, value: &Value, name: &str) -> Result<Text, ReadFault>
+    ensures { IsReadAs (text_part (get name.now (view value.now))) result }
+{
+    let text = text_at(value, name).ok_or(Refusal::BadText)?;
+    let words = Text::read(alloc, text)?.ok_or(Refusal::BadText)?;
+    Ok(words)
+}
+
+/// A trigger.
+#[tactic(auto, unfolding(crate::specs::Parts::trigger_part))]
+pub(crate) fn trigger_at(value: &Value, name: &str) -> Result<Trigger, ReadFault>
+    ensures { IsReadAs (trigger_part (get name.now (view value.now))) result }
+{
+    let text = text_at(value, name).ok_or(Refusal::BadText)?;
+    let trigger = Trigger::read(text).ok_or(Refusal::BadText)?;
+    Ok(trigger)
+}
+
+/// An offset.
+#[tactic(auto, unfolding(crate::specs::Parts::offset_part))]
+pub(crate) fn offset_at(value: &Value, name: &str) -> Result<Offset, ReadFault>
+    ensures { IsReadAs (offset_part (get name.now (view value.now))) result }
+{
+    let text = text_at(value, name).ok_or(Refusal::BadText)?;
+    let offset = Offset::read(text).ok_or(Refusal::BadText)?;
+    Ok(offset)
+}
+
+/// An action.
+#[tactic(auto, unfolding(crate::specs::Parts::action_part))]
+pub(crate) fn action_at(value: &Value, name: &str) -> Result<Action, ReadFault>
+    ensures { IsReadAs (action_part (get name.now (view value.now))) result }
+{
+    let text = text_at(value, name).ok_or(Refusal::BadText)?;
+    let action = Action::read(text).ok_or(Refusal::BadText)?;
+    Ok(action)
+}
+
+/// The number of a thing.
+#[tactic(auto, unfolding(crate::specs::Parts::number_part))]
+pub(crate) fn number_at(value: &Value, name: &str) -> Result<u32, ReadFault>
+    ensures { IsReadAs (number_part (get name.now (view value.now))) result }
+{
+    match value.get(name) {
+        Some(Value::Number(number)) => match number.as_u64() {
+            Some(n) if n > 0 && n <= 4_294_967_295 => Ok(n as u32),
+            _ => Err(ReadFault::Refused(Refusal::BadNumber)),
+        },
+        _ => Err(ReadFault::Refused(Refusal::BadText)),
+    }
+}
+
+/// A count.
+#[tactic(auto, unfolding(crate::specs::Parts::count_part))]
+fn count_at(value: &Value, name: &str) -> Result<u64, Refusal>
+    ensures { result ≡ count_part (get name.now (view value.now)) }
+{
+    match value.get(name) {
+        Some(Value::Number(number)) => number.as_u64().ok_or(Refusal::BadNumber),
+        _ => Err(Refusal::BadText),
+    }
+}
+
+/// The period of so many units, where that is not over the unit's limit.
+fn period_of(unit: Unit, count: u64) -> Option<Period>
+    ensures within { IsSome result ↔ (count ≤ longest unit) }
+    ensures unit { IfSome result (λ p. p.unit ≡ unit) }
+    ensures count { IfSome result (λ p. p.count ≡ count) }
+{
+    Period::new(unit, u32::try_from(count).ok()?)
+}
+
+/// The period of the members `unit` and `count`.
+#[tactic(auto, unfolding(crate::specs::Parts::period_part))]
+pub(crate) fn period_at(value: &Value) -> Result<Period, ReadFault>
+    ensures { IsReadAs (period_part (get (codes "unit") (view value.now)) (get (codes "count") (view value.now))) result }
+{
+    let text = text_at(value, "unit").ok_or(Refusal::BadText)?;
+    let unit = Unit::read(text).ok_or(Refusal::BadText)?;
+    let count = count_at(value, "count")?;
+    let period = period_of(unit, count).ok_or(Refusal::BadNumber)?;
+    Ok(period)
+}
+
+/// A code that may be null or missing.
+#[tactic(auto, using(crate::proofs::Made::fault_made))]
+pub(crate) fn optional_code_at(
+    alloc: Global,
+    value: &Value,
+    name: &str,
+) -> Result<Option<Code>, ReadFault>
+    ensures { IsReadAs (optional code_part (get name.now (view value.now))) result }
+{
+    if !is_given(value, name) {
+        return Ok(None);
+    }
+    match code_at(alloc, value, name) {
+        Ok(code) => Ok(Some(code)),
+        Err(fault) => Err(fault),
+    }
+}
+
+/// The number of an aggregation that may be null or missing.
+#[tactic(auto, using(crate::proofs::Made::fault_made))]
+pub(crate) fn optional_number_at(value: &Value, name: &str) -> Result<Option<AggNo>, ReadFault>
+    ensures { IsReadAs (optional number_part (get name.now (view value.now))) result }
+{
+    if !is_given(value, name) {
+        return Ok(None);
+    }
+    match number_at(value, name) {
+        Ok(number) => Ok(Some(number)),
+        Err(fault) => Err(fault),
+    }
+}

@@ -1,0 +1,53 @@
+use office_days::Refusal;
+use office_tree::Memory;
+
+/// Why no act was read.
+#[derive(Clone, Copy, PartialEq, Eq, Debug)]
+pub enum ReadFault {
+    /// The value asks for no act: `BadText` where its shape or a text is not of its form, else
+    /// `BadNumber` where a number or a length is out of its range.
+    Refused(Refusal),
+    /// Memory was asked for and refused.
+    Memory,
+}
+
+impl ReadFault {
+    ghost use Rattle.std.specs.Prelude.{◌≡◌};
+    ghost use Rattle.office_json.specs.Parts.{lesser};
+
+    /// Of two faults the one to tell: a refusal before want of memory, and of two refusals that with the
+    /// least number.
+    pub(crate) fn lesser(self, other: ReadFault) -> ReadFault
+        ensures { result ≡ lesser self other }
+    {
+        match (self, other) {
+            (ReadFault::Memory, other) => other,
+            (first, ReadFault::Memory) => first,
+            (ReadFault::Refused(a), ReadFault::Refused(b)) => {
+                ReadFault::Refused(if a.number() <= b.number() { a } else { b })
+            }
+        }
+    }
+}
+
+impl From<Memory> for ReadFault {
+    ghost use Rattle.std.specs.Prelude.{◌≡◌};
+    ghost use Rattle.office_json.specs.declared.read_fault.ReadFault.TheVariants.{Memory};
+
+    ghost from_gives = { λ _ fault. fault ≡ Memory };
+
+    fn from(_memory: Memory) -> ReadFault {
+        ReadFault::Memory
+    }
+}
+
+impl From<Refusal> for ReadFault {
+    ghost use Rattle.std.specs.Prelude.{◌≡◌};
+    ghost use Rattle.office_json.specs.declared.read_fault.ReadFault.TheVariants.{Refused};
+
+    ghost from_gives = { λ refusal fault. fault ≡ Refused refusal };
+
+    fn from(refusal: Refusal) -> ReadFault {
+        ReadFault::Refused(refusal)
+    }
+}

@@ -1,0 +1,64 @@
+//! What is told of acts besides a single answer, and the text of what is told.
+ghost use Rattle.std.specs.Prelude.{◌≡◌, false, IfOk, string_bytes};
+ghost use Rattle.serde_json.specs.View.{view};
+ghost use Rattle.serde_json.specs.Written.{compact_text, has_float};
+ghost use Rattle.office_json.specs.Replies.{answers_data, bad_act_data, fault_data, stopped_data};
+
+use crate::answers::answer_value;
+use office_days::Refusal;
+use office_machine::Answer;
+use office_tree::Memory;
+use serde_json::{Value, json};
+use std::alloc::Global;
+
+/// Answers in JSON, an array of them in their order. `Memory` comes where an allocation was refused.
+pub fn answers_value(alloc: Global, answers: &[Answer]) -> Result<Value, Memory>
+    ensures value { IfOk result (λ value. view value ≡ answers_data answers.now) }
+    ensures no_float { IfOk result (λ value. has_float (view value) ≡ false) }
+{
+    let mut values = Vec::new(alloc);
+    for answer in answers {
+        values.push(answer_value(alloc, answer)?)?;
+    }
+    Ok(Value::Array(values))
+}
+
+/// `{"fault":N}`
+pub fn fault_value(alloc: Global, number: u32) -> Result<Value, Memory>
+    ensures value { IfOk result (λ value. view value ≡ fault_data number) }
+    ensures no_float { IfOk result (λ value. has_float (view value) ≡ false) }
+{
+    let value = json!(in alloc; {"fault": number})?;
+    Ok(value)
+}
+
+/// `{"answers":[..],"fault":N}`: the answers to the acts before a fault, and the number of the fault.
+#[tactic(auto, using(crate::proofs::Floatless::stopped_has_none))]
+pub fn stopped_value(alloc: Global, answers: &[Answer], number: u32) -> Result<Value, Memory>
+    ensures value { IfOk result (λ value. view value ≡ stopped_data answers.now number) }
+    ensures no_float { IfOk result (λ value. has_float (view value) ≡ false) }
+{
+    let values = answers_value(alloc, answers)?;
+    let value = json!(in alloc; {"answers": values, "fault": number})?;
+    Ok(value)
+}
+
+/// `{"error":"act","place":P,"refused":N}`: the place, from 0, of a value that asks for no act, and the
+/// number of its refusal.
+pub fn bad_act_value(alloc: Global, place: u64, refusal: Refusal) -> Result<Value, Memory>
+    ensures value { IfOk result (λ value. view value ≡ bad_act_data place refusal) }
+    ensures no_float { IfOk result (λ value. has_float (view value) ≡ false) }
+{
+    let value = json!(in alloc; {"error": "act", "place": place, "refused": refusal.number()})?;
+    Ok(value)
+}
+
+/// The text of a value that has no float, with no space in it. `Memory` comes where an allocation was
+/// refused.
+pub fn text_of(alloc: Global, value: &Value) -> Result<String, Memory>
+    requires { has_float (view value.now) ≡ false }
+    ensures { IfOk result (λ text. string_bytes text ≡ compact_text (view value.now)) }
+{
+    let text = value.to_string(alloc)?;
+    Ok(text)
+}

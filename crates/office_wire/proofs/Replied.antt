@@ -1,0 +1,31 @@
+-- The answer to a request that was received.
+use Rattle.std.proofs.Common.{◌≡◌, ◌∙◌, subst, inl, inr, ℕ, Bool, List, Option, Some, None}
+use Rattle.std.specs.Prelude.{IfSome}
+use Rattle.httparse.specs.Grammar.{RequestHead}
+use Rattle.sqlite_trees.specs.declared.store.Store.{Ghosts}
+use Rattle.office_machine.specs.State.{State}
+use Rattle.office_desk.specs.Desk.{DeskState}
+use Rattle.office_desk.specs.Leaving.{StandsAt}
+use Rattle.office_http.specs.Plans.{is_head_method}
+use Rattle.office_http.specs.Replies.{Response}
+use Rattle.office_http.specs.Requests.{IsRequest, asks}
+use Rattle.office_http.specs.declared.failure.Failure.TheVariants as failure
+use Rattle.office_wire.specs.Receiving.{IsAskedBy, Wanted, asked_for}
+use Rattle.office_wire.specs.Serving.{IsFailed, IsReply, IsServed, IsToSend}
+use Rattle.office_wire.specs.declared.receiving.Asked.{Asked}
+use Rattle.office_wire.specs.declared.serving.Sending.{Sending}
+
+pub some_more : {A : Type 0} (o : Option A) (P Q : A → Type 0) → IfSome o P → ((a : A) → P a → Q a) → IfSome o Q
+some_more None P Q it more = tt
+some_more (Some a) P Q it more = more a it
+
+pub asked_reply : {S : Type 0} (g : Ghosts S) (t : State) (bytes : List ℕ) (unread : Type 0) (h : RequestHead) (rest : List ℕ) (it : Asked) (is_head : Bool) (r : Response) (desk : DeskState S)
+    → IsRequest (asks h rest) bytes → IsAskedBy h rest it → is_head ≡ it.is_head → IsServed g t (asked_for it.asking) r desk → IsReply g t bytes unread is_head r desk
+asked_reply g t bytes unread h rest it is_head r desk request by same served =
+    inl (asks h rest, request, (same ∙ by.is_head, subst (λ (w : Wanted). IsServed g t w r desk) by.wanted served))
+
+pub starved_reply : {S : Type 0} (g : Ghosts S) (t : State) (bytes : List ℕ) (unread : Type 0) (h : RequestHead) (rest : List ℕ) (is_head : Bool) (it : Option Sending) (desk : DeskState S)
+    → IsRequest (asks h rest) bytes → is_head ≡ is_head_method h.method → IsFailed failure.Memory is_head it → StandsAt g t desk → IsToSend g t bytes unread it desk
+starved_reply g t bytes unread h rest is_head None desk request same failed stands = absurd failed
+starved_reply g t bytes unread h rest is_head (Some it) desk request same failed stands =
+    inl (asks h rest, request, (failed.1 ∙ same, inr (failed.0, inl stands)))

@@ -1,0 +1,159 @@
+-- What is answered to what is asked of the office, and where the desk stands then. Source: own.
+use Rattle.std.specs.FinMap.{get}
+use Rattle.std.specs.Prelude.{◌≡◌, ◌≢◌, ◌⊎◌, ◌+◌, ◌<◌, ◌≤◌, ℕ, ℤ, suc, IsTrue, List, [], ◌∷◌, length, map, take, Option, Some, None, Result, Ok, Err}
+use Rattle.sqlite.specs.Held.{state}
+use Rattle.sqlite_trees.specs.declared.store.Store.{Ghosts}
+use Rattle.office_days.specs.declared.refusal.Refusal.TheVariants as refusal
+use Rattle.office_machine.specs.Acts.{after, answers}
+use Rattle.office_machine.specs.Readings.{IsDueList, ending_entry, record_view}
+use Rattle.office_machine.specs.Runs.{IsMidway, after_steps, open_run, whole}
+use Rattle.office_machine.specs.State.{Office, State}
+use Rattle.office_machine.specs.declared.act.Act.{Act}
+use Rattle.office_machine.specs.declared.answer.Answer.TheVariants.{Refused, RunClosed}
+use Rattle.office_machine.specs.declared.record_view.RecordView.{RecordView}
+use Rattle.office_store.specs.declared.fault.Fault.{Fault}
+use Rattle.office_store.specs.declared.fault.Fault.TheVariants as fault
+use Rattle.office_desk.specs.Desk.{DeskState}
+use Rattle.office_desk.specs.Fates.{LeavesFates, LeavesStepFates}
+use Rattle.office_desk.specs.Leaving.{IsContentTold, IsOtherContent, LeavesRowsOf, StandsAt, StopsAt, StopsLeaving}
+use Rattle.office_desk.specs.Resuming.{LeavesMidway}
+use Rattle.office_json.specs.Acts.{Asked, asked}
+use Rattle.office_json.specs.Lists.{NoActs, not_json, bad_act, acts_in}
+use Rattle.office_http.specs.Replies.{Response, check_response, failure_response}
+use Rattle.office_http.specs.declared.failure.Failure.TheVariants as failure
+use Rattle.office_wire.specs.declared.answering.Told.{Told}
+use Rattle.office_wire.specs.Receiving.{Wanted, refused, cut, acts, resumption, record_told, content_told, due_told, certificate_told}
+use Rattle.office_wire.specs.Replies.{acts_response, answer_response, bad_act_response, certificate_response, content_response, due_response, fault_response, record_response, stopped_response}
+
+-- ---- acts; Told tells which answer is given
+
+-- all acts were done, and a crash leaves the tables after them
+pub record AreDone {S : Type 0} (Told : Response → Type 0) (g : Ghosts S) (t : State) (done : List Act) (desk : DeskState S) : Type 0 where
+  pub told : Told (acts_response (answers t done))
+  pub stands : StandsAt g (after t done) desk
+  pub fates : LeavesFates t done (state g desk.held)
+
+-- a fault stopped them after so many: a crash leaves the tables after these or after one more
+pub record AreStopped {S : Type 0} (Told : Response → Type 0) (g : Ghosts S) (t : State) (done : List Act) (f : Fault) (n : ℕ) (desk : DeskState S) : Type 0 where
+  pub within : n ≤ length done
+  pub one_more : f ≢ fault.Memory → n < length done
+  pub told : Told (stopped_response (answers t (take n done)) f)
+  pub stops : StopsAt (after t (take n done)).office f desk
+  pub leaves : StopsLeaving (after t (take n done)) (after t (take (n + 1) done)) f (state g desk.held)
+  pub fates : LeavesFates t done (state g desk.held)
+
+abbrev pub ArePerformed : {S : Type 0} → (Response → Type 0) → Ghosts S → State → List Act → DeskState S → Type 0
+ArePerformed Told g t done desk = AreDone Told g t done desk ⊎ ((f : Fault) × (n : ℕ) × AreStopped Told g t done f n desk)
+
+-- what bytes ask for, by what is read of them
+abbrev pub PerformsAsked : {S : Type 0} → (Response → Type 0) → Ghosts S → State → Result (List Asked) NoActs → DeskState S → Type 0
+PerformsAsked Told g t (Ok all) desk = (done : List Act) × (all ≡ map asked done) × ArePerformed Told g t done desk
+PerformsAsked Told g t (Err not_json) desk = Told (failure_response failure.Json) × StandsAt g t desk
+PerformsAsked Told g t (Err (bad_act place why)) desk = Told (bad_act_response place why) × StandsAt g t desk
+
+-- ---- the open run
+
+-- the open run was taken up and closed, in whatever moment it had been stopped
+pub record IsResumed {S : Type 0} (Told : Response → Type 0) (g : Ghosts S) (t : State) (run : ℕ) (desk : DeskState S) : Type 0 where
+  pub was_open : open_run t.office ≡ Some run
+  pub told : Told (answer_response (RunClosed run))
+  pub closed : StandsAt g (whole t run) desk
+  pub never_stopped : (s : State) → open_run s.office ≡ Some run → IsMidway s run t → StandsAt g (whole s run) desk
+  pub fates : LeavesStepFates t (state g desk.held)
+
+-- none was open
+pub record HasNoRun {S : Type 0} (Told : Response → Type 0) (g : Ghosts S) (t : State) (desk : DeskState S) : Type 0 where
+  pub none_open : open_run t.office ≡ None
+  pub told : Told (answer_response (Refused refusal.NoRun))
+  pub stands : StandsAt g t desk
+
+-- a fault stopped it: a crash leaves the run midway, or the state where none was open
+pub record IsRunStopped {S : Type 0} (Told : Response → Type 0) (g : Ghosts S) (t : State) (f : Fault) (desk : DeskState S) : Type 0 where
+  pub told : Told (fault_response f)
+  pub stopped : (n : ℕ) × StopsAt (after_steps t n).office f desk × StopsLeaving (after_steps t n) (after_steps t (suc n)) f (state g desk.held)
+  pub midway : (s : State) (run : ℕ) → open_run s.office ≡ Some run → IsMidway s run t → LeavesMidway s run (state g desk.held)
+  pub none_open : open_run t.office ≡ None → LeavesRowsOf t (state g desk.held)
+  pub fates : LeavesStepFates t (state g desk.held)
+
+abbrev pub Resumes : {S : Type 0} → (Response → Type 0) → Ghosts S → State → DeskState S → Type 0
+Resumes Told g t desk = ((run : ℕ) × IsResumed Told g t run desk) ⊎ (HasNoRun Told g t desk ⊎ ((f : Fault) × IsRunStopped Told g t f desk))
+
+-- ---- what is told
+
+-- an answer that changes nothing, or want of memory for it
+abbrev pub Tells : {S : Type 0} → (Response → Type 0) → Ghosts S → State → Response → DeskState S → Type 0
+Tells Told g t response desk = (Told response ⊎ Told (fault_response fault.Memory)) × StandsAt g t desk
+
+-- a number or a day that names nothing
+abbrev pub TellsNone : {S : Type 0} → (Response → Type 0) → Ghosts S → State → Response → DeskState S → Type 0
+TellsNone Told g t response desk = Told response × StandsAt g t desk
+
+abbrev pub TellsRecord : {S : Type 0} → (Response → Type 0) → Ghosts S → State → Option ℕ → DeskState S → Type 0
+TellsRecord Told g t None desk = TellsNone Told g t (failure_response failure.Record) desk
+TellsRecord Told g t (Some r) desk = Tells Told g t (record_response (record_view t.office r) (ending_entry t.office r)) desk
+
+-- the content of the record, with its length and digest
+abbrev pub IsTold : {S : Type 0} → (Response → Type 0) → Ghosts S → State → ℕ → DeskState S → Type 0
+IsTold Told g t r desk = (content : Option (List ℕ)) × IsContentTold t r content × Told (content_response content) × StandsAt g t desk
+
+-- a fault kept it from being told: it is damaged, or memory was wanting, or the database failed and the desk is given up; a crash leaves the state
+pub record IsUntold {S : Type 0} (Told : Response → Type 0) (g : Ghosts S) (t : State) (r : ℕ) (f : Fault) (desk : DeskState S) : Type 0 where
+  pub told : Told (fault_response f)
+  pub damaged : f ≡ fault.Damaged → IsOtherContent t r
+  pub kept : f ≢ fault.Store → StandsAt g t desk
+  pub given_up : f ≡ fault.Store → IsTrue desk.is_given_up
+  pub leaves : LeavesRowsOf t (state g desk.held)
+  pub no_other : (f ≢ fault.Reopen) × (f ≢ fault.Version)
+
+abbrev pub TellsContent : {S : Type 0} → (Response → Type 0) → Ghosts S → State → Option ℕ → DeskState S → Type 0
+TellsContent Told g t None desk = TellsNone Told g t (failure_response failure.Content) desk
+TellsContent Told g t (Some r) desk = IsTold Told g t r desk ⊎ ((f : Fault) × IsUntold Told g t r f desk)
+
+-- what is told of the records of a list
+abbrev pub and_told : Option RecordView → List RecordView → List RecordView
+and_told None rows = rows
+and_told (Some row) rows = row ∷ rows
+
+abbrev pub told_of : Office → List ℕ → List RecordView
+told_of s [] = []
+told_of s (r ∷ rs) = and_told (record_view s r) (told_of s rs)
+
+-- the records of the due list of a day, as they are told
+abbrev pub AreDueRows : State → ℤ → List RecordView → Type 0
+AreDueRows t day rows = (list : List ℕ) × IsDueList t.office.tree day list × (rows ≡ told_of t.office list)
+
+abbrev pub TellsDue : {S : Type 0} → (Response → Type 0) → Ghosts S → State → Option ℤ → DeskState S → Type 0
+TellsDue Told g t None desk = TellsNone Told g t (failure_response failure.Day) desk
+TellsDue Told g t (Some day) desk = (((rows : List RecordView) × AreDueRows t day rows × Told (due_response rows)) ⊎ Told (fault_response fault.Memory)) × StandsAt g t desk
+
+abbrev pub TellsCertificate : {S : Type 0} → (Response → Type 0) → Ghosts S → State → Option ℕ → DeskState S → Type 0
+TellsCertificate Told g t None desk = TellsNone Told g t (failure_response failure.Certificate) desk
+TellsCertificate Told g t (Some run) desk = Tells Told g t (certificate_response (get t.office.certificates run)) desk
+
+-- ---- what the code answers
+
+-- what was read of a record in an office
+abbrev pub IsToldOf : Office → ℕ → Option Told → Type 0
+IsToldOf s r None = record_view s r ≡ None
+IsToldOf s r (Some it) = (record_view s r ≡ Some it.view) × (ending_entry s r ≡ it.ending)
+
+-- ---- all of it
+
+-- what is wanted of the office in a state is answered, and the desk stands where that leaves it
+abbrev pub Serves : {S : Type 0} → (Response → Type 0) → Ghosts S → State → Wanted → DeskState S → Type 0
+Serves Told g t (refused check) desk = TellsNone Told g t (check_response check) desk
+Serves Told g t cut desk = TellsNone Told g t (failure_response failure.Body) desk
+Serves Told g t (acts body) desk = PerformsAsked Told g t (acts_in body) desk
+Serves Told g t resumption desk = Resumes Told g t desk
+Serves Told g t (record_told r) desk = TellsRecord Told g t r desk
+Serves Told g t (content_told r) desk = TellsContent Told g t r desk
+Serves Told g t (due_told day) desk = TellsDue Told g t day desk
+Serves Told g t (certificate_told run) desk = TellsCertificate Told g t run desk
+
+-- it was served with this answer
+abbrev pub Answers : {S : Type 0} → Ghosts S → State → Wanted → Response → DeskState S → Type 0
+Answers g t wanted response desk = Serves (λ told. response ≡ told) g t wanted desk
+
+-- memory was wanting for its answer: nothing was done, or it was served and no answer given
+abbrev pub Starves : {S : Type 0} → Ghosts S → State → Wanted → DeskState S → Type 0
+Starves g t wanted desk = StandsAt g t desk ⊎ Serves (λ told. Unit {0}) g t wanted desk

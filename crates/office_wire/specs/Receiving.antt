@@ -1,0 +1,84 @@
+-- What a connection asks for, by all its bytes. Source: RFC 9112 for the request, as `office_http` reads it; the rest is own.
+use Rattle.std.specs.Prelude.{◌≡◌, ◌≢◌, ℕ, ℤ, Bool, List, length, take, nat_lt, if◌then◌else◌, Option, Some, None}
+use Rattle.httparse.specs.Grammar.{RequestHead}
+use Rattle.office_http.specs.Plans.{is_head_method, plan_at}
+use Rattle.office_http.specs.Requests.{IsRequest, nothing, headless, asks}
+use Rattle.office_http.specs.declared.check.Check.{Check}
+use Rattle.office_http.specs.declared.plan.Plan.{Plan}
+use Rattle.office_http.specs.declared.plan.Plan.TheVariants.{Refuse, Serve}
+use Rattle.office_http.specs.declared.want.Want.{Want}
+use Rattle.office_http.specs.declared.want.Want.TheVariants as wants
+use Rattle.office_wire.specs.declared.receiving.Asked.{Asked}
+use Rattle.office_wire.specs.declared.receiving.Asking.{Asking}
+use Rattle.office_wire.specs.declared.receiving.Asking.TheVariants as asking
+use Rattle.office_wire.specs.declared.receiving.Received.{Received}
+use Rattle.office_wire.specs.declared.receiving.Received.TheVariants as received
+use Rattle.office_wire.specs.declared.receiving.ReceiveStop.{ReceiveStop}
+use Rattle.office_wire.specs.declared.receiving.ReceiveStop.TheVariants as stop
+
+-- what is asked of the office: nothing, since a check of the head fails or the body is cut; or one of six things
+pub data Wanted : Type 0 where
+  refused : Check → Wanted
+  cut : Wanted
+  acts : List ℕ → Wanted
+  resumption : Wanted
+  record_told : Option ℕ → Wanted
+  content_told : Option ℕ → Wanted
+  due_told : Option ℤ → Wanted
+  certificate_told : Option ℕ → Wanted
+
+-- the body of acts, where so many bytes are there; those after it do not matter
+abbrev pub body_wanted : ℕ → List ℕ → Wanted
+body_wanted size rest = if nat_lt (length rest) size then cut else acts (take size rest)
+
+abbrev pub want_wanted : Want → List ℕ → Wanted
+want_wanted (wants.Acts size) rest = body_wanted size rest
+want_wanted wants.Resume rest = resumption
+want_wanted (wants.Record n) rest = record_told n
+want_wanted (wants.Content n) rest = content_told n
+want_wanted (wants.Due day) rest = due_told day
+want_wanted (wants.Certificate n) rest = certificate_told n
+
+abbrev pub plan_wanted : Plan → List ℕ → Wanted
+plan_wanted (Refuse check) rest = refused check
+plan_wanted (Serve want) rest = want_wanted want rest
+
+-- what a head and the bytes after it ask for
+abbrev pub wanted : RequestHead → List ℕ → Wanted
+wanted h rest = plan_wanted (plan_at h) rest
+
+-- ---- what the code answers
+
+-- what was received, as it is wanted
+abbrev pub asked_for : Asking → Wanted
+asked_for (asking.Refused check) = refused check
+asked_for asking.Cut = cut
+asked_for (asking.Acts body) = acts body
+asked_for asking.Resumption = resumption
+asked_for (asking.Record n) = record_told n
+asked_for (asking.Content n) = content_told n
+asked_for (asking.Due day) = due_told day
+asked_for (asking.Certificate n) = certificate_told n
+
+-- of a head and the bytes after it: what they ask for, and whether the head of the answer alone is written
+pub record IsAskedBy (h : RequestHead) (rest : List ℕ) (it : Asked) : Type 0 where
+  pub wanted : asked_for it.asking ≡ wanted h rest
+  pub is_head : it.is_head ≡ is_head_method h.method
+
+-- what was received is what all bytes are
+abbrev pub IsReceived : Received → List ℕ → Type 0
+IsReceived received.Nothing bytes = IsRequest nothing bytes
+IsReceived received.Headless bytes = IsRequest headless bytes
+IsReceived (received.Request it) bytes = (h : RequestHead) × (rest : List ℕ) × IsRequest (asks h rest) bytes × IsAskedBy h rest it
+
+-- why the rest of a request with that head was not received
+abbrev pub IsStarvedFor : RequestHead → ReceiveStop → Type 0
+IsStarvedFor h stop.Io = Unit {0}
+IsStarvedFor h stop.Memory = ⊥
+IsStarvedFor h (stop.MemoryFor is_head) = is_head ≡ is_head_method h.method
+
+-- why nothing was received of all bytes: where memory was wanting after the head, it is the head of these bytes
+abbrev pub IsStarved : ReceiveStop → List ℕ → Type 0
+IsStarved stop.Io bytes = Unit {0}
+IsStarved stop.Memory bytes = Unit {0}
+IsStarved (stop.MemoryFor is_head) bytes = (h : RequestHead) × (rest : List ℕ) × IsRequest (asks h rest) bytes × (is_head ≡ is_head_method h.method)

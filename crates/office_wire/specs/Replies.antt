@@ -1,0 +1,74 @@
+-- The answers of HTTP to what is asked of the office. Source: own; statuses are those of RFC 9110 section 15.
+use Rattle.std.specs.Prelude.{ℕ, Bool, true, false, List, Option, Some, None, if◌then◌else◌}
+use Rattle.std.specs.List.{list_any}
+use Rattle.serde_json.specs.Data.{Data}
+use Rattle.serde_json.specs.Written.{compact_text}
+use Rattle.office_days.specs.declared.refusal.Refusal.{Refusal}
+use Rattle.office_proof.specs.declared.entry.Entry.{Entry}
+use Rattle.office_machine.specs.declared.answer.Answer.{Answer}
+use Rattle.office_machine.specs.declared.answer.Answer.TheVariants as answer
+use Rattle.office_machine.specs.declared.record_view.RecordView.{RecordView}
+use Rattle.office_store.specs.Faults.{fault_number}
+use Rattle.office_store.specs.declared.fault.Fault.{Fault}
+use Rattle.office_json.specs.Answers.{answer_data}
+use Rattle.office_json.specs.DueJson.{due_data}
+use Rattle.office_json.specs.RecordJson.{record_data}
+use Rattle.office_json.specs.Replies.{answers_data, bad_act_data, fault_data, stopped_data}
+use Rattle.office_http.specs.Replies.{Response, failure_response}
+use Rattle.office_http.specs.declared.failure.Failure.TheVariants as failure
+use Rattle.office_http.specs.declared.reply.Allow.TheVariants as allow
+use Rattle.office_http.specs.declared.reply.Kind.TheVariants as kind
+use Rattle.office_http.specs.declared.status.Status.{Status}
+use Rattle.office_http.specs.declared.status.Status.TheVariants as status
+
+-- an answer whose body is the text of a value in JSON
+unfoldable pub json_response : Status → Data → Response
+json_response code value = record { status = code; kind = kind.Json; allow = allow.Any; body = compact_text value }
+
+-- an answer that is a refusal
+abbrev pub is_refusal : Answer → Bool
+is_refusal (answer.Refused refusal) = true
+is_refusal _ = false
+
+-- the status of answers: 409 where one of them is a refusal, else 200
+abbrev pub answers_status : List Answer → Status
+answers_status answers = if list_any is_refusal answers then status.Conflict else status.Fine
+
+-- the answers to acts
+abbrev pub acts_response : List Answer → Response
+acts_response answers = json_response (answers_status answers) (answers_data answers)
+
+-- the answers to the acts before a fault, and the fault
+abbrev pub stopped_response : List Answer → Fault → Response
+stopped_response answers f = json_response status.ServiceUnavailable (stopped_data answers (fault_number f))
+
+-- a fault
+abbrev pub fault_response : Fault → Response
+fault_response f = json_response status.ServiceUnavailable (fault_data (fault_number f))
+
+-- the place of the first value that asks for no act, and its refusal
+abbrev pub bad_act_response : ℕ → Refusal → Response
+bad_act_response place refusal = json_response status.BadRequest (bad_act_data place refusal)
+
+-- the answer to one act
+abbrev pub answer_response : Answer → Response
+answer_response it = json_response (if is_refusal it then status.Conflict else status.Fine) (answer_data it)
+
+-- a record with the entry that ended it; 404 where there is none
+abbrev pub record_response : Option RecordView → Option Entry → Response
+record_response None ending = failure_response failure.Record
+record_response (Some told) ending = json_response status.Fine (record_data told ending)
+
+-- what is due
+abbrev pub due_response : List RecordView → Response
+due_response rows = json_response status.Fine (due_data rows)
+
+-- a content; 404 where there is none
+abbrev pub content_response : Option (List ℕ) → Response
+content_response None = failure_response failure.Content
+content_response (Some bytes) = record { status = status.Fine; kind = kind.Octets; allow = allow.Any; body = bytes }
+
+-- a certificate; 404 where there is none
+abbrev pub certificate_response : Option (List ℕ) → Response
+certificate_response None = failure_response failure.Certificate
+certificate_response (Some text) = record { status = status.Fine; kind = kind.Plain; allow = allow.Any; body = text }

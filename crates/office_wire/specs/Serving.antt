@@ -1,0 +1,70 @@
+-- One request and its answer. Source: own; requests and the form of answers are those of RFC 9112.
+use Rattle.std.specs.Prelude.{◌≡◌, ◌⊎◌, ℕ, Bool, false, List, Option, Some, None}
+use Rattle.std.specs.Io.KnownBytes.{Appends}
+use Rattle.sqlite_trees.specs.declared.store.Store.{Ghosts}
+use Rattle.office_machine.specs.State.{State}
+use Rattle.office_desk.specs.Desk.{DeskState}
+use Rattle.office_desk.specs.Leaving.{StandsAt}
+use Rattle.office_http.specs.Plans.{is_head_method}
+use Rattle.office_http.specs.declared.failure.Failure.{Failure}
+use Rattle.office_wire.specs.declared.serving.Sending.{Sending}
+use Rattle.office_http.specs.Replies.{Response, response, failure_response, response_text, status_number}
+use Rattle.office_http.specs.Requests.{Request, IsRequest, nothing, headless, asks}
+use Rattle.office_http.specs.declared.failure.Failure.TheVariants as failure
+use Rattle.office_wire.specs.Answering.{Answers, Starves}
+use Rattle.office_wire.specs.Receiving.{Wanted, wanted}
+
+-- an answer is written, to HEAD its head alone, and the status is its
+abbrev pub Writes : Bool → Response → ℕ → Option (List ℕ) → Option (List ℕ) → Type 0
+Writes is_head r status written after = Appends written after (response_text is_head r) × (status ≡ status_number r.status)
+
+-- what is asked is served with this answer, or memory was wanting for that and is told
+abbrev pub IsServed : {S : Type 0} → Ghosts S → State → Wanted → Response → DeskState S → Type 0
+IsServed g t it r desk = Answers g t it r desk ⊎ ((r ≡ failure_response failure.Memory) × Starves g t it desk)
+
+-- which answer a request gets, whether to HEAD, and where the desk stands then; a connection without a byte gets none
+abbrev pub IsReplied : {S : Type 0} → Ghosts S → State → Request → Bool → Response → DeskState S → Type 0
+IsReplied g t nothing is_head r desk = ⊥
+IsReplied g t headless is_head r desk = (is_head ≡ false) × (r ≡ failure_response failure.Head) × StandsAt g t desk
+IsReplied g t (asks h rest) is_head r desk = (is_head ≡ is_head_method h.method) × IsServed g t (wanted h rest) r desk
+
+-- a connection without a byte: nothing is written, and nothing done
+abbrev pub IsSilent : {S : Type 0} → Ghosts S → State → List ℕ → ℕ → Option (List ℕ) → Option (List ℕ) → DeskState S → Type 0
+IsSilent g t bytes status written after desk = IsRequest nothing bytes × (status ≡ 0) × (after ≡ written) × StandsAt g t desk
+
+-- the answer to all bytes of a connection: that to their request; or, where memory was wanting before a byte was read, the telling of that
+abbrev pub IsReply : {S : Type 0} → Ghosts S → State → List ℕ → Type 0 → Bool → Response → DeskState S → Type 0
+IsReply g t bytes unread is_head r desk =
+    ((q : Request) × IsRequest q bytes × IsReplied g t q is_head r desk)
+    ⊎ (unread × (is_head ≡ false) × (r ≡ failure_response failure.Memory) × StandsAt g t desk)
+
+-- it was written
+abbrev pub Replies : {S : Type 0} → Ghosts S → State → List ℕ → Type 0 → ℕ → Option (List ℕ) → Option (List ℕ) → DeskState S → Type 0
+Replies g t bytes unread status written after desk =
+    IsSilent g t bytes status written after desk
+    ⊎ ((is_head : Bool) × (r : Response) × IsReply g t bytes unread is_head r desk × Writes is_head r status written after)
+
+-- it was not written whole: the writer answered an error, and the desk stands as if it had been
+abbrev pub Breaks : {S : Type 0} → Ghosts S → State → List ℕ → Type 0 → DeskState S → Type 0
+Breaks g t bytes unread desk = (is_head : Bool) × (r : Response) × IsReply g t bytes unread is_head r desk
+
+-- whatever came, the desk stands where serving something may leave it
+abbrev pub LeavesServed : {S : Type 0} → Ghosts S → State → DeskState S → Type 0
+LeavesServed g t desk = (it : Wanted) × Starves g t it desk
+
+-- ---- what the code sends
+
+-- an answer from fixed bytes is to be written
+abbrev pub IsFailed : Failure → Bool → Option Sending → Type 0
+IsFailed why is_head None = ⊥
+IsFailed why is_head (Some it) = (response it.reply ≡ failure_response why) × (it.is_head ≡ is_head)
+
+-- what is to be written is the answer to all bytes of a connection
+abbrev pub IsToSend : {S : Type 0} → Ghosts S → State → List ℕ → Type 0 → Option Sending → DeskState S → Type 0
+IsToSend g t bytes unread None desk = IsRequest nothing bytes × StandsAt g t desk
+IsToSend g t bytes unread (Some it) desk = IsReply g t bytes unread it.is_head (response it.reply) desk
+
+-- it was written, and the status is its
+abbrev pub IsSent : Option Sending → ℕ → Option (List ℕ) → Option (List ℕ) → Type 0
+IsSent None status written after = (status ≡ 0) × (after ≡ written)
+IsSent (Some it) status written after = Writes it.is_head (response it.reply) status written after

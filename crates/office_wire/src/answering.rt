@@ -1,0 +1,204 @@
+//! What is asked is done at the desk, and answered.
+ghost use Rattle.std.specs.FinMap.{get};
+ghost use Rattle.std.specs.Prelude.{◌≡◌, ◌⊎◌, ℕ, IfErr, IfOk, IsTrue, List, OnErr, option_map, string_bytes};
+ghost use Rattle.sqlite.specs.Held.{state};
+ghost use Rattle.sqlite.specs.State.{HasCleanDisk};
+ghost use Rattle.office_machine.specs.Readings.{IsDueList, ending_entry, record_view};
+ghost use Rattle.office_machine.specs.State.{State};
+ghost use Rattle.office_desk.specs.Leaving.{StandsAt};
+ghost use Rattle.office_json.specs.Lists.{acts_in};
+ghost use Rattle.office_http.specs.Replies.{response};
+ghost use Rattle.office_wire.specs.Answering.{Answers, ArePerformed, IsToldOf, PerformsAsked, Resumes, Starves, TellsCertificate, TellsContent, TellsDue, TellsRecord, told_of};
+ghost use Rattle.office_wire.specs.Receiving.{asked_for};
+
+use crate::receiving::Asking;
+use crate::replies::{
+    acts_reply, answer_reply, bad_act_reply, certificate_reply, content_reply, due_reply,
+    fault_reply, record_reply, stopped_reply,
+};
+use office_days::Day;
+use office_desk::Desk;
+use office_http::{Failure, Reply, check_reply, failure_reply};
+use office_json::{ListFault, read_acts};
+use office_machine::laws::resuming::law_of_resumption;
+use office_machine::{Act, RecordView};
+use office_proof::Entry;
+use office_store::Fault;
+use office_tree::{Memory, RecordNo};
+use sqlite::Alter;
+use std::alloc::Global;
+
+/// Does acts, and answers them.
+fn perform<S: Alter>(alloc: Global, desk: &mut Desk<S>, acts: &[Act]) -> Result<Reply, Memory>
+    ensures clean { HasCleanDisk (state S.Store desk.new.held) → HasCleanDisk (state S.Store desk.old.held) }
+    ensures ok { IfOk result (λ reply. (t : State) → HasCleanDisk (state S.Store desk.new.held) → StandsAt S.Store t desk.old → ArePerformed (λ told. response reply ≡ told) S.Store t acts.now desk.new) }
+    ensures err { OnErr result ((t : State) → HasCleanDisk (state S.Store desk.new.held) → StandsAt S.Store t desk.old → ArePerformed (λ told. Unit {0}) S.Store t acts.now desk.new) }
+{
+    let mut answers = Vec::new(alloc);
+    match desk.perform_all(acts, &mut answers) {
+        Ok(()) => acts_reply(alloc, answers.as_slice()),
+        Err(fault) => stopped_reply(alloc, answers.as_slice(), fault),
+    }
+}
+
+/// Does the acts of a body, and answers them.
+fn perform_body<S: Alter>(alloc: Global, desk: &mut Desk<S>, body: &[u8]) -> Result<Reply, Memory>
+    ensures clean { HasCleanDisk (state S.Store desk.new.held) → HasCleanDisk (state S.Store desk.old.held) }
+    ensures ok { IfOk result (λ reply. (t : State) → HasCleanDisk (state S.Store desk.new.held) → StandsAt S.Store t desk.old → PerformsAsked (λ told. response reply ≡ told) S.Store t (acts_in body.now) desk.new) }
+    ensures err { OnErr result ((t : State) → HasCleanDisk (state S.Store desk.new.held) → StandsAt S.Store t desk.old → StandsAt S.Store t desk.new ⊎ PerformsAsked (λ told. Unit {0}) S.Store t (acts_in body.now) desk.new) }
+{
+    match read_acts(alloc, body) {
+        Ok(acts) => perform(alloc, desk, acts.as_slice()),
+        Err(ListFault::NotJson) => Ok(failure_reply(Failure::Json)),
+        Err(ListFault::BadAct(place, refusal)) => bad_act_reply(alloc, place, refusal),
+        Err(ListFault::Memory) => Err(Memory),
+    }
+}
+
+/// Takes up the open run, and answers.
+fn resume<S: Alter>(alloc: Global, desk: &mut Desk<S>) -> Result<Reply, Memory>
+    ensures clean { HasCleanDisk (state S.Store desk.new.held) → HasCleanDisk (state S.Store desk.old.held) }
+    ensures ok { IfOk result (λ reply. (t : State) → HasCleanDisk (state S.Store desk.new.held) → StandsAt S.Store t desk.old → Resumes (λ told. response reply ≡ told) S.Store t desk.new) }
+    ensures err { OnErr result ((t : State) → HasCleanDisk (state S.Store desk.new.held) → StandsAt S.Store t desk.old → Resumes (λ told. Unit {0}) S.Store t desk.new) }
+{
+    law_of_resumption();
+    match desk.resume() {
+        Ok(answer) => answer_reply(alloc, &answer),
+        Err(fault) => fault_reply(alloc, fault),
+    }
+}
+
+/// A record as it is told, with the entry that ended it.
+#[derive(Drop)]
+struct Told {
+    view: RecordView,
+    ending: Option<Entry>,
+}
+
+/// What is told of the record.
+fn read_record<S: Alter>(desk: &Desk<S>, record_no: RecordNo) -> Result<Option<Told>, Fault>
+    ensures ok { IfOk result (λ told. IsToldOf desk.now.office record_no told) }
+    ensures err { IfErr result (λ fault. (fault ≡ Fault.Memory) ⊎ IsTrue desk.now.is_given_up) }
+{
+    match desk.record(record_no)? {
+        None => Ok(None),
+        Some(view) => {
+            let ending = desk.entry_of(record_no)?;
+            Ok(Some(Told { view, ending }))
+        }
+    }
+}
+
+/// Tells a record.
+fn tell_record<S: Alter>(
+    alloc: Global,
+    desk: &Desk<S>,
+    number: Option<u32>,
+) -> Result<Reply, Memory>
+    ensures { IfOk result (λ reply. (t : State) → StandsAt S.Store t desk.now → TellsRecord (λ told. response reply ≡ told) S.Store t number desk.now) }
+{
+    let Some(record_no) = number else {
+        return Ok(failure_reply(Failure::Record));
+    };
+    match read_record(desk, record_no) {
+        Ok(None) => Ok(failure_reply(Failure::Record)),
+        Ok(Some(told)) => record_reply(alloc, &told.view, told.ending.as_ref()),
+        Err(fault) => fault_reply(alloc, fault),
+    }
+}
+
+/// Tells a content.
+fn tell_content<S: Alter>(
+    alloc: Global,
+    desk: &mut Desk<S>,
+    number: Option<u32>,
+) -> Result<Reply, Memory>
+    ensures clean { HasCleanDisk (state S.Store desk.new.held) → HasCleanDisk (state S.Store desk.old.held) }
+    ensures ok { IfOk result (λ reply. (t : State) → HasCleanDisk (state S.Store desk.new.held) → StandsAt S.Store t desk.old → TellsContent (λ told. response reply ≡ told) S.Store t number desk.new) }
+    ensures err { OnErr result ((t : State) → HasCleanDisk (state S.Store desk.new.held) → StandsAt S.Store t desk.old → TellsContent (λ told. Unit {0}) S.Store t number desk.new) }
+{
+    let Some(record_no) = number else {
+        return Ok(failure_reply(Failure::Content));
+    };
+    match desk.content(record_no) {
+        Ok(content) => Ok(content_reply(content)),
+        Err(fault) => fault_reply(alloc, fault),
+    }
+}
+
+/// What is told of the records of a list.
+#[tactic(auto, using(crate::proofs::Rows::one_told))]
+fn rows_of<S: Alter>(
+    alloc: Global,
+    desk: &Desk<S>,
+    list: &[RecordNo],
+) -> Result<Vec<RecordView>, Fault>
+    ensures ok { IfOk result (λ rows. rows.items ≡ told_of desk.now.office list.now) }
+    ensures err { IfErr result (λ fault. (fault ≡ Fault.Memory) ⊎ IsTrue desk.now.is_given_up) }
+{
+    let mut rows = Vec::new(alloc);
+    for record_no in list {
+        if let Some(view) = desk.record(*record_no)? {
+            rows.push(view).or(Err(Fault::Memory))?;
+        }
+    }
+    Ok(rows)
+}
+
+/// What is told of the records that are due on a day.
+fn due_rows<S: Alter>(alloc: Global, desk: &Desk<S>, day: Day) -> Result<Vec<RecordView>, Fault>
+    ensures ok { IfOk result (λ rows. (list : List ℕ) × IsDueList desk.now.office.tree day list × (rows.items ≡ told_of desk.now.office list)) }
+    ensures err { IfErr result (λ fault. (fault ≡ Fault.Memory) ⊎ IsTrue desk.now.is_given_up) }
+{
+    let list = desk.due_list(day)?;
+    rows_of(alloc, desk, list.as_slice())
+}
+
+/// Tells what is due on a day.
+fn tell_due<S: Alter>(alloc: Global, desk: &Desk<S>, day: Option<Day>) -> Result<Reply, Memory>
+    ensures { IfOk result (λ reply. (t : State) → StandsAt S.Store t desk.now → TellsDue (λ told. response reply ≡ told) S.Store t day desk.now) }
+{
+    let Some(day) = day else {
+        return Ok(failure_reply(Failure::Day));
+    };
+    match due_rows(alloc, desk, day) {
+        Ok(rows) => due_reply(alloc, rows.as_slice()),
+        Err(fault) => fault_reply(alloc, fault),
+    }
+}
+
+/// Tells the certificate of a run.
+fn tell_certificate<S: Alter>(
+    alloc: Global,
+    desk: &Desk<S>,
+    number: Option<u32>,
+) -> Result<Reply, Memory>
+    ensures { IfOk result (λ reply. (t : State) → StandsAt S.Store t desk.now → TellsCertificate (λ told. response reply ≡ told) S.Store t number desk.now) }
+{
+    let Some(run) = number else {
+        return Ok(failure_reply(Failure::Certificate));
+    };
+    match desk.certificate(run) {
+        Ok(text) => Ok(certificate_reply(text)),
+        Err(fault) => fault_reply(alloc, fault),
+    }
+}
+
+/// Does at the desk what is asked, and gives the answer. `Memory` comes where memory was refused for the
+/// answer; what was done stands then.
+pub fn answer<S: Alter>(alloc: Global, desk: &mut Desk<S>, asking: &Asking) -> Result<Reply, Memory>
+    ensures clean { HasCleanDisk (state S.Store desk.new.held) → HasCleanDisk (state S.Store desk.old.held) }
+    ensures ok { IfOk result (λ reply. (t : State) → HasCleanDisk (state S.Store desk.new.held) → StandsAt S.Store t desk.old → Answers S.Store t (asked_for asking.now) (response reply) desk.new) }
+    ensures err { OnErr result ((t : State) → HasCleanDisk (state S.Store desk.new.held) → StandsAt S.Store t desk.old → Starves S.Store t (asked_for asking.now) desk.new) }
+{
+    match asking {
+        Asking::Refused(check) => Ok(check_reply(*check)),
+        Asking::Cut => Ok(failure_reply(Failure::Body)),
+        Asking::Acts(body) => perform_body(alloc, desk, body.as_bytes()),
+        Asking::Resumption => resume(alloc, desk),
+        Asking::Record(number) => tell_record(alloc, desk, *number),
+        Asking::Content(number) => tell_content(alloc, desk, *number),
+        Asking::Due(day) => tell_due(alloc, desk, *day),
+        Asking::Certificate(number) => tell_certificate(alloc, desk, *number),
+    }
+}

@@ -1,0 +1,197 @@
+//! All of a request is read here, and nothing is done yet.
+ghost use Rattle.std.specs.Prelude.{◌≡◌, ◌≢◌, ◌+◌, ◌≤◌, ◌++◌, drop, length, IfErr, IfOk, IfSome, OnErr};
+ghost use Rattle.httparse.specs.Grammar.{RequestHead};
+ghost use Rattle.httparse.specs.Spans.{IsRequestAt, IsRequestWithin};
+ghost use Rattle.office_http.specs.Plans.{IsSized, is_head_method, plan_at};
+ghost use Rattle.office_http.specs.Requests.{IsHeadAt};
+ghost use Rattle.office_wire.specs.Receiving.{IsAskedBy, IsReceived, IsStarved, IsStarvedFor, asked_for, body_wanted, plan_wanted, want_wanted};
+
+use crate::body::ActsBody;
+use httparse::spans::{HeaderSpan, RequestSpans};
+use office_days::Day;
+use office_http::{
+    Check, Head, LONGEST_HEAD, MOST_FIELDS, Plan, ReadStop, Want, is_head_in, plan_in, read_body,
+    read_head,
+};
+use office_json::Io;
+use office_tree::Memory;
+use std::alloc::Global;
+use std::io::Read;
+
+/// What a request asks for.
+#[derive(Drop)]
+pub enum Asking {
+    /// Nothing, since a check of its head fails.
+    Refused(Check),
+    /// Nothing, since the connection ends before the body does.
+    Cut,
+    /// The acts of a body, which may be none.
+    Acts(ActsBody),
+    /// The rest of the open run.
+    Resumption,
+    /// What is told of the record with that number.
+    Record(Option<u32>),
+    /// The content of the record with that number.
+    Content(Option<u32>),
+    /// The records that are due on that day.
+    Due(Option<Day>),
+    /// The certificate of the run with that number.
+    Certificate(Option<u32>),
+}
+
+/// A request whose head was read.
+#[derive(Drop)]
+pub struct Asked {
+    /// What it asks for.
+    pub asking: Asking,
+    /// Whether its method is HEAD, so that the head of the answer alone is written.
+    pub is_head: bool,
+}
+
+/// What came on a connection.
+#[derive(Drop)]
+pub enum Received {
+    /// No byte at all.
+    Nothing,
+    /// Bytes that do not begin with a head within the limits.
+    Headless,
+    /// A request.
+    Request(Asked),
+}
+
+/// Why nothing was received.
+#[derive(Clone, Copy, PartialEq, Eq, Debug)]
+pub enum ReceiveStop {
+    /// The reader answered an error.
+    Io,
+    /// Memory was refused before a byte was read.
+    Memory,
+    /// Memory was refused after the head was read; whether its method is HEAD.
+    MemoryFor(bool),
+}
+
+/// Reads the body of acts.
+fn receive_acts<R: Read>(
+    reader: &mut R,
+    mut buf: Vec<u8>,
+    start: usize,
+    size: u64,
+) -> Result<Asking, ReadStop>
+    requires start_in { start ≤ length buf.items }
+    requires small { start ≤ 16_384 }
+    requires limit { size ≤ 1_048_576 }
+    ensures { IfOk result (λ it. IfSome (R.remaining reader.old) (λ left. asked_for it ≡ body_wanted size (drop start buf.items ++ left))) }
+{
+    let end = start + size as usize;
+    if read_body(reader, &mut buf, start, end)? {
+        Ok(Asking::Acts(ActsBody::new(buf, start, end)))
+    } else {
+        Ok(Asking::Cut)
+    }
+}
+
+/// Reads what is wanted besides the head.
+fn receive_wanted<R: Read>(
+    reader: &mut R,
+    buf: Vec<u8>,
+    start: usize,
+    want: Want,
+) -> Result<Asking, ReadStop>
+    requires start_in { start ≤ length buf.items }
+    requires small { start ≤ 16_384 }
+    requires sized { IsSized (Plan.Serve want) }
+    ensures { IfOk result (λ it. IfSome (R.remaining reader.old) (λ left. asked_for it ≡ want_wanted want (drop start buf.items ++ left))) }
+{
+    match want {
+        Want::Acts(size) => receive_acts(reader, buf, start, size),
+        Want::Resume => Ok(Asking::Resumption),
+        Want::Record(number) => Ok(Asking::Record(number)),
+        Want::Content(number) => Ok(Asking::Content(number)),
+        Want::Due(day) => Ok(Asking::Due(day)),
+        Want::Certificate(number) => Ok(Asking::Certificate(number)),
+    }
+}
+
+/// Reads what a plan wants besides the head.
+fn receive_planned<R: Read>(
+    reader: &mut R,
+    buf: Vec<u8>,
+    start: usize,
+    plan: Plan,
+) -> Result<Asking, ReadStop>
+    requires start_in { start ≤ length buf.items }
+    requires small { start ≤ 16_384 }
+    requires sized { IsSized plan }
+    ensures { IfOk result (λ it. IfSome (R.remaining reader.old) (λ left. asked_for it ≡ plan_wanted plan (drop start buf.items ++ left))) }
+{
+    match plan {
+        Plan::Refuse(check) => Ok(Asking::Refused(check)),
+        Plan::Serve(want) => receive_wanted(reader, buf, start, want),
+    }
+}
+
+/// The plan for a head in a buffer, and whether its method is HEAD.
+fn planned(
+    alloc: Global,
+    buf: &Vec<u8>,
+    head: &RequestSpans,
+    headers: &[HeaderSpan],
+) -> (Result<Plan, Memory>, bool)
+    requires { IsRequestWithin buf.now.items headers.now head.now }
+    ensures plan { (h : RequestHead) → IsRequestAt buf.now.items headers.now head.now h → IfOk result.0 (λ plan. plan ≡ plan_at h) }
+    ensures sized { IfOk result.0 (λ plan. IsSized plan) }
+    ensures is_head { (h : RequestHead) → IsRequestAt buf.now.items headers.now head.now h → result.1 ≡ is_head_method h.method }
+{
+    let is_head = is_head_in(buf.as_slice(), head);
+    match plan_in(alloc, buf.as_slice(), head, headers) {
+        Ok(plan) => (Ok(plan), is_head),
+        Err(_) => (Err(Memory), is_head),
+    }
+}
+
+/// Reads the rest of a request whose head is in the buffer.
+fn receive_rest<R: Read>(
+    alloc: Global,
+    reader: &mut R,
+    buf: Vec<u8>,
+    head: &RequestSpans,
+    headers: &[HeaderSpan],
+) -> Result<Asked, ReceiveStop>
+    requires at { IsHeadAt head.now buf.items headers.now }
+    ensures ok { IfOk result (λ it. IfSome (R.remaining reader.old) (λ left.
+        (h : RequestHead) → IsRequestAt buf.items headers.now head.now h → IsAskedBy h (drop head.now.len buf.items ++ left) it)) }
+    ensures err { IfErr result (λ stop. (h : RequestHead) → IsRequestAt buf.items headers.now head.now h → IsStarvedFor h stop) }
+{
+    let (plan, is_head) = planned(alloc, &buf, head, headers);
+    let Ok(plan) = plan else {
+        return Err(ReceiveStop::MemoryFor(is_head));
+    };
+    match receive_planned(reader, buf, head.len, plan) {
+        Ok(asking) => Ok(Asked { asking, is_head }),
+        Err(ReadStop::Memory) => Err(ReceiveStop::MemoryFor(is_head)),
+        Err(ReadStop::Io) => Err(ReceiveStop::Io),
+    }
+}
+
+/// Reads all of a request: its head, and a body where it asks for acts. It is known then whether a check
+/// of the head fails; no act is looked at yet. Nothing is known of the office here, so nothing is done
+/// where it stops.
+pub fn receive<R: Read>(alloc: Global, reader: &mut R) -> Result<Received, ReceiveStop>
+    ensures ok { IfOk result (λ received. IfSome (R.remaining reader.old) (λ bytes. IsReceived received bytes)) }
+    ensures err { IfErr result (λ stop. IfSome (R.remaining reader.old) (λ bytes. IsStarved stop bytes)) }
+    ensures unread { result ≡ Err ReceiveStop.Memory → reader.new ≡ reader.old }
+{
+    let Ok(mut buf) = Vec::with_capacity(alloc, LONGEST_HEAD) else {
+        return Err(ReceiveStop::Memory);
+    };
+    let mut headers = [HeaderSpan::default(); MOST_FIELDS];
+    match read_head(reader, &mut buf, &mut headers) {
+        Ok(Head::Found(head)) => {
+            let asked = receive_rest(alloc, reader, buf, &head, &headers)?;
+            Ok(Received::Request(asked))
+        }
+        Ok(Head::Missing) => Ok(Received::Headless),
+        Ok(Head::Empty) => Ok(Received::Nothing),
+        Err(Io) => Err(ReceiveStop::Io),
+    }
+}

@@ -1,0 +1,166 @@
+//! The answers of HTTP to what is asked of the office.
+ghost use Rattle.std.specs.Prelude.{◌≡◌, false, IfOk, if◌then◌else◌, option_map, string_bytes};
+ghost use Rattle.std.specs.List.{list_any};
+ghost use Rattle.std.specs.Option.{option_copied};
+ghost use Rattle.serde_json.specs.View.{view};
+ghost use Rattle.serde_json.specs.Written.{has_float};
+ghost use Rattle.office_http.specs.Replies.{response};
+ghost use Rattle.office_wire.specs.Replies.{acts_response, answer_response, answers_status, bad_act_response, certificate_response, content_response, due_response, fault_response, is_refusal, json_response, record_response, stopped_response};
+
+use office_days::Refusal;
+use office_http::{Allow, Body, Failure, Kind, Reply, Status, failure_reply};
+use office_json::{
+    answer_value, answers_value, bad_act_value, due_value, fault_value, record_value,
+    stopped_value, text_of,
+};
+use office_machine::{Answer, RecordView};
+use office_proof::Entry;
+use office_store::Fault;
+use office_tree::Memory;
+use serde_json::Value;
+use std::alloc::Global;
+
+/// An answer whose body is JSON.
+#[tactic(auto, unfolding(crate::specs::Replies::json_response))]
+fn json_reply(alloc: Global, status: Status, value: &Value) -> Result<Reply, Memory>
+    requires { has_float (view value.now) ≡ false }
+    ensures { IfOk result (λ reply. response reply ≡ json_response status (view value.now)) }
+{
+    let text = text_of(alloc, value)?;
+    Ok(Reply {
+        status,
+        kind: Kind::Json,
+        allow: Allow::Any,
+        body: Body::Text(text),
+    })
+}
+
+/// Whether an answer is a refusal.
+fn is_refusal(answer: &Answer) -> bool
+    ensures { result ≡ is_refusal answer.now }
+{
+    matches!(answer, Answer::Refused(_))
+}
+
+/// Whether one of the answers is a refusal.
+fn has_refusal(answers: &[Answer]) -> bool
+    ensures { result ≡ list_any is_refusal answers.now }
+{
+    answers.iter().any(|answer| is_refusal(answer))
+}
+
+/// The status of answers to acts.
+fn answers_status(answers: &[Answer]) -> Status
+    ensures { result ≡ answers_status answers.now }
+{
+    if has_refusal(answers) {
+        Status::Conflict
+    } else {
+        Status::Fine
+    }
+}
+
+/// The answers to acts.
+pub(crate) fn acts_reply(alloc: Global, answers: &[Answer]) -> Result<Reply, Memory>
+    ensures { IfOk result (λ reply. response reply ≡ acts_response answers.now) }
+{
+    let value = answers_value(alloc, answers)?;
+    json_reply(alloc, answers_status(answers), &value)
+}
+
+/// The answers to the acts before a fault, and the fault.
+pub(crate) fn stopped_reply(
+    alloc: Global,
+    answers: &[Answer],
+    fault: Fault,
+) -> Result<Reply, Memory>
+    ensures { IfOk result (λ reply. response reply ≡ stopped_response answers.now fault) }
+{
+    let value = stopped_value(alloc, answers, fault.number())?;
+    json_reply(alloc, Status::ServiceUnavailable, &value)
+}
+
+/// A fault.
+pub(crate) fn fault_reply(alloc: Global, fault: Fault) -> Result<Reply, Memory>
+    ensures { IfOk result (λ reply. response reply ≡ fault_response fault) }
+{
+    let value = fault_value(alloc, fault.number())?;
+    json_reply(alloc, Status::ServiceUnavailable, &value)
+}
+
+/// The first value that asks for no act.
+pub(crate) fn bad_act_reply(alloc: Global, place: u64, refusal: Refusal) -> Result<Reply, Memory>
+    ensures { IfOk result (λ reply. response reply ≡ bad_act_response place refusal) }
+{
+    let value = bad_act_value(alloc, place, refusal)?;
+    json_reply(alloc, Status::BadRequest, &value)
+}
+
+/// The status of the answer to one act.
+fn answer_status(answer: &Answer) -> Status
+    ensures { result ≡ (if is_refusal answer.now then Status.Conflict else Status.Fine) }
+{
+    if is_refusal(answer) {
+        Status::Conflict
+    } else {
+        Status::Fine
+    }
+}
+
+/// The answer to one act.
+pub(crate) fn answer_reply(alloc: Global, answer: &Answer) -> Result<Reply, Memory>
+    ensures { IfOk result (λ reply. response reply ≡ answer_response answer.now) }
+{
+    let value = answer_value(alloc, answer)?;
+    json_reply(alloc, answer_status(answer), &value)
+}
+
+/// What is told of a record, with the entry that ended it.
+pub(crate) fn record_reply(
+    alloc: Global,
+    told: &RecordView,
+    ending: Option<&Entry>,
+) -> Result<Reply, Memory>
+    ensures { IfOk result (λ reply. response reply ≡ record_response (Some told.now) (option_copied ending.entry)) }
+{
+    let value = record_value(alloc, told, ending)?;
+    json_reply(alloc, Status::Fine, &value)
+}
+
+/// What is due.
+pub(crate) fn due_reply(alloc: Global, rows: &[RecordView]) -> Result<Reply, Memory>
+    ensures { IfOk result (λ reply. response reply ≡ due_response rows.now) }
+{
+    let value = due_value(alloc, rows)?;
+    json_reply(alloc, Status::Fine, &value)
+}
+
+/// A content, or that there is none.
+pub(crate) fn content_reply(content: Option<Vec<u8>>) -> Reply
+    ensures { response result ≡ content_response (option_map (λ it. it.items) content) }
+{
+    match content {
+        None => failure_reply(Failure::Content),
+        Some(bytes) => Reply {
+            status: Status::Fine,
+            kind: Kind::Octets,
+            allow: Allow::Any,
+            body: Body::Bytes(bytes),
+        },
+    }
+}
+
+/// A certificate, or that there is none.
+pub(crate) fn certificate_reply(certificate: Option<String>) -> Reply
+    ensures { response result ≡ certificate_response (option_map (λ it. string_bytes it) certificate) }
+{
+    match certificate {
+        None => failure_reply(Failure::Certificate),
+        Some(text) => Reply {
+            status: Status::Fine,
+            kind: Kind::Plain,
+            allow: Allow::Any,
+            body: Body::Text(text),
+        },
+    }
+}

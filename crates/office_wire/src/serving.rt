@@ -1,0 +1,114 @@
+//! One request is received, answered at the desk, and its answer written.
+ghost use Rattle.std.specs.Prelude.{◌≡◌, ◌⊎◌, IfOk, IfSome, IsSome, OnErr};
+ghost use Rattle.sqlite.specs.Held.{state};
+ghost use Rattle.sqlite.specs.State.{HasCleanDisk};
+ghost use Rattle.office_machine.specs.State.{State};
+ghost use Rattle.office_desk.specs.Leaving.{StandsAt};
+ghost use Rattle.office_http.specs.Replies.{response};
+ghost use Rattle.office_wire.specs.Receiving.{asked_for};
+ghost use Rattle.office_wire.specs.Serving.{Breaks, IsFailed, IsSent, IsServed, IsToSend, LeavesServed, Replies};
+
+use crate::answering::answer;
+use crate::receiving::{Asked, Asking, ReceiveStop, Received, receive};
+use office_desk::Desk;
+use office_http::{Failure, Reply, failure_reply, write_reply};
+use office_json::Io;
+use sqlite::Alter;
+use std::alloc::Global;
+use std::io::{Read, Write};
+
+/// Does what is asked, and gives an answer in any case: where memory is refused for it, that is told from
+/// fixed bytes.
+fn served<S: Alter>(alloc: Global, desk: &mut Desk<S>, asking: &Asking) -> Reply
+    ensures clean { HasCleanDisk (state S.Store desk.new.held) → HasCleanDisk (state S.Store desk.old.held) }
+    ensures served { (t : State) → HasCleanDisk (state S.Store desk.new.held) → StandsAt S.Store t desk.old → IsServed S.Store t (asked_for asking.now) (response result) desk.new }
+{
+    match answer(alloc, desk, asking) {
+        Ok(reply) => reply,
+        Err(_) => failure_reply(Failure::Memory),
+    }
+}
+
+/// An answer that is to be written.
+#[derive(Drop)]
+struct Sending {
+    reply: Reply,
+    /// Whether its head alone is written, as to HEAD.
+    is_head: bool,
+}
+
+/// An answer from fixed bytes.
+fn failed(failure: Failure, is_head: bool) -> Option<Sending>
+    ensures { IsFailed failure is_head result }
+{
+    let reply = failure_reply(failure);
+    Some(Sending { reply, is_head })
+}
+
+/// Does what a request asks for, and gives its answer.
+fn answered<S: Alter>(alloc: Global, desk: &mut Desk<S>, asked: Asked) -> Sending
+    ensures clean { HasCleanDisk (state S.Store desk.new.held) → HasCleanDisk (state S.Store desk.old.held) }
+    ensures is_head { result.is_head ≡ asked.is_head }
+    ensures served { (t : State) → HasCleanDisk (state S.Store desk.new.held) → StandsAt S.Store t desk.old → IsServed S.Store t (asked_for asked.asking) (response result.reply) desk.new }
+    ensures leaves { (t : State) → HasCleanDisk (state S.Store desk.new.held) → StandsAt S.Store t desk.old → LeavesServed S.Store t desk.new }
+{
+    let reply = served(alloc, desk, &asked.asking);
+    Sending {
+        reply,
+        is_head: asked.is_head,
+    }
+}
+
+/// Reads a request, does what it asks for, and gives its answer; none where the connection had no byte.
+fn answer_next<R: Read, S: Alter>(
+    alloc: Global,
+    desk: &mut Desk<S>,
+    reader: &mut R,
+) -> Result<Option<Sending>, Io>
+    ensures clean { HasCleanDisk (state S.Store desk.new.held) → HasCleanDisk (state S.Store desk.old.held) }
+    ensures ok { IfOk result (λ it. IfSome (R.remaining reader.old) (λ bytes. (t : State) → HasCleanDisk (state S.Store desk.new.held) → StandsAt S.Store t desk.old → IsToSend S.Store t bytes (reader.new ≡ reader.old) it desk.new)) }
+    ensures leaves { (t : State) → HasCleanDisk (state S.Store desk.new.held) → StandsAt S.Store t desk.old → LeavesServed S.Store t desk.new }
+    ensures err { OnErr result (desk.new ≡ desk.old) }
+{
+    match receive(alloc, reader) {
+        Ok(Received::Nothing) => Ok(None),
+        Ok(Received::Headless) => Ok(failed(Failure::Head, false)),
+        Ok(Received::Request(asked)) => Ok(Some(answered(alloc, desk, asked))),
+        Err(ReceiveStop::Memory) => Ok(failed(Failure::Memory, false)),
+        Err(ReceiveStop::MemoryFor(is_head)) => Ok(failed(Failure::Memory, is_head)),
+        Err(ReceiveStop::Io) => Err(Io),
+    }
+}
+
+/// Writes an answer, if there is one. It gives its status, or 0.
+fn send<W: Write>(sending: Option<Sending>, writer: &mut W) -> Result<u16, Io>
+    ensures sent { IfOk result (λ status. IsSent sending status (W.contents writer.old) (W.contents writer.new)) }
+    ensures some { OnErr result (IsSome sending) }
+{
+    match sending {
+        None => Ok(0),
+        Some(it) => write_reply(&it.reply, it.is_head, writer),
+    }
+}
+
+/// Answers one request: its bytes are read, what it asks for is done at the desk, and the answer is
+/// written. It gives the status of the answer, or 0 where the connection had no byte. The answer does not
+/// depend on how the bytes were cut.
+///
+/// `Io` comes where the reader answered an error, and then nothing was done; or where the writer did, and
+/// then the desk stands as if the answer had been written. Where the reader does not tell its bytes, as a
+/// socket's does not, the desk still stands where serving something leaves it.
+pub fn serve_one<R: Read, W: Write, S: Alter>(
+    alloc: Global,
+    desk: &mut Desk<S>,
+    reader: &mut R,
+    writer: &mut W,
+) -> Result<u16, Io>
+    ensures clean { HasCleanDisk (state S.Store desk.new.held) → HasCleanDisk (state S.Store desk.old.held) }
+    ensures ok { IfOk result (λ status. IfSome (R.remaining reader.old) (λ bytes. (t : State) → HasCleanDisk (state S.Store desk.new.held) → StandsAt S.Store t desk.old → Replies S.Store t bytes (reader.new ≡ reader.old) status (W.contents writer.old) (W.contents writer.new) desk.new)) }
+    ensures leaves { (t : State) → HasCleanDisk (state S.Store desk.new.held) → StandsAt S.Store t desk.old → LeavesServed S.Store t desk.new }
+    ensures err { OnErr result (IfSome (R.remaining reader.old) (λ bytes. ((desk.new ≡ desk.old) × (writer.new ≡ writer.old)) ⊎ ((t : State) → HasCleanDisk (state S.Store desk.new.held) → StandsAt S.Store t desk.old → Breaks S.Store t bytes (reader.new ≡ reader.old) desk.new))) }
+{
+    let sending = answer_next(alloc, desk, reader)?;
+    send(sending, writer)
+}
