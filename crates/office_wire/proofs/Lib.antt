@@ -1,4 +1,6 @@
 pub mod AnyAnswer
+pub mod Connected
+pub mod Kept
 pub mod Performed
 pub mod Replied
 pub mod Resumed

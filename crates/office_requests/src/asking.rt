@@ -1,0 +1,94 @@
+//! A client in memory: its bytes come in pieces, and its answer is kept.
+use office_desk::Desk;
+use office_wire::serve_one;
+use sqlite::{Connection, MemStore};
+use std::alloc::{AllocGlobal, Global};
+use std::io;
+use std::io::Read;
+use std::process::Abort;
+use std::test::Fail;
+
+/// A desk over a database in memory.
+pub(crate) type Memory = Desk<MemStore>;
+
+/// A reader that gives its bytes in pieces of at most so many, and then ends or fails.
+#[derive(Drop)]
+pub(crate) struct Pieces<'a> {
+    pub bytes: &'a [u8],
+    pub most: usize,
+    pub fails: bool,
+}
+
+impl Read for Pieces<'_> {
+    fn read(&mut self, buf: &mut [u8]) -> io::Result<usize> {
+        let count = self.most.min(buf.len()).min(self.bytes.len());
+        if count == 0 && self.fails {
+            return Err(io::Error::from(io::ErrorKind::ConnectionReset));
+        }
+        let (given, left) = self.bytes.split_at(count);
+        buf[..count].copy_from_slice(given);
+        self.bytes = left;
+        Ok(count)
+    }
+}
+
+/// A desk of a new office.
+pub(crate) fn new_desk(alloc: Global) -> Result<Memory, Fail> {
+    let conn = Connection::open_in_memory(alloc)?;
+    if !conn.is_autocommit() {
+        return Err(Fail::new("a transaction is under way"));
+    }
+    match Desk::open(alloc, conn) {
+        Ok(desk) => Ok(desk),
+        Err(_) => Err(Fail::new("no office")),
+    }
+}
+
+/// A request in pieces must be answered by these bytes, with this status.
+pub(crate) fn answers(
+    rt: &(impl Abort + AllocGlobal),
+    desk: &mut Memory,
+    request: &str,
+    most: usize,
+    status: u16,
+    answer: &str,
+) -> Result<(), Fail> {
+    let mut reader = Pieces {
+        bytes: request.as_bytes(),
+        most,
+        fails: false,
+    };
+    let mut out = Vec::new(rt.alloc());
+    let got = serve_one(rt.alloc(), desk, &mut reader, &mut out);
+    assert!(rt; got == Ok(status), "{request}");
+    assert!(rt; out.as_slice() == answer.as_bytes(), "{request}");
+    Ok(())
+}
+
+/// The bytes of an answer in JSON.
+pub(crate) fn json(
+    rt: &(impl Abort + AllocGlobal),
+    status: &str,
+    body: &str,
+) -> Result<String, Fail> {
+    let size = body.len();
+    let text = format!(in rt.alloc(); "HTTP/1.1 {status}\r\nContent-Type: application/json\r\nContent-Length: {size}\r\nConnection: close\r\n\r\n{body}")?;
+    Ok(text)
+}
+
+/// A request for acts.
+pub(crate) fn posting(rt: &(impl Abort + AllocGlobal), body: &str) -> Result<String, Fail> {
+    let size = body.len();
+    let text = format!(in rt.alloc(); "POST /acts HTTP/1.1\r\nHost: h\r\nContent-Length: {size}\r\n\r\n{body}")?;
+    Ok(text)
+}
+
+/// A request for something, with a method.
+pub(crate) fn asking(
+    rt: &(impl Abort + AllocGlobal),
+    method: &str,
+    path: &str,
+) -> Result<String, Fail> {
+    let text = format!(in rt.alloc(); "{method} {path} HTTP/1.1\r\nHost: h\r\n\r\n")?;
+    Ok(text)
+}

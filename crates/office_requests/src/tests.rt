@@ -1,0 +1,168 @@
+use crate::asking::{Memory, Pieces, answers, asking, json, new_desk, posting};
+use office_wire::{Io, serve_one};
+use std::alloc::AllocGlobal;
+use std::process::Abort;
+use std::test::Fail;
+
+/// A request for acts must be answered so.
+fn posts(
+    rt: &(impl Abort + AllocGlobal),
+    desk: &mut Memory,
+    body: &str,
+    code: u16,
+    status: &str,
+    answer: &str,
+) -> Result<(), Fail> {
+    let request = posting(rt, body)?;
+    let text = json(rt, status, answer)?;
+    answers(rt, desk, request.as_str(), 4_096, code, text.as_str())
+}
+
+/// A request for something must be answered so.
+fn asks(
+    rt: &(impl Abort + AllocGlobal),
+    desk: &mut Memory,
+    path: &str,
+    code: u16,
+    status: &str,
+    answer: &str,
+) -> Result<(), Fail> {
+    let request = asking(rt, "GET", path)?;
+    let text = json(rt, status, answer)?;
+    answers(rt, desk, request.as_str(), 4_096, code, text.as_str())
+}
+
+#[test]
+fn a_path_of_nothing_in_pieces(rt: HostRuntime) -> Result<(), Fail> {
+    let mut desk = new_desk(rt.alloc())?;
+    let request = asking(&rt, "GET", "/nothing")?;
+    let answer = json(&rt, "404 Not Found", "{\"error\":\"path\"}")?;
+    assert_eq!(rt; answer.len(), 113);
+    for most in [1, 2, 7, 4_096] {
+        answers(&rt, &mut desk, request.as_str(), most, 404, answer.as_str())?;
+    }
+    Ok(())
+}
+
+#[test]
+fn acts_and_bodies_of_none(rt: HostRuntime) -> Result<(), Fail> {
+    let mut desk = new_desk(rt.alloc())?;
+    let step = "[{\"act\":\"run-step\"}]";
+    posts(&rt, &mut desk, step, 409, "409 Conflict", "[{\"refused\":18}]")?;
+    posts(&rt, &mut desk, "[]", 200, "200 OK", "[]")?;
+    posts(&rt, &mut desk, "{}", 400, "400 Bad Request", "{\"error\":\"json\"}")?;
+    let bad = "[{\"act\":\"run-step\"},{\"act\":\"run-step\",\"day\":\"2024-01-02\"}]";
+    let told = "{\"error\":\"act\",\"place\":1,\"refused\":2}";
+    posts(&rt, &mut desk, bad, 400, "400 Bad Request", told)?;
+    let long = json(&rt, "411 Length Required", "{\"error\":\"length\"}")?;
+    let request = asking(&rt, "POST", "/acts")?;
+    answers(&rt, &mut desk, request.as_str(), 7, 411, long.as_str())
+}
+
+const SCHEDULE: &str = r#"{"act":"add-schedule","day":"2024-01-02","code":"D1","trigger":"added","unit":"years","count":1,"offset":"none","action":"destroy"}"#;
+const CLASS: &str =
+    r#"{"act":"add-class","day":"2024-01-02","code":"FIN","title":"Finance","schedule":"D1"}"#;
+const AGGREGATION: &str =
+    r#"{"act":"add-aggregation","day":"2024-01-02","ref":"A","title":"A","class":"FIN"}"#;
+const RECORD: &str = r#"{"act":"add-record","day":"2024-01-02","ref":"r1","title":"r1","originated":"2024-01-02","aggregation":1,"content":"YWJj"}"#;
+const TOLD: &str = r#"{"added":"2024-01-02","aggregation":1,"class":"FIN","confirmed":null,"digest":"ba7816bf8f01cfea414140de5dae2223b00361a396177a9cb410ff61f20015ad","due":"2025-01-02","ended":null,"held":null,"length":3,"number":1,"originated":"2024-01-02","ref":"r1","schedule":"D1","status":"here","title":"r1"}"#;
+const DUE: &str = r#"[{"action":"destroy","class":"FIN","confirmed":false,"due":"2025-01-02","held":null,"record":1,"ref":"r1","schedule":"D1"}]"#;
+
+/// A desk with one record.
+fn with_record(rt: &(impl Abort + AllocGlobal)) -> Result<Memory, Fail> {
+    let mut desk = new_desk(rt.alloc())?;
+    let body = format!(in rt.alloc(); "[{SCHEDULE},{CLASS},{AGGREGATION},{RECORD},{RECORD}]")?;
+    let told = "[{\"done\":true},{\"done\":true},{\"number\":1},{\"number\":1},{\"number\":1,\"same\":true}]";
+    posts(rt, &mut desk, body.as_str(), 200, "200 OK", told)?;
+    Ok(desk)
+}
+
+#[test]
+fn what_is_told_of_a_record(rt: HostRuntime) -> Result<(), Fail> {
+    let mut desk = with_record(&rt)?;
+    assert_eq!(rt; TOLD.len(), 293);
+    asks(&rt, &mut desk, "/records/1", 200, "200 OK", TOLD)?;
+    asks(&rt, &mut desk, "/due/2025-01-02", 200, "200 OK", DUE)?;
+    asks(&rt, &mut desk, "/due/2025-01-01", 200, "200 OK", "[]")?;
+    let content = "HTTP/1.1 200 OK\r\nContent-Type: application/octet-stream\r\nContent-Length: 3\r\nConnection: close\r\n\r\nabc";
+    let request = asking(&rt, "GET", "/records/1/content")?;
+    answers(&rt, &mut desk, request.as_str(), 2, 200, content)
+}
+
+#[test]
+fn what_is_not_there(rt: HostRuntime) -> Result<(), Fail> {
+    let mut desk = with_record(&rt)?;
+    let rows = [
+        ("/records/2", 404, "404 Not Found", "{\"error\":\"record\"}"),
+        ("/records/01", 404, "404 Not Found", "{\"error\":\"record\"}"),
+        ("/records/2/content", 404, "404 Not Found", "{\"error\":\"content\"}"),
+        ("/certificates/1", 404, "404 Not Found", "{\"error\":\"certificate\"}"),
+        ("/due/2025-1-2", 400, "400 Bad Request", "{\"error\":\"day\"}"),
+    ];
+    for (path, code, status, body) in rows {
+        asks(&rt, &mut desk, path, code, status, body)?;
+    }
+    Ok(())
+}
+
+#[test]
+fn a_run_is_resumed_and_certified(rt: HostRuntime) -> Result<(), Fail> {
+    let mut desk = new_desk(rt.alloc())?;
+    let request = asking(&rt, "POST", "/run/resume")?;
+    let none = json(&rt, "409 Conflict", "{\"refused\":18}")?;
+    answers(&rt, &mut desk, request.as_str(), 7, 409, none.as_str())?;
+    let open = r#"[{"act":"open-run","day":"2025-01-02","by":"registrar"}]"#;
+    posts(&rt, &mut desk, open, 200, "200 OK", "[{\"number\":1}]")?;
+    let closed = json(&rt, "200 OK", "{\"certificate\":1}")?;
+    answers(&rt, &mut desk, request.as_str(), 1, 200, closed.as_str())?;
+    let mut reader = Pieces {
+        bytes: b"GET /certificates/1 HTTP/1.0\r\n\r\n",
+        most: 3,
+        fails: false,
+    };
+    let mut out = Vec::new(rt.alloc());
+    assert!(rt; serve_one(rt.alloc(), &mut desk, &mut reader, &mut out) == Ok(200));
+    let start = "HTTP/1.1 200 OK\r\nContent-Type: text/plain; charset=utf-8\r\nContent-Length: 147\r\nConnection: close\r\n\r\nCERTIFICATE 1\nDAY 2025-01-02\nBY registrar\n";
+    assert!(rt; out.as_slice().starts_with(start.as_bytes()));
+    Ok(())
+}
+
+#[test]
+fn cut_bodies_and_lost_readers_do_nothing(rt: HostRuntime) -> Result<(), Fail> {
+    let mut desk = new_desk(rt.alloc())?;
+    let whole = r#"POST /acts HTTP/1.1
+Host: h
+Content-Length: 56
+
+[{"act":"open-run","day":"2025-01-02","by":"registrar"}]"#;
+    let cut = whole.get(..whole.len() - 1).unwrap_or("");
+    let told = json(&rt, "400 Bad Request", "{\"error\":\"body\"}")?;
+    answers(&rt, &mut desk, cut, 7, 400, told.as_str())?;
+    let mut reader = Pieces {
+        bytes: cut.as_bytes(),
+        most: 7,
+        fails: true,
+    };
+    let mut out = Vec::new(rt.alloc());
+    assert!(rt; serve_one(rt.alloc(), &mut desk, &mut reader, &mut out) == Err(Io));
+    assert_eq!(rt; out.len(), 0);
+    let step = "[{\"act\":\"run-step\"}]";
+    posts(&rt, &mut desk, step, 409, "409 Conflict", "[{\"refused\":18}]")?;
+    let mut none = Pieces {
+        bytes: b"",
+        most: 1,
+        fails: false,
+    };
+    assert!(rt; serve_one(rt.alloc(), &mut desk, &mut none, &mut out) == Ok(0));
+    assert_eq!(rt; out.len(), 0);
+    Ok(())
+}
+
+#[test]
+fn head_gets_the_head_alone(rt: HostRuntime) -> Result<(), Fail> {
+    let mut desk = new_desk(rt.alloc())?;
+    let request = asking(&rt, "HEAD", "/nothing")?;
+    let whole = json(&rt, "404 Not Found", "{\"error\":\"path\"}")?;
+    let head = whole.as_str().get(..97).unwrap_or("");
+    answers(&rt, &mut desk, request.as_str(), 5, 404, head)
+}
