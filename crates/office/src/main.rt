@@ -10,12 +10,12 @@ use office_desk::Desk;
 use office_plan::{PlanStop, due_to, plan_to, read_whole};
 use office_run::{Ending, run_on, tell, tell_listening};
 use office_store::Fault;
-use office_wire::{listen, serve_all};
+use office_wire::serve_all;
 use office_words::{Order, Words, order_of, read_words};
 use sqlite::{Alter, Connection, Wary};
 use std::fs::File;
 use std::io::{Read, Write};
-use std::net::{OpenListener, OpenStream};
+use std::net::{Ipv4Addr, OpenListener, OpenStream, SocketAddr, TcpListener};
 use std::process::ExitCode;
 use std::{env, io};
 
@@ -111,10 +111,10 @@ where
     }
 }
 
-/// Serves the office in a file at a port of this machine. Where the port cannot be bound, the file stays
-/// as it is.
+/// Serves the office in a file at a port of 127.0.0.1, which no other machine reaches. Where the port cannot
+/// be bound, the file stays as it is.
 fn serve_in(rt: &HostRuntime, file: &str, port: u16, count: u32) -> Ending {
-    match listen(rt, port) {
+    match TcpListener::bind(rt, SocketAddr::from((Ipv4Addr::LOCALHOST, port))) {
         Ok(listener) => serve_bound(rt, &listener, file, port, count),
         Err(_) => Ending::Socket,
     }

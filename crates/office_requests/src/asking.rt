@@ -1,7 +1,7 @@
 //! A client in memory: its bytes come in pieces, and its answer is kept.
 use office_desk::Desk;
-use office_wire::serve_one;
-use sqlite::{Connection, MemStore};
+use office_wire::{Io, serve_one};
+use sqlite::{Alter, Connection, MemStore, params};
 use std::alloc::{AllocGlobal, Global};
 use std::io;
 use std::io::Read;
@@ -32,9 +32,8 @@ impl Read for Pieces<'_> {
     }
 }
 
-/// A desk of a new office.
-pub(crate) fn new_desk(alloc: Global) -> Result<Memory, Fail> {
-    let conn = Connection::open_in_memory(alloc)?;
+/// A desk over a connection.
+fn desk_over(alloc: Global, conn: Connection<MemStore>) -> Result<Memory, Fail> {
     if !conn.is_autocommit() {
         return Err(Fail::new("a transaction is under way"));
     }
@@ -44,25 +43,57 @@ pub(crate) fn new_desk(alloc: Global) -> Result<Memory, Fail> {
     }
 }
 
-/// A request in pieces must be answered by these bytes, with this status.
-pub(crate) fn answers(
+/// A desk of a new office.
+pub(crate) fn new_desk(alloc: Global) -> Result<Memory, Fail> {
+    desk_over(alloc, Connection::open_in_memory(alloc)?)
+}
+
+/// The office behind a desk, opened again after its tables were changed by a statement.
+pub(crate) fn changed(
     rt: &(impl Abort + AllocGlobal),
-    desk: &mut Memory,
+    desk: Memory,
+    statement: &str,
+) -> Result<Memory, Fail> {
+    let mut conn = desk.close();
+    assert!(rt; conn.execute(statement, params![]).is_ok(), "{statement}");
+    desk_over(rt.alloc(), conn)
+}
+
+/// What a client gets who sends these bytes in pieces of at most so many: the status, and all bytes of the
+/// answer.
+pub(crate) fn reply<S: Alter>(
+    alloc: Global,
+    desk: &mut Desk<S>,
+    sent: &str,
+    most: usize,
+) -> Result<(u16, Vec<u8>), Io> {
+    let mut reader = Pieces {
+        bytes: sent.as_bytes(),
+        most,
+        fails: false,
+    };
+    let mut out = Vec::new(alloc);
+    let status = serve_one(alloc, desk, &mut reader, &mut out)?;
+    Ok((status, out))
+}
+
+/// A request in pieces must be answered by these bytes, with this status.
+pub(crate) fn answers<S: Alter>(
+    rt: &(impl Abort + AllocGlobal),
+    desk: &mut Desk<S>,
     request: &str,
     most: usize,
     status: u16,
     answer: &str,
 ) -> Result<(), Fail> {
-    let mut reader = Pieces {
-        bytes: request.as_bytes(),
-        most,
-        fails: false,
-    };
-    let mut out = Vec::new(rt.alloc());
-    let got = serve_one(rt.alloc(), desk, &mut reader, &mut out);
-    assert!(rt; got == Ok(status), "{request}");
-    assert!(rt; out.as_slice() == answer.as_bytes(), "{request}");
-    Ok(())
+    match reply(rt.alloc(), desk, request, most) {
+        Ok((got, out)) => {
+            assert_eq!(rt; got, status, "{request}");
+            assert!(rt; out.as_slice() == answer.as_bytes(), "{request}");
+            Ok(())
+        }
+        Err(Io) => Err(Fail::new("the connection is lost")),
+    }
 }
 
 /// The bytes of an answer in JSON.

@@ -4,4 +4,8 @@
 #[cfg(test)]
 mod asking;
 #[cfg(test)]
+mod connecting;
+#[cfg(test)]
+mod connection_tests;
+#[cfg(test)]
 mod tests;

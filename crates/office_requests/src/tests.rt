@@ -1,13 +1,15 @@
-use crate::asking::{Memory, Pieces, answers, asking, json, new_desk, posting};
+use crate::asking::{Memory, Pieces, answers, asking, changed, json, new_desk, posting};
+use office_desk::Desk;
 use office_wire::{Io, serve_one};
+use sqlite::Alter;
 use std::alloc::AllocGlobal;
 use std::process::Abort;
 use std::test::Fail;
 
 /// A request for acts must be answered so.
-fn posts(
+fn posts<S: Alter>(
     rt: &(impl Abort + AllocGlobal),
-    desk: &mut Memory,
+    desk: &mut Desk<S>,
     body: &str,
     code: u16,
     status: &str,
@@ -19,9 +21,9 @@ fn posts(
 }
 
 /// A request for something must be answered so.
-fn asks(
+fn asks<S: Alter>(
     rt: &(impl Abort + AllocGlobal),
-    desk: &mut Memory,
+    desk: &mut Desk<S>,
     path: &str,
     code: u16,
     status: &str,
@@ -87,6 +89,15 @@ fn what_is_told_of_a_record(rt: HostRuntime) -> Result<(), Fail> {
     let content = "HTTP/1.1 200 OK\r\nContent-Type: application/octet-stream\r\nContent-Length: 3\r\nConnection: close\r\n\r\nabc";
     let request = asking(&rt, "GET", "/records/1/content")?;
     answers(&rt, &mut desk, request.as_str(), 2, 200, content)
+}
+
+#[test]
+fn a_content_that_is_another_one(rt: HostRuntime) -> Result<(), Fail> {
+    let statement = "UPDATE contents SET bytes = x'616264'";
+    let mut desk = changed(&rt, with_record(&rt)?, statement)?;
+    let told = "503 Service Unavailable";
+    asks(&rt, &mut desk, "/records/1/content", 503, told, "{\"fault\":33}")?;
+    asks(&rt, &mut desk, "/records/1", 200, "200 OK", TOLD)
 }
 
 #[test]

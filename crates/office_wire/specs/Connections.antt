@@ -1,5 +1,5 @@
 -- Connections that are served one after another. Source: own.
-use Rattle.std.specs.Prelude.{◌≡◌, ◌⊎◌, ℕ, zero, suc, IsTrue, Bool, true, false, ◌||◌, Result, Ok, Err}
+use Rattle.std.specs.Prelude.{◌≡◌, ◌≢◌, ◌⊎◌, ℕ, zero, suc, IsTrue, Bool, true, false, ◌||◌, Result, Ok, Err}
 use Rattle.sqlite.specs.Held.{state}
 use Rattle.sqlite.specs.State.{HasCleanDisk}
 use Rattle.sqlite_trees.specs.declared.store.Store.{Ghosts}
@@ -29,9 +29,15 @@ pub record IsKept {S : Type 0} (g : Ghosts S) (old new : DeskState S) : Type 0 w
 abbrev pub Turn : {S : Type 0} → Ghosts S → Result ℕ Io → DeskState S → DeskState S → Type 0
 Turn g status old new = ((has_failed status ≡ true) × (new ≡ old)) ⊎ IsVisited g old new
 
--- so many connections, one after another, and whether one of them failed
-unfoldable pub Turns : {S : Type 0} → Ghosts S → ℕ → Bool → DeskState S → DeskState S → Type 0
-Turns g zero failed old new = (failed ≡ false) × (new ≡ old)
-Turns {S} g (suc n) failed old new =
+-- whether serving ends after a connection: its answer was 503, and the desk was given up
+pub record Ends (status : Result ℕ Io) (is_given_up ended : Bool) : Type 0 where
+  pub asked : status ≡ Ok 503 → ended ≡ is_given_up
+  pub unasked : status ≢ Ok 503 → ended ≡ false
+
+-- so many connections, one after another, whether one of them failed, and whether serving ends after the last one
+unfoldable pub Turns : {S : Type 0} → Ghosts S → ℕ → Bool → Bool → DeskState S → DeskState S → Type 0
+Turns g zero failed ended old new = (failed ≡ false) × (ended ≡ false) × (new ≡ old)
+Turns {S} g (suc n) failed ended old new =
     (m : DeskState S) × (after : DeskState S) × (earlier : Bool) × (status : Result ℕ Io)
-    × Turns g n earlier old m × Turn g status m after × IsKept g after new × (failed ≡ (earlier || has_failed status))
+    × Turns g n earlier false old m × Turn g status m after × Ends status after.is_given_up ended × IsKept g after new
+    × (failed ≡ (earlier || has_failed status))

@@ -1,6 +1,6 @@
 //! Connections over TCP, served one after another.
-ghost use Rattle.std.specs.Prelude.{◌≡◌, ◌≤◌, ◌||◌, IsTrue, false};
-ghost use Rattle.office_wire.specs.Connections.{IsKept, Turn, Turns, has_failed};
+ghost use Rattle.std.specs.Prelude.{◌≡◌, ◌≤◌, ◌||◌, false};
+ghost use Rattle.office_wire.specs.Connections.{Ends, IsKept, Turn, Turns, has_failed};
 
 use crate::serving::serve_one;
 use office_desk::Desk;
@@ -8,9 +8,8 @@ use office_json::Io;
 use office_store::Fault;
 use sqlite::Alter;
 use std::alloc::Global;
-use std::io;
 use std::io::{Read, Write};
-use std::net::{Ipv4Addr, Net, OpenListener, OpenStream, Shutdown, SocketAddr, TcpListener};
+use std::net::{OpenListener, OpenStream, Shutdown};
 use std::time::Duration;
 
 /// How many reads follow an answer at most, of 4,096 bytes each.
@@ -25,11 +24,6 @@ pub struct Service {
     pub has_failed: bool,
     /// Whether it ended before its time, since the desk was given up.
     pub is_given_up: bool,
-}
-
-/// Listens at a port of 127.0.0.1, which no other machine reaches; at port 0 the system chooses one.
-pub fn listen<R: Net>(rt: &R, port: u16) -> io::Result<R::Listener> {
-    TcpListener::bind(rt, SocketAddr::from((Ipv4Addr::LOCALHOST, port)))
 }
 
 /// Reads what the peer still sends, for a while: to close a socket with bytes that were not read resets
@@ -93,7 +87,7 @@ where
 /// Whether the desk was given up: it is asked for no acts.
 fn is_given_up<S: Alter>(alloc: Global, desk: &mut Desk<S>) -> bool
     ensures kept { IsKept S.Store desk.old desk.new }
-    ensures told { IsTrue result → IsTrue desk.new.is_given_up }
+    ensures told { result ≡ desk.old.is_given_up }
 {
     let mut none = Vec::new(alloc);
     match desk.perform_all(&[], &mut none) {
@@ -102,12 +96,15 @@ fn is_given_up<S: Alter>(alloc: Global, desk: &mut Desk<S>) -> bool
     }
 }
 
-/// Whether the desk was given up, which is asked after an answer 503.
-fn has_given_up<S: Alter>(alloc: Global, desk: &mut Desk<S>, served: Result<u16, Io>) -> bool
+/// Whether serving ends after a connection: its answer was 503, and the desk was given up.
+fn ends_after<S: Alter>(alloc: Global, desk: &mut Desk<S>, served: Result<u16, Io>) -> bool
     ensures kept { IsKept S.Store desk.old desk.new }
-    ensures told { IsTrue result → IsTrue desk.new.is_given_up }
+    ensures ends { Ends served desk.old.is_given_up result }
 {
-    served == Ok(503) && is_given_up(alloc, desk)
+    match served {
+        Ok(503) => is_given_up(alloc, desk),
+        _ => false,
+    }
 }
 
 /// Whether a connection has failed, this one or an earlier one.
@@ -137,17 +134,16 @@ pub fn serve_all<L: OpenListener, E: Write, S: Alter>(
 ) -> Service
 where
     L::Stream: Read + Write + OpenStream,
-    ensures served { Turns S.Store result.connections result.has_failed desk.old desk.new }
+    ensures served { Turns S.Store result.connections result.has_failed result.is_given_up desk.old desk.new }
     ensures most { result.connections ≤ count }
     ensures all { result.is_given_up ≡ false → result.connections ≡ count }
-    ensures given_up { IsTrue result.is_given_up → IsTrue desk.new.is_given_up }
 {
     let mut has_failed = false;
     for before in 0..count {
         let served = serve_next(alloc, listener, desk);
         tell_failure(served, err);
         has_failed = failed_by(has_failed, served);
-        if has_given_up(alloc, desk, served) {
+        if ends_after(alloc, desk, served) {
             return Service {
                 connections: before + 1,
                 has_failed,

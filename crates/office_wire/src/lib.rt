@@ -16,7 +16,7 @@ mod serving;
 
 pub use answering::answer;
 pub use body::ActsBody;
-pub use connections::{Service, listen, serve_all};
+pub use connections::{Service, serve_all};
 pub use office_json::{Io, ReadFault, answer_value, read_act};
 pub use receiving::{Asked, Asking, ReceiveStop, Received, receive};
 pub use serving::serve_one;
