@@ -45,7 +45,8 @@ pub stands_kept : {S : Type 0} (g : Ghosts S) (old new : DeskState S) (t : State
 stands_kept g old new t (Ok it) front given clean stands ok err = ok
 stands_kept g old new t (Err f) front given clean stands ok err = stands_stopped g old new t f err.0 front given err.1 err.2 (err.3 clean stands) stands
 
--- it answers 32 alone where it was given up
-pub told_gone : {S : Type 0} (old new : DeskState S) (b : Bool) → old.is_given_up ≡ b → (IsTrue old.is_given_up → new ≡ old) → (old.is_given_up ≡ false → IsTrue new.is_given_up) → IsTrue new.is_given_up
-told_gone old new true is gone err = subst (λ (d : DeskState _). IsTrue d.is_given_up) (sym (gone is)) is
-told_gone old new false is gone err = err is
+-- where it answers 32, it was given up
+pub told_gone : {S : Type 0} (t : State) (new : DeskState S) (front given : List Answer) (b : Bool)
+    → (b ≡ false → (n : ℕ) × IsFrontAnswered t none front given fault.Reopen n × StopsAt (after t (take n none)).office fault.Reopen new) → true ≡ b
+told_gone t new front given true err = refl
+told_gone t new front given false err = let it = err refl in absurd (omega (arith, it.1.one_more (λ e. cc)))

@@ -24,5 +24,5 @@ returns-clause-kept g c =
 pub returns-in-Err-Reopen-clause-told : goal.returns-in-Err-Reopen-clause-told
 returns-in-Err-Reopen-clause-told g c =
     let s : State = record empty_state { office = c.args.desk.now.office } in
-    λ yes. told_gone c.args.desk.now c.perform_all.new.self _ refl (λ gone. (c.perform_all.ensures.gone gone).2)
-    (λ is_open. (rw c.in-Err-Reopen.field-0-is at (c.in-Err-Reopen.ensures.err s is_open refl)).2)
+    told_gone s c.perform_all.new.self _ _ c.args.desk.now.is_given_up
+    (λ is_open. let it = rw c.in-Err-Reopen.field-0-is at (c.in-Err-Reopen.ensures.err s is_open refl) in (it.0, it.1, it.2))
