@@ -1,5 +1,5 @@
 -- Connections that are served one after another. Source: own.
-use Rattle.std.specs.Prelude.{◌≡◌, ◌≢◌, ◌⊎◌, ℕ, zero, suc, IsTrue, Bool, true, false, ◌||◌, Result, Ok, Err}
+use Rattle.std.specs.Prelude.{◌≡◌, ◌≢◌, ◌⊎◌, ℕ, zero, suc, IfOk, IsTrue, Bool, true, false, ◌||◌, Result, Ok, Err}
 use Rattle.sqlite.specs.Held.{state}
 use Rattle.sqlite.specs.State.{HasCleanDisk}
 use Rattle.sqlite_trees.specs.declared.store.Store.{Ghosts}
@@ -15,9 +15,11 @@ has_failed (Ok status) = false
 has_failed (Err e) = true
 
 -- one request was served, whatever it was
-pub record IsVisited {S : Type 0} (g : Ghosts S) (old new : DeskState S) : Type 0 where
+pub record IsVisited {S : Type 0} (g : Ghosts S) (status : Result ℕ Io) (old new : DeskState S) : Type 0 where
   pub clean : HasCleanDisk (state g new.held) → HasCleanDisk (state g old.held)
   pub leaves : (t : State) → HasCleanDisk (state g new.held) → StandsAt g t old → LeavesServed g t new
+  pub gone : IsTrue old.is_given_up → new ≡ old
+  pub told : old.is_given_up ≡ false → IsTrue new.is_given_up → IfOk status (λ code. code ≡ 503)
 
 -- a desk was at most asked whether it was given up, by a list of no acts
 pub record IsKept {S : Type 0} (g : Ghosts S) (old new : DeskState S) : Type 0 where
@@ -27,7 +29,7 @@ pub record IsKept {S : Type 0} (g : Ghosts S) (old new : DeskState S) : Type 0 w
 
 -- one connection: it failed before the desk heard of it, or a request was served
 abbrev pub Turn : {S : Type 0} → Ghosts S → Result ℕ Io → DeskState S → DeskState S → Type 0
-Turn g status old new = ((has_failed status ≡ true) × (new ≡ old)) ⊎ IsVisited g old new
+Turn g status old new = ((has_failed status ≡ true) × (new ≡ old)) ⊎ IsVisited g status old new
 
 -- whether serving ends after a connection: its answer was 503, and the desk was given up
 pub record Ends (status : Result ℕ Io) (is_given_up ended : Bool) : Type 0 where
