@@ -44,7 +44,7 @@ Replies g t bytes unread status written after desk =
     IsSilent g t bytes status written after desk
     ⊎ ((is_head : Bool) × (r : Response) × IsReply g t bytes unread is_head r desk × Writes is_head r status written after)
 
--- it was not written whole: the writer answered an error, and the desk stands as if it had been
+-- it was perhaps not written whole, as where the writer answered an error, and the desk stands as if it had been
 abbrev pub Breaks : {S : Type 0} → Ghosts S → State → List ℕ → Type 0 → DeskState S → Type 0
 Breaks g t bytes unread desk = (is_head : Bool) × (r : Response) × IsReply g t bytes unread is_head r desk
 

@@ -103,7 +103,7 @@ fn tell_record<S: Alter>(
     desk: &Desk<S>,
     number: Option<u32>,
 ) -> Result<Reply, Memory>
-    ensures { IfOk result (λ reply. (t : State) → StandsAt S.Store t desk.now → TellsRecord (λ told. response reply ≡ told) S.Store t number desk.now) }
+    ensures ok { IfOk result (λ reply. (t : State) → StandsAt S.Store t desk.now → TellsRecord (λ told. response reply ≡ told) S.Store t number desk.now) }
     ensures gone { IsTrue desk.now.is_given_up → IfOk result (λ reply. response reply ≡ gone_reading Failure.Record number) }
 {
     let Some(record_no) = number else {
@@ -168,7 +168,7 @@ fn due_rows<S: Alter>(alloc: Global, desk: &Desk<S>, day: Day) -> Result<Vec<Rec
 
 /// Tells what is due on a day.
 fn tell_due<S: Alter>(alloc: Global, desk: &Desk<S>, day: Option<Day>) -> Result<Reply, Memory>
-    ensures { IfOk result (λ reply. (t : State) → StandsAt S.Store t desk.now → TellsDue (λ told. response reply ≡ told) S.Store t day desk.now) }
+    ensures ok { IfOk result (λ reply. (t : State) → StandsAt S.Store t desk.now → TellsDue (λ told. response reply ≡ told) S.Store t day desk.now) }
     ensures gone { IsTrue desk.now.is_given_up → IfOk result (λ reply. response reply ≡ gone_reading Failure.Day day) }
 {
     let Some(day) = day else {
@@ -186,7 +186,7 @@ fn tell_certificate<S: Alter>(
     desk: &Desk<S>,
     number: Option<u32>,
 ) -> Result<Reply, Memory>
-    ensures { IfOk result (λ reply. (t : State) → StandsAt S.Store t desk.now → TellsCertificate (λ told. response reply ≡ told) S.Store t number desk.now) }
+    ensures ok { IfOk result (λ reply. (t : State) → StandsAt S.Store t desk.now → TellsCertificate (λ told. response reply ≡ told) S.Store t number desk.now) }
     ensures gone { IsTrue desk.now.is_given_up → IfOk result (λ reply. response reply ≡ gone_reading Failure.Certificate number) }
 {
     let Some(run) = number else {

@@ -22,7 +22,7 @@ pub struct Service {
     pub connections: u32,
     /// Whether one of them failed.
     pub has_failed: bool,
-    /// Whether it ended before its time, since the desk was given up.
+    /// Whether it ended since the desk was given up.
     pub is_given_up: bool,
 }
 
