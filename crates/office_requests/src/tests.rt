@@ -122,8 +122,7 @@ fn a_run_is_resumed_and_certified(rt: HostRuntime) -> Result<(), Fail> {
     let request = asking(&rt, "POST", "/run/resume")?;
     let none = json(&rt, "409 Conflict", "{\"refused\":18}")?;
     answers(&rt, &mut desk, request.as_str(), 7, 409, none.as_str())?;
-    let open = r#"[{"act":"open-run","day":"2025-01-02","by":"registrar"}]"#;
-    posts(&rt, &mut desk, open, 200, "200 OK", "[{\"number\":1}]")?;
+    posts(&rt, &mut desk, OPEN_RUN, 200, "200 OK", "[{\"number\":1}]")?;
     let closed = json(&rt, "200 OK", "{\"certificate\":1}")?;
     answers(&rt, &mut desk, request.as_str(), 1, 200, closed.as_str())?;
     let mut reader = Pieces {
@@ -138,17 +137,35 @@ fn a_run_is_resumed_and_certified(rt: HostRuntime) -> Result<(), Fail> {
     Ok(())
 }
 
-#[test]
-fn cut_bodies_and_lost_readers_do_nothing(rt: HostRuntime) -> Result<(), Fail> {
-    let mut desk = new_desk(rt.alloc())?;
-    let whole = r#"POST /acts HTTP/1.1
-Host: h
-Content-Length: 56
+const OPEN_RUN: &str = r#"[{"act":"open-run","day":"2025-01-02","by":"registrar"}]"#;
 
-[{"act":"open-run","day":"2025-01-02","by":"registrar"}]"#;
-    let cut = whole.get(..whole.len() - 1).unwrap_or("");
+/// A run is open where a step of it is not refused.
+fn has_no_run<S: Alter>(
+    rt: &(impl Abort + AllocGlobal),
+    desk: &mut Desk<S>,
+) -> Result<(), Fail> {
+    let step = "[{\"act\":\"run-step\"}]";
+    posts(rt, desk, step, 409, "409 Conflict", "[{\"refused\":18}]")
+}
+
+#[test]
+fn a_cut_body_does_nothing(rt: HostRuntime) -> Result<(), Fail> {
+    let mut desk = new_desk(rt.alloc())?;
     let told = json(&rt, "400 Bad Request", "{\"error\":\"body\"}")?;
+    let step = posting(&rt, "[{\"act\":\"run-step\"}]")?;
+    let cut = step.as_str().get(..step.len() - 15).unwrap_or("");
+    answers(&rt, &mut desk, cut, 4_096, 400, told.as_str())?;
+    let open_run = posting(&rt, OPEN_RUN)?;
+    let cut = open_run.as_str().get(..open_run.len() - 1).unwrap_or("");
     answers(&rt, &mut desk, cut, 7, 400, told.as_str())?;
+    has_no_run(&rt, &mut desk)
+}
+
+#[test]
+fn a_lost_reader_does_nothing(rt: HostRuntime) -> Result<(), Fail> {
+    let mut desk = new_desk(rt.alloc())?;
+    let open_run = posting(&rt, OPEN_RUN)?;
+    let cut = open_run.as_str().get(..open_run.len() - 1).unwrap_or("");
     let mut reader = Pieces {
         bytes: cut.as_bytes(),
         most: 7,
@@ -157,16 +174,13 @@ Content-Length: 56
     let mut out = Vec::new(rt.alloc());
     assert!(rt; serve_one(rt.alloc(), &mut desk, &mut reader, &mut out) == Err(Io));
     assert_eq!(rt; out.len(), 0);
-    let step = "[{\"act\":\"run-step\"}]";
-    posts(&rt, &mut desk, step, 409, "409 Conflict", "[{\"refused\":18}]")?;
-    let mut none = Pieces {
-        bytes: b"",
-        most: 1,
-        fails: false,
-    };
-    assert!(rt; serve_one(rt.alloc(), &mut desk, &mut none, &mut out) == Ok(0));
-    assert_eq!(rt; out.len(), 0);
-    Ok(())
+    has_no_run(&rt, &mut desk)
+}
+
+#[test]
+fn no_byte_gets_no_answer(rt: HostRuntime) -> Result<(), Fail> {
+    let mut desk = new_desk(rt.alloc())?;
+    answers(&rt, &mut desk, "", 1, 0, "")
 }
 
 #[test]

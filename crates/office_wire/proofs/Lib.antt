@@ -6,4 +6,5 @@ pub mod Replied
 pub mod Resumed
 pub mod Rows
 pub mod Told
+pub mod Unavailable
 pub mod Untold

@@ -1,3 +1,4 @@
+use Rattle.std.specs.Prelude.{false}
 use Rattle.office_wire.specs.Connections.{Turns}
 use Rattle.office_wire.proofs.connections.serve_all.Given as goal
 
