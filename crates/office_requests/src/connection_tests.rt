@@ -46,7 +46,7 @@ fn a_connection_that_fails_is_told_and_counted(rt: HostRuntime) -> Result<(), Fa
         is_given_up: false,
     };
     assert_eq!(rt; service, failed);
-    assert!(rt; err.as_slice() == b"office: socket\noffice: socket\n");
+    assert!(rt; err.as_slice() == b"office: socket\noffice: socket\n".as_slice());
     let nothing = json(&rt, "404 Not Found", "{\"error\":\"path\"}")?;
     assert_eq!(rt; heard(&rt, first)?.as_str(), nothing.as_str());
     Ok(())

@@ -1,7 +1,8 @@
 -- Answers that tell a fault.
 use Rattle.std.proofs.Common.{◌≡◌, refl, subst, sym, List, Result, Ok, Err}
 use Rattle.std.specs.Prelude.{IfOk}
-use Rattle.office_http.specs.Replies.{Response}
+use Rattle.office_http.specs.Replies.{Response, failure_response}
+use Rattle.office_http.specs.declared.failure.Failure.TheVariants as failure
 use Rattle.office_machine.specs.declared.answer.Answer.{Answer}
 use Rattle.office_store.specs.declared.fault.Fault.{Fault}
 use Rattle.office_wire.specs.Answering.{IsUnavailable}
@@ -19,3 +20,7 @@ pub stopped_unavailable : {A E : Type 0} (to : A → Response) (r : Result A E) 
     → IfOk r (λ (a : A). to a ≡ stopped_response answers f) → IfOk r (λ (a : A). IsUnavailable (to a))
 unfolding json_response
 stopped_unavailable to r answers f same = unavailable to r (stopped_response answers f) refl same
+
+pub memory_unavailable : IsUnavailable (failure_response failure.Memory)
+unfolding failure_response
+memory_unavailable = refl
