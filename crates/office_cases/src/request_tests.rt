@@ -89,16 +89,15 @@ fn body_of(alloc: Global, bytes: &[u8], most: usize, size: usize) -> Option<(boo
 /// This must be done for a head, however it is cut.
 fn planned(rt: &(impl Abort + AllocGlobal), head: &str, plan: &Plan) {
     for most in [1, 2, 7, 4_096] {
-        assert!(rt; is_planned(rt.alloc(), head.as_bytes(), most, plan), "{head}");
+        assert!(rt;
+            is_planned(rt.alloc(), head.as_bytes(), most, plan),
+            "{head}"
+        );
     }
 }
 
 /// This must be done for each of these requests of one line.
-fn lines_planned(
-    rt: &(impl Abort + AllocGlobal),
-    lines: &[&str],
-    plan: &Plan,
-) -> Result<(), Fail> {
+fn lines_planned(rt: &(impl Abort + AllocGlobal), lines: &[&str], plan: &Plan) -> Result<(), Fail> {
     for line in lines {
         let head = format!(in rt.alloc(); "{line} HTTP/1.1\r\nHost: h\r\n\r\n")?;
         planned(rt, head.as_str(), plan);

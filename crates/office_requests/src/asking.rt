@@ -103,14 +103,18 @@ pub(crate) fn json(
     body: &str,
 ) -> Result<String, Fail> {
     let size = body.len();
-    let text = format!(in rt.alloc(); "HTTP/1.1 {status}\r\nContent-Type: application/json\r\nContent-Length: {size}\r\nConnection: close\r\n\r\n{body}")?;
+    let text = format!(in rt.alloc();
+        "HTTP/1.1 {status}\r\nContent-Type: application/json\r\nContent-Length: {size}\r\nConnection: close\r\n\r\n{body}"
+    )?;
     Ok(text)
 }
 
 /// A request for acts.
 pub(crate) fn posting(rt: &(impl Abort + AllocGlobal), body: &str) -> Result<String, Fail> {
     let size = body.len();
-    let text = format!(in rt.alloc(); "POST /acts HTTP/1.1\r\nHost: h\r\nContent-Length: {size}\r\n\r\n{body}")?;
+    let text = format!(in rt.alloc();
+        "POST /acts HTTP/1.1\r\nHost: h\r\nContent-Length: {size}\r\n\r\n{body}"
+    )?;
     Ok(text)
 }
 

@@ -58,7 +58,8 @@ fn serving_ends_where_the_desk_is_given_up(rt: HostRuntime) -> Result<(), Fail> 
     let first = sender(&rt, addr, posting(&rt, OPEN_RUN)?.as_str())?;
     let second = sender(&rt, addr, asking(&rt, "POST", "/run/resume")?.as_str())?;
     let desk = changed(&rt, new_desk(rt.alloc())?, "DROP TABLE certificates")?;
-    let none = "CREATE TABLE certificates(run INTEGER PRIMARY KEY, body TEXT NOT NULL CHECK (body = '')) STRICT";
+    let none =
+        "CREATE TABLE certificates(run INTEGER PRIMARY KEY, body TEXT NOT NULL CHECK (body = '')) STRICT";
     let mut desk = changed(&rt, desk, none)?;
     let mut err = Vec::new(rt.alloc());
     let service = serve_all(rt.alloc(), &listener, 9, &mut desk, &mut err);

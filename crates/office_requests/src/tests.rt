@@ -50,9 +50,23 @@ fn a_path_of_nothing_in_pieces(rt: HostRuntime) -> Result<(), Fail> {
 fn acts_and_bodies_of_none(rt: HostRuntime) -> Result<(), Fail> {
     let mut desk = new_desk(rt.alloc())?;
     let step = "[{\"act\":\"run-step\"}]";
-    posts(&rt, &mut desk, step, 409, "409 Conflict", "[{\"refused\":18}]")?;
+    posts(
+        &rt,
+        &mut desk,
+        step,
+        409,
+        "409 Conflict",
+        "[{\"refused\":18}]",
+    )?;
     posts(&rt, &mut desk, "[]", 200, "200 OK", "[]")?;
-    posts(&rt, &mut desk, "{}", 400, "400 Bad Request", "{\"error\":\"json\"}")?;
+    posts(
+        &rt,
+        &mut desk,
+        "{}",
+        400,
+        "400 Bad Request",
+        "{\"error\":\"json\"}",
+    )?;
     let bad = "[{\"act\":\"run-step\"},{\"act\":\"run-step\",\"day\":\"2024-01-02\"}]";
     let told = "{\"error\":\"act\",\"place\":1,\"refused\":2}";
     posts(&rt, &mut desk, bad, 400, "400 Bad Request", told)?;
@@ -61,20 +75,30 @@ fn acts_and_bodies_of_none(rt: HostRuntime) -> Result<(), Fail> {
     answers(&rt, &mut desk, request.as_str(), 7, 411, long.as_str())
 }
 
-const SCHEDULE: &str = r#"{"act":"add-schedule","day":"2024-01-02","code":"D1","trigger":"added","unit":"years","count":1,"offset":"none","action":"destroy"}"#;
+const SCHEDULE: &str =
+    r#"{"act":"add-schedule","day":"2024-01-02","code":"D1","trigger":"added","unit":"years","count":1,"offset":"none","action":"destroy"}"#;
+
 const CLASS: &str =
     r#"{"act":"add-class","day":"2024-01-02","code":"FIN","title":"Finance","schedule":"D1"}"#;
+
 const AGGREGATION: &str =
     r#"{"act":"add-aggregation","day":"2024-01-02","ref":"A","title":"A","class":"FIN"}"#;
-const RECORD: &str = r#"{"act":"add-record","day":"2024-01-02","ref":"r1","title":"r1","originated":"2024-01-02","aggregation":1,"content":"YWJj"}"#;
-const TOLD: &str = r#"{"added":"2024-01-02","aggregation":1,"class":"FIN","confirmed":null,"digest":"ba7816bf8f01cfea414140de5dae2223b00361a396177a9cb410ff61f20015ad","due":"2025-01-02","ended":null,"held":null,"length":3,"number":1,"originated":"2024-01-02","ref":"r1","schedule":"D1","status":"here","title":"r1"}"#;
-const DUE: &str = r#"[{"action":"destroy","class":"FIN","confirmed":false,"due":"2025-01-02","held":null,"record":1,"ref":"r1","schedule":"D1"}]"#;
+
+const RECORD: &str =
+    r#"{"act":"add-record","day":"2024-01-02","ref":"r1","title":"r1","originated":"2024-01-02","aggregation":1,"content":"YWJj"}"#;
+
+const TOLD: &str =
+    r#"{"added":"2024-01-02","aggregation":1,"class":"FIN","confirmed":null,"digest":"ba7816bf8f01cfea414140de5dae2223b00361a396177a9cb410ff61f20015ad","due":"2025-01-02","ended":null,"held":null,"length":3,"number":1,"originated":"2024-01-02","ref":"r1","schedule":"D1","status":"here","title":"r1"}"#;
+
+const DUE: &str =
+    r#"[{"action":"destroy","class":"FIN","confirmed":false,"due":"2025-01-02","held":null,"record":1,"ref":"r1","schedule":"D1"}]"#;
 
 /// A desk with one record.
 fn with_record(rt: &(impl Abort + AllocGlobal)) -> Result<Memory, Fail> {
     let mut desk = new_desk(rt.alloc())?;
     let body = format!(in rt.alloc(); "[{SCHEDULE},{CLASS},{AGGREGATION},{RECORD},{RECORD}]")?;
-    let told = "[{\"done\":true},{\"done\":true},{\"number\":1},{\"number\":1},{\"number\":1,\"same\":true}]";
+    let told =
+        "[{\"done\":true},{\"done\":true},{\"number\":1},{\"number\":1},{\"number\":1,\"same\":true}]";
     posts(rt, &mut desk, body.as_str(), 200, "200 OK", told)?;
     Ok(desk)
 }
@@ -86,7 +110,8 @@ fn what_is_told_of_a_record(rt: HostRuntime) -> Result<(), Fail> {
     asks(&rt, &mut desk, "/records/1", 200, "200 OK", TOLD)?;
     asks(&rt, &mut desk, "/due/2025-01-02", 200, "200 OK", DUE)?;
     asks(&rt, &mut desk, "/due/2025-01-01", 200, "200 OK", "[]")?;
-    let content = "HTTP/1.1 200 OK\r\nContent-Type: application/octet-stream\r\nContent-Length: 3\r\nConnection: close\r\n\r\nabc";
+    let content =
+        "HTTP/1.1 200 OK\r\nContent-Type: application/octet-stream\r\nContent-Length: 3\r\nConnection: close\r\n\r\nabc";
     let request = asking(&rt, "GET", "/records/1/content")?;
     answers(&rt, &mut desk, request.as_str(), 2, 200, content)
 }
@@ -96,7 +121,14 @@ fn a_content_that_is_another_one(rt: HostRuntime) -> Result<(), Fail> {
     let statement = "UPDATE contents SET bytes = x'616264'";
     let mut desk = changed(&rt, with_record(&rt)?, statement)?;
     let told = "503 Service Unavailable";
-    asks(&rt, &mut desk, "/records/1/content", 503, told, "{\"fault\":33}")?;
+    asks(
+        &rt,
+        &mut desk,
+        "/records/1/content",
+        503,
+        told,
+        "{\"fault\":33}",
+    )?;
     asks(&rt, &mut desk, "/records/1", 200, "200 OK", TOLD)
 }
 
@@ -105,10 +137,30 @@ fn what_is_not_there(rt: HostRuntime) -> Result<(), Fail> {
     let mut desk = with_record(&rt)?;
     let rows = [
         ("/records/2", 404, "404 Not Found", "{\"error\":\"record\"}"),
-        ("/records/01", 404, "404 Not Found", "{\"error\":\"record\"}"),
-        ("/records/2/content", 404, "404 Not Found", "{\"error\":\"content\"}"),
-        ("/certificates/1", 404, "404 Not Found", "{\"error\":\"certificate\"}"),
-        ("/due/2025-1-2", 400, "400 Bad Request", "{\"error\":\"day\"}"),
+        (
+            "/records/01",
+            404,
+            "404 Not Found",
+            "{\"error\":\"record\"}",
+        ),
+        (
+            "/records/2/content",
+            404,
+            "404 Not Found",
+            "{\"error\":\"content\"}",
+        ),
+        (
+            "/certificates/1",
+            404,
+            "404 Not Found",
+            "{\"error\":\"certificate\"}",
+        ),
+        (
+            "/due/2025-1-2",
+            400,
+            "400 Bad Request",
+            "{\"error\":\"day\"}",
+        ),
     ];
     for (path, code, status, body) in rows {
         asks(&rt, &mut desk, path, code, status, body)?;
@@ -132,7 +184,8 @@ fn a_run_is_resumed_and_certified(rt: HostRuntime) -> Result<(), Fail> {
     };
     let mut out = Vec::new(rt.alloc());
     assert!(rt; serve_one(rt.alloc(), &mut desk, &mut reader, &mut out) == Ok(200));
-    let start = "HTTP/1.1 200 OK\r\nContent-Type: text/plain; charset=utf-8\r\nContent-Length: 147\r\nConnection: close\r\n\r\nCERTIFICATE 1\nDAY 2025-01-02\nBY registrar\n";
+    let start =
+        "HTTP/1.1 200 OK\r\nContent-Type: text/plain; charset=utf-8\r\nContent-Length: 147\r\nConnection: close\r\n\r\nCERTIFICATE 1\nDAY 2025-01-02\nBY registrar\n";
     assert!(rt; out.as_slice().starts_with(start.as_bytes()));
     Ok(())
 }
@@ -140,10 +193,7 @@ fn a_run_is_resumed_and_certified(rt: HostRuntime) -> Result<(), Fail> {
 const OPEN_RUN: &str = r#"[{"act":"open-run","day":"2025-01-02","by":"registrar"}]"#;
 
 /// A run is open where a step of it is not refused.
-fn has_no_run<S: Alter>(
-    rt: &(impl Abort + AllocGlobal),
-    desk: &mut Desk<S>,
-) -> Result<(), Fail> {
+fn has_no_run<S: Alter>(rt: &(impl Abort + AllocGlobal), desk: &mut Desk<S>) -> Result<(), Fail> {
     let step = "[{\"act\":\"run-step\"}]";
     posts(rt, desk, step, 409, "409 Conflict", "[{\"refused\":18}]")
 }
