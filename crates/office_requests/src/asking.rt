@@ -1,7 +1,7 @@
 //! A client in memory: its bytes come in pieces, and its answer is kept.
 use office_desk::Desk;
 use office_wire::{Io, serve_one};
-use sqlite::{Alter, Connection, MemStore, params};
+use sqlite::{Alter, Connection, MemStore};
 use std::alloc::{AllocGlobal, Global};
 use std::io;
 use std::io::Read;
@@ -48,14 +48,14 @@ pub(crate) fn new_desk(alloc: Global) -> Result<Memory, Fail> {
     desk_over(alloc, Connection::open_in_memory(alloc)?)
 }
 
-/// The office behind a desk, opened again after its tables were changed by a statement.
+/// The office behind a desk, opened again after its tables were changed by statements.
 pub(crate) fn changed(
     rt: &(impl Abort + AllocGlobal),
     desk: Memory,
-    statement: &str,
+    statements: &str,
 ) -> Result<Memory, Fail> {
     let mut conn = desk.close();
-    assert!(rt; conn.execute(statement, params![]).is_ok(), "{statement}");
+    assert!(rt; conn.execute_batch(statements).is_ok(), "{statements}");
     desk_over(rt.alloc(), conn)
 }
 

@@ -5,6 +5,10 @@ use std::test::Fail;
 
 const OPEN_RUN: &str = r#"[{"act":"open-run","day":"2025-01-02","by":"registrar"}]"#;
 
+/// A table of certificates that takes none.
+const NO_CERTIFICATE: &str =
+    "DROP TABLE certificates; CREATE TABLE certificates(run INTEGER PRIMARY KEY, body TEXT NOT NULL CHECK (body = '')) STRICT";
+
 #[test]
 fn clients_that_wait_are_served_in_turn(rt: HostRuntime) -> Result<(), Fail> {
     let (listener, addr) = listening(&rt)?;
@@ -57,10 +61,7 @@ fn serving_ends_where_the_desk_is_given_up(rt: HostRuntime) -> Result<(), Fail> 
     let (listener, addr) = listening(&rt)?;
     let first = sender(&rt, addr, posting(&rt, OPEN_RUN)?.as_str())?;
     let second = sender(&rt, addr, asking(&rt, "POST", "/run/resume")?.as_str())?;
-    let desk = changed(&rt, new_desk(rt.alloc())?, "DROP TABLE certificates")?;
-    let none =
-        "CREATE TABLE certificates(run INTEGER PRIMARY KEY, body TEXT NOT NULL CHECK (body = '')) STRICT";
-    let mut desk = changed(&rt, desk, none)?;
+    let mut desk = changed(&rt, new_desk(rt.alloc())?, NO_CERTIFICATE)?;
     let mut err = Vec::new(rt.alloc());
     let service = serve_all(rt.alloc(), &listener, 9, &mut desk, &mut err);
     let given_up = Service {
