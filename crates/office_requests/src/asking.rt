@@ -97,11 +97,7 @@ pub(crate) fn answers<S: Alter>(
 }
 
 /// The bytes of an answer in JSON.
-pub(crate) fn json(
-    rt: &(impl Abort + AllocGlobal),
-    status: &str,
-    body: &str,
-) -> Result<String, Fail> {
+pub(crate) fn json(rt: &impl AllocGlobal, status: &str, body: &str) -> Result<String, Fail> {
     let size = body.len();
     let text = format!(in rt.alloc();
         "HTTP/1.1 {status}\r\nContent-Type: application/json\r\nContent-Length: {size}\r\nConnection: close\r\n\r\n{body}"
@@ -110,7 +106,7 @@ pub(crate) fn json(
 }
 
 /// A request for acts.
-pub(crate) fn posting(rt: &(impl Abort + AllocGlobal), body: &str) -> Result<String, Fail> {
+pub(crate) fn posting(rt: &impl AllocGlobal, body: &str) -> Result<String, Fail> {
     let size = body.len();
     let text = format!(in rt.alloc();
         "POST /acts HTTP/1.1\r\nHost: h\r\nContent-Length: {size}\r\n\r\n{body}"
@@ -119,11 +115,7 @@ pub(crate) fn posting(rt: &(impl Abort + AllocGlobal), body: &str) -> Result<Str
 }
 
 /// A request for something, with a method.
-pub(crate) fn asking(
-    rt: &(impl Abort + AllocGlobal),
-    method: &str,
-    path: &str,
-) -> Result<String, Fail> {
+pub(crate) fn asking(rt: &impl AllocGlobal, method: &str, path: &str) -> Result<String, Fail> {
     let text = format!(in rt.alloc(); "{method} {path} HTTP/1.1\r\nHost: h\r\n\r\n")?;
     Ok(text)
 }

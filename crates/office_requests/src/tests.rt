@@ -1,4 +1,4 @@
-use crate::asking::{Memory, Pieces, answers, asking, changed, json, new_desk, posting};
+use crate::asking::{Memory, Pieces, answers, asking, changed, json, new_desk, posting, reply};
 use office_desk::Desk;
 use office_wire::{Io, serve_one};
 use sqlite::Alter;
@@ -168,6 +168,23 @@ fn what_is_not_there(rt: HostRuntime) -> Result<(), Fail> {
     Ok(())
 }
 
+/// The certificate of a first run without a record starts so, where an older client asks for it.
+fn tells_certificate<S: Alter>(
+    rt: &(impl Abort + AllocGlobal),
+    desk: &mut Desk<S>,
+) -> Result<(), Fail> {
+    let start =
+        "HTTP/1.1 200 OK\r\nContent-Type: text/plain; charset=utf-8\r\nContent-Length: 147\r\nConnection: close\r\n\r\nCERTIFICATE 1\nDAY 2025-01-02\nBY registrar\n";
+    match reply(rt.alloc(), desk, "GET /certificates/1 HTTP/1.0\r\n\r\n", 3) {
+        Ok((status, out)) => {
+            assert_eq!(rt; status, 200);
+            assert!(rt; out.as_slice().starts_with(start.as_bytes()));
+            Ok(())
+        }
+        Err(Io) => Err(Fail::new("the connection is lost")),
+    }
+}
+
 #[test]
 fn a_run_is_resumed_and_certified(rt: HostRuntime) -> Result<(), Fail> {
     let mut desk = new_desk(rt.alloc())?;
@@ -177,17 +194,7 @@ fn a_run_is_resumed_and_certified(rt: HostRuntime) -> Result<(), Fail> {
     posts(&rt, &mut desk, OPEN_RUN, 200, "200 OK", "[{\"number\":1}]")?;
     let closed = json(&rt, "200 OK", "{\"certificate\":1}")?;
     answers(&rt, &mut desk, request.as_str(), 1, 200, closed.as_str())?;
-    let mut reader = Pieces {
-        bytes: b"GET /certificates/1 HTTP/1.0\r\n\r\n",
-        most: 3,
-        fails: false,
-    };
-    let mut out = Vec::new(rt.alloc());
-    assert!(rt; serve_one(rt.alloc(), &mut desk, &mut reader, &mut out) == Ok(200));
-    let start =
-        "HTTP/1.1 200 OK\r\nContent-Type: text/plain; charset=utf-8\r\nContent-Length: 147\r\nConnection: close\r\n\r\nCERTIFICATE 1\nDAY 2025-01-02\nBY registrar\n";
-    assert!(rt; out.as_slice().starts_with(start.as_bytes()));
-    Ok(())
+    tells_certificate(&rt, &mut desk)
 }
 
 const OPEN_RUN: &str = r#"[{"act":"open-run","day":"2025-01-02","by":"registrar"}]"#;
@@ -211,19 +218,24 @@ fn a_cut_body_does_nothing(rt: HostRuntime) -> Result<(), Fail> {
     has_no_run(&rt, &mut desk)
 }
 
+/// A client whose connection fails after these bytes must get no answer.
+fn is_lost<S: Alter>(rt: &(impl Abort + AllocGlobal), desk: &mut Desk<S>, sent: &str) {
+    let mut reader = Pieces {
+        bytes: sent.as_bytes(),
+        most: 7,
+        fails: true,
+    };
+    let mut out = Vec::new(rt.alloc());
+    assert!(rt; serve_one(rt.alloc(), desk, &mut reader, &mut out) == Err(Io));
+    assert_eq!(rt; out.len(), 0);
+}
+
 #[test]
 fn a_lost_reader_does_nothing(rt: HostRuntime) -> Result<(), Fail> {
     let mut desk = new_desk(rt.alloc())?;
     let open_run = posting(&rt, OPEN_RUN)?;
     let cut = open_run.as_str().get(..open_run.len() - 1).unwrap_or("");
-    let mut reader = Pieces {
-        bytes: cut.as_bytes(),
-        most: 7,
-        fails: true,
-    };
-    let mut out = Vec::new(rt.alloc());
-    assert!(rt; serve_one(rt.alloc(), &mut desk, &mut reader, &mut out) == Err(Io));
-    assert_eq!(rt; out.len(), 0);
+    is_lost(&rt, &mut desk, cut);
     has_no_run(&rt, &mut desk)
 }
 
