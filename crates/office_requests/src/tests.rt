@@ -210,10 +210,16 @@ fn a_cut_body_does_nothing(rt: HostRuntime) -> Result<(), Fail> {
     let mut desk = new_desk(rt.alloc())?;
     let told = json(&rt, "400 Bad Request", "{\"error\":\"body\"}")?;
     let step = posting(&rt, "[{\"act\":\"run-step\"}]")?;
-    let cut = step.as_str().get(..step.len() - 15).unwrap_or("");
+    let cut = step
+        .as_str()
+        .get(..step.len().saturating_sub(15))
+        .unwrap_or("");
     answers(&rt, &mut desk, cut, 4_096, 400, told.as_str())?;
     let open_run = posting(&rt, OPEN_RUN)?;
-    let cut = open_run.as_str().get(..open_run.len() - 1).unwrap_or("");
+    let cut = open_run
+        .as_str()
+        .get(..open_run.len().saturating_sub(1))
+        .unwrap_or("");
     answers(&rt, &mut desk, cut, 7, 400, told.as_str())?;
     has_no_run(&rt, &mut desk)
 }
@@ -234,7 +240,10 @@ fn is_lost<S: Alter>(rt: &(impl Abort + AllocGlobal), desk: &mut Desk<S>, sent: 
 fn a_lost_reader_does_nothing(rt: HostRuntime) -> Result<(), Fail> {
     let mut desk = new_desk(rt.alloc())?;
     let open_run = posting(&rt, OPEN_RUN)?;
-    let cut = open_run.as_str().get(..open_run.len() - 1).unwrap_or("");
+    let cut = open_run
+        .as_str()
+        .get(..open_run.len().saturating_sub(1))
+        .unwrap_or("");
     is_lost(&rt, &mut desk, cut);
     has_no_run(&rt, &mut desk)
 }
