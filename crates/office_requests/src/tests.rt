@@ -205,21 +205,20 @@ fn has_no_run<S: Alter>(rt: &(impl Abort + AllocGlobal), desk: &mut Desk<S>) -> 
     posts(rt, desk, step, 409, "409 Conflict", "[{\"refused\":18}]")
 }
 
+/// A text without so many of its last bytes.
+fn without_end(text: &str, count: usize) -> &str {
+    text.get(..text.len().saturating_sub(count)).unwrap_or("")
+}
+
 #[test]
 fn a_cut_body_does_nothing(rt: HostRuntime) -> Result<(), Fail> {
     let mut desk = new_desk(rt.alloc())?;
     let told = json(&rt, "400 Bad Request", "{\"error\":\"body\"}")?;
     let step = posting(&rt, "[{\"act\":\"run-step\"}]")?;
-    let cut = step
-        .as_str()
-        .get(..step.len().saturating_sub(15))
-        .unwrap_or("");
+    let cut = without_end(step.as_str(), 15);
     answers(&rt, &mut desk, cut, 4_096, 400, told.as_str())?;
     let open_run = posting(&rt, OPEN_RUN)?;
-    let cut = open_run
-        .as_str()
-        .get(..open_run.len().saturating_sub(1))
-        .unwrap_or("");
+    let cut = without_end(open_run.as_str(), 1);
     answers(&rt, &mut desk, cut, 7, 400, told.as_str())?;
     has_no_run(&rt, &mut desk)
 }
@@ -240,10 +239,7 @@ fn is_lost<S: Alter>(rt: &(impl Abort + AllocGlobal), desk: &mut Desk<S>, sent: 
 fn a_lost_reader_does_nothing(rt: HostRuntime) -> Result<(), Fail> {
     let mut desk = new_desk(rt.alloc())?;
     let open_run = posting(&rt, OPEN_RUN)?;
-    let cut = open_run
-        .as_str()
-        .get(..open_run.len().saturating_sub(1))
-        .unwrap_or("");
+    let cut = without_end(open_run.as_str(), 1);
     is_lost(&rt, &mut desk, cut);
     has_no_run(&rt, &mut desk)
 }
