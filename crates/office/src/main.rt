@@ -1,16 +1,21 @@
 //! The program `office` of the records disposal office.
 //!
 //! Its words are read by `office_words`. The commands that open no office are done by `office_plan`;
-//! those on the office in a file by `office_run`, over a connection to it.
+//! those on the office in a file by `office_run`, over a connection to it. `serve` opens the office in a file
+//! and answers requests as `office_wire` does, at a port that it binds first.
 #![tactic(auto)]
 
 use clap::error::ErrorKind;
+use office_desk::Desk;
 use office_plan::{PlanStop, due_to, plan_to, read_whole};
-use office_run::{Ending, run_on, tell};
+use office_run::{Ending, run_on, tell, tell_listening};
 use office_store::Fault;
+use office_wire::serve_all;
 use office_words::{Order, Words, order_of, read_words};
-use sqlite::{Connection, Wary};
+use sqlite::{Alter, Connection, Wary};
 use std::fs::File;
+use std::io::{Read, Write};
+use std::net::{Ipv4Addr, OpenListener, OpenStream, SocketAddr, TcpListener};
 use std::process::ExitCode;
 use std::{env, io};
 
@@ -62,6 +67,59 @@ fn apply_in(rt: &HostRuntime, file: &str, acts: &str, order: &Order<'_>) -> u8 {
     }
 }
 
+/// Tells where an open office is served, and serves so many connections.
+fn serve_at<L: OpenListener, S: Alter>(
+    rt: &HostRuntime,
+    listener: &L,
+    port: u16,
+    count: u32,
+    desk: &mut Desk<S>,
+) -> Ending
+where
+    L::Stream: Read + Write + OpenStream,
+{
+    match tell_listening(port, &mut io::writer(rt)) {
+        Ok(()) => {
+            let service = serve_all(rt.alloc(), listener, count, desk, &mut rt.stderr());
+            Ending::of_service(service.has_failed, service.is_given_up)
+        }
+        Err(_) => Ending::File,
+    }
+}
+
+/// Serves the office in a file, which is made where there is none, at a port that is bound.
+fn serve_bound<L: OpenListener>(
+    rt: &HostRuntime,
+    listener: &L,
+    file: &str,
+    port: u16,
+    count: u32,
+) -> Ending
+where
+    L::Stream: Read + Write + OpenStream,
+{
+    let Ok(conn) = Connection::open_from(rt, file, false, Wary) else {
+        return Ending::Fault(Fault::Store);
+    };
+    match Desk::open(rt.alloc(), conn) {
+        Ok(mut desk) => {
+            let ending = serve_at(rt, listener, port, count, &mut desk);
+            let _ = desk.close();
+            ending
+        }
+        Err((fault, _)) => Ending::Fault(fault),
+    }
+}
+
+/// Serves the office in a file at a port of 127.0.0.1, which no other machine reaches. Where the port cannot
+/// be bound, the file stays as it is.
+fn serve_in(rt: &HostRuntime, file: &str, port: u16, count: u32) -> Ending {
+    match TcpListener::bind(rt, SocketAddr::from((Ipv4Addr::LOCALHOST, port))) {
+        Ok(listener) => serve_bound(rt, &listener, file, port, count),
+        Err(_) => Ending::Socket,
+    }
+}
+
 /// Carries out an order.
 fn perform(rt: &HostRuntime, order: &Order<'_>) -> u8 {
     match order {
@@ -79,6 +137,7 @@ fn perform(rt: &HostRuntime, order: &Order<'_>) -> u8 {
         Order::Init { file } | Order::Resume { file } | Order::Certificate { file, .. } => {
             run_in(rt, file, order, &[])
         }
+        Order::Serve { file, port, count } => ended(rt, serve_in(rt, file, *port, *count)),
         Order::Nothing => ended(rt, Ending::BadWords),
     }
 }

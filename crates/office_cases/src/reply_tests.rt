@@ -6,9 +6,10 @@ use office_http::{
     Allow, Body, Check, Failure, Head, Io, Kind, LONGEST_HEAD, Plan, Reply, Status, check_reply,
     failure_reply, is_head_in, plan_in, read_head, write_reply,
 };
-use std::alloc::Global;
+use std::alloc::{AllocGlobal, Global};
 use std::io;
 use std::io::Write;
+use std::process::Abort;
 use std::test::Fail;
 
 /// The answer to a head that does not pass a check, read in pieces.
@@ -81,21 +82,28 @@ fn error_text(alloc: Global, status: &str, body: &str) -> Result<String, Fail> {
     )?)
 }
 
+/// A reply must be written as an answer of JSON.
+fn written_as(
+    rt: &(impl Abort + AllocGlobal),
+    reply: &Reply,
+    status: &str,
+    body: &str,
+) -> Result<(), Fail> {
+    let bytes = written(rt.alloc(), reply, false).ok_or("no answer")?;
+    let text = error_text(rt.alloc(), status, body)?;
+    assert_eq!(rt; bytes.as_slice(), text.as_bytes());
+    Ok(())
+}
+
 #[test]
-fn each_error_has_its_answer(rt: HostRuntime) -> Result<(), Fail> {
-    let checks = [
+fn each_check_has_its_answer(rt: HostRuntime) -> Result<(), Fail> {
+    let coding = "501 Not Implemented";
+    let length = "411 Length Required";
+    let rows = [
         (Check::Host, "400 Bad Request", "{\"error\":\"host\"}"),
         (Check::Path, "404 Not Found", "{\"error\":\"path\"}"),
-        (
-            Check::TransferCoding,
-            "501 Not Implemented",
-            "{\"error\":\"coding\"}",
-        ),
-        (
-            Check::LengthMissing,
-            "411 Length Required",
-            "{\"error\":\"length\"}",
-        ),
+        (Check::TransferCoding, coding, "{\"error\":\"coding\"}"),
+        (Check::LengthMissing, length, "{\"error\":\"length\"}"),
         (
             Check::LengthInvalid,
             "400 Bad Request",
@@ -107,37 +115,32 @@ fn each_error_has_its_answer(rt: HostRuntime) -> Result<(), Fail> {
             "{\"error\":\"size\"}",
         ),
     ];
-    for (check, status, body) in checks {
-        let bytes = written(rt.alloc(), &check_reply(check), false).ok_or("no answer")?;
-        assert_eq!(rt;
-            bytes.as_slice(),
-            error_text(rt.alloc(), status, body)?.as_bytes()
-        );
+    for (check, status, body) in rows {
+        written_as(&rt, &check_reply(check), status, body)?;
     }
-    let failures = [
-        (Failure::Head, "400 Bad Request", "{\"error\":\"head\"}"),
-        (Failure::Body, "400 Bad Request", "{\"error\":\"body\"}"),
-        (Failure::Json, "400 Bad Request", "{\"error\":\"json\"}"),
+    Ok(())
+}
+
+#[test]
+fn each_failure_has_its_answer(rt: HostRuntime) -> Result<(), Fail> {
+    let bad = "400 Bad Request";
+    let missing = "404 Not Found";
+    let rows = [
+        (Failure::Head, bad, "{\"error\":\"head\"}"),
+        (Failure::Body, bad, "{\"error\":\"body\"}"),
+        (Failure::Json, bad, "{\"error\":\"json\"}"),
         (
             Failure::Memory,
             "503 Service Unavailable",
             "{\"error\":\"memory\"}",
         ),
-        (Failure::Record, "404 Not Found", "{\"error\":\"record\"}"),
-        (Failure::Content, "404 Not Found", "{\"error\":\"content\"}"),
-        (
-            Failure::Certificate,
-            "404 Not Found",
-            "{\"error\":\"certificate\"}",
-        ),
-        (Failure::Day, "400 Bad Request", "{\"error\":\"day\"}"),
+        (Failure::Record, missing, "{\"error\":\"record\"}"),
+        (Failure::Content, missing, "{\"error\":\"content\"}"),
+        (Failure::Certificate, missing, "{\"error\":\"certificate\"}"),
+        (Failure::Day, bad, "{\"error\":\"day\"}"),
     ];
-    for (failure, status, body) in failures {
-        let bytes = written(rt.alloc(), &failure_reply(failure), false).ok_or("no answer")?;
-        assert_eq!(rt;
-            bytes.as_slice(),
-            error_text(rt.alloc(), status, body)?.as_bytes()
-        );
+    for (failure, status, body) in rows {
+        written_as(&rt, &failure_reply(failure), status, body)?;
     }
     Ok(())
 }

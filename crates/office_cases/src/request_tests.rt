@@ -5,9 +5,10 @@ use office_days::Day;
 use office_http::{
     Check, Head, Io, LONGEST_HEAD, Plan, ReadStop, Want, plan_in, read_body, read_head,
 };
-use std::alloc::Global;
+use std::alloc::{AllocGlobal, Global};
 use std::io;
 use std::io::Read;
+use std::process::Abort;
 use std::test::Fail;
 
 /// A reader that gives its bytes in pieces of at most so many, and then ends.
@@ -85,197 +86,149 @@ fn body_of(alloc: Global, bytes: &[u8], most: usize, size: usize) -> Option<(boo
     Some((whole, body.to_vec(alloc).ok()?))
 }
 
-#[test]
-fn what_is_done_for_each_head(rt: HostRuntime) -> Result<(), Fail> {
-    let leap = Day::read("2024-02-29");
-    assert!(rt; leap.is_some());
-    let rows: [(&str, Plan); 44] = [
-        (
-            "POST /acts HTTP/1.1\r\nHost: h\r\nContent-Length: 20\r\n\r\n",
-            Plan::Serve(Want::Acts(20)),
-        ),
-        (
-            "POST /acts HTTP/1.1\nhost:\nCONTENT-length: \t 0 \t\n\n",
-            Plan::Serve(Want::Acts(0)),
-        ),
-        (
-            "POST /acts HTTP/1.1\r\nHost: h\r\nContent-Length: 0000000000000000007\r\n\r\n",
-            Plan::Serve(Want::Acts(7)),
-        ),
-        (
-            "POST /acts HTTP/1.1\r\nHost: h\r\nContent-Length: 1048576\r\n\r\n",
-            Plan::Serve(Want::Acts(1_048_576)),
-        ),
-        (
-            "POST /acts HTTP/1.0\r\nContent-Length: 2\r\n\r\n",
-            Plan::Serve(Want::Acts(2)),
-        ),
-        (
-            "POST /acts HTTP/1.0\r\nHost: a\r\nHost: b\r\nContent-Length: 2\r\n\r\n",
-            Plan::Serve(Want::Acts(2)),
-        ),
-        (
-            "POST /acts HTTP/1.1\r\nContent-Length: 2\r\n\r\n",
-            Plan::Refuse(Check::Host),
-        ),
-        (
-            "GET /nothing HTTP/1.1\r\nHost: a\r\nHOST: a\r\n\r\n",
-            Plan::Refuse(Check::Host),
-        ),
-        (
-            "GET /nothing HTTP/1.1\r\nHost: h\r\n\r\n",
-            Plan::Refuse(Check::Path),
-        ),
-        (
-            "HEAD /nothing HTTP/1.1\r\nHost: h\r\n\r\n",
-            Plan::Refuse(Check::Path),
-        ),
-        (
-            "POST /acts? HTTP/1.1\r\nHost: h\r\nContent-Length: 2\r\n\r\n",
-            Plan::Refuse(Check::Path),
-        ),
-        (
-            "GET /records/1?x=1 HTTP/1.1\r\nHost: h\r\n\r\n",
-            Plan::Refuse(Check::Path),
-        ),
-        (
-            "GET http://h/records/1 HTTP/1.1\r\nHost: h\r\n\r\n",
-            Plan::Refuse(Check::Path),
-        ),
-        (
-            "OPTIONS * HTTP/1.1\r\nHost: h\r\n\r\n",
-            Plan::Refuse(Check::Path),
-        ),
-        (
-            "GET /records HTTP/1.1\r\nHost: h\r\n\r\n",
-            Plan::Refuse(Check::Path),
-        ),
-        (
-            "GET /records/ HTTP/1.1\r\nHost: h\r\n\r\n",
-            Plan::Refuse(Check::Path),
-        ),
-        (
-            "GET /records//content HTTP/1.1\r\nHost: h\r\n\r\n",
-            Plan::Refuse(Check::Path),
-        ),
-        (
-            "GET /records/1/ HTTP/1.1\r\nHost: h\r\n\r\n",
-            Plan::Refuse(Check::Path),
-        ),
-        (
-            "GET /records/1/content/ HTTP/1.1\r\nHost: h\r\n\r\n",
-            Plan::Refuse(Check::Path),
-        ),
-        (
-            "GET /Records/1 HTTP/1.1\r\nHost: h\r\n\r\n",
-            Plan::Refuse(Check::Path),
-        ),
-        (
-            "HEAD /acts HTTP/1.1\r\nHost: h\r\n\r\n",
-            Plan::Refuse(Check::NotPost),
-        ),
-        (
-            "GET /run/resume HTTP/1.1\r\nHost: h\r\n\r\n",
-            Plan::Refuse(Check::NotPost),
-        ),
-        (
-            "post /acts HTTP/1.1\r\nHost: h\r\n\r\n",
-            Plan::Refuse(Check::NotPost),
-        ),
-        (
-            "POST /records/01 HTTP/1.1\r\nHost: h\r\n\r\n",
-            Plan::Refuse(Check::NotGet),
-        ),
-        (
-            "HEAD /due/never HTTP/1.1\r\nHost: h\r\n\r\n",
-            Plan::Refuse(Check::NotGet),
-        ),
-        (
-            "POST /acts HTTP/1.1\r\nHost: h\r\nTransfer-Encoding: chunked\r\nContent-Length: 5\r\n\r\n",
-            Plan::Refuse(Check::TransferCoding),
-        ),
-        (
-            "POST /acts HTTP/1.1\r\nHost: h\r\n\r\n",
-            Plan::Refuse(Check::LengthMissing),
-        ),
-        (
-            "POST /acts HTTP/1.1\r\nHost: h\r\nContent-Length: 2\r\nContent-Length: 2\r\n\r\n",
-            Plan::Refuse(Check::LengthInvalid),
-        ),
-        (
-            "POST /acts HTTP/1.1\r\nHost: h\r\nContent-Length: +5\r\n\r\n",
-            Plan::Refuse(Check::LengthInvalid),
-        ),
-        (
-            "POST /acts HTTP/1.1\r\nHost: h\r\nContent-Length:\r\n\r\n",
-            Plan::Refuse(Check::LengthInvalid),
-        ),
-        (
-            "POST /acts HTTP/1.1\r\nHost: h\r\nContent-Length: 00000000000000000005\r\n\r\n",
-            Plan::Refuse(Check::LengthInvalid),
-        ),
-        (
-            "POST /acts HTTP/1.1\r\nHost: h\r\nContent-Length: 9999999999999999999\r\n\r\n",
-            Plan::Refuse(Check::ContentTooLarge),
-        ),
-        (
-            "POST /acts HTTP/1.1\r\nHost: h\r\nContent-Length: 1048577\r\n\r\n",
-            Plan::Refuse(Check::ContentTooLarge),
-        ),
-        (
-            "POST /run/resume HTTP/1.1\r\nHost: h\r\nTransfer-Encoding: chunked\r\n\r\n",
-            Plan::Serve(Want::Resume),
-        ),
-        (
-            "GET /records/1 HTTP/1.1\r\nHost: h\r\nContent-Length: no\r\n\r\n",
-            Plan::Serve(Want::Record(Some(1))),
-        ),
-        (
-            "GET /records/01 HTTP/1.1\r\nHost: h\r\n\r\n",
-            Plan::Serve(Want::Record(None)),
-        ),
-        (
-            "GET /records/0 HTTP/1.1\r\nHost: h\r\n\r\n",
-            Plan::Serve(Want::Record(None)),
-        ),
-        (
-            "GET /records/4294967295/content HTTP/1.1\r\nHost: h\r\n\r\n",
-            Plan::Serve(Want::Content(Some(4_294_967_295))),
-        ),
-        (
-            "GET /records/4294967296/content HTTP/1.1\r\nHost: h\r\n\r\n",
-            Plan::Serve(Want::Content(None)),
-        ),
-        (
-            "GET /certificates/20 HTTP/1.1\r\nHost: h\r\n\r\n",
-            Plan::Serve(Want::Certificate(Some(20))),
-        ),
-        (
-            "GET /certificates/+2 HTTP/1.1\r\nHost: h\r\n\r\n",
-            Plan::Serve(Want::Certificate(None)),
-        ),
-        (
-            "GET /due/2024-02-29 HTTP/1.1\r\nHost: h\r\n\r\n",
-            Plan::Serve(Want::Due(leap)),
-        ),
-        (
-            "GET /due/2023-02-29 HTTP/1.1\r\nHost: h\r\n\r\n",
-            Plan::Serve(Want::Due(None)),
-        ),
-        (
-            "GET /due/%32024-02-29 HTTP/1.1\r\nHost: h\r\n\r\n",
-            Plan::Serve(Want::Due(None)),
-        ),
-    ];
-    for (text, plan) in &rows {
-        for most in [1, 2, 7, 4_096] {
-            assert!(rt;
-                is_planned(rt.alloc(), text.as_bytes(), most, plan),
-                "{text}"
-            );
-        }
+/// This must be done for a head, however it is cut.
+fn planned(rt: &(impl Abort + AllocGlobal), head: &str, plan: &Plan) {
+    for most in [1, 2, 7, 4_096] {
+        assert!(rt;
+            is_planned(rt.alloc(), head.as_bytes(), most, plan),
+            "{head}"
+        );
+    }
+}
+
+/// This must be done for each of these requests of one line.
+fn lines_planned(rt: &(impl Abort + AllocGlobal), lines: &[&str], plan: &Plan) -> Result<(), Fail> {
+    for line in lines {
+        let head = format!(in rt.alloc(); "{line} HTTP/1.1\r\nHost: h\r\n\r\n")?;
+        planned(rt, head.as_str(), plan);
     }
     Ok(())
+}
+
+/// This must be done for acts with each of these field lines.
+fn fields_planned(
+    rt: &(impl Abort + AllocGlobal),
+    fields: &[&str],
+    plan: &Plan,
+) -> Result<(), Fail> {
+    for field in fields {
+        let head = format!(in rt.alloc(); "POST /acts HTTP/1.1\r\nHost: h\r\n{field}\r\n\r\n")?;
+        planned(rt, head.as_str(), plan);
+    }
+    Ok(())
+}
+
+#[test]
+fn hosts_of_each_version(rt: HostRuntime) {
+    let none = "POST /acts HTTP/1.1\r\nContent-Length: 2\r\n\r\n";
+    let two = "GET /nothing HTTP/1.1\r\nHost: a\r\nHOST: a\r\n\r\n";
+    for head in [none, two] {
+        planned(&rt, head, &Plan::Refuse(Check::Host));
+    }
+    let none = "POST /acts HTTP/1.0\r\nContent-Length: 2\r\n\r\n";
+    let two = "POST /acts HTTP/1.0\r\nHost: a\r\nHost: b\r\nContent-Length: 2\r\n\r\n";
+    for head in [none, two] {
+        planned(&rt, head, &Plan::Serve(Want::Acts(2)));
+    }
+    let bare = "POST /acts HTTP/1.1\nhost:\nCONTENT-length: \t 0 \t\n\n";
+    planned(&rt, bare, &Plan::Serve(Want::Acts(0)));
+}
+
+#[test]
+fn targets_that_name_nothing(rt: HostRuntime) -> Result<(), Fail> {
+    let lines = [
+        "GET /nothing",
+        "HEAD /nothing",
+        "POST /acts?",
+        "GET /records/1?x=1",
+        "GET http://h/records/1",
+        "OPTIONS *",
+        "GET /records",
+        "GET /records/",
+        "GET /records//content",
+        "GET /records/1/",
+        "GET /records/1/content/",
+        "GET /Records/1",
+    ];
+    lines_planned(&rt, &lines, &Plan::Refuse(Check::Path))
+}
+
+#[test]
+fn methods_that_a_path_has_not(rt: HostRuntime) -> Result<(), Fail> {
+    let lines = ["HEAD /acts", "GET /run/resume", "post /acts"];
+    lines_planned(&rt, &lines, &Plan::Refuse(Check::NotPost))?;
+    let lines = ["POST /records/01", "HEAD /due/never"];
+    lines_planned(&rt, &lines, &Plan::Refuse(Check::NotGet))
+}
+
+#[test]
+fn bodies_that_are_not_read(rt: HostRuntime) -> Result<(), Fail> {
+    let coded = ["Transfer-Encoding: chunked\r\nContent-Length: 5"];
+    fields_planned(&rt, &coded, &Plan::Refuse(Check::TransferCoding))?;
+    lines_planned(&rt, &["POST /acts"], &Plan::Refuse(Check::LengthMissing))?;
+    let bad = [
+        "Content-Length: 2\r\nContent-Length: 2",
+        "Content-Length: +5",
+        "Content-Length:",
+        "Content-Length: 00000000000000000005",
+    ];
+    fields_planned(&rt, &bad, &Plan::Refuse(Check::LengthInvalid))?;
+    let large = [
+        "Content-Length: 9999999999999999999",
+        "Content-Length: 1048577",
+    ];
+    fields_planned(&rt, &large, &Plan::Refuse(Check::ContentTooLarge))
+}
+
+#[test]
+fn bodies_that_are_read(rt: HostRuntime) -> Result<(), Fail> {
+    let rows = [
+        ("Content-Length: 20", 20),
+        ("Content-Length: 0000000000000000007", 7),
+        ("Content-Length: 1048576", 1_048_576),
+    ];
+    for (field, size) in rows {
+        fields_planned(&rt, &[field], &Plan::Serve(Want::Acts(size)))?;
+    }
+    Ok(())
+}
+
+#[test]
+fn numbers_of_paths(rt: HostRuntime) -> Result<(), Fail> {
+    let rows = [
+        ("GET /records/1", Want::Record(Some(1))),
+        ("GET /records/01", Want::Record(None)),
+        ("GET /records/0", Want::Record(None)),
+        (
+            "GET /records/4294967295/content",
+            Want::Content(Some(4_294_967_295)),
+        ),
+        ("GET /records/4294967296/content", Want::Content(None)),
+        ("GET /certificates/20", Want::Certificate(Some(20))),
+        ("GET /certificates/+2", Want::Certificate(None)),
+    ];
+    for (line, want) in rows {
+        lines_planned(&rt, &[line], &Plan::Serve(want))?;
+    }
+    Ok(())
+}
+
+#[test]
+fn days_of_paths(rt: HostRuntime) -> Result<(), Fail> {
+    let leap = Day::read("2024-02-29");
+    assert!(rt; leap.is_some());
+    let line = "GET /due/2024-02-29";
+    lines_planned(&rt, &[line], &Plan::Serve(Want::Due(leap)))?;
+    let lines = ["GET /due/2023-02-29", "GET /due/%32024-02-29"];
+    lines_planned(&rt, &lines, &Plan::Serve(Want::Due(None)))
+}
+
+#[test]
+fn fields_that_do_not_matter(rt: HostRuntime) {
+    let head = "POST /run/resume HTTP/1.1\r\nHost: h\r\nTransfer-Encoding: chunked\r\n\r\n";
+    planned(&rt, head, &Plan::Serve(Want::Resume));
+    let head = "GET /records/1 HTTP/1.1\r\nHost: h\r\nContent-Length: no\r\n\r\n";
+    planned(&rt, head, &Plan::Serve(Want::Record(Some(1))));
 }
 
 #[test]

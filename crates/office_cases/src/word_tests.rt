@@ -136,3 +136,48 @@ fn numbers_of_no_run(rt: HostRuntime) {
         assert_eq!(rt; refusal_of(&rt, number), Some(refusal));
     }
 }
+
+/// What words that ask for a service order, or why they are refused.
+fn service_of(rt: &HostRuntime, port: &str, count: &str) -> Option<Result<(u16, u32), Refusal>> {
+    match read_words(rt.alloc(), &["office", "serve", "office.db", port, count]).map(
+        |words| order_of(words),
+    ) {
+        Ok(Ok(Order::Serve { file, port, count })) if file == "office.db" => Some(Ok((
+            port, count,
+        ))),
+        Ok(Err(refusal)) => Some(Err(refusal)),
+        _ => None,
+    }
+}
+
+#[test]
+fn the_word_serve(rt: HostRuntime) {
+    let rows = [
+        ("8080", "3", (8080, 3)),
+        ("00080", "01", (80, 1)),
+        ("1", "1", (1, 1)),
+        ("65535", "1000000", (65_535, 1_000_000)),
+    ];
+    for (port, count, service) in rows {
+        assert_eq!(rt; service_of(&rt, port, count), Some(Ok(service)));
+    }
+}
+
+#[test]
+fn numbers_of_no_service(rt: HostRuntime) {
+    let rows = [
+        ("0", "1", Refusal::BadNumber),
+        ("65536", "1", Refusal::BadNumber),
+        ("80", "0", Refusal::BadNumber),
+        ("80", "1000001", Refusal::BadNumber),
+        ("99999999999999999999999", "1", Refusal::BadNumber),
+        ("http", "1", Refusal::BadText),
+        ("80", "", Refusal::BadText),
+        ("80", "+1", Refusal::BadText),
+        ("0", "many", Refusal::BadText),
+        ("http", "0", Refusal::BadText),
+    ];
+    for (port, count, refusal) in rows {
+        assert_eq!(rt; service_of(&rt, port, count), Some(Err(refusal)));
+    }
+}

@@ -45,6 +45,7 @@ impl<S: Alter> Desk<S> {
         ensures leaves { (s : State) → HasCleanDisk (state S.Store self.new.held) → StandsAt S.Store s self.old → LeavesRowsOf s (state S.Store self.new.held) }
         ensures given_up { result ≡ Err Fault.Store → IsTrue self.new.is_given_up }
         ensures faults { self.old.is_given_up ≡ false → IfErr result (λ fault. (fault ≢ Fault.Reopen) × (fault ≢ Fault.Version)) }
+        ensures open { self.old.is_given_up ≡ false → OnOk result (self.new.is_given_up ≡ false) }
         ensures office { self.new.office ≡ self.old.office }
     {
         if self.is_given_up {

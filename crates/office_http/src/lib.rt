@@ -14,6 +14,7 @@ mod check;
 mod failure;
 mod fields;
 mod fixed;
+mod method;
 mod numbers;
 mod output;
 mod paths;

@@ -7,9 +7,11 @@ ghost use Rattle.office_http.specs.Plans.{acts_plan, get_plan, has_host, is_head
 
 use crate::check::Check;
 use crate::fields::{Found, find_named};
+use crate::method::is_method;
 use crate::numbers::{content_length, segment_number};
 use crate::paths::{Resource, named_segment, path_of, resource_at};
 use crate::want::Want;
+use http::Method;
 use httparse::spans::{HeaderSpan, RequestSpans};
 use office_days::Day;
 use std::alloc::{AllocError, Global};
@@ -64,7 +66,7 @@ fn acts_plan(buf: &[u8], headers: &[HeaderSpan]) -> Plan
 fn get_plan(method: &[u8], want: Want) -> Plan
     ensures { result ≡ get_plan method.now (Plan.Serve want) }
 {
-    if method == b"GET".as_slice() {
+    if is_method(method, &Method::GET) {
         Plan::Serve(want)
     } else {
         Plan::Refuse(Check::NotGet)
@@ -85,8 +87,8 @@ fn resource_plan(
 {
     let segment = named_segment(path);
     match resource {
-        Resource::Acts if method == b"POST".as_slice() => acts_plan(buf, headers),
-        Resource::OpenRun if method == b"POST".as_slice() => Plan::Serve(Want::Resume),
+        Resource::Acts if is_method(method, &Method::POST) => acts_plan(buf, headers),
+        Resource::OpenRun if is_method(method, &Method::POST) => Plan::Serve(Want::Resume),
         Resource::Acts | Resource::OpenRun => Plan::Refuse(Check::NotPost),
         Resource::Record => get_plan(method, Want::Record(segment_number(segment))),
         Resource::Content => get_plan(method, Want::Content(segment_number(segment))),
@@ -170,5 +172,5 @@ pub fn is_head_in(buf: &[u8], head: &RequestSpans) -> bool
     requires in_range { head.now.method.end ≤ length buf.now }
     ensures { result ≡ is_head_method (span_bytes buf.now head.now.method) }
 {
-    head.method.of(buf) == b"HEAD".as_slice()
+    is_method(head.method.of(buf), &Method::HEAD)
 }

@@ -31,6 +31,8 @@ performs_of Of Others to acts new written after (how.LineRefused line refusal) h
 performs_of Of Others to acts new written after (how.ActRefused place refusal) h = h
 performs_of Of Others to acts new written after how.NotJson h = h
 performs_of Of Others to acts new written after how.BadWords h = h
+performs_of Of Others to acts new written after how.Socket h = h
+performs_of Of Others to acts new written after how.SomeFailed h = h
 
 -- and what is applied
 pub applies_of : (Of Others : (State → Type 0) → Type 0) → ((P : State → Type 0) → Of P → Others P) → (text : List ℕ) (new : FileState) (written after : Option (List ℕ)) (e : Ending) → Applies Of text new written after e → Applies Others text new written after e

@@ -21,6 +21,8 @@ certifies_of Of Others to run written after how.SomeRefused h = h
 certifies_of Of Others to run written after (how.ActRefused place refusal) h = h
 certifies_of Of Others to run written after how.NotJson h = h
 certifies_of Of Others to run written after how.BadWords h = h
+certifies_of Of Others to run written after how.Socket h = h
+certifies_of Of Others to run written after how.SomeFailed h = h
 certifies_of Of Others to run written after how.File h = (h.0, to _ h.1)
 certifies_of Of Others to run written after (how.Fault f) h = h
 

@@ -18,6 +18,8 @@ resumes_of Of Others to new written after how.SomeRefused h = h
 resumes_of Of Others to new written after (how.ActRefused place refusal) h = h
 resumes_of Of Others to new written after how.NotJson h = h
 resumes_of Of Others to new written after how.BadWords h = h
+resumes_of Of Others to new written after how.Socket h = h
+resumes_of Of Others to new written after how.SomeFailed h = h
 resumes_of Of Others to new written after how.File h = (h.0, to _ h.1)
 resumes_of Of Others to new written after (how.Fault f) h = (to _ h.0, h.1)
 

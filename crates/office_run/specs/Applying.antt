@@ -56,6 +56,8 @@ Performs Of acts new written after (how.LineRefused line refusal) = ⊥
 Performs Of acts new written after (how.ActRefused place refusal) = ⊥
 Performs Of acts new written after how.NotJson = ⊥
 Performs Of acts new written after how.BadWords = ⊥
+Performs Of acts new written after how.Socket = ⊥
+Performs Of acts new written after how.SomeFailed = ⊥
 
 -- a text is no list of acts, and how that is told; memory may be wanting to read it
 abbrev pub IsUnread : List ℕ → Ending → Type 0
@@ -67,6 +69,8 @@ IsUnread text how.SomeRefused = ⊥
 IsUnread text (how.Refused refusal) = ⊥
 IsUnread text (how.LineRefused line refusal) = ⊥
 IsUnread text how.BadWords = ⊥
+IsUnread text how.Socket = ⊥
+IsUnread text how.SomeFailed = ⊥
 IsUnread text how.File = ⊥
 
 -- the text was not read as acts, and nothing was done; or its acts were performed

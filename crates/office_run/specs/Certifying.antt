@@ -24,6 +24,8 @@ Certifies Of run written after how.SomeRefused = ⊥
 Certifies Of run written after (how.ActRefused place refusal) = ⊥
 Certifies Of run written after how.NotJson = ⊥
 Certifies Of run written after how.BadWords = ⊥
+Certifies Of run written after how.Socket = ⊥
+Certifies Of run written after how.SomeFailed = ⊥
 Certifies Of run written after how.File = (text : List ℕ) × Of (IsCertificate run (Some text))
 Certifies Of run written after (how.Fault f) = (f ≡ fault.Memory) × (after ≡ written)
 

@@ -11,7 +11,7 @@ use Rattle.office_store.specs.Faults.{fault_number}
 use Rattle.office_store.specs.declared.fault.Fault.{Fault as AnyFault}
 use Rattle.office_store.specs.declared.fault.Fault.TheVariants as fault
 use Rattle.office_run.specs.declared.ending.Ending.{Ending}
-use Rattle.office_run.specs.declared.ending.Ending.TheVariants.{Done, Refused, SomeRefused, LineRefused, ActRefused, NotJson, BadWords, File, Fault}
+use Rattle.office_run.specs.declared.ending.Ending.TheVariants.{Done, Refused, SomeRefused, LineRefused, ActRefused, NotJson, BadWords, File, Socket, SomeFailed, Fault}
 use Rattle.office_plan.specs.declared.input.PlanStop.{PlanStop}
 use Rattle.office_plan.specs.declared.input.PlanStop.TheVariants as stop
 
@@ -38,7 +38,11 @@ abbrev pub ending_of_acts : Result (Unit {0}) AnyFault → List Answer → Endin
 ending_of_acts (Ok done) given = if list_any is_refusal given then SomeRefused else Done
 ending_of_acts (Err f) given = Fault f
 
--- 0 done, 1 something refused, 2 bad words, 3 a file or the store, 4 memory
+-- a service that was given up is told as the fault by which a desk answers no more, and a connection that failed by the exit status alone
+abbrev pub ending_of_service : Bool → Bool → Ending
+ending_of_service has_failed is_given_up = if is_given_up then Fault fault.Reopen else if has_failed then SomeFailed else Done
+
+-- 0 done, 1 something refused, 2 bad words, 3 a file, the store or a connection, 4 memory
 abbrev pub exit_status : Ending → ℕ
 exit_status Done = 0
 exit_status (Refused refusal) = 1
@@ -48,6 +52,8 @@ exit_status (ActRefused place refusal) = 1
 exit_status NotJson = 1
 exit_status BadWords = 2
 exit_status File = 3
+exit_status Socket = 3
+exit_status SomeFailed = 3
 exit_status (Fault fault.Memory) = 4
 exit_status (Fault fault.Store) = 3
 exit_status (Fault fault.Reopen) = 3
@@ -64,4 +70,6 @@ line_said (ActRefused place refusal) = codes "office: act " ++ decimal place ++ 
 line_said NotJson = codes "office: json" ++ 10 ∷ []
 line_said BadWords = []
 line_said File = codes "office: file" ++ 10 ∷ []
+line_said Socket = codes "office: socket" ++ 10 ∷ []
+line_said SomeFailed = []
 line_said (Fault f) = codes "office: fault " ++ decimal (fault_number f) ++ 10 ∷ []

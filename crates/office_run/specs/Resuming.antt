@@ -54,6 +54,8 @@ Resumes Of new written after how.SomeRefused = ⊥
 Resumes Of new written after (how.ActRefused place refusal) = ⊥
 Resumes Of new written after how.NotJson = ⊥
 Resumes Of new written after how.BadWords = ⊥
+Resumes Of new written after how.Socket = ⊥
+Resumes Of new written after how.SomeFailed = ⊥
 Resumes Of new written after how.File = (run : ℕ) × Of (IsResumed run new)
 Resumes Of new written after (how.Fault f) = Of (IsStopped f new) × (after ≡ written)
 

@@ -27,6 +27,10 @@ pub enum Ending {
     BadWords,
     /// Standard output could not be written.
     File,
+    /// The port could not be bound.
+    Socket,
+    /// All was served that could be, and some connections failed; that was said when they did.
+    SomeFailed,
     /// It was begun, and a fault stopped it; of want of memory too.
     Fault(Fault),
 }
@@ -46,7 +50,7 @@ fn has_refusal(answers: &[Answer]) -> bool
 }
 
 impl Ending {
-    ghost use Rattle.office_run.specs.Endings.{ending_of, ending_of_acts, ending_of_plan, exit_status};
+    ghost use Rattle.office_run.specs.Endings.{ending_of, ending_of_acts, ending_of_plan, ending_of_service, exit_status};
 
     /// The ending of a command that answers a refusal or none.
     pub fn of(answer: Result<Option<Refusal>, Io>) -> Ending
@@ -82,6 +86,19 @@ impl Ending {
         }
     }
 
+    /// The ending of a service.
+    pub fn of_service(has_failed: bool, is_given_up: bool) -> Ending
+        ensures { result ≡ ending_of_service has_failed is_given_up }
+    {
+        if is_given_up {
+            Ending::Fault(Fault::Reopen)
+        } else if has_failed {
+            Ending::SomeFailed
+        } else {
+            Ending::Done
+        }
+    }
+
     /// The exit status.
     pub fn status(self) -> u8
         ensures { result ≡ exit_status self }
@@ -95,6 +112,8 @@ impl Ending {
             Ending::NotJson => 1,
             Ending::BadWords => 2,
             Ending::File => 3,
+            Ending::Socket => 3,
+            Ending::SomeFailed => 3,
             Ending::Fault(Fault::Memory) => 4,
             Ending::Fault(_) => 3,
         }
@@ -109,7 +128,7 @@ impl fmt::Display for Ending {
 
     fn fmt<W: fmt::Write>(&self, f: &mut fmt::Formatter<W>) -> fmt::Result {
         match self {
-            Ending::Done | Ending::SomeRefused | Ending::BadWords => Ok(()),
+            Ending::Done | Ending::SomeRefused | Ending::SomeFailed | Ending::BadWords => Ok(()),
             Ending::Refused(refusal) => writeln!(f, "office: refused {}", refusal.number()),
             Ending::LineRefused(line, refusal) => {
                 writeln!(f, "office: line {line} refused {}", refusal.number())
@@ -119,6 +138,7 @@ impl fmt::Display for Ending {
             }
             Ending::NotJson => writeln!(f, "office: json"),
             Ending::File => writeln!(f, "office: file"),
+            Ending::Socket => writeln!(f, "office: socket"),
             Ending::Fault(fault) => writeln!(f, "office: fault {}", fault.number()),
         }
     }

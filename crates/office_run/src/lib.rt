@@ -14,4 +14,4 @@ mod running;
 mod tests;
 
 pub use ending::Ending;
-pub use running::{run_on, tell};
+pub use running::{run_on, tell, tell_listening};

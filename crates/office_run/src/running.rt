@@ -5,7 +5,7 @@ ghost use Rattle.sqlite.specs.Held.{state};
 ghost use Rattle.office_store.specs.declared.fault.Fault.{Fault as AnyFault};
 ghost use Rattle.office_words.specs.Orders.{ordered};
 ghost use Rattle.office_run.specs.Endings.{exit_status, line_said};
-ghost use Rattle.office_run.specs.Running.{InitEnds, RunEnds, version_line};
+ghost use Rattle.office_run.specs.Running.{InitEnds, RunEnds, listening_line, version_line};
 ghost use Rattle.office_run.specs.declared.ending.Ending.{Ending as AnyEnding};
 
 use crate::applying::apply_on;
@@ -53,6 +53,14 @@ pub fn tell<E: Write>(ending: Ending, err: &mut E) -> Result<(), Io>
     write!(err, "{ending}").or(Err(Io))
 }
 
+/// Tells the port of this machine at which a service listens, and sends the line out.
+pub fn tell_listening<W: Write>(port: u16, out: &mut W) -> Result<(), Io>
+    ensures { OnOk result (Appends (W.contents out.old) (W.contents out.new) (listening_line port)) }
+{
+    writeln!(out, "listening 127.0.0.1:{port}").or(Err(Io))?;
+    out.flush().or(Err(Io))
+}
+
 /// What an order does over a connection to the office's file.
 fn carry_out<R: Read, W: Write, S: Alter>(
     alloc: Global,
@@ -69,14 +77,16 @@ fn carry_out<R: Read, W: Write, S: Alter>(
         Order::Apply { .. } => apply_on(alloc, conn, input, out),
         Order::Resume { .. } => resume_on(alloc, conn, out),
         Order::Certificate { run, .. } => certificate_on(alloc, conn, *run, out),
-        Order::Due { .. } | Order::Plan { .. } | Order::Nothing => (Ending::BadWords, conn),
+        Order::Due { .. } | Order::Plan { .. } | Order::Serve { .. } | Order::Nothing => {
+            (Ending::BadWords, conn)
+        }
     }
 }
 
 /// Carries out an order over a connection to the office's file, outside a transaction: what it reads
 /// comes from `input`, what it answers goes to `out`, and the line of its ending to `err`. It gives the
-/// exit status, and the connection back. An order that names no office's file is no order here: status 2,
-/// with nothing done.
+/// exit status, and the connection back. An order that is not carried out over a connection is no order
+/// here: status 2, with nothing done.
 pub fn run_on<R: Read, W: Write, E: Write, S: Alter>(
     alloc: Global,
     conn: Connection<S>,

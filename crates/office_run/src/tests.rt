@@ -37,6 +37,8 @@ fn what_is_said_at_the_end(rt: HostRuntime) -> Result<(), Fail> {
         (Ending::NotJson, 1, "office: json\n"),
         (Ending::BadWords, 2, ""),
         (Ending::File, 3, "office: file\n"),
+        (Ending::Socket, 3, "office: socket\n"),
+        (Ending::SomeFailed, 3, ""),
         (Ending::Fault(Fault::Memory), 4, "office: fault 30\n"),
         (Ending::Fault(Fault::Store), 3, "office: fault 31\n"),
         (Ending::Fault(Fault::Reopen), 3, "office: fault 32\n"),

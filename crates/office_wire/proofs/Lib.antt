@@ -1,7 +1,10 @@
 pub mod AnyAnswer
+pub mod Connected
+pub mod Kept
 pub mod Performed
 pub mod Replied
 pub mod Resumed
 pub mod Rows
 pub mod Told
+pub mod Unavailable
 pub mod Untold

@@ -11,7 +11,7 @@ use Rattle.office_http.specs.Replies.{Response}
 use Rattle.office_http.specs.Requests.{IsRequest, asks}
 use Rattle.office_http.specs.declared.failure.Failure.TheVariants as failure
 use Rattle.office_wire.specs.Receiving.{IsAskedBy, Wanted, asked_for}
-use Rattle.office_wire.specs.Serving.{IsFailed, IsReply, IsServed, IsToSend}
+use Rattle.office_wire.specs.Serving.{IsFailed, IsGoneReply, IsGoneServed, IsGoneToSend, IsReply, IsServed, IsToSend}
 use Rattle.office_wire.specs.declared.receiving.Asked.{Asked}
 use Rattle.office_wire.specs.declared.serving.Sending.{Sending}
 
@@ -29,3 +29,15 @@ pub starved_reply : {S : Type 0} (g : Ghosts S) (t : State) (bytes : List ℕ) (
 starved_reply g t bytes unread h rest is_head None desk request same failed stands = absurd failed
 starved_reply g t bytes unread h rest is_head (Some it) desk request same failed stands =
     inl (asks h rest, request, (failed.1 ∙ same, inr (failed.0, inl stands)))
+
+-- from a desk that was given up
+pub asked_gone : (bytes : List ℕ) (unread : Type 0) (h : RequestHead) (rest : List ℕ) (it : Asked) (is_head : Bool) (r : Response)
+    → IsRequest (asks h rest) bytes → IsAskedBy h rest it → is_head ≡ it.is_head → IsGoneServed (asked_for it.asking) r → IsGoneReply bytes unread is_head r
+asked_gone bytes unread h rest it is_head r request by same served =
+    inl (asks h rest, request, (same ∙ by.is_head, subst (λ (w : Wanted). IsGoneServed w r) by.wanted served))
+
+pub starved_gone : (bytes : List ℕ) (unread : Type 0) (h : RequestHead) (rest : List ℕ) (is_head : Bool) (it : Option Sending)
+    → IsRequest (asks h rest) bytes → is_head ≡ is_head_method h.method → IsFailed failure.Memory is_head it → IsGoneToSend bytes unread it
+starved_gone bytes unread h rest is_head None request same failed = absurd failed
+starved_gone bytes unread h rest is_head (Some it) request same failed =
+    inl (asks h rest, request, (failed.1 ∙ same, inr failed.0))

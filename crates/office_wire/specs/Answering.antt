@@ -20,7 +20,9 @@ use Rattle.office_desk.specs.Resuming.{LeavesMidway}
 use Rattle.office_json.specs.Acts.{Asked, asked}
 use Rattle.office_json.specs.Lists.{NoActs, not_json, bad_act, acts_in}
 use Rattle.office_http.specs.Replies.{Response, check_response, failure_response}
+use Rattle.office_http.specs.declared.failure.Failure.{Failure}
 use Rattle.office_http.specs.declared.failure.Failure.TheVariants as failure
+use Rattle.office_http.specs.declared.status.Status.TheVariants as status
 use Rattle.office_wire.specs.declared.answering.Told.{Told}
 use Rattle.office_wire.specs.Receiving.{Wanted, refused, cut, acts, resumption, record_told, content_told, due_told, certificate_told}
 use Rattle.office_wire.specs.Replies.{acts_response, answer_response, bad_act_response, certificate_response, content_response, due_response, fault_response, record_response, stopped_response}
@@ -153,6 +155,36 @@ Serves Told g t (certificate_told run) desk = TellsCertificate Told g t run desk
 -- it was served with this answer
 abbrev pub Answers : {S : Type 0} → Ghosts S → State → Wanted → Response → DeskState S → Type 0
 Answers g t wanted response desk = Serves (λ told. response ≡ told) g t wanted desk
+
+-- ---- a desk that was given up
+
+-- acts are stopped before the first one
+abbrev pub gone_acts : Result (List Asked) NoActs → Response
+gone_acts (Ok all) = stopped_response [] fault.Reopen
+gone_acts (Err not_json) = failure_response failure.Json
+gone_acts (Err (bad_act place why)) = bad_act_response place why
+
+-- nothing is told of what a number or a day names
+abbrev pub gone_reading : {A : Type 0} → Failure → Option A → Response
+gone_reading why None = failure_response why
+gone_reading why (Some it) = fault_response fault.Reopen
+
+-- the answer of a desk that was given up: fault 32 in place of all that it would do or tell
+abbrev pub gone_response : Wanted → Response
+gone_response (refused check) = check_response check
+gone_response cut = failure_response failure.Body
+gone_response (acts body) = gone_acts (acts_in body)
+gone_response resumption = fault_response fault.Reopen
+gone_response (record_told r) = gone_reading failure.Record r
+gone_response (content_told r) = gone_reading failure.Content r
+gone_response (due_told day) = gone_reading failure.Day day
+gone_response (certificate_told run) = gone_reading failure.Certificate run
+
+-- an answer that tells a fault, or want of memory
+abbrev pub IsUnavailable : Response → Type 0
+IsUnavailable r = r.status ≡ status.ServiceUnavailable
+
+-- ---- want of memory
 
 -- memory was wanting for its answer: nothing was done, or it was served and no answer given
 abbrev pub Starves : {S : Type 0} → Ghosts S → State → Wanted → DeskState S → Type 0

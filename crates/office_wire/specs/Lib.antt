@@ -1,4 +1,5 @@
 pub mod Answering
+pub mod Connections
 pub mod Receiving
 pub mod Replies
 pub mod Serving

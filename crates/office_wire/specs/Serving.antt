@@ -11,7 +11,7 @@ use Rattle.office_wire.specs.declared.serving.Sending.{Sending}
 use Rattle.office_http.specs.Replies.{Response, response, failure_response, response_text, status_number}
 use Rattle.office_http.specs.Requests.{Request, IsRequest, nothing, headless, asks}
 use Rattle.office_http.specs.declared.failure.Failure.TheVariants as failure
-use Rattle.office_wire.specs.Answering.{Answers, Starves}
+use Rattle.office_wire.specs.Answering.{Answers, IsUnavailable, Starves, gone_response}
 use Rattle.office_wire.specs.Receiving.{Wanted, wanted}
 
 -- an answer is written, to HEAD its head alone, and the status is its
@@ -44,11 +44,36 @@ Replies g t bytes unread status written after desk =
     IsSilent g t bytes status written after desk
     ⊎ ((is_head : Bool) × (r : Response) × IsReply g t bytes unread is_head r desk × Writes is_head r status written after)
 
--- it was not written whole: the writer answered an error, and the desk stands as if it had been
+-- it was perhaps not written whole, as where the writer answered an error, and the desk stands as if it had been
 abbrev pub Breaks : {S : Type 0} → Ghosts S → State → List ℕ → Type 0 → DeskState S → Type 0
 Breaks g t bytes unread desk = (is_head : Bool) × (r : Response) × IsReply g t bytes unread is_head r desk
 
--- whatever came, the desk stands where serving something may leave it
+-- ---- a desk that was given up
+
+-- which answer a request gets from it, whether to HEAD; want of memory may be told in its place
+abbrev pub IsGoneServed : Wanted → Response → Type 0
+IsGoneServed it r = (r ≡ gone_response it) ⊎ (r ≡ failure_response failure.Memory)
+
+abbrev pub IsGoneReplied : Request → Bool → Response → Type 0
+IsGoneReplied nothing is_head r = ⊥
+IsGoneReplied headless is_head r = (is_head ≡ false) × (r ≡ failure_response failure.Head)
+IsGoneReplied (asks h rest) is_head r = (is_head ≡ is_head_method h.method) × IsGoneServed (wanted h rest) r
+
+-- its answer to all bytes of a connection
+abbrev pub IsGoneReply : List ℕ → Type 0 → Bool → Response → Type 0
+IsGoneReply bytes unread is_head r =
+    ((q : Request) × IsRequest q bytes × IsGoneReplied q is_head r)
+    ⊎ (unread × (is_head ≡ false) × (r ≡ failure_response failure.Memory))
+
+-- it was written; a connection without a byte gets none
+abbrev pub GoneReplies : List ℕ → Type 0 → ℕ → Option (List ℕ) → Option (List ℕ) → Type 0
+GoneReplies bytes unread status written after =
+    (IsRequest nothing bytes × (status ≡ 0) × (after ≡ written))
+    ⊎ ((is_head : Bool) × (r : Response) × IsGoneReply bytes unread is_head r × Writes is_head r status written after)
+
+-- ---- whatever came
+
+-- the desk stands where serving something may leave it
 abbrev pub LeavesServed : {S : Type 0} → Ghosts S → State → DeskState S → Type 0
 LeavesServed g t desk = (it : Wanted) × Starves g t it desk
 
@@ -63,6 +88,16 @@ IsFailed why is_head (Some it) = (response it.reply ≡ failure_response why) ×
 abbrev pub IsToSend : {S : Type 0} → Ghosts S → State → List ℕ → Type 0 → Option Sending → DeskState S → Type 0
 IsToSend g t bytes unread None desk = IsRequest nothing bytes × StandsAt g t desk
 IsToSend g t bytes unread (Some it) desk = IsReply g t bytes unread it.is_head (response it.reply) desk
+
+-- what is to be written is the answer of a desk that was given up
+abbrev pub IsGoneToSend : List ℕ → Type 0 → Option Sending → Type 0
+IsGoneToSend bytes unread None = IsRequest nothing bytes
+IsGoneToSend bytes unread (Some it) = IsGoneReply bytes unread it.is_head (response it.reply)
+
+-- what is to be written tells a fault, or want of memory
+abbrev pub TellsUnavailable : Option Sending → Type 0
+TellsUnavailable None = ⊥
+TellsUnavailable (Some it) = IsUnavailable (response it.reply)
 
 -- it was written, and the status is its
 abbrev pub IsSent : Option Sending → ℕ → Option (List ℕ) → Option (List ℕ) → Type 0

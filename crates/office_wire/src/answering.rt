@@ -1,6 +1,6 @@
 //! What is asked is done at the desk, and answered.
 ghost use Rattle.std.specs.FinMap.{get};
-ghost use Rattle.std.specs.Prelude.{◌≡◌, ◌⊎◌, ℕ, IfErr, IfOk, IsTrue, List, OnErr, option_map, string_bytes};
+ghost use Rattle.std.specs.Prelude.{◌≡◌, ◌⊎◌, ℕ, IfErr, IfOk, IsTrue, List, [], OnErr, false, option_map, string_bytes};
 ghost use Rattle.sqlite.specs.Held.{state};
 ghost use Rattle.sqlite.specs.State.{HasCleanDisk};
 ghost use Rattle.office_machine.specs.Readings.{IsDueList, ending_entry, record_view};
@@ -8,7 +8,8 @@ ghost use Rattle.office_machine.specs.State.{State};
 ghost use Rattle.office_desk.specs.Leaving.{StandsAt};
 ghost use Rattle.office_json.specs.Lists.{acts_in};
 ghost use Rattle.office_http.specs.Replies.{response};
-ghost use Rattle.office_wire.specs.Answering.{Answers, ArePerformed, IsToldOf, PerformsAsked, Resumes, Starves, TellsCertificate, TellsContent, TellsDue, TellsRecord, told_of};
+ghost use Rattle.office_wire.specs.Answering.{Answers, ArePerformed, IsToldOf, IsUnavailable, PerformsAsked, Resumes, Starves, TellsCertificate, TellsContent, TellsDue, TellsRecord, gone_acts, gone_reading, gone_response, told_of};
+ghost use Rattle.office_wire.specs.Replies.{fault_response, stopped_response};
 ghost use Rattle.office_wire.specs.Receiving.{asked_for};
 
 use crate::receiving::Asking;
@@ -33,6 +34,8 @@ fn perform<S: Alter>(alloc: Global, desk: &mut Desk<S>, acts: &[Act]) -> Result<
     ensures clean { HasCleanDisk (state S.Store desk.new.held) → HasCleanDisk (state S.Store desk.old.held) }
     ensures ok { IfOk result (λ reply. (t : State) → HasCleanDisk (state S.Store desk.new.held) → StandsAt S.Store t desk.old → ArePerformed (λ told. response reply ≡ told) S.Store t acts.now desk.new) }
     ensures err { OnErr result ((t : State) → HasCleanDisk (state S.Store desk.new.held) → StandsAt S.Store t desk.old → ArePerformed (λ told. Unit {0}) S.Store t acts.now desk.new) }
+    ensures gone { IsTrue desk.old.is_given_up → (desk.new ≡ desk.old) × IfOk result (λ reply. response reply ≡ stopped_response [] Fault.Reopen) }
+    ensures told { desk.old.is_given_up ≡ false → IsTrue desk.new.is_given_up → IfOk result (λ reply. IsUnavailable (response reply)) }
 {
     let mut answers = Vec::new(alloc);
     match desk.perform_all(acts, &mut answers) {
@@ -46,6 +49,8 @@ fn perform_body<S: Alter>(alloc: Global, desk: &mut Desk<S>, body: &[u8]) -> Res
     ensures clean { HasCleanDisk (state S.Store desk.new.held) → HasCleanDisk (state S.Store desk.old.held) }
     ensures ok { IfOk result (λ reply. (t : State) → HasCleanDisk (state S.Store desk.new.held) → StandsAt S.Store t desk.old → PerformsAsked (λ told. response reply ≡ told) S.Store t (acts_in body.now) desk.new) }
     ensures err { OnErr result ((t : State) → HasCleanDisk (state S.Store desk.new.held) → StandsAt S.Store t desk.old → StandsAt S.Store t desk.new ⊎ PerformsAsked (λ told. Unit {0}) S.Store t (acts_in body.now) desk.new) }
+    ensures gone { IsTrue desk.old.is_given_up → (desk.new ≡ desk.old) × IfOk result (λ reply. response reply ≡ gone_acts (acts_in body.now)) }
+    ensures told { desk.old.is_given_up ≡ false → IsTrue desk.new.is_given_up → IfOk result (λ reply. IsUnavailable (response reply)) }
 {
     match read_acts(alloc, body) {
         Ok(acts) => perform(alloc, desk, acts.as_slice()),
@@ -60,6 +65,8 @@ fn resume<S: Alter>(alloc: Global, desk: &mut Desk<S>) -> Result<Reply, Memory>
     ensures clean { HasCleanDisk (state S.Store desk.new.held) → HasCleanDisk (state S.Store desk.old.held) }
     ensures ok { IfOk result (λ reply. (t : State) → HasCleanDisk (state S.Store desk.new.held) → StandsAt S.Store t desk.old → Resumes (λ told. response reply ≡ told) S.Store t desk.new) }
     ensures err { OnErr result ((t : State) → HasCleanDisk (state S.Store desk.new.held) → StandsAt S.Store t desk.old → Resumes (λ told. Unit {0}) S.Store t desk.new) }
+    ensures gone { IsTrue desk.old.is_given_up → (desk.new ≡ desk.old) × IfOk result (λ reply. response reply ≡ fault_response Fault.Reopen) }
+    ensures told { desk.old.is_given_up ≡ false → IsTrue desk.new.is_given_up → IfOk result (λ reply. IsUnavailable (response reply)) }
 {
     law_of_resumption();
     match desk.resume() {
@@ -79,6 +86,7 @@ struct Told {
 fn read_record<S: Alter>(desk: &Desk<S>, record_no: RecordNo) -> Result<Option<Told>, Fault>
     ensures ok { IfOk result (λ told. IsToldOf desk.now.office record_no told) }
     ensures err { IfErr result (λ fault. (fault ≡ Fault.Memory) ⊎ IsTrue desk.now.is_given_up) }
+    ensures gone { IsTrue desk.now.is_given_up → result ≡ Err Fault.Reopen }
 {
     match desk.record(record_no)? {
         None => Ok(None),
@@ -95,7 +103,8 @@ fn tell_record<S: Alter>(
     desk: &Desk<S>,
     number: Option<u32>,
 ) -> Result<Reply, Memory>
-    ensures { IfOk result (λ reply. (t : State) → StandsAt S.Store t desk.now → TellsRecord (λ told. response reply ≡ told) S.Store t number desk.now) }
+    ensures ok { IfOk result (λ reply. (t : State) → StandsAt S.Store t desk.now → TellsRecord (λ told. response reply ≡ told) S.Store t number desk.now) }
+    ensures gone { IsTrue desk.now.is_given_up → IfOk result (λ reply. response reply ≡ gone_reading Failure.Record number) }
 {
     let Some(record_no) = number else {
         return Ok(failure_reply(Failure::Record));
@@ -116,6 +125,8 @@ fn tell_content<S: Alter>(
     ensures clean { HasCleanDisk (state S.Store desk.new.held) → HasCleanDisk (state S.Store desk.old.held) }
     ensures ok { IfOk result (λ reply. (t : State) → HasCleanDisk (state S.Store desk.new.held) → StandsAt S.Store t desk.old → TellsContent (λ told. response reply ≡ told) S.Store t number desk.new) }
     ensures err { OnErr result ((t : State) → HasCleanDisk (state S.Store desk.new.held) → StandsAt S.Store t desk.old → TellsContent (λ told. Unit {0}) S.Store t number desk.new) }
+    ensures gone { IsTrue desk.old.is_given_up → (desk.new ≡ desk.old) × IfOk result (λ reply. response reply ≡ gone_reading Failure.Content number) }
+    ensures told { desk.old.is_given_up ≡ false → IsTrue desk.new.is_given_up → IfOk result (λ reply. IsUnavailable (response reply)) }
 {
     let Some(record_no) = number else {
         return Ok(failure_reply(Failure::Content));
@@ -149,6 +160,7 @@ fn rows_of<S: Alter>(
 fn due_rows<S: Alter>(alloc: Global, desk: &Desk<S>, day: Day) -> Result<Vec<RecordView>, Fault>
     ensures ok { IfOk result (λ rows. (list : List ℕ) × IsDueList desk.now.office.tree day list × (rows.items ≡ told_of desk.now.office list)) }
     ensures err { IfErr result (λ fault. (fault ≡ Fault.Memory) ⊎ IsTrue desk.now.is_given_up) }
+    ensures gone { IsTrue desk.now.is_given_up → result ≡ Err Fault.Reopen }
 {
     let list = desk.due_list(day)?;
     rows_of(alloc, desk, list.as_slice())
@@ -156,7 +168,8 @@ fn due_rows<S: Alter>(alloc: Global, desk: &Desk<S>, day: Day) -> Result<Vec<Rec
 
 /// Tells what is due on a day.
 fn tell_due<S: Alter>(alloc: Global, desk: &Desk<S>, day: Option<Day>) -> Result<Reply, Memory>
-    ensures { IfOk result (λ reply. (t : State) → StandsAt S.Store t desk.now → TellsDue (λ told. response reply ≡ told) S.Store t day desk.now) }
+    ensures ok { IfOk result (λ reply. (t : State) → StandsAt S.Store t desk.now → TellsDue (λ told. response reply ≡ told) S.Store t day desk.now) }
+    ensures gone { IsTrue desk.now.is_given_up → IfOk result (λ reply. response reply ≡ gone_reading Failure.Day day) }
 {
     let Some(day) = day else {
         return Ok(failure_reply(Failure::Day));
@@ -173,7 +186,8 @@ fn tell_certificate<S: Alter>(
     desk: &Desk<S>,
     number: Option<u32>,
 ) -> Result<Reply, Memory>
-    ensures { IfOk result (λ reply. (t : State) → StandsAt S.Store t desk.now → TellsCertificate (λ told. response reply ≡ told) S.Store t number desk.now) }
+    ensures ok { IfOk result (λ reply. (t : State) → StandsAt S.Store t desk.now → TellsCertificate (λ told. response reply ≡ told) S.Store t number desk.now) }
+    ensures gone { IsTrue desk.now.is_given_up → IfOk result (λ reply. response reply ≡ gone_reading Failure.Certificate number) }
 {
     let Some(run) = number else {
         return Ok(failure_reply(Failure::Certificate));
@@ -190,6 +204,8 @@ pub fn answer<S: Alter>(alloc: Global, desk: &mut Desk<S>, asking: &Asking) -> R
     ensures clean { HasCleanDisk (state S.Store desk.new.held) → HasCleanDisk (state S.Store desk.old.held) }
     ensures ok { IfOk result (λ reply. (t : State) → HasCleanDisk (state S.Store desk.new.held) → StandsAt S.Store t desk.old → Answers S.Store t (asked_for asking.now) (response reply) desk.new) }
     ensures err { OnErr result ((t : State) → HasCleanDisk (state S.Store desk.new.held) → StandsAt S.Store t desk.old → Starves S.Store t (asked_for asking.now) desk.new) }
+    ensures gone { IsTrue desk.old.is_given_up → (desk.new ≡ desk.old) × IfOk result (λ reply. response reply ≡ gone_response (asked_for asking.now)) }
+    ensures told { desk.old.is_given_up ≡ false → IsTrue desk.new.is_given_up → IfOk result (λ reply. IsUnavailable (response reply)) }
 {
     match asking {
         Asking::Refused(check) => Ok(check_reply(*check)),

@@ -1,12 +1,13 @@
 //! One request is received, answered at the desk, and its answer written.
-ghost use Rattle.std.specs.Prelude.{◌≡◌, ◌⊎◌, IfOk, IfSome, IsSome, OnErr};
+ghost use Rattle.std.specs.Prelude.{◌≡◌, ◌⊎◌, IfOk, IfSome, IsSome, IsTrue, OnErr, false};
 ghost use Rattle.sqlite.specs.Held.{state};
 ghost use Rattle.sqlite.specs.State.{HasCleanDisk};
 ghost use Rattle.office_machine.specs.State.{State};
 ghost use Rattle.office_desk.specs.Leaving.{StandsAt};
 ghost use Rattle.office_http.specs.Replies.{response};
 ghost use Rattle.office_wire.specs.Receiving.{asked_for};
-ghost use Rattle.office_wire.specs.Serving.{Breaks, IsFailed, IsSent, IsServed, IsToSend, LeavesServed, Replies};
+ghost use Rattle.office_wire.specs.Answering.{IsUnavailable};
+ghost use Rattle.office_wire.specs.Serving.{Breaks, GoneReplies, IsFailed, IsGoneServed, IsGoneToSend, IsSent, IsServed, IsToSend, LeavesServed, Replies, TellsUnavailable};
 
 use crate::answering::answer;
 use crate::receiving::{Asked, Asking, ReceiveStop, Received, receive};
@@ -22,6 +23,8 @@ use std::io::{Read, Write};
 fn served<S: Alter>(alloc: Global, desk: &mut Desk<S>, asking: &Asking) -> Reply
     ensures clean { HasCleanDisk (state S.Store desk.new.held) → HasCleanDisk (state S.Store desk.old.held) }
     ensures served { (t : State) → HasCleanDisk (state S.Store desk.new.held) → StandsAt S.Store t desk.old → IsServed S.Store t (asked_for asking.now) (response result) desk.new }
+    ensures gone { IsTrue desk.old.is_given_up → (desk.new ≡ desk.old) × IsGoneServed (asked_for asking.now) (response result) }
+    ensures told { desk.old.is_given_up ≡ false → IsTrue desk.new.is_given_up → IsUnavailable (response result) }
 {
     match answer(alloc, desk, asking) {
         Ok(reply) => reply,
@@ -51,6 +54,8 @@ fn answered<S: Alter>(alloc: Global, desk: &mut Desk<S>, asked: Asked) -> Sendin
     ensures is_head { result.is_head ≡ asked.is_head }
     ensures served { (t : State) → HasCleanDisk (state S.Store desk.new.held) → StandsAt S.Store t desk.old → IsServed S.Store t (asked_for asked.asking) (response result.reply) desk.new }
     ensures leaves { (t : State) → HasCleanDisk (state S.Store desk.new.held) → StandsAt S.Store t desk.old → LeavesServed S.Store t desk.new }
+    ensures gone { IsTrue desk.old.is_given_up → (desk.new ≡ desk.old) × IsGoneServed (asked_for asked.asking) (response result.reply) }
+    ensures told { desk.old.is_given_up ≡ false → IsTrue desk.new.is_given_up → IsUnavailable (response result.reply) }
 {
     let reply = served(alloc, desk, &asked.asking);
     Sending {
@@ -69,6 +74,9 @@ fn answer_next<R: Read, S: Alter>(
     ensures ok { IfOk result (λ it. IfSome (R.remaining reader.old) (λ bytes. (t : State) → HasCleanDisk (state S.Store desk.new.held) → StandsAt S.Store t desk.old → IsToSend S.Store t bytes (reader.new ≡ reader.old) it desk.new)) }
     ensures leaves { (t : State) → HasCleanDisk (state S.Store desk.new.held) → StandsAt S.Store t desk.old → LeavesServed S.Store t desk.new }
     ensures err { OnErr result (desk.new ≡ desk.old) }
+    ensures kept { IsTrue desk.old.is_given_up → desk.new ≡ desk.old }
+    ensures gone { IfOk result (λ it. IfSome (R.remaining reader.old) (λ bytes. IsTrue desk.old.is_given_up → IsGoneToSend bytes (reader.new ≡ reader.old) it)) }
+    ensures told { desk.old.is_given_up ≡ false → IsTrue desk.new.is_given_up → IfOk result (λ it. TellsUnavailable it) }
 {
     match receive(alloc, reader) {
         Ok(Received::Nothing) => Ok(None),
@@ -98,6 +106,9 @@ fn send<W: Write>(sending: Option<Sending>, writer: &mut W) -> Result<u16, Io>
 /// `Io` comes where the reader answered an error, and then nothing was done; or where the writer did, and
 /// then the desk stands as if the answer had been written. Where the reader does not tell its bytes, as a
 /// socket's does not, the desk still stands where serving something leaves it.
+///
+/// A desk that was given up stays as it is, and fault 32 is told in place of all that it would do or tell. Where
+/// it is given up here, the status is 503.
 pub fn serve_one<R: Read, W: Write, S: Alter>(
     alloc: Global,
     desk: &mut Desk<S>,
@@ -108,6 +119,9 @@ pub fn serve_one<R: Read, W: Write, S: Alter>(
     ensures ok { IfOk result (λ status. IfSome (R.remaining reader.old) (λ bytes. (t : State) → HasCleanDisk (state S.Store desk.new.held) → StandsAt S.Store t desk.old → Replies S.Store t bytes (reader.new ≡ reader.old) status (W.contents writer.old) (W.contents writer.new) desk.new)) }
     ensures leaves { (t : State) → HasCleanDisk (state S.Store desk.new.held) → StandsAt S.Store t desk.old → LeavesServed S.Store t desk.new }
     ensures err { OnErr result (IfSome (R.remaining reader.old) (λ bytes. ((desk.new ≡ desk.old) × (writer.new ≡ writer.old)) ⊎ ((t : State) → HasCleanDisk (state S.Store desk.new.held) → StandsAt S.Store t desk.old → Breaks S.Store t bytes (reader.new ≡ reader.old) desk.new))) }
+    ensures kept { IsTrue desk.old.is_given_up → desk.new ≡ desk.old }
+    ensures gone { IfOk result (λ status. IfSome (R.remaining reader.old) (λ bytes. IsTrue desk.old.is_given_up → GoneReplies bytes (reader.new ≡ reader.old) status (W.contents writer.old) (W.contents writer.new))) }
+    ensures told { desk.old.is_given_up ≡ false → IsTrue desk.new.is_given_up → IfOk result (λ status. status ≡ 503) }
 {
     let sending = answer_next(alloc, desk, reader)?;
     send(sending, writer)

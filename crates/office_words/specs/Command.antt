@@ -3,7 +3,7 @@ use Rattle.std.specs.Prelude.{true, codes, List, [], Option, Some, None, unwrap_
 use Rattle.std.specs.Str.{bytes_eq}
 use Rattle.clap.specs.Words.{App, Row, Rule, Text, first_of, new_app, new_rule, with_rule, with_subcommand}
 use Rattle.office_words.specs.declared.words.Words.{Words}
-use Rattle.office_words.specs.declared.words.Words.TheVariants.{Apply, Certificate, Due, Init, Nothing, Plan, Resume}
+use Rattle.office_words.specs.declared.words.Words.TheVariants.{Apply, Certificate, Due, Init, Nothing, Plan, Resume, Serve}
 
 -- an operand that must be there
 abbrev pub operand : Text → Rule
@@ -35,6 +35,12 @@ resume_app = with_rule (new_app (codes "resume")) (operand (codes "FILE"))
 abbrev pub certificate_app : App
 certificate_app = with_rule (with_rule (new_app (codes "certificate")) (operand (codes "FILE"))) (operand (codes "N"))
 
+-- `serve FILE PORT COUNT`
+abbrev pub serve_app : App
+serve_app =
+    with_rule (with_rule (with_rule (new_app (codes "serve"))
+    (operand (codes "FILE"))) (operand (codes "PORT"))) (operand (codes "COUNT"))
+
 -- a command that must have one of its subcommands, and shows its help where it has no word at all
 abbrev pub with_commands : App → App
 with_commands app = record app { top = record (app.top) { subcommand_required = true; arg_required_else_help = true } }
@@ -51,9 +57,14 @@ with_file_commands app = with_subcommand (with_subcommand app init_app.top) appl
 unfoldable pub with_run_commands : App → App
 with_run_commands app = with_subcommand (with_subcommand app resume_app.top) certificate_app.top
 
+-- with the command that answers requests to that office
+unfoldable pub with_service_command : App → App
+with_service_command app = with_subcommand app serve_app.top
+
 -- `office COMMAND ..`
 unfoldable pub office_app : App
-office_app = with_run_commands (with_file_commands (with_plain_commands (with_commands (new_app (codes "office")))))
+office_app =
+    with_service_command (with_run_commands (with_file_commands (with_plain_commands (with_commands (new_app (codes "office"))))))
 
 -- the text of an operand; `clap` takes no words in which one lacks
 abbrev pub text_of : Text → List Row → Text
@@ -68,6 +79,7 @@ pub data Asked : Type 0 where
   application_asked : Text → Text → Asked
   resumption_asked : Text → Asked
   certificate_asked : Text → Text → Asked
+  service_asked : Text → Text → Text → Asked
 
 abbrev pub asked : Words → Asked
 asked (Due unit count offset day) = due_day_asked unit.now count.now offset.now day.now
@@ -76,6 +88,7 @@ asked (Init file) = init_file_asked file.now
 asked (Apply file acts) = application_asked file.now acts.now
 asked (Resume file) = resumption_asked file.now
 asked (Certificate file number) = certificate_asked file.now number.now
+asked (Serve file port count) = service_asked file.now port.now count.now
 asked Nothing = nothing_asked
 
 abbrev pub due_asked : List Row → Asked
@@ -96,6 +109,9 @@ resume_asked rows = resumption_asked (text_of (codes "FILE") rows)
 abbrev pub number_asked : List Row → Asked
 number_asked rows = certificate_asked (text_of (codes "FILE") rows) (text_of (codes "N") rows)
 
+abbrev pub serve_asked : List Row → Asked
+serve_asked rows = service_asked (text_of (codes "FILE") rows) (text_of (codes "PORT") rows) (text_of (codes "COUNT") rows)
+
 -- what a subcommand with its matches asks for
 abbrev pub asked_in : Option (Text × List Row) → Asked
 asked_in None = nothing_asked
@@ -105,4 +121,5 @@ asked_in (Some p) =
     else (if bytes_eq p.0 (codes "init") then init_asked p.1
     else (if bytes_eq p.0 (codes "apply") then apply_asked p.1
     else (if bytes_eq p.0 (codes "resume") then resume_asked p.1
-    else (if bytes_eq p.0 (codes "certificate") then number_asked p.1 else nothing_asked)))))
+    else (if bytes_eq p.0 (codes "certificate") then number_asked p.1
+    else (if bytes_eq p.0 (codes "serve") then serve_asked p.1 else nothing_asked))))))

@@ -3,9 +3,10 @@ use Rattle.std.specs.Prelude.{ℕ, Result, Ok, Err}
 use Rattle.clap.specs.Words.{Text}
 use Rattle.office_days.specs.ThingNumbers.{thing_number}
 use Rattle.office_days.specs.declared.refusal.Refusal.{Refusal}
-use Rattle.office_words.specs.Command.{Asked, nothing_asked, application_asked, due_day_asked, plan_file_asked, init_file_asked, resumption_asked, certificate_asked}
+use Rattle.office_words.specs.Command.{Asked, nothing_asked, application_asked, due_day_asked, plan_file_asked, init_file_asked, resumption_asked, certificate_asked, service_asked}
+use Rattle.office_words.specs.Services.{service_numbers}
 use Rattle.office_words.specs.declared.order.Order.{Order}
-use Rattle.office_words.specs.declared.order.Order.TheVariants.{Apply, Certificate, Due, Init, Nothing, Plan, Resume}
+use Rattle.office_words.specs.declared.order.Order.TheVariants.{Apply, Certificate, Due, Init, Nothing, Plan, Resume, Serve}
 
 -- what is ordered; `due` and `plan` read their operands themselves
 pub data Ordered : Type 0 where
@@ -16,6 +17,7 @@ pub data Ordered : Type 0 where
   application_ordered : Text → Text → Ordered
   resumption_ordered : Text → Ordered
   certificate_ordered : Text → ℕ → Ordered
+  service_ordered : Text → ℕ → ℕ → Ordered
 
 abbrev pub ordered : Order → Ordered
 ordered (Due unit count offset day) = due_day_ordered unit.now count.now offset.now day.now
@@ -24,12 +26,18 @@ ordered (Init file) = init_file_ordered file.now
 ordered (Apply file acts) = application_ordered file.now acts.now
 ordered (Resume file) = resumption_ordered file.now
 ordered (Certificate file run) = certificate_ordered file.now run
+ordered (Serve file port count) = service_ordered file.now port count
 ordered Nothing = nothing_ordered
 
 -- the certificate of the run with that number, where a text was read as one
 abbrev pub certificate_of : Text → Result ℕ Refusal → Result Ordered Refusal
 certificate_of file (Ok run) = Ok (certificate_ordered file run)
 certificate_of file (Err refusal) = Err refusal
+
+-- the service at a port for so many connections, where texts were read as both
+abbrev pub service_of : Text → Result (ℕ × ℕ) Refusal → Result Ordered Refusal
+service_of file (Ok p) = Ok (service_ordered file p.0 p.1)
+service_of file (Err refusal) = Err refusal
 
 -- what is ordered by words that ask for something, or why an operand is refused
 abbrev pub order_asked : Asked → Result Ordered Refusal
@@ -40,3 +48,4 @@ order_asked (init_file_asked file) = Ok (init_file_ordered file)
 order_asked (application_asked file acts) = Ok (application_ordered file acts)
 order_asked (resumption_asked file) = Ok (resumption_ordered file)
 order_asked (certificate_asked file number) = certificate_of file (thing_number number)
+order_asked (service_asked file port count) = service_of file (service_numbers port count)

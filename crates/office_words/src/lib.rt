@@ -7,6 +7,7 @@
 #![tactic(auto)]
 
 mod order;
+mod service;
 mod words;
 
 pub use order::{Order, order_of};

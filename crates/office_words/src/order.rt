@@ -2,6 +2,7 @@ ghost use Rattle.std.specs.Prelude.{◌≡◌, Err, IfErr, IfOk, Ok};
 ghost use Rattle.office_words.specs.Command.{asked};
 ghost use Rattle.office_words.specs.Orders.{order_asked, ordered};
 
+use crate::service::read_service;
 use crate::words::Words;
 use office_days::{Refusal, read_thing_number};
 
@@ -36,12 +37,19 @@ pub enum Order<'a> {
         file: &'a str,
         run: u32,
     },
+    /// Answers requests to the office in the file, at that port, until so many connections were served.
+    Serve {
+        file: &'a str,
+        port: u16,
+        count: u32,
+    },
     /// No command.
     Nothing,
 }
 
 /// What the words order, or why an operand is refused; no file is looked at. The number of a run is one or
-/// more ASCII digits, from 1 to 4,294,967,295, leading zeros allowed.
+/// more ASCII digits, from 1 to 4,294,967,295, leading zeros allowed; so are the port of a service, from 1
+/// to 65,535, and its count of connections, from 1 to 1,000,000.
 pub fn order_of<'a>(words: Words<'a>) -> Result<Order<'a>, Refusal>
     ensures ok { IfOk result (λ order. order_asked (asked words.entry) ≡ Ok (ordered order)) }
     ensures err { IfErr result (λ refusal. order_asked (asked words.entry) ≡ Err refusal) }
@@ -65,6 +73,10 @@ pub fn order_of<'a>(words: Words<'a>) -> Result<Order<'a>, Refusal>
         Words::Certificate { file, number } => {
             let run = read_thing_number(number)?;
             Ok(Order::Certificate { file, run })
+        }
+        Words::Serve { file, port, count } => {
+            let (port, count) = read_service(port, count)?;
+            Ok(Order::Serve { file, port, count })
         }
         Words::Nothing => Ok(Order::Nothing),
     }

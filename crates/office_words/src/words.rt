@@ -1,7 +1,7 @@
 ghost use Rattle.std.specs.Prelude.{◌≡◌, IfOk, IfErr, true, false, map};
 ghost use Rattle.clap.specs.Words.{app_of, found_of, kind_of, rows_of, rule_of, subcommand_of, subcommand_rows_of, takes};
 ghost use Rattle.clap.specs.declared.builder.command.Command.TheViews.{out-Command as fields_of};
-ghost use Rattle.office_words.specs.Command.{apply_app, apply_asked, asked, asked_in, certificate_app, due_app, due_asked, init_app, init_asked, number_asked, office_app, operand, plan_app, plan_asked, resume_app, resume_asked, text_of, with_file_commands, with_plain_commands, with_run_commands};
+ghost use Rattle.office_words.specs.Command.{apply_app, apply_asked, asked, asked_in, certificate_app, due_app, due_asked, init_app, init_asked, number_asked, office_app, operand, plan_app, plan_asked, resume_app, resume_asked, serve_app, serve_asked, text_of, with_file_commands, with_plain_commands, with_run_commands, with_service_command};
 
 use clap::error::ErrorKind;
 use clap::{Arg, ArgMatches, Command, Error};
@@ -32,6 +32,11 @@ pub enum Words<'a> {
     Certificate {
         file: &'a str,
         number: &'a str,
+    },
+    Serve {
+        file: &'a str,
+        port: &'a str,
+        count: &'a str,
     },
     /// No command: `clap` takes no words without one.
     Nothing,
@@ -112,6 +117,21 @@ fn certificate_command<'a>(alloc: Global) -> Result<Command<'a>, AllocError>
         .arg(required(alloc, "N", "The number of the run, from 1"))
 }
 
+fn serve_command<'a>(alloc: Global) -> Result<Command<'a>, AllocError>
+    ensures app { IfOk result (λ c. app_of c ≡ serve_app) }
+    ensures globals { IfOk result (λ c. (fields_of c).has_globals ≡ false) }
+{
+    Command::new(alloc, "serve")
+        .about("Answers requests at a port of this machine")
+        .arg(required(alloc, "FILE", "The office's file"))?
+        .arg(required(alloc, "PORT", "From 1 to 65535"))?
+        .arg(required(
+            alloc,
+            "COUNT",
+            "How many connections are served, from 1 to 1000000",
+        ))
+}
+
 /// With the commands that open no office.
 #[tactic(auto, unfolding(crate::specs::Command::with_plain_commands))]
 fn with_plain_commands<'a>(alloc: Global, command: Command<'a>) -> Result<Command<'a>, AllocError>
@@ -142,6 +162,14 @@ fn with_run_commands<'a>(alloc: Global, command: Command<'a>) -> Result<Command<
         .subcommand(certificate_command(alloc)?)
 }
 
+/// With the command that answers requests to that office.
+#[tactic(auto, unfolding(crate::specs::Command::with_service_command))]
+fn with_service_command<'a>(alloc: Global, command: Command<'a>) -> Result<Command<'a>, AllocError>
+    ensures { IfOk result (λ c. app_of c ≡ with_service_command (app_of command.entry)) }
+{
+    command.subcommand(serve_command(alloc)?)
+}
+
 #[tactic(auto, unfolding(crate::specs::Command::office_app))]
 fn office_command<'a>(alloc: Global) -> Result<Command<'a>, AllocError>
     ensures { IfOk result (λ c. app_of c ≡ office_app) }
@@ -151,7 +179,8 @@ fn office_command<'a>(alloc: Global) -> Result<Command<'a>, AllocError>
         .subcommand_required(true)
         .arg_required_else_help(true);
     let command = with_plain_commands(alloc, command)?;
-    with_run_commands(alloc, with_file_commands(alloc, command)?)
+    let command = with_file_commands(alloc, command)?;
+    with_service_command(alloc, with_run_commands(alloc, command)?)
 }
 
 /// The operand of that name; `clap` takes no words in which one lacks.
@@ -214,6 +243,16 @@ fn certificate_words<'a>(matches: &ArgMatches<'a>) -> Words<'a>
     }
 }
 
+fn serve_words<'a>(matches: &ArgMatches<'a>) -> Words<'a>
+    ensures { asked result ≡ serve_asked (rows_of (found_of matches.now)) }
+{
+    Words::Serve {
+        file: operand(matches, "FILE"),
+        port: operand(matches, "PORT"),
+        count: operand(matches, "COUNT"),
+    }
+}
+
 fn words_of<'a>(matches: &ArgMatches<'a>) -> Words<'a>
     ensures { asked result ≡ asked_in (subcommand_rows_of matches.now) }
 {
@@ -231,6 +270,8 @@ fn words_of<'a>(matches: &ArgMatches<'a>) -> Words<'a>
                 resume_words(inner)
             } else if name == "certificate" {
                 certificate_words(inner)
+            } else if name == "serve" {
+                serve_words(inner)
             } else {
                 Words::Nothing
             }

@@ -7,6 +7,8 @@ use Rattle.office_http.specs.Replies.{Response}
 use Rattle.office_wire.specs.Answering.{ArePerformed}
 use Rattle.office_wire.proofs.Performed.{stopped}
 use Rattle.office_wire.proofs.Told.{told_err, told_ok}
+use Rattle.office_http.specs.Replies.{response}
+use Rattle.office_wire.proofs.Unavailable.{stopped_unavailable}
 use Rattle.office_wire.proofs.answering.perform.Goals as goal
 
 pub returns-clause-ok : goal.returns-clause-ok
@@ -24,3 +26,6 @@ returns-clause-err g c =
     let it = c.in-Err.ensures in
     told_err c.stopped_reply.result _ (λ (Told : Response → Type 0). (t : State) → HasCleanDisk (state g.S.Store desk.held) → StandsAt g.S.Store t old → ArePerformed Told g.S.Store t c.args.acts.now desk)
     (λ Told told t clean stands. stopped g.S.Store c.args.acts.now t old desk c.in-Err.fault _ c.perform_all.new.answers.items _ c.new-answers.ensures.items c.as_slice-in-Err.ensures.value (it.err t stands.is_open (sym stands.office)) clean stands (it.fates t clean stands) Told told)
+
+pub returns-clause-told : goal.returns-clause-told
+returns-clause-told g c = λ is_open gone. stopped_unavailable response c.stopped_reply.result _ _ c.stopped_reply.ensures

@@ -8,6 +8,8 @@ use Rattle.office_http.specs.Replies.{Response}
 use Rattle.office_wire.specs.Answering.{Resumes}
 use Rattle.office_wire.proofs.Resumed.{resumed, run_stopped}
 use Rattle.office_wire.proofs.Told.{told_err, told_ok}
+use Rattle.office_http.specs.Replies.{response}
+use Rattle.office_wire.proofs.Unavailable.{fault_unavailable}
 use Rattle.office_wire.proofs.answering.resume.Goals as goal
 
 pub returns-in-Ok-clause-ok : goal.returns-in-Ok-clause-ok
@@ -45,3 +47,6 @@ returns-in-Err-clause-err g c =
     told_err c.fault_reply.result _ (λ (Told : Response → Type 0). (t : State) → HasCleanDisk (state g.S.Store desk.held) → StandsAt g.S.Store t old → Resumes Told g.S.Store t desk)
     (λ Told told t clean stands. run_stopped g.S.Store t old desk c.in-Err.fault (it.err t stands.is_open (sym stands.office)) clean stands
     (λ s run first midway. it.midway s t run first midway clean stands) (λ none. it.left t none clean stands) (it.fates t clean stands) Told told)
+
+pub returns-in-Err-clause-told : goal.returns-in-Err-clause-told
+returns-in-Err-clause-told g c = λ is_open gone. fault_unavailable response c.fault_reply.result _ c.fault_reply.ensures

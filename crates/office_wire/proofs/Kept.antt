@@ -1,0 +1,52 @@
+-- A desk that is asked for no acts.
+use Rattle.std.proofs.Common.{◌≡◌, ◌≢◌, ◌+◌, ◌<◌, ◌≤◌, ◌++◌, ℕ, List, [], length, take, Bool, true, false, Result, Ok, Err, IsTrue, arith, refl, sym, subst}
+use Rattle.std.specs.Prelude.{IfErr, OnOk}
+use Rattle.sqlite.specs.Held.{state}
+use Rattle.sqlite.specs.State.{HasCleanDisk}
+use Rattle.sqlite_trees.specs.declared.store.Store.{Ghosts}
+use Rattle.office_machine.specs.Acts.{after}
+use Rattle.office_machine.specs.Rows.{rows_of}
+use Rattle.office_machine.specs.State.{State}
+use Rattle.office_machine.specs.declared.act.Act.{Act}
+use Rattle.office_machine.specs.declared.answer.Answer.{Answer}
+use Rattle.office_store.specs.Stands.{HoldsRows}
+use Rattle.office_store.specs.declared.fault.Fault.{Fault}
+use Rattle.office_store.specs.declared.fault.Fault.TheVariants as fault
+use Rattle.office_desk.specs.Desk.{DeskState}
+use Rattle.office_desk.specs.Leaving.{IsFrontAnswered, StandsAt, StopsAt, StopsLeaving}
+use Rattle.office_wire.specs.Connections.{IsKept}
+
+-- no acts
+abbrev pub none : List Act
+none = []
+
+-- a fault where no act was asked for is want of memory, and the desk stands as before
+stands_stopped : {S : Type 0} (g : Ghosts S) (old new : DeskState S) (t : State) (f : Fault) (n : ℕ) (front given : List Answer) → IsFrontAnswered t none front given f n → StopsAt (after t (take n none)).office f new
+    → StopsLeaving (after t (take n none)) (after t (take (n + 1) none)) f (state g new.held) → StandsAt g t old → StandsAt g t new
+stands_stopped g old new t fault.Memory n front given it stops leaves stands =
+    let nothing : n ≡ 0 = omega (arith, it.within) in
+    record {
+      is_open = stops.1;
+      office = subst (λ (k : ℕ). new.office ≡ (after t (take k none)).office) nothing stops.0;
+      sound = stands.sound;
+      rows = subst (λ (k : ℕ). HoldsRows (rows_of (after t (take k none))) (state g new.held)) nothing leaves;
+    }
+stands_stopped g old new t fault.Store n front given it stops leaves stands = absurd (omega (arith, it.one_more (λ e. cc)))
+stands_stopped g old new t fault.Reopen n front given it stops leaves stands = absurd (omega (arith, it.one_more (λ e. cc)))
+stands_stopped g old new t fault.Damaged n front given it stops leaves stands = absurd stops
+stands_stopped g old new t fault.Version n front given it stops leaves stands = absurd stops
+
+-- whether it was done or not
+pub stands_kept : {S : Type 0} (g : Ghosts S) (old new : DeskState S) (t : State) (done : Result (Unit {0}) Fault) (front given : List Answer)
+    → HasCleanDisk (state g new.held) → StandsAt g t old → OnOk done (StandsAt g (after t none) new)
+    → IfErr done (λ f. (n : ℕ) × IsFrontAnswered t none front given f n × StopsAt (after t (take n none)).office f new
+    × (HasCleanDisk (state g new.held) → StandsAt g t old → StopsLeaving (after t (take n none)) (after t (take (n + 1) none)) f (state g new.held)))
+    → StandsAt g t new
+stands_kept g old new t (Ok it) front given clean stands ok err = ok
+stands_kept g old new t (Err f) front given clean stands ok err = stands_stopped g old new t f err.0 front given err.1 err.2 (err.3 clean stands) stands
+
+-- where it answers 32, it was given up
+pub told_gone : {S : Type 0} (t : State) (new : DeskState S) (front given : List Answer) (b : Bool)
+    → (b ≡ false → (n : ℕ) × IsFrontAnswered t none front given fault.Reopen n × StopsAt (after t (take n none)).office fault.Reopen new) → true ≡ b
+told_gone t new front given true err = refl
+told_gone t new front given false err = let it = err refl in absurd (omega (arith, it.1.one_more (λ e. cc)))

@@ -1,0 +1,15 @@
+use Rattle.office_wire.proofs.Connected.{none_yet, one_more}
+use Rattle.office_wire.proofs.connections.serve_all.Goals as goal
+
+pub loop-before-init : goal.loop-before-init
+loop-before-init g c = none_yet _ _
+
+pub loop-before-preserved : goal.loop-before-preserved
+loop-before-preserved g c =
+    rw c.failed_by-has_failed.ensures
+    (one_more _ _ _ _ _ _ _ _ _ c.loop-before.invariant c.serve_next-served.ensures (rw c.if-ends_after.false at c.ends_after.ensures.ends) c.ends_after.ensures.kept)
+
+pub returns-then-ends_after-clause-served : goal.returns-then-ends_after-clause-served
+returns-then-ends_after-clause-served g c =
+    rw c.failed_by-has_failed.ensures
+    (one_more _ _ _ _ _ _ _ _ _ c.loop-before.invariant c.serve_next-served.ensures (rw c.if-ends_after.true at c.ends_after.ensures.ends) c.ends_after.ensures.kept)

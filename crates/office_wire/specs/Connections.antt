@@ -1,0 +1,45 @@
+-- Connections that are served one after another. Source: own.
+use Rattle.std.specs.Prelude.{◌≡◌, ◌≢◌, ◌⊎◌, ℕ, zero, suc, IfOk, IsTrue, Bool, true, false, ◌||◌, Result, Ok, Err}
+use Rattle.sqlite.specs.Held.{state}
+use Rattle.sqlite.specs.State.{HasCleanDisk}
+use Rattle.sqlite_trees.specs.declared.store.Store.{Ghosts}
+use Rattle.office_plan.specs.declared.output.Io.{Io}
+use Rattle.office_machine.specs.State.{State}
+use Rattle.office_desk.specs.Desk.{DeskState}
+use Rattle.office_desk.specs.Leaving.{StandsAt}
+use Rattle.office_wire.specs.Serving.{LeavesServed}
+
+-- a connection failed: it was not accepted, or not read or written
+abbrev pub has_failed : Result ℕ Io → Bool
+has_failed (Ok status) = false
+has_failed (Err e) = true
+
+-- one request was served, whatever it was
+pub record IsVisited {S : Type 0} (g : Ghosts S) (status : Result ℕ Io) (old new : DeskState S) : Type 0 where
+  pub clean : HasCleanDisk (state g new.held) → HasCleanDisk (state g old.held)
+  pub leaves : (t : State) → HasCleanDisk (state g new.held) → StandsAt g t old → LeavesServed g t new
+  pub gone : IsTrue old.is_given_up → new ≡ old
+  pub told : old.is_given_up ≡ false → IsTrue new.is_given_up → IfOk status (λ code. code ≡ 503)
+
+-- a desk was at most asked whether it was given up, by a list of no acts
+pub record IsKept {S : Type 0} (g : Ghosts S) (old new : DeskState S) : Type 0 where
+  pub clean : HasCleanDisk (state g new.held) → HasCleanDisk (state g old.held)
+  pub stands : (t : State) → HasCleanDisk (state g new.held) → StandsAt g t old → StandsAt g t new
+  pub gone : IsTrue old.is_given_up → new ≡ old
+
+-- one connection: it failed before the desk heard of it, or a request was served
+abbrev pub Turn : {S : Type 0} → Ghosts S → Result ℕ Io → DeskState S → DeskState S → Type 0
+Turn g status old new = ((has_failed status ≡ true) × (new ≡ old)) ⊎ IsVisited g status old new
+
+-- whether serving ends after a connection: its answer was 503, and the desk was given up
+pub record Ends (status : Result ℕ Io) (is_given_up ended : Bool) : Type 0 where
+  pub asked : status ≡ Ok 503 → ended ≡ is_given_up
+  pub unasked : status ≢ Ok 503 → ended ≡ false
+
+-- so many connections, one after another, whether one of them failed, and whether serving ends after the last one
+unfoldable pub Turns : {S : Type 0} → Ghosts S → ℕ → Bool → Bool → DeskState S → DeskState S → Type 0
+Turns g zero failed ended old new = (failed ≡ false) × (ended ≡ false) × (new ≡ old)
+Turns {S} g (suc n) failed ended old new =
+    (m : DeskState S) × (after : DeskState S) × (earlier : Bool) × (status : Result ℕ Io)
+    × Turns g n earlier false old m × Turn g status m after × Ends status after.is_given_up ended × IsKept g after new
+    × (failed ≡ (earlier || has_failed status))

@@ -1,0 +1,159 @@
+//! Connections over TCP, served one after another.
+ghost use Rattle.std.specs.Prelude.{◌≡◌, ◌≤◌, ◌||◌, false};
+ghost use Rattle.office_wire.specs.Connections.{Ends, IsKept, Turn, Turns, has_failed};
+
+use crate::serving::serve_one;
+use office_desk::Desk;
+use office_json::Io;
+use office_store::Fault;
+use sqlite::Alter;
+use std::alloc::Global;
+use std::io::{Read, Write};
+use std::net::{OpenListener, OpenStream, Shutdown};
+use std::time::Duration;
+
+/// How many reads follow an answer at most, of 4,096 bytes each.
+const LAST_READS: u32 = 64;
+
+/// How serving ended.
+#[derive(Clone, Copy, PartialEq, Eq, Debug, Drop)]
+pub struct Service {
+    /// How many connections came, those that failed too.
+    pub connections: u32,
+    /// Whether one of them failed.
+    pub has_failed: bool,
+    /// Whether it ended since the desk was given up.
+    pub is_given_up: bool,
+}
+
+/// Reads what the peer still sends, for a while: to close a socket with bytes that were not read resets
+/// the connection, and the peer may lose the answer.
+fn hear_out<C: Read + OpenStream>(stream: &mut C) {
+    if stream
+        .set_read_timeout(Some(Duration::from_millis(100)))
+        .is_err()
+    {
+        return;
+    }
+    let mut buf = [0u8; 4_096];
+    for _ in 0..LAST_READS {
+        match stream.read(&mut buf) {
+            Ok(n) if n > 0 => {}
+            _ => return,
+        }
+    }
+}
+
+/// Tells the peer that the answer has ended, and hears it out.
+fn finish<C: Read + OpenStream>(stream: &mut C) {
+    if stream.shutdown(Shutdown::Write).is_ok() {
+        hear_out(stream);
+    }
+}
+
+/// Serves a connection, which is closed at the end.
+fn serve_stream<C: Read + Write + OpenStream + Drop, S: Alter>(
+    alloc: Global,
+    stream: C,
+    desk: &mut Desk<S>,
+) -> Result<u16, Io>
+    ensures { Turn S.Store result desk.old desk.new }
+{
+    let mut reader = stream;
+    let Ok(mut writer) = reader.try_clone() else {
+        return Err(Io);
+    };
+    let status = serve_one(alloc, desk, &mut reader, &mut writer)?;
+    finish(&mut reader);
+    Ok(status)
+}
+
+/// Waits for a connection and serves it.
+fn serve_next<L: OpenListener, S: Alter>(
+    alloc: Global,
+    listener: &L,
+    desk: &mut Desk<S>,
+) -> Result<u16, Io>
+where
+    L::Stream: Read + Write + OpenStream,
+    ensures { Turn S.Store result desk.old desk.new }
+{
+    match listener.accept() {
+        Ok((stream, _)) => serve_stream(alloc, stream, desk),
+        Err(_) => Err(Io),
+    }
+}
+
+/// Whether the desk was given up: it is asked for no acts.
+fn is_given_up<S: Alter>(alloc: Global, desk: &mut Desk<S>) -> bool
+    ensures kept { IsKept S.Store desk.old desk.new }
+    ensures told { result ≡ desk.old.is_given_up }
+{
+    let mut none = Vec::new(alloc);
+    match desk.perform_all(&[], &mut none) {
+        Err(Fault::Reopen) => true,
+        _ => false,
+    }
+}
+
+/// Whether serving ends after a connection: its answer was 503, and the desk was given up.
+fn ends_after<S: Alter>(alloc: Global, desk: &mut Desk<S>, served: Result<u16, Io>) -> bool
+    ensures kept { IsKept S.Store desk.old desk.new }
+    ensures ends { Ends served desk.old.is_given_up result }
+{
+    match served {
+        Ok(503) => is_given_up(alloc, desk),
+        _ => false,
+    }
+}
+
+/// Whether a connection has failed, this one or an earlier one.
+fn failed_by(earlier: bool, served: Result<u16, Io>) -> bool
+    ensures { result ≡ (earlier || has_failed served) }
+{
+    earlier || served.is_err()
+}
+
+/// Tells that a connection has failed, where it has.
+fn tell_failure<E: Write>(served: Result<u16, Io>, err: &mut E) {
+    if served.is_err() {
+        let _ = err.write_all(b"office: socket\n");
+    }
+}
+
+/// Serves so many connections, one after another, and fewer only where the desk was given up. One that
+/// fails counts too, and is told on `err`. What a client asks is not known here, since a socket does not
+/// tell its bytes beforehand: of each connection it is known that the desk stands where serving something
+/// leaves it.
+pub fn serve_all<L: OpenListener, E: Write, S: Alter>(
+    alloc: Global,
+    listener: &L,
+    count: u32,
+    desk: &mut Desk<S>,
+    err: &mut E,
+) -> Service
+where
+    L::Stream: Read + Write + OpenStream,
+    ensures served { Turns S.Store result.connections result.has_failed result.is_given_up desk.old desk.new }
+    ensures most { result.connections ≤ count }
+    ensures all { result.is_given_up ≡ false → result.connections ≡ count }
+{
+    let mut has_failed = false;
+    for before in 0..count {
+        let served = serve_next(alloc, listener, desk);
+        tell_failure(served, err);
+        has_failed = failed_by(has_failed, served);
+        if ends_after(alloc, desk, served) {
+            return Service {
+                connections: before + 1,
+                has_failed,
+                is_given_up: true,
+            };
+        }
+    }
+    Service {
+        connections: count,
+        has_failed,
+        is_given_up: false,
+    }
+}

@@ -1,0 +1,38 @@
+ghost use Rattle.std.specs.Prelude.{◌≡◌, None, Some, if◌then◌else◌};
+ghost use Rattle.office_words.specs.Services.{is_connection_count, is_port, service_numbers};
+
+use office_days::{Refusal, read_numeral};
+
+/// The port of that number, where it is one; port 0 is none.
+fn port_of(number: u64) -> Option<u16>
+    ensures { result ≡ (if is_port number then Some number else None) }
+{
+    match u16::try_from(number) {
+        Ok(port) if port > 0 => Some(port),
+        _ => None,
+    }
+}
+
+/// The count of connections of that number, where it is one.
+fn count_of(number: u64) -> Option<u32>
+    ensures { result ≡ (if is_connection_count number then Some number else None) }
+{
+    match u32::try_from(number) {
+        Ok(count) if count > 0 && count <= 1_000_000 => Some(count),
+        _ => None,
+    }
+}
+
+/// The port of a service, from 1 to 65,535, and how many connections it serves, from 1 to 1,000,000;
+/// each is one or more ASCII digits, leading zeros allowed. What is no digits is told before a number
+/// out of its range.
+#[tactic(auto, unfolding(crate::specs::Services::service_numbers))]
+pub(crate) fn read_service(port: &str, count: &str) -> Result<(u16, u32), Refusal>
+    ensures { result ≡ service_numbers port.now count.now }
+{
+    let port = read_numeral(port).ok_or(Refusal::BadText)?;
+    let count = read_numeral(count).ok_or(Refusal::BadText)?;
+    let port = port_of(port).ok_or(Refusal::BadNumber)?;
+    let count = count_of(count).ok_or(Refusal::BadNumber)?;
+    Ok((port, count))
+}
