@@ -1,10 +1,12 @@
 //! The acts on records that are there.
 ghost use Rattle.serde_json.specs.View.{view};
-ghost use Rattle.office_json.specs.Acts.{IsActRead, confirm_asked, review_asked, set_record_schedule_asked};
+ghost use Rattle.office_json.specs.Acts.{IsActRead, confirm_asked, receipt_asked, review_asked, set_record_schedule_asked};
 
 use crate::ReadFault;
 use crate::members::has_only;
-use crate::parts::{action_at, both, day_at, number_at, optional_code_at, words_at};
+use crate::parts::{
+    action_at, both, day_at, digest_at, number_at, optional_code_at, words_at,
+};
 use office_days::Refusal;
 use office_machine::Act;
 use serde_json::Value;
@@ -71,6 +73,27 @@ pub(crate) fn review(alloc: Global, value: &Value) -> Result<Act, ReadFault>
             day,
             record_no,
             schedule,
+            by,
+        }),
+        Err(fault) => Err(fault),
+    }
+}
+
+/// `receipt`: the receiver of a record that was sent has it, with the digest that it names.
+#[tactic(auto, unfolding(crate::specs::Acts::receipt_asked, crate::specs::Acts::asked))]
+pub(crate) fn receipt(alloc: Global, value: &Value) -> Result<Act, ReadFault>
+    ensures { IsActRead (receipt_asked (view value.now)) result }
+{
+    if !has_only(value, &["act", "day", "record", "digest", "by"]) {
+        return Err(ReadFault::Refused(Refusal::BadText));
+    }
+    let which = both(day_at(value, "day"), number_at(value, "record"));
+    let how = both(digest_at(value, "digest"), words_at(alloc, value, "by"));
+    match both(which, how) {
+        Ok(((day, record_no), (digest, by))) => Ok(Act::Receipt {
+            day,
+            record_no,
+            digest,
             by,
         }),
         Err(fault) => Err(fault),

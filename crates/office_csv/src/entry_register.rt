@@ -1,0 +1,117 @@
+//! The register of the entries of all runs.
+ghost use Rattle.std.specs.Prelude.{◌≡◌, IfOk, OnOk};
+ghost use Rattle.std.specs.Io.KnownBytes.{Appends};
+ghost use Rattle.office_csv.specs.Registers.{entry_columns, entry_fields, entry_register, entry_row, entry_rows, row_of};
+
+use crate::RegisterStop;
+use crate::fields::{code_field, due_field, number_field, put_row, row_of};
+use office_machine::RecordView;
+use office_proof::Entry;
+use office_tree::Memory;
+use std::alloc::Global;
+use std::io::Write;
+
+/// An entry, and what is told of its record.
+#[derive(Drop)]
+pub struct EntryTold {
+    pub entry: Entry,
+    pub record: RecordView,
+}
+
+/// The header of the register of entries.
+fn entry_header(alloc: Global) -> Result<Vec<u8>, Memory>
+    ensures { IfOk result (λ row. row.items ≡ row_of entry_columns) }
+{
+    row_of(
+        alloc,
+        &[
+            b"run",
+            b"record",
+            b"ref",
+            b"outcome",
+            b"class",
+            b"schedule",
+            b"due",
+            b"hold",
+            b"confirmed_by",
+            b"length",
+            b"digest",
+        ],
+    )
+}
+
+/// The row of an entry and its record.
+fn row_told(alloc: Global, entry: &Entry, told: &RecordView) -> Result<Vec<u8>, Memory>
+    ensures { IfOk result (λ row. row.items ≡ row_of (entry_fields entry.now told.now)) }
+{
+    let run = number_field(alloc, entry.run)?;
+    let number = number_field(alloc, entry.record_no)?;
+    let due = due_field(alloc, Some(entry.due))?;
+    let length = number_field(alloc, told.length)?;
+    let digest = hex::encode(alloc, &told.digest)?;
+    row_of(
+        alloc,
+        &[
+            run.as_bytes(),
+            number.as_bytes(),
+            told.ref_text.text().as_bytes(),
+            entry.outcome.text().as_bytes(),
+            entry.class.text().as_bytes(),
+            entry.schedule.text().as_bytes(),
+            &due,
+            code_field(&entry.hold).as_bytes(),
+            entry.confirmed_by.text().as_bytes(),
+            length.as_bytes(),
+            digest.as_bytes(),
+        ],
+    )
+}
+
+/// The row of an entry.
+#[tactic(auto, unfolding(crate::specs::Registers::entry_row))]
+fn entry_row(alloc: Global, told: &EntryTold) -> Result<Vec<u8>, Memory>
+    ensures { IfOk result (λ row. row.items ≡ entry_row told.now) }
+{
+    row_told(alloc, &told.entry, &told.record)
+}
+
+/// Writes the row of an entry.
+fn write_entry_row<W: Write>(
+    alloc: Global,
+    told: &EntryTold,
+    out: &mut W,
+) -> Result<(), RegisterStop>
+    ensures { OnOk result (Appends (W.contents out.old) (W.contents out.new) (entry_row told.now)) }
+{
+    let row = entry_row(alloc, told)?;
+    put_row(out, &row)
+}
+
+/// Writes the rows of entries.
+#[tactic(auto, using(crate::proofs::Appending::appends_both, crate::proofs::Appending::appends_none))]
+fn write_entry_rows<W: Write>(
+    alloc: Global,
+    entries: &[EntryTold],
+    out: &mut W,
+) -> Result<(), RegisterStop>
+    ensures { OnOk result (Appends (W.contents out.old) (W.contents out.new) (entry_rows entries.now)) }
+{
+    for told in entries {
+        write_entry_row(alloc, told, out)?;
+    }
+    Ok(())
+}
+
+/// Writes the register of the entries, in the order given: its header, and then a row for each.
+#[tactic(auto, using(crate::proofs::Appending::appends_both))]
+pub fn write_entry_register<W: Write>(
+    alloc: Global,
+    entries: &[EntryTold],
+    out: &mut W,
+) -> Result<(), RegisterStop>
+    ensures { OnOk result (Appends (W.contents out.old) (W.contents out.new) (entry_register entries.now)) }
+{
+    let header = entry_header(alloc)?;
+    put_row(out, &header)?;
+    write_entry_rows(alloc, entries, out)
+}
