@@ -71,7 +71,7 @@ fn write_due_row<W: Write>(
 }
 
 /// Writes the rows of records that are due.
-#[tactic(auto, using(crate::proofs::Appending::appends_both, crate::proofs::Appending::appends_none))]
+#[tactic(auto, using(office_json::proofs::Appending::appends_both, office_json::proofs::Appending::appends_none))]
 fn write_due_rows<W: Write>(
     alloc: Global,
     records: &[RecordView],
@@ -86,7 +86,7 @@ fn write_due_rows<W: Write>(
 }
 
 /// Writes the due register of the records, in the order given: its header, and then a row for each.
-#[tactic(auto, using(crate::proofs::Appending::appends_both))]
+#[tactic(auto, using(office_json::proofs::Appending::appends_both))]
 pub fn write_due_register<W: Write>(
     alloc: Global,
     records: &[RecordView],

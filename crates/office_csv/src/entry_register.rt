@@ -88,7 +88,7 @@ fn write_entry_row<W: Write>(
 }
 
 /// Writes the rows of entries.
-#[tactic(auto, using(crate::proofs::Appending::appends_both, crate::proofs::Appending::appends_none))]
+#[tactic(auto, using(office_json::proofs::Appending::appends_both, office_json::proofs::Appending::appends_none))]
 fn write_entry_rows<W: Write>(
     alloc: Global,
     entries: &[EntryTold],
@@ -103,7 +103,7 @@ fn write_entry_rows<W: Write>(
 }
 
 /// Writes the register of the entries, in the order given: its header, and then a row for each.
-#[tactic(auto, using(crate::proofs::Appending::appends_both))]
+#[tactic(auto, using(office_json::proofs::Appending::appends_both))]
 pub fn write_entry_register<W: Write>(
     alloc: Global,
     entries: &[EntryTold],
