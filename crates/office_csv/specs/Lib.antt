@@ -1,1 +1,2 @@
+pub mod ImportRows
 pub mod Registers
