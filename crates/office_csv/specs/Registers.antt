@@ -61,7 +61,7 @@ entry_fields e r =
     ∷ decimal r.length ∷ encode_lower r.digest ∷ []
 
 unfoldable pub entry_row : EntryTold → List ℕ
-entry_row it = row_of (entry_fields it.entry it.record)
+entry_row it = row_of (entry_fields it.entry it.view)
 
 abbrev pub entry_rows : List EntryTold → List ℕ
 entry_rows entries = flat_map entry_row entries

@@ -15,7 +15,7 @@ use std::io::Write;
 #[derive(Drop)]
 pub struct EntryTold {
     pub entry: Entry,
-    pub record: RecordView,
+    pub view: RecordView,
 }
 
 /// The header of the register of entries.
@@ -72,7 +72,7 @@ fn row_told(alloc: Global, entry: &Entry, told: &RecordView) -> Result<Vec<u8>, 
 fn entry_row(alloc: Global, told: &EntryTold) -> Result<Vec<u8>, Memory>
     ensures { IfOk result (λ row. row.items ≡ entry_row told.now) }
 {
-    row_told(alloc, &told.entry, &told.record)
+    row_told(alloc, &told.entry, &told.view)
 }
 
 /// Writes the row of an entry.

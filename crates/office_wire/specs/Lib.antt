@@ -1,5 +1,6 @@
 pub mod Answering
 pub mod Connections
 pub mod Receiving
+pub mod Registers
 pub mod Replies
 pub mod Serving

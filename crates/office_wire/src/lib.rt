@@ -3,7 +3,7 @@
 //!
 //! [`receive`] reads all of a request and touches no desk; [`answer`] does what it asks for and reads
 //! nothing; [`serve_one`] joins them and writes the answer. Acts and answers in JSON are those of
-//! `office_json`, heads and the bytes of an answer those of `office_http`. [`serve_all`] serves connections
+//! `office_json`, registers those of `office_csv`, heads and the bytes of an answer those of `office_http`. [`serve_all`] serves connections
 //! over TCP, one after another.
 #![tactic(auto)]
 
@@ -11,6 +11,7 @@ mod answering;
 mod body;
 mod connections;
 mod receiving;
+mod registers;
 mod replies;
 mod serving;
 
@@ -19,4 +20,5 @@ pub use body::ActsBody;
 pub use connections::{Service, serve_all};
 pub use office_json::{Io, ReadFault, answer_value, read_act};
 pub use receiving::{Asked, Asking, ReceiveStop, Received, receive};
+pub use registers::{ExportStop, export_due, export_entries};
 pub use serving::serve_one;
