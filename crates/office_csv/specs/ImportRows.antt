@@ -1,5 +1,5 @@
 -- A row of an import as the record that it asks to add. Source: RFC 4180, its fields; the columns are own.
-use Rattle.std.specs.Prelude.{◌≡◌, ◌⊎◌, ℕ, ℤ, List, [], ◌∷◌, length, codes, Option, Some, None, Result, Ok, Err, MatchResult, ok_or}
+use Rattle.std.specs.Prelude.{◌≡◌, ◌==◌, ◌⊎◌, if◌then◌else◌, ℕ, ℤ, List, [], ◌∷◌, length, codes, Option, Some, None, Result, Ok, Err, MatchResult, ok_or}
 use Rattle.office_days.specs.Texts.{day_named}
 use Rattle.office_days.specs.ThingNumbers.{thing_number}
 use Rattle.office_days.specs.declared.refusal.Refusal.{Refusal}
@@ -30,8 +30,7 @@ day_field field = ok_or (day_named field) BadText
 
 -- a code, and an empty field is none
 abbrev pub code_field : List ℕ → Result (Option (List ℕ)) Refusal
-code_field [] = Ok None
-code_field (b ∷ rest) = made (λ code. Some code) (ok_or (code_named (b ∷ rest)) BadText)
+code_field field = if length field == 0 then Ok None else made (λ code. Some code) (ok_or (code_named field) BadText)
 
 -- the parts of a new record, in pairs
 abbrev pub asked_record : ((List ℕ × List ℕ) × (ℤ × ℕ)) × ((Option (List ℕ) × Option (List ℕ)) × List ℕ) → AskedRecord

@@ -1,6 +1,8 @@
 //! The register of what is due on a day.
-ghost use Rattle.std.specs.Prelude.{◌≡◌, IfOk, OnOk};
+ghost use Rattle.std.specs.Prelude.{◌≡◌, ◌∷◌, [], IfOk, OnOk};
 ghost use Rattle.std.specs.Io.KnownBytes.{Appends};
+ghost use Rattle.std.specs.Option.{unwrap_or};
+ghost use Rattle.office_tree.specs.Words.{action_word};
 ghost use Rattle.office_csv.specs.Registers.{due_columns, due_register, due_row, due_rows, row_of, yes_or_no};
 
 use crate::RegisterStop;
@@ -10,11 +12,18 @@ use office_tree::Memory;
 use std::alloc::Global;
 use std::io::Write;
 
-/// Whether it is so, in a word.
-fn yes_or_no(is_so: bool) -> &'static str
-    ensures { result.now ≡ yes_or_no is_so }
+/// Whether a confirmation of the record counts, in a word.
+fn counts_word(told: &RecordView) -> &str
+    ensures { result.now ≡ yes_or_no told.now.counts }
 {
-    if is_so { "yes" } else { "no" }
+    if told.counts { "yes" } else { "no" }
+}
+
+/// The word for the action of the record's plan.
+fn action_of(told: &RecordView) -> &str
+    ensures { result.now ≡ action_word told.now.action }
+{
+    told.action.text()
 }
 
 /// The header of the due register.
@@ -36,13 +45,17 @@ fn due_header(alloc: Global) -> Result<Vec<u8>, Memory>
     )
 }
 
-/// The row of a record that is due.
-#[tactic(auto, unfolding(crate::specs::Registers::due_row))]
-fn due_row(alloc: Global, told: &RecordView) -> Result<Vec<u8>, Memory>
-    ensures { IfOk result (λ row. row.items ≡ due_row told.now) }
+/// The row of a record that is due, where what is no text in it is written as one.
+fn row_told<'a>(
+    alloc: Global,
+    told: &'a RecordView,
+    number: &'a str,
+    due: &'a [u8],
+) -> Result<Vec<u8>, Memory>
+    ensures { IfOk result (λ row. row.items ≡ row_of (
+        number.now ∷ told.now.ref_text ∷ told.now.class ∷ told.now.schedule ∷ action_word told.now.action ∷ due.now
+        ∷ unwrap_or told.now.held [] ∷ yes_or_no told.now.counts ∷ [])) }
 {
-    let number = number_field(alloc, told.number)?;
-    let due = due_field(alloc, told.due)?;
     row_of(
         alloc,
         &[
@@ -50,12 +63,22 @@ fn due_row(alloc: Global, told: &RecordView) -> Result<Vec<u8>, Memory>
             told.ref_text.text().as_bytes(),
             told.class.text().as_bytes(),
             told.schedule.text().as_bytes(),
-            told.action.text().as_bytes(),
-            &due,
+            action_of(told).as_bytes(),
+            due,
             code_field(&told.held).as_bytes(),
-            yes_or_no(told.counts).as_bytes(),
+            counts_word(told).as_bytes(),
         ],
     )
+}
+
+/// The row of a record that is due.
+#[tactic(auto, unfolding(crate::specs::Registers::due_row))]
+fn due_row(alloc: Global, told: &RecordView) -> Result<Vec<u8>, Memory>
+    ensures { IfOk result (λ row. row.items ≡ due_row told.now) }
+{
+    let number = number_field(alloc, told.number)?;
+    let due = due_field(alloc, told.due)?;
+    row_told(alloc, told, number.as_str(), due.as_slice())
 }
 
 /// Writes the row of a record that is due.

@@ -1,7 +1,12 @@
 //! The register of the entries of all runs.
-ghost use Rattle.std.specs.Prelude.{◌≡◌, IfOk, OnOk};
+ghost use Rattle.std.specs.Prelude.{◌≡◌, ◌∷◌, [], IfOk, OnOk, Some};
+ghost use Rattle.std.specs.Fmt.{decimal};
 ghost use Rattle.std.specs.Io.KnownBytes.{Appends};
-ghost use Rattle.office_csv.specs.Registers.{entry_columns, entry_fields, entry_register, entry_row, entry_rows, row_of};
+ghost use Rattle.std.specs.Option.{unwrap_or};
+ghost use Rattle.std.specs.String.{string_bytes};
+ghost use Rattle.hex.specs.Hex.{encode_lower};
+ghost use Rattle.office_proof.specs.Outcomes.{outcome_word};
+ghost use Rattle.office_csv.specs.Registers.{day_field, entry_columns, entry_fields, entry_register, entry_row, entry_rows, row_of};
 
 use crate::RegisterStop;
 use crate::fields::{code_field, due_field, number_field, put_row, row_of};
@@ -40,31 +45,74 @@ fn entry_header(alloc: Global) -> Result<Vec<u8>, Memory>
     )
 }
 
+/// The word for an entry's outcome.
+fn outcome_of(entry: &Entry) -> &str
+    ensures { result.now ≡ outcome_word entry.now.outcome }
+{
+    entry.outcome.text()
+}
+
+/// The texts in the row of an entry that are written of numbers, days and digests.
+#[derive(Drop)]
+struct Written {
+    run: String,
+    number: String,
+    due: Vec<u8>,
+    length: String,
+    digest: String,
+}
+
+/// They, of an entry and its record.
+fn texts_of(alloc: Global, entry: &Entry, told: &RecordView) -> Result<Written, Memory>
+    ensures numbers { IfOk result (λ it. (string_bytes it.run ≡ decimal entry.now.run) × (string_bytes it.number ≡ decimal entry.now.record_no)) }
+    ensures due { IfOk result (λ it. it.due.items ≡ day_field (Some entry.now.due)) }
+    ensures content { IfOk result (λ it. (string_bytes it.length ≡ decimal told.now.length) × (string_bytes it.digest ≡ encode_lower told.now.digest)) }
+{
+    Ok(Written {
+        run: number_field(alloc, entry.run)?,
+        number: number_field(alloc, entry.record_no)?,
+        due: due_field(alloc, Some(entry.due))?,
+        length: number_field(alloc, told.length)?,
+        digest: hex::encode(alloc, &told.digest)?,
+    })
+}
+
+/// The row of an entry and its record, and what is written of them.
+fn row_written<'a>(
+    alloc: Global,
+    entry: &'a Entry,
+    told: &'a RecordView,
+    texts: &'a Written,
+) -> Result<Vec<u8>, Memory>
+    ensures { IfOk result (λ row. row.items ≡ row_of (
+        string_bytes texts.now.run ∷ string_bytes texts.now.number ∷ told.now.ref_text ∷ outcome_word entry.now.outcome ∷ entry.now.class
+        ∷ entry.now.schedule ∷ texts.now.due.items ∷ unwrap_or entry.now.hold [] ∷ entry.now.confirmed_by ∷ string_bytes texts.now.length
+        ∷ string_bytes texts.now.digest ∷ [])) }
+{
+    row_of(
+        alloc,
+        &[
+            texts.run.as_bytes(),
+            texts.number.as_bytes(),
+            told.ref_text.text().as_bytes(),
+            outcome_of(entry).as_bytes(),
+            entry.class.text().as_bytes(),
+            entry.schedule.text().as_bytes(),
+            texts.due.as_slice(),
+            code_field(&entry.hold).as_bytes(),
+            entry.confirmed_by.text().as_bytes(),
+            texts.length.as_bytes(),
+            texts.digest.as_bytes(),
+        ],
+    )
+}
+
 /// The row of an entry and its record.
 fn row_told(alloc: Global, entry: &Entry, told: &RecordView) -> Result<Vec<u8>, Memory>
     ensures { IfOk result (λ row. row.items ≡ row_of (entry_fields entry.now told.now)) }
 {
-    let run = number_field(alloc, entry.run)?;
-    let number = number_field(alloc, entry.record_no)?;
-    let due = due_field(alloc, Some(entry.due))?;
-    let length = number_field(alloc, told.length)?;
-    let digest = hex::encode(alloc, &told.digest)?;
-    row_of(
-        alloc,
-        &[
-            run.as_bytes(),
-            number.as_bytes(),
-            told.ref_text.text().as_bytes(),
-            entry.outcome.text().as_bytes(),
-            entry.class.text().as_bytes(),
-            entry.schedule.text().as_bytes(),
-            &due,
-            code_field(&entry.hold).as_bytes(),
-            entry.confirmed_by.text().as_bytes(),
-            length.as_bytes(),
-            digest.as_bytes(),
-        ],
-    )
+    let texts = texts_of(alloc, entry, told)?;
+    row_written(alloc, entry, told, &texts)
 }
 
 /// The row of an entry.

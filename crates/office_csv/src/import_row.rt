@@ -40,6 +40,7 @@ fn number_of(field: &str) -> Result<AggNo, ReadFault>
 }
 
 /// The code that a field is; none where it is empty.
+#[tactic(auto, using(office_json::proofs::Made::fault_made))]
 fn code_of(alloc: Global, field: &str) -> Result<Option<Code>, ReadFault>
     ensures { IsReadAs (code_field field.now) result }
 {
