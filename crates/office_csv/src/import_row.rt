@@ -76,7 +76,15 @@ fn record_of(
     let (originated, aggregation) = placed;
     let (class, schedule) = planned;
     let bytes = content.into_bytes();
-    match NewRecord::new(ref_text, title, originated, aggregation, class, schedule, bytes) {
+    match NewRecord::new(
+        ref_text,
+        title,
+        originated,
+        aggregation,
+        class,
+        schedule,
+        bytes,
+    ) {
         Some(record) => record,
         None => unreachable!(),
     }
@@ -90,7 +98,10 @@ pub fn read_import_row(alloc: Global, row: &ImportRow) -> Result<NewRecord, Read
     ensures { IsRowRead row.now result }
 {
     let content = told(read_content(alloc, row.content)?);
-    let named = both(read_words(alloc, row.ref_text), read_words(alloc, row.title));
+    let named = both(
+        read_words(alloc, row.ref_text),
+        read_words(alloc, row.title),
+    );
     let placed = both(day_of(row.originated), number_of(row.aggregation));
     let planned = both(code_of(alloc, row.class), code_of(alloc, row.schedule));
     match both(both(named, placed), both(planned, content)) {

@@ -13,7 +13,9 @@ use crate::parts::Parts;
 use crate::{Answer, Change, Decision, NewRecord, RowWrite};
 use office_days::{Day, DueDay};
 use office_proof::digest_of;
-use office_tree::{Action, Code, Confirmation, Memory, Receipt, Record, RecordNo, Review, Status, Text};
+use office_tree::{
+    Action, Code, Confirmation, Memory, Receipt, Record, RecordNo, Review, Status, Text,
+};
 use std::alloc::Global;
 
 /// A second code that is equal to the first, if there is one, else to the other.

@@ -235,6 +235,16 @@ fn a_received_record_ends_once_no_hold_covers_it(rt: HostRuntime) -> Result<(), 
         2025-01-01 receipt 9 abc = refused 1
         ",
     )?;
-    certified(&rt, &office, 2, "SKIPPED 1\nENTRY\t1\tskipped\tr1\tFIN\tT\t2025-01-02\tH\t")?;
-    certified(&rt, &office, 3, "ENDED 1\nSENT 0\nSKIPPED 0\nENTRY\t1\ttransferred\tr1\t")
+    certified(
+        &rt,
+        &office,
+        2,
+        "SKIPPED 1\nENTRY\t1\tskipped\tr1\tFIN\tT\t2025-01-02\tH\t",
+    )?;
+    certified(
+        &rt,
+        &office,
+        3,
+        "ENDED 1\nSENT 0\nSKIPPED 0\nENTRY\t1\ttransferred\tr1\t",
+    )
 }

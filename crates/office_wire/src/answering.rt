@@ -157,7 +157,11 @@ fn rows_of<S: Alter>(
 }
 
 /// What is told of the records that are due on a day.
-pub(crate) fn due_rows<S: Alter>(alloc: Global, desk: &Desk<S>, day: Day) -> Result<Vec<RecordView>, Fault>
+pub(crate) fn due_rows<S: Alter>(
+    alloc: Global,
+    desk: &Desk<S>,
+    day: Day,
+) -> Result<Vec<RecordView>, Fault>
     ensures ok { IfOk result (λ rows. (list : List ℕ) × IsDueList desk.now.office.tree day list × (rows.items ≡ told_of desk.now.office list)) }
     ensures err { IfErr result (λ fault. (fault ≡ Fault.Memory) ⊎ IsTrue desk.now.is_given_up) }
     ensures gone { IsTrue desk.now.is_given_up → result ≡ Err Fault.Reopen }

@@ -46,8 +46,7 @@ fn told_entries<S: Alter>(
     let mut told = Vec::new(alloc);
     for entry in entries {
         if let Some(view) = desk.record(entry.record_no)? {
-            told.push(EntryTold { entry, view })
-                .or(Err(Fault::Memory))?;
+            told.push(EntryTold { entry, view }).or(Err(Fault::Memory))?;
         }
     }
     Ok(told)
