@@ -15,9 +15,9 @@ use Rattle.office_proof.specs.declared.outcome.Outcome.{Outcome}
 use Rattle.office_proof.specs.declared.outcome.Outcome.TheVariants as outcome
 use Rattle.office_machine.specs.Acts.{step}
 use Rattle.office_machine.specs.Disposing.{outcome_of}
-use Rattle.office_machine.specs.Effects.{after_add_schedule, after_add_class, after_set_class_schedule, after_add_aggregation, after_close_aggregation, after_set_record_schedule, after_reclassify, after_confirm, after_review, after_place_hold, after_hold_on, after_hold_off, after_lift_hold, after_open_run, with_new_record}
+use Rattle.office_machine.specs.Effects.{after_add_schedule, after_add_class, after_set_class_schedule, after_add_aggregation, after_close_aggregation, after_set_record_schedule, after_reclassify, after_confirm, after_review, after_receipt, after_place_hold, after_hold_on, after_hold_off, after_lift_hold, after_open_run, with_new_record}
 use Rattle.office_machine.specs.Meanings.{IsCandidate, ended_by}
-use Rattle.office_machine.specs.Conditions.{refusals_of_add_schedule, refusals_of_add_class, refusals_of_set_class_schedule, refusals_of_add_aggregation, refusals_of_close_aggregation, refusals_of_set_record_schedule, refusals_of_reclassify, refusals_of_confirm, refusals_of_review, refusals_of_place_hold, refusals_of_hold_on, refusals_of_hold_off, refusals_of_lift_hold, refusals_of_open_run, refusals_of_run_step, same_record}
+use Rattle.office_machine.specs.Conditions.{refusals_of_add_schedule, refusals_of_add_class, refusals_of_set_class_schedule, refusals_of_add_aggregation, refusals_of_close_aggregation, refusals_of_set_record_schedule, refusals_of_reclassify, refusals_of_confirm, refusals_of_review, refusals_of_receipt, refusals_of_place_hold, refusals_of_hold_on, refusals_of_hold_off, refusals_of_lift_hold, refusals_of_open_run, refusals_of_run_step, same_record}
 use Rattle.office_machine.specs.Runs.{closed, next_ready, open_run, run_step, step_at, step_of, with_outcomes}
 use Rattle.office_machine.specs.State.{Office, State, with_office}
 use Rattle.office_machine.specs.Steps.{answer_at, answer_in, by_refusal, by_same_record, step_run_step}
@@ -199,6 +199,8 @@ module _ (laws : AreLaws) where
       made s (act.Confirm day r named by) (first_of (refusals_of_confirm s.office day r named)) answer.Done (after_confirm s.office day r named by) refl (length-edited s.office.tree.records r _) (λ d n e. absurd cc)
   one_fate s (act.Review day r schedule by) =
       made s (act.Review day r schedule by) (first_of (refusals_of_review s.office day r schedule)) answer.Done (after_review s.office day r schedule by) refl (length-edited s.office.tree.records r _) (λ d n e. absurd cc)
+  one_fate s (act.Receipt day r digest by) =
+      made s (act.Receipt day r digest by) (first_of (refusals_of_receipt s.office day r digest)) answer.Done (after_receipt s.office day r by) refl (length-edited s.office.tree.records r _) (λ d n e. absurd cc)
   one_fate s (act.PlaceHold day code reason by) =
       made s (act.PlaceHold day code reason by) (first_of (refusals_of_place_hold s.office day code)) answer.Done (after_place_hold s.office day code reason by) refl refl (λ d n e. absurd cc)
   one_fate s (act.HoldOn day code target) =

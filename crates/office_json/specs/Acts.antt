@@ -1,4 +1,4 @@
--- Which act a value of JSON asks for, by the members of each of the sixteen kinds, or why it asks for none. Source: own.
+-- Which act a value of JSON asks for, by the members of each of the seventeen kinds, or why it asks for none. Source: own.
 use Rattle.std.specs.Prelude.{◌≡◌, ◌⊎◌, ◌∷◌, [], ℕ, ℤ, List, codes, if◌then◌else◌, Option, Some, None, Result, Ok, Err, IsOk, IsSome, MatchResult, option_and_then}
 use Rattle.std.specs.Str.{bytes_eq}
 use Rattle.serde_json.specs.Data.{Data}
@@ -10,7 +10,7 @@ use Rattle.office_machine.specs.declared.act.Act.TheVariants as act
 use Rattle.office_machine.specs.declared.new_record.NewRecord.{NewRecord}
 use Rattle.office_json.specs.Contents.{content_part}
 use Rattle.office_json.specs.Members.{only}
-use Rattle.office_json.specs.Parts.{both, fault_of, made, optional, day_part, code_part, text_part, trigger_part, offset_part, action_part, number_part, period_part}
+use Rattle.office_json.specs.Parts.{both, fault_of, made, optional, day_part, code_part, text_part, trigger_part, offset_part, action_part, digest_part, number_part, period_part}
 use Rattle.office_json.specs.Targets.{classified_part, target_part}
 use Rattle.office_json.specs.declared.acts.new_record.Heading.{Heading}
 use Rattle.office_json.specs.declared.read_fault.ReadFault.{ReadFault}
@@ -177,6 +177,13 @@ review_asked d =
     (both (both (day_part (get (codes "day") d)) (number_part (get (codes "record") d)))
     (both (optional code_part (get (codes "schedule") d)) (text_part (get (codes "by") d)))))
 
+unfoldable pub receipt_asked : Data → Result Asked Refusal
+receipt_asked d =
+    only (codes "act" ∷ codes "day" ∷ codes "record" ∷ codes "digest" ∷ codes "by" ∷ []) d
+    (made (λ p. asks (act.Receipt p.0.0 p.0.1 p.1.0 p.1.1))
+    (both (both (day_part (get (codes "day") d)) (number_part (get (codes "record") d)))
+    (both (digest_part (get (codes "digest") d)) (text_part (get (codes "by") d)))))
+
 unfoldable pub open_run_asked : Data → Result Asked Refusal
 open_run_asked d =
     only (codes "act" ∷ codes "day" ∷ codes "by" ∷ []) d
@@ -205,6 +212,7 @@ plain_asked word d =
     else if bytes_eq word (codes "lift-hold") then lift_hold_asked d
     else if bytes_eq word (codes "confirm") then confirm_asked d
     else if bytes_eq word (codes "review") then review_asked d
+    else if bytes_eq word (codes "receipt") then receipt_asked d
     else if bytes_eq word (codes "open-run") then open_run_asked d
     else if bytes_eq word (codes "run-step") then run_step_asked d
     else Err BadText

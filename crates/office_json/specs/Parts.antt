@@ -17,6 +17,7 @@ use Rattle.office_tree.specs.declared.trigger.Trigger.{Trigger}
 use Rattle.office_tree.specs.Codes.{code_named}
 use Rattle.office_tree.specs.TextForms.{text_named}
 use Rattle.office_tree.specs.Words.{action_named, trigger_named}
+use Rattle.office_proof.specs.Digits.{digest_named}
 use Rattle.office_json.specs.Members.{is_given}
 use Rattle.office_json.specs.declared.read_fault.ReadFault.{ReadFault}
 use Rattle.office_json.specs.declared.read_fault.ReadFault.TheVariants.{Refused, Memory}
@@ -60,6 +61,10 @@ offset_part member = named_part offset_named member
 
 unfoldable pub action_part : Option Data → Result Action Refusal
 action_part member = named_part action_named member
+
+-- a digest, in 64 lower-case hexadecimal digits
+unfoldable pub digest_part : Option Data → Result (List ℕ) Refusal
+digest_part member = named_part digest_named member
 
 -- ---- numbers
 

@@ -15,7 +15,7 @@ use std::marker::Model;
 
 /// The bytes of a record's content, at most 262,144. Contracts see them as a list.
 #[derive(Drop)]
-pub(crate) struct Content {
+pub struct Content {
     bytes: Vec<u8>,
 }
 
@@ -41,7 +41,7 @@ impl Content {
     }
 
     /// The bytes themselves.
-    pub(crate) fn into_bytes(self) -> Vec<u8>
+    pub fn into_bytes(self) -> Vec<u8>
         ensures value { result.items ≡ self }
         ensures few { length result.items ≤ 262_144 }
     {
@@ -61,6 +61,17 @@ fn decoded(alloc: Global, text: &str) -> Result<Option<Vec<u8>>, Memory>
     }
 }
 
+/// The content that a text encodes in base64; `BadText` where it is not what encoding writes, `BadNumber`
+/// where it encodes more than 262,144 bytes. `Memory` comes where it could not be decoded.
+pub fn read_content(alloc: Global, text: &str) -> Result<Result<Content, Refusal>, Memory>
+    ensures { IfOk result (λ content. content ≡ content_of (content_named text.now)) }
+{
+    match decoded(alloc, text)? {
+        Some(bytes) => Ok(Content::of(bytes)),
+        None => Ok(Err(Refusal::BadText)),
+    }
+}
+
 /// A content. A text is decoded before it is known to be one, so memory may be wanting for one that
 /// is refused.
 #[tactic(auto, unfolding(crate::specs::Contents::content_part))]
@@ -75,10 +86,7 @@ pub(crate) fn content_at(
     let Some(text) = text_at(value, name) else {
         return Ok(Err(Refusal::BadText));
     };
-    match decoded(alloc, text)? {
-        Some(bytes) => Ok(Content::of(bytes)),
-        None => Ok(Err(Refusal::BadText)),
-    }
+    read_content(alloc, text)
 }
 
 /// Tells in proofs that a text is taken as a content's bytes exactly where it is what encoding them

@@ -1,4 +1,4 @@
-//! The parts of an act: days, codes, texts, words and numbers, each a member of its name.
+//! The parts of an act: days, codes, texts, words, digests and numbers, each a member of its name.
 ghost use Rattle.std.specs.Prelude.{◌≡◌, ◌↔◌, ◌≤◌, IfSome, IsSome, Result, codes, ok_or};
 ghost use Rattle.serde_json.specs.Find.{get};
 ghost use Rattle.serde_json.specs.View.{view};
@@ -6,17 +6,20 @@ ghost use Rattle.office_days.specs.declared.refusal.Refusal.{Refusal};
 ghost use Rattle.office_days.specs.declared.refusal.Refusal.TheVariants.{BadText};
 ghost use Rattle.office_days.specs.Limits.{longest};
 ghost use Rattle.office_tree.specs.Codes.{code_named};
-ghost use Rattle.office_json.specs.Parts.{both, IsReadAs, action_part, code_part, count_part, day_part, number_part, offset_part, optional, period_part, text_part, trigger_part};
+ghost use Rattle.office_tree.specs.TextForms.{text_named};
+ghost use Rattle.office_json.specs.Parts.{both, IsReadAs, action_part, code_part, count_part, day_part, digest_part, number_part, offset_part, optional, period_part, text_part, trigger_part};
 
 use crate::ReadFault;
 use crate::members::{is_given, text_at};
 use office_days::{Day, Offset, Period, Refusal, Unit};
+use office_proof::read_digest;
 use office_tree::{Action, AggNo, Code, Text, Trigger};
 use serde_json::Value;
 use std::alloc::Global;
 
-/// Both parts, or the fault that is to be told of them.
-pub(crate) fn both<A: Drop, B: Drop>(
+/// Both parts, or the fault that is to be told of them: a refusal before want of memory, and of two
+/// refusals that with the least number.
+pub fn both<A: Drop, B: Drop>(
     first: Result<A, ReadFault>,
     second: Result<B, ReadFault>,
 ) -> Result<(A, B), ReadFault>
@@ -44,12 +47,20 @@ pub(crate) fn day_at(value: &Value, name: &str) -> Result<Day, ReadFault>
     Ok(day)
 }
 
-/// The code that a text is.
-pub(crate) fn read_code(alloc: Global, text: &str) -> Result<Code, ReadFault>
+/// The code that a text is; else `BadText`.
+pub fn read_code(alloc: Global, text: &str) -> Result<Code, ReadFault>
     ensures { IsReadAs (ok_or (code_named text.now) BadText) result }
 {
     let code = Code::read(alloc, text)?.ok_or(Refusal::BadText)?;
     Ok(code)
+}
+
+/// The words that a text is, as of a title; else `BadText`.
+pub fn read_words(alloc: Global, text: &str) -> Result<Text, ReadFault>
+    ensures { IsReadAs (ok_or (text_named text.now) BadText) result }
+{
+    let words = Text::read(alloc, text)?.ok_or(Refusal::BadText)?;
+    Ok(words)
 }
 
 /// A code.
@@ -67,8 +78,7 @@ pub(crate) fn words_at(alloc: Global, value: &Value, name: &str) -> Result<Text,
     ensures { IsReadAs (text_part (get name.now (view value.now))) result }
 {
     let text = text_at(value, name).ok_or(Refusal::BadText)?;
-    let words = Text::read(alloc, text)?.ok_or(Refusal::BadText)?;
-    Ok(words)
+    read_words(alloc, text)
 }
 
 /// A trigger.
@@ -99,6 +109,16 @@ pub(crate) fn action_at(value: &Value, name: &str) -> Result<Action, ReadFault>
     let text = text_at(value, name).ok_or(Refusal::BadText)?;
     let action = Action::read(text).ok_or(Refusal::BadText)?;
     Ok(action)
+}
+
+/// A digest, in 64 lower-case hexadecimal digits.
+#[tactic(auto, unfolding(crate::specs::Parts::digest_part))]
+pub(crate) fn digest_at(value: &Value, name: &str) -> Result<[u8; 32], ReadFault>
+    ensures { IsReadAs (digest_part (get name.now (view value.now))) result }
+{
+    let text = text_at(value, name).ok_or(Refusal::BadText)?;
+    let digest = read_digest(text).ok_or(Refusal::BadText)?;
+    Ok(digest)
 }
 
 /// The number of a thing.

@@ -3,24 +3,26 @@ use Rattle.std.proofs.Common.{◌≡◌, ◌≤◌, ◌+◌, ℕ, Bool, true, Li
 use Rattle.std.specs.Prelude.{not}
 use Rattle.std.specs.Option.{option_map}
 use Rattle.office_days.specs.declared.refusal.Refusal.{Refusal}
-use Rattle.office_tree.specs.Conditions.{first_of, conditions_of_confirm, conditions_of_review, conditions_of_set_record_schedule, lacks_schedule}
-use Rattle.office_tree.specs.Effects.{with_head}
+use Rattle.office_tree.specs.Conditions.{first_of, conditions_of_confirm, conditions_of_receipt, conditions_of_review, conditions_of_set_record_schedule, lacks_schedule}
+use Rattle.office_tree.specs.Effects.{receipted, with_head}
 use Rattle.office_tree.specs.Lists.{numbered, or_else, put}
+use Rattle.office_tree.specs.Rows.{put_record}
 use Rattle.office_tree.specs.Sound as tree
 use Rattle.office_tree.specs.Tree.{TreeState, due_of, has_record}
 use Rattle.office_tree.specs.declared.action.Action.{Action}
 use Rattle.office_tree.specs.declared.head.Confirmation.{Confirmation}
 use Rattle.office_tree.specs.declared.head.Record.{Record}
 use Rattle.office_tree.specs.declared.status.Status.{Status}
+use Rattle.office_tree.specs.declared.status.Status.TheVariants.{Received}
 use Rattle.office_tree.proofs.Accepting.{none_holds, neither, not_false}
-use Rattle.office_tree.proofs.Amending.{IsSound-confirm, IsSound-review, IsSound-set_record_schedule}
+use Rattle.office_tree.proofs.Amending.{IsSound-confirm, IsSound-receipt, IsSound-review, IsSound-set_record_schedule}
 use Rattle.office_tree.proofs.Places.{numbered_within}
-use Rattle.office_tree.proofs.Putting.{put-edited, put_same}
+use Rattle.office_tree.proofs.Putting.{put-edited, put_edited_to, put_same}
 use Rattle.office_machine.specs.Acts.{IsChangeTo}
-use Rattle.office_machine.specs.Conditions.{dated, refusals_of_confirm, refusals_of_review, refusals_of_set_record_schedule}
+use Rattle.office_machine.specs.Conditions.{dated, refusals_of_confirm, refusals_of_receipt, refusals_of_review, refusals_of_set_record_schedule}
 use Rattle.office_machine.specs.Effects.{with_tree}
 use Rattle.office_machine.specs.State.{with_contents, Office, with_office}
-use Rattle.office_machine.specs.Steps.{stepped, step_confirm, step_review, step_set_record_schedule}
+use Rattle.office_machine.specs.Steps.{stepped, step_confirm, step_receipt, step_review, step_set_record_schedule}
 use Rattle.office_machine.specs.Writes.{CanWrite, all_writes}
 use Rattle.office_machine.specs.declared.answer.Answer.TheVariants.{Done}
 use Rattle.office_machine.specs.declared.change.Change.{Change}
@@ -49,6 +51,10 @@ pub record_to_review : (t : TreeState) (day : ℤ) (r : ℕ) (schedule : Option 
 record_to_review t day r schedule accepted =
     not_false (has_record t r) (neither (not (has_record t r)) (lacks_schedule t schedule) (none_holds (conditions_of_review t day r schedule) accepted).0).0
 
+-- and one of which a receipt may be told
+pub record_to_receipt : (t : TreeState) (r : ℕ) (digest : List ℕ) → first_of (conditions_of_receipt t r digest) ≡ None → has_record t r ≡ true
+record_to_receipt t r digest accepted = not_false (has_record t r) (none_holds (conditions_of_receipt t r digest) accepted).0
+
 -- ---- the row of a record
 
 -- a row of a record that is there, and the day
@@ -61,19 +67,26 @@ head_put : (t : TreeState) (r : ℕ) (edit : Record → Record) (old head : Reco
 head_put t r edit old head status there standing is =
     λ i. record t { records = (ap (put t.records r) is ∙ put-edited t.records r edit old there) i; statuses = put_same t.statuses r status standing i }
 
+-- a row put in place of the one of a record that is there, which makes a sound tree of the tree
+row_changed : (s : Office) (day : ℤ) (r : ℕ) (next : TreeState) (old head : Record) (status : Status) (conditions : List (Refusal × Bool)) (change : Change)
+    → first_of conditions ≡ None → numbered s.tree.records r ≡ Some old → put_record s.tree r head status ≡ next → tree.IsSound next
+    → change.answer ≡ Done → change.writes.items ≡ head_writes r head status day
+    → IsChangeTo s (λ contents. stepped conditions (with_contents s contents) Done (with_office (with_contents s contents) (with_tree s day next))) change
+row_changed s day r next old head status conditions change accepted there puts sound done written =
+    let within = numbered_within s.tree.records r old there in
+    let last : r ≤ length s.tree.records + 1 = omega (arith, within.1) in
+    let fits : CanWrite s (head_writes r head status day) = ((within.0, last, subst tree.IsSound (sym puts) sound), (tt, tt)) in
+    let few : length change.writes.items ≤ 6 = rw written (omega arith) in
+    accepted_change s conditions Done (λ contents. with_office (with_contents s contents) (with_tree s day next)) change accepted (sym done) few
+    (subst (CanWrite s) (sym written) fits)
+    (λ contents. ap (λ ws. all_writes ws (with_contents s contents)) written ∙ ap (λ t. with_contents (with_tree s day t) contents) puts)
+
 pub head_changed : (s : Office) (day : ℤ) (r : ℕ) (edit : Record → Record) (old head : Record) (status : Status) (conditions : List (Refusal × Bool)) (change : Change)
     → first_of conditions ≡ None → numbered s.tree.records r ≡ Some old → numbered s.tree.statuses r ≡ Some status → head ≡ edit old → tree.IsSound (with_head s.tree r edit)
     → change.answer ≡ Done → change.writes.items ≡ head_writes r head status day
     → IsChangeTo s (λ contents. stepped conditions (with_contents s contents) Done (with_office (with_contents s contents) (with_tree s day (with_head s.tree r edit)))) change
 head_changed s day r edit old head status conditions change accepted there standing is sound done written =
-    let puts = head_put s.tree r edit old head status there standing is in
-    let within = numbered_within s.tree.records r old there in
-    let last : r ≤ length s.tree.records + 1 = omega (arith, within.1) in
-    let fits : CanWrite s (head_writes r head status day) = ((within.0, last, subst tree.IsSound (sym puts) sound), (tt, tt)) in
-    let few : length change.writes.items ≤ 6 = rw written (omega arith) in
-    accepted_change s conditions Done (λ contents. with_office (with_contents s contents) (with_tree s day (with_head s.tree r edit))) change accepted (sym done) few
-    (subst (CanWrite s) (sym written) fits)
-    (λ contents. ap (λ ws. all_writes ws (with_contents s contents)) written ∙ ap (λ t. with_contents (with_tree s day t) contents) puts)
+    row_changed s day r (with_head s.tree r edit) old head status conditions change accepted there (head_put s.tree r edit old head status there standing is) sound done written
 
 -- what a decision reads of a record that is there: its head and its status
 pub record IsRead (t : TreeState) (r : ℕ) (old : Record) (status : Status) : Type 0 where
@@ -119,3 +132,25 @@ reviewed_on s t day r schedule by old head status change same table reads is don
     let sound = IsSound-review s.tree day r schedule by read.sound (dated_accepted s day (conditions_of_review s.tree day r schedule) accepted).1 in
     head_changed s day r (λ it. record it { review = Some (record { day = day; by = by }); schedule = or_else schedule it.schedule }) old head status
     (refusals_of_review s day r schedule) change accepted read.there read.standing is sound done written
+
+-- the tree with the row put in is the tree with the receipt
+receipt_put : (t : TreeState) (day : ℤ) (r : ℕ) (by : List ℕ) (old head : Record) → tree.IsSound t → numbered t.records r ≡ Some old → head ≡ record old { receipt = Some (record { day = day; by = by }) }
+    → put_record t r head Received ≡ receipted t day r by
+receipt_put t day r by old head sound there is =
+    let change : Record → Record = λ it. record it { receipt = Some (record { day = day; by = by }) } in
+    let within = numbered_within t.records r old there in
+    let last : r ≤ length t.statuses = rw sound.statuses within.1 in
+    λ i. record t { records = (ap (put t.records r) is ∙ put-edited t.records r change old there) i; statuses = put_edited_to t.statuses r Received last i }
+
+pub received_on : (s : Office) (t : TreeState) (day : ℤ) (r : ℕ) (digest by : List ℕ) (old head : Record) (change : Change)
+    → t ≡ s.tree → first_of (dated s day (conditions_of_receipt t r digest)) ≡ None → tree.IsSound t → numbered t.records r ≡ Some old
+    → head ≡ record old { receipt = Some (record { day = day; by = by }) }
+    → change.answer ≡ Done → change.writes.items ≡ head_writes r head Received day
+    → IsChangeTo s (λ contents. step_receipt (with_contents s contents) day r digest by) change
+received_on s t day r digest by old head change same table sound there is done written =
+    let accepted = subst (λ (u : TreeState). first_of (dated s day (conditions_of_receipt u r digest)) ≡ None) same table in
+    let own_sound = subst (λ (u : TreeState). tree.IsSound u) same sound in
+    let own_there = subst (λ (u : TreeState). numbered u.records r ≡ Some old) same there in
+    let next_sound = IsSound-receipt s.tree day r digest by own_sound (dated_accepted s day (conditions_of_receipt s.tree r digest) accepted).1 in
+    row_changed s day r (receipted s.tree day r by) old head Received (refusals_of_receipt s day r digest) change accepted own_there
+    (receipt_put s.tree day r by old head own_sound own_there is) next_sound done written

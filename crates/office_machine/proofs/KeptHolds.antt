@@ -2,7 +2,7 @@
 use Rattle.std.proofs.Common.{◌≡◌, ℕ, ℤ, false, Option, Some, None}
 use Rattle.office_days.specs.declared.refusal.Refusal.{Refusal}
 use Rattle.office_holds.specs.Conditions.{conditions_of_place_hold}
-use Rattle.office_holds.proofs.Lasting.{held-add_schedule, held-add_class, held-set_class_schedule, held-add_aggregation, held-close_aggregation, held-add_record, held-set_record_schedule, held-confirm, held-review, held-place_hold, held-hold_on}
+use Rattle.office_holds.proofs.Lasting.{held-add_schedule, held-add_class, held-set_class_schedule, held-add_aggregation, held-close_aggregation, held-add_record, held-set_record_schedule, held-confirm, held-receipt, held-review, held-place_hold, held-hold_on}
 use Rattle.office_holds.proofs.Reclassifying.{held-reclassify}
 use Rattle.office_tree.specs.declared.class.Class.{Class}
 use Rattle.office_tree.specs.declared.schedule.Schedule.{Schedule}
@@ -51,6 +51,7 @@ kept_step s (act.Reclassify day what class) held sound keeps h =
     kept held _ _ _ _ h (λ accepted. held-reclassify s.office.holds s.office.tree what class held (tree_sound s sound) (accepted_by_tree s.office day what class accepted) (leaves_none s.office day what class accepted) h)
 kept_step s (act.Confirm day r named by) held sound keeps h = kept held _ _ _ _ h (λ _. held-confirm s.office.holds s.office.tree day r named by held h)
 kept_step s (act.Review day r schedule by) held sound keeps h = kept held _ _ _ _ h (λ _. held-review s.office.holds s.office.tree day r schedule by held h)
+kept_step s (act.Receipt day r digest by) held sound keeps h = kept held _ _ _ _ h (λ _. held-receipt s.office.holds s.office.tree day r by held h)
 kept_step s (act.PlaceHold day code reason by) held sound keeps h =
     kept held _ _ _ _ h (λ accepted. held-place_hold s.office.holds s.office.tree day code reason by held (dated_accepted s.office day (conditions_of_place_hold s.office.holds code) accepted).1 h)
 kept_step s (act.HoldOn day code target) held sound keeps h = kept held _ _ _ _ h (λ _. held-hold_on s.office.holds s.office.tree code target held h)

@@ -16,7 +16,7 @@ use Rattle.office_machine.specs.declared.act.Act.{Act}
 use Rattle.office_machine.specs.declared.act.Act.TheVariants as act
 use Rattle.office_machine.specs.declared.answer.Answer.{Answer}
 use Rattle.office_machine.specs.declared.new_record.NewRecord.{NewRecord}
-use Rattle.office_machine.proofs.SoundHeads.{sound_set_record_schedule, sound_reclassify, sound_confirm, sound_review}
+use Rattle.office_machine.proofs.SoundHeads.{sound_set_record_schedule, sound_reclassify, sound_confirm, sound_review, sound_receipt}
 use Rattle.office_machine.proofs.SoundHolds.{sound_place_hold, sound_hold_on, sound_hold_off, sound_lift_hold}
 use Rattle.office_machine.proofs.SoundRuns.{sound_open_run}
 use Rattle.office_machine.proofs.SoundSchedules.{sound_add_schedule, sound_add_class, sound_set_class_schedule}
@@ -53,6 +53,7 @@ sound_step s (act.SetRecordSchedule day r schedule) sound formed = kept_by IsSou
 sound_step s (act.Reclassify day what class) sound formed = kept_by IsSound _ _ _ _ sound (sound_reclassify s day what class sound formed.0 formed.1)
 sound_step s (act.Confirm day r named by) sound formed = kept_by IsSound _ _ _ _ sound (sound_confirm s day r named by sound formed.0 formed.1)
 sound_step s (act.Review day r schedule by) sound formed = kept_by IsSound _ _ _ _ sound (sound_review s day r schedule by sound formed.0 formed.1 formed.2)
+sound_step s (act.Receipt day r digest by) sound formed = kept_by IsSound _ _ _ _ sound (sound_receipt s day r digest by sound formed.0 formed.1)
 sound_step s (act.PlaceHold day code reason by) sound formed = kept_by IsSound _ _ _ _ sound (sound_place_hold s day code reason by sound formed.0 formed.1 formed.2 formed.3)
 sound_step s (act.HoldOn day code target) sound formed = kept_by IsSound _ _ _ _ sound (sound_hold_on s day code target sound formed.0 formed.2)
 sound_step s (act.HoldOff day code target) sound formed = kept_by IsSound _ _ _ _ sound (sound_hold_off s day code target sound formed.0)

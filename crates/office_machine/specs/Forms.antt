@@ -19,6 +19,7 @@ IsFormedAct (act.SetRecordSchedule day r schedule) = IsDayNumber day × IfSome s
 IsFormedAct (act.Reclassify day what class) = IsDayNumber day × IfSome class IsCode
 IsFormedAct (act.Confirm day r named by) = IsDayNumber day × IsText by
 IsFormedAct (act.Review day r schedule by) = IsDayNumber day × IfSome schedule IsCode × IsText by
+IsFormedAct (act.Receipt day r digest by) = IsDayNumber day × IsText by
 IsFormedAct (act.PlaceHold day code reason by) = IsDayNumber day × IsCode code × IsText reason × IsText by
 IsFormedAct (act.HoldOn day code target) = IsDayNumber day × IsCode code × IsFormedTarget target
 IsFormedAct (act.HoldOff day code target) = IsDayNumber day × IsCode code

@@ -97,6 +97,13 @@ pub enum Act {
         schedule: Option<Code>,
         by: Text,
     },
+    /// Tells a receiver's receipt for a record that was sent; `digest` is that of what was received.
+    Receipt {
+        day: Day,
+        record_no: RecordNo,
+        digest: [u8; 32],
+        by: Text,
+    },
     /// Opens a disposal run for the records that are due on its day.
     OpenRun {
         day: Day,

@@ -23,7 +23,8 @@ impl Parts {
             Act::AddRecord { .. }
             | Act::SetRecordSchedule { .. }
             | Act::Confirm { .. }
-            | Act::Review { .. } => self.decide_on_records(alloc, act),
+            | Act::Review { .. }
+            | Act::Receipt { .. } => self.decide_on_records(alloc, act),
             Act::PlaceHold { .. }
             | Act::HoldOn { .. }
             | Act::HoldOff { .. }
@@ -96,7 +97,8 @@ impl Parts {
         }
     }
 
-    /// What is decided of a new record, or of a record's own schedule, confirmation or review.
+    /// What is decided of a new record, or of a record's own schedule, confirmation, review or
+    /// receipt.
     #[tactic(auto, unfolding(crate::specs::Acts::step))]
     fn decide_on_records(&self, alloc: Global, act: &Act) -> Result<Decision, Memory>
         requires { IsOnRecords act.now }
@@ -121,6 +123,12 @@ impl Parts {
                 schedule,
                 by,
             } => self.decide_review(alloc, *day, *record_no, schedule.as_ref(), by),
+            Act::Receipt {
+                day,
+                record_no,
+                digest,
+                by,
+            } => self.decide_receipt(alloc, *day, *record_no, *digest, by),
             _ => unreachable!(),
         }
     }

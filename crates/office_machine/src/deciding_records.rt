@@ -6,14 +6,16 @@ ghost use Rattle.office_machine.specs.Acts.{IsDecidedTo};
 ghost use Rattle.office_machine.specs.Conditions.{is_same_record, same_record};
 ghost use Rattle.office_machine.specs.Effects.{new_head};
 ghost use Rattle.office_machine.specs.State.{with_contents};
-ghost use Rattle.office_machine.specs.Steps.{step_add_record, step_confirm, step_review, step_set_record_schedule};
+ghost use Rattle.office_machine.specs.Steps.{step_add_record, step_confirm, step_receipt, step_review, step_set_record_schedule};
 
 use crate::deciding::{copy_code, two};
 use crate::parts::Parts;
 use crate::{Answer, Change, Decision, NewRecord, RowWrite};
 use office_days::{Day, DueDay};
 use office_proof::digest_of;
-use office_tree::{Action, Code, Confirmation, Memory, Record, RecordNo, Review, Status, Text};
+use office_tree::{
+    Action, Code, Confirmation, Memory, Receipt, Record, RecordNo, Review, Status, Text,
+};
 use std::alloc::Global;
 
 /// A second code that is equal to the first, if there is one, else to the other.
@@ -235,6 +237,38 @@ impl Parts {
             number: record_no,
             head,
             status,
+        };
+        let writes = two(alloc, write, RowWrite::Day { day })?;
+        Ok(Decision::Go(Change {
+            answer: Answer::Done,
+            writes,
+        }))
+    }
+
+    /// What is decided of a receiver's receipt for a record that was sent, by which it is received.
+    pub(crate) fn decide_receipt(
+        &self,
+        alloc: Global,
+        day: Day,
+        record_no: RecordNo,
+        digest: [u8; 32],
+        by: &Text,
+    ) -> Result<Decision, Memory>
+        ensures { IfOk result (λ d. IsDecidedTo self.now (λ contents. step_receipt (with_contents self.now contents) day record_no digest by.now) d) }
+    {
+        if let Some(refusal) = self.dated(day, self.tree.check_receipt(record_no, digest)) {
+            return Ok(Decision::Stay(Answer::Refused(refusal)));
+        }
+        self.tree.sound();
+        let mut head = self.tree.record(record_no).copy(alloc)?;
+        head.receipt = Some(Receipt {
+            day,
+            by: by.copy(alloc)?,
+        });
+        let write = RowWrite::Record {
+            number: record_no,
+            head,
+            status: Status::Received,
         };
         let writes = two(alloc, write, RowWrite::Day { day })?;
         Ok(Decision::Go(Change {

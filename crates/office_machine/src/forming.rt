@@ -86,7 +86,8 @@ impl Act {
             Act::AddRecord { .. }
             | Act::SetRecordSchedule { .. }
             | Act::Confirm { .. }
-            | Act::Review { .. } => self.formed_on_records(),
+            | Act::Review { .. }
+            | Act::Receipt { .. } => self.formed_on_records(),
             Act::PlaceHold { .. }
             | Act::HoldOn { .. }
             | Act::HoldOff { .. }
@@ -176,7 +177,7 @@ impl Act {
                 formed_day(*day);
                 formed_code_or_none(schedule);
             }
-            Act::Confirm { day, by, .. } => {
+            Act::Confirm { day, by, .. } | Act::Receipt { day, by, .. } => {
                 formed_day(*day);
                 formed_text(by);
             }

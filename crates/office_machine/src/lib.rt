@@ -6,8 +6,8 @@
 //! goes through the ready records by number, one a step, and closes with its certificate. A run that
 //! is stopped and resumed ends as one that never stopped: that is a law of the definitions here.
 //!
-//! [`Machine`] decides sixteen acts, all but the receipt, and makes what it decided, in memory. What it
-//! decides is a list of row writes, which the store will do to its tables.
+//! [`Machine`] decides acts, and makes what it decided, in memory. What it decides is a list of row
+//! writes, which the store does to its tables.
 #![tactic(auto)]
 
 mod act;

@@ -4,4 +4,5 @@ pub mod Columns
 pub mod Counts
 pub mod DateBytes
 pub mod Digests
+pub mod ReadDigests
 pub mod Texts

@@ -1,4 +1,5 @@
 pub mod Certificates
+pub mod Digits
 pub mod Forms
 pub mod Meanings
 pub mod Outcomes

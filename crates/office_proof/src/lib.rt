@@ -6,7 +6,7 @@
 //! number, and the aggregations that are spent, and ends with the SHA-256 of all that stands above.
 //!
 //! Today this crate has the types, the definitions (`specs`) and laws of what these mean, the words of
-//! outcomes, the digest of a content, the line of an entry and the text of a certificate.
+//! outcomes, the digest of a content and the digits that write one, the line of an entry and the text of a certificate.
 #![tactic(auto)]
 
 mod certificate;
@@ -18,6 +18,6 @@ mod outcome;
 mod words;
 
 pub use certificate::{certificate_text, entry_line};
-pub use digest::digest_of;
+pub use digest::{digest_of, read_digest};
 pub use entry::{Entry, RunNo};
 pub use outcome::Outcome;

@@ -6,7 +6,7 @@ use Rattle.office_tree.specs.Forms.{IsDigest}
 use Rattle.office_tree.specs.Words.{status_word}
 use Rattle.office_machine.specs.declared.rows.RecordRow.{RecordRow}
 use Rattle.office_store.specs.Stored.{record_pair}
-use Rattle.office_store.proofs.Digests.{IsBytes-digest}
+use Rattle.office_proof.proofs.ReadDigests.{IsBytes-digest}
 use Rattle.office_store.proofs.OwnDigests.{digits_own}
 use Rattle.office_store.proofs.OwnValues.{action_or_null_own, int_or_null_own, int_own, number_own, text_or_null_own, text_own}
 use Rattle.office_store.proofs.OwnWords.{status_own}

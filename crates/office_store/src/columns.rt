@@ -18,9 +18,8 @@ ghost use Rattle.office_tree.specs.declared.status.Status.{Status};
 ghost use Rattle.office_tree.specs.declared.trigger.Trigger.{Trigger};
 ghost use Rattle.office_proof.specs.declared.outcome.Outcome.{Outcome};
 
-use hex::FromHex;
 use office_days::{Day, DueDay, Offset, Unit};
-use office_proof::Outcome;
+use office_proof::{Outcome, read_digest};
 use office_sql::{BadValue, day_number, optional_day_number, optional_text, text};
 use office_tree::{Action, Code, Memory, Status, Trigger};
 use sqlite::Row;
@@ -186,22 +185,7 @@ pub(crate) fn digest(row: &Row, at: usize) -> Result<[u8; 32], BadValue>
     ensures ok { IfOk result (λ read. Has row.now at (Text (encode_lower read))) }
     ensures damaged { OnDamaged result ((digest : List ℕ) → IsDigest digest → Has row.now at (Text (encode_lower digest)) → ⊥) }
 {
-    let stored = text(row, at)?;
-    let Ok(digest) = <[u8; 32] as FromHex>::from_hex(stored.as_str()) else {
-        return Err(BadValue::Damaged);
-    };
-    if !is_written(&digest, stored.as_str()) {
-        return Err(BadValue::Damaged);
-    }
-    Ok(digest)
-}
-
-// Whether the digest is written so, in lower-case digits.
-fn is_written(digest: &[u8; 32], text: &str) -> bool
-    ensures { IsTrue result ↔ (text.now ≡ encode_lower digest.now) }
-{
-    let mut digits = [0u8; 64];
-    hex::encode_to_slice(digest, &mut digits).is_ok() && digits.as_slice() == text.as_bytes()
+    read_digest(text(row, at)?.as_str()).ok_or(BadValue::Damaged)
 }
 
 /// There is no memory for a value.

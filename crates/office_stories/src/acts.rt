@@ -2,6 +2,7 @@
 use office_days::{Day, Offset, Period, Unit};
 use office_holds::Target;
 use office_machine::{Act, NewRecord};
+use office_proof::digest_of;
 use office_tree::{Action, AggNo, Classified, Code, RecordNo, Text, Trigger};
 use std::alloc::Global;
 use std::test::Fail;
@@ -177,6 +178,16 @@ fn review(alloc: Global, day: Day, record_no: RecordNo, schedule: &str) -> Resul
     })
 }
 
+/// A receipt for what has that content.
+fn receipt(alloc: Global, day: Day, record_no: RecordNo, content: &str) -> Result<Act, Fail> {
+    Ok(Act::Receipt {
+        day,
+        record_no,
+        digest: digest_of(content.as_bytes()),
+        by: text(alloc, "registrar")?,
+    })
+}
+
 fn place_hold(alloc: Global, day: Day, name: &str) -> Result<Act, Fail> {
     Ok(Act::PlaceHold {
         day,
@@ -261,7 +272,7 @@ fn filing_act(alloc: Global, day: Day, words: &[&str]) -> Result<Act, Fail> {
     }
 }
 
-/// The act on a record's content or own schedule that the words ask for.
+/// The act on a record that the words ask for.
 fn record_act(alloc: Global, day: Day, words: &[&str]) -> Result<Act, Fail> {
     let first = word(words, 2);
     let second = word(words, 3);
@@ -270,6 +281,7 @@ fn record_act(alloc: Global, day: Day, words: &[&str]) -> Result<Act, Fail> {
         "set-record-schedule" => own_schedule(alloc, day, number(first)?, second),
         "confirm" => confirm(alloc, day, number(first)?, action_of(second)?),
         "review" => review(alloc, day, number(first)?, second),
+        "receipt" => receipt(alloc, day, number(first)?, second),
         _ => filing_act(alloc, day, words),
     }
 }

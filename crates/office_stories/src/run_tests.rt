@@ -198,3 +198,53 @@ fn an_open_aggregation_is_not_spent(rt: HostRuntime) -> Result<(), Fail> {
     let lines = "\nSPENT 1\nAGGREGATION\t2\tB\nSHA256 ";
     certified(&rt, &office, 1, lines)
 }
+
+/// Record 1 is to be transferred, confirmed and sent.
+const SENT: &str = "
+    2024-01-02 add-schedule T added years 1 transfer = done
+    2024-01-02 set-record-schedule 1 T = done
+    2025-01-02 confirm 1 transfer = done
+    2025-01-02 receipt 1 abc = refused 19
+    2025-01-02 open-run = number 1
+    2025-01-02 run-step = step 1 sent
+    2025-01-02 run-step = closed 1
+";
+
+#[test]
+fn a_received_record_ends_once_no_hold_covers_it(rt: HostRuntime) -> Result<(), Fail> {
+    let mut office = base_office(&rt, SENT)?;
+    told(
+        &rt,
+        &mut office,
+        "
+        2025-01-02 receipt 1 abd = refused 20
+        2025-01-02 place-hold H = done
+        2025-01-02 hold-on H record 1 = done
+        2025-01-02 receipt 1 abc = done
+        2025-01-02 receipt 1 abc = refused 19
+        2025-01-02 set-record-schedule 1 D1 = refused 14
+        2025-01-02 open-run = number 2
+        2025-01-02 run-step = step 1 skipped
+        2025-01-02 run-step = closed 2
+        2025-01-02 lift-hold H = done
+        2025-01-02 open-run = number 3
+        2025-01-02 run-step = step 1 transferred
+        2025-01-02 run-step = closed 3
+        2025-01-02 receipt 1 abc = refused 13
+        2025-01-02 receipt 9 abc = refused 5
+        2025-01-01 receipt 9 abc = refused 1
+        ",
+    )?;
+    certified(
+        &rt,
+        &office,
+        2,
+        "SKIPPED 1\nENTRY\t1\tskipped\tr1\tFIN\tT\t2025-01-02\tH\t",
+    )?;
+    certified(
+        &rt,
+        &office,
+        3,
+        "ENDED 1\nSENT 0\nSKIPPED 0\nENTRY\t1\ttransferred\tr1\t",
+    )
+}

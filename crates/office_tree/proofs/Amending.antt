@@ -18,7 +18,7 @@ use Rattle.office_tree.specs.declared.status.Status.TheVariants.{Received}
 use Rattle.office_tree.proofs.Inserting.{Names-amended, amended_cases, len-amended}
 use Rattle.office_tree.proofs.Accepting.{none_holds, not_false, neither}
 use Rattle.office_tree.proofs.Keeping.{names_of, IsForest-edited}
-use Rattle.office_tree.proofs.Places.{numbered_edited, length-edited, edited_put}
+use Rattle.office_tree.proofs.Places.{numbered_edited, length-edited, edited_put, edited_same}
 use Rattle.office_tree.proofs.Reading.{aggregation_within, record_within}
 
 -- ---- a class's schedule
@@ -182,6 +182,18 @@ IsSound-receipt tree day r digest by sound accepted =
       closed = kept.closed;
       statuses = length-edited tree.statuses r (λ _. Received) ∙ kept.statuses;
     }
+
+-- a record of which a receipt may be told is there
+pub receipts_record : (tree : TreeState) (r : ℕ) (digest : List ℕ) → first_of (conditions_of_receipt tree r digest) ≡ None → has_record tree r ≡ true
+receipts_record tree r digest accepted = not_false (has_record tree r) (none_holds (conditions_of_receipt tree r digest) accepted).0
+
+-- what is written is the head as it was read, with the receipt, and the status
+pub receipt_written : (tree now : TreeState) (day : ℤ) (r : ℕ) (by : List ℕ) (x y : Record) → tree ≡ now → has_record now r ≡ true → x ≡ get_or tree.records (r - 1) x → y ≡ record x { receipt = Some (record { day = day; by = by }) }
+    → receipted tree day r by ≡ record tree { records = set tree.records (r - 1) y; statuses = set tree.statuses (r - 1) Received }
+receipt_written tree now day r by x y same there read is =
+    let within = record_within tree r (ap (λ t. has_record t r) same ∙ there) in
+    let change : Record → Record = λ head. record head { receipt = Some (record { day = day; by = by }) } in
+    λ i. record tree { records = edited_put tree.records r change x y within read is i; statuses = edited_same tree.statuses r Received within.0 i }
 
 -- ---- an own class
 

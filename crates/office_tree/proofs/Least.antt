@@ -5,7 +5,7 @@ use Rattle.std.specs.List.{All, AllByRecursion}
 use Rattle.std.proofs.lemmas.List.Elements.{All-nil, All-cons}
 use Rattle.office_days.specs.declared.refusal.Refusal.{Refusal}
 use Rattle.office_days.specs.Refusals.{refusal_number}
-use Rattle.office_tree.specs.Conditions.{first_of, IsLeastOf, IsRising, conditions_of_add_aggregation, conditions_of_add_record, conditions_of_confirm, conditions_of_reclassify, conditions_of_review}
+use Rattle.office_tree.specs.Conditions.{first_of, IsLeastOf, IsRising, conditions_of_add_aggregation, conditions_of_add_record, conditions_of_confirm, conditions_of_receipt, conditions_of_reclassify, conditions_of_review}
 use Rattle.office_tree.specs.Tree.{TreeState}
 use Rattle.office_tree.specs.declared.action.Action.{Action}
 use Rattle.office_tree.specs.declared.classified.Classified.{Classified}
@@ -59,3 +59,6 @@ least_confirm tree day r named answer e = least_of_first (conditions_of_confirm 
 
 pub least_review : (tree : TreeState) (day : ℤ) (r : ℕ) (schedule : Option (List ℕ)) (answer : Option Refusal) → answer ≡ first_of (conditions_of_review tree day r schedule) → IsLeastOf (conditions_of_review tree day r schedule) answer
 least_review tree day r schedule answer e = least_of_first (conditions_of_review tree day r schedule) answer (search rules) e
+
+pub least_receipt : (tree : TreeState) (r : ℕ) (digest : List ℕ) (answer : Option Refusal) → answer ≡ first_of (conditions_of_receipt tree r digest) → IsLeastOf (conditions_of_receipt tree r digest) answer
+least_receipt tree r digest answer e = least_of_first (conditions_of_receipt tree r digest) answer (search rules) e

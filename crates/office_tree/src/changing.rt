@@ -1,12 +1,12 @@
 ghost use Rattle.std.specs.Prelude.{◌≡◌, OnOk, OnErr, None, Some, IsOk};
 ghost use Rattle.std.specs.Option.{option_map};
-ghost use Rattle.office_tree.specs.Conditions.{conditions_of_confirm, conditions_of_reclassify, conditions_of_review, conditions_of_set_class_schedule, conditions_of_set_record_schedule, first_of};
-ghost use Rattle.office_tree.specs.Effects.{confirmed, reclassified, reviewed, with_class_schedule, with_record_schedule};
+ghost use Rattle.office_tree.specs.Conditions.{conditions_of_confirm, conditions_of_receipt, conditions_of_reclassify, conditions_of_review, conditions_of_set_class_schedule, conditions_of_set_record_schedule, first_of};
+ghost use Rattle.office_tree.specs.Effects.{confirmed, receipted, reclassified, reviewed, with_class_schedule, with_record_schedule};
 ghost use Rattle.office_tree.specs.Lists.{or_else};
 
 use crate::{
-    Action, Aggregation, Class, Classified, Code, Confirmation, Memory, Record, RecordNo, Review,
-    Text, Tree,
+    Action, Aggregation, Class, Classified, Code, Confirmation, Memory, Receipt, Record, RecordNo,
+    Review, Status, Text, Tree,
 };
 use office_days::{Day, DueDay};
 
@@ -72,6 +72,13 @@ fn review_head(head: &mut Record, review: Review, schedule: Option<Code>)
     if schedule.is_some() {
         put_schedule(head, schedule);
     }
+}
+
+/// Gives the record this receipt.
+fn put_receipt(head: &mut Record, receipt: Receipt)
+    ensures { head.new ≡ record head.old { receipt = Some receipt } }
+{
+    head.receipt = Some(receipt);
 }
 
 impl Tree {
@@ -159,6 +166,26 @@ impl Tree {
     {
         let head = &mut self.records[record_no as usize - 1];
         review_head(head, Review { day, by }, schedule);
+        Ok(())
+    }
+
+    /// Tells a receiver's receipt for the record, which was sent and is then received. It takes no
+    /// memory, so it succeeds.
+    pub fn apply_receipt(
+        &mut self,
+        day: Day,
+        record_no: RecordNo,
+        digest: [u8; 32],
+        by: Text,
+    ) -> Result<(), Memory>
+        requires { first_of (conditions_of_receipt self.old record_no digest) ≡ None }
+        ensures succeeds { IsOk result }
+        ensures ok { OnOk result (self.new ≡ receipted self.old day record_no by) }
+        ensures err { OnErr result (self.new ≡ self.old) }
+    {
+        let at = record_no as usize - 1;
+        put_receipt(&mut self.records[at], Receipt { day, by });
+        self.statuses[at] = Status::Received;
         Ok(())
     }
 }

@@ -1,8 +1,9 @@
-ghost use Rattle.std.specs.Prelude.{◌≡◌};
+ghost use Rattle.std.specs.Prelude.{◌≡◌, not};
 ghost use Rattle.std.specs.Option.{option_copied};
-ghost use Rattle.office_tree.specs.Conditions.{IsLeastOf, classified_status, conditions_of_confirm, conditions_of_reclassify, conditions_of_review, conditions_of_set_class_schedule, conditions_of_set_record_schedule, first_of, has_other_action, is_not_due, is_root, lacks_classified};
-ghost use Rattle.office_tree.specs.Disposal.{is_ended, is_in_transfer, same_action};
-ghost use Rattle.office_tree.specs.Lists.{holds_of};
+ghost use Rattle.std.specs.Str.{bytes_eq};
+ghost use Rattle.office_tree.specs.Conditions.{IsLeastOf, classified_status, conditions_of_confirm, conditions_of_receipt, conditions_of_reclassify, conditions_of_review, conditions_of_set_class_schedule, conditions_of_set_record_schedule, first_of, has_other_action, is_not_due, is_root, lacks_classified};
+ghost use Rattle.office_tree.specs.Disposal.{is_ended, is_in_transfer, is_sent, same_action};
+ghost use Rattle.office_tree.specs.Lists.{holds_of, numbered};
 ghost use Rattle.office_tree.specs.Tree.{status_of};
 
 use crate::{Action, Classified, Code, RecordNo, Status, Tree};
@@ -27,6 +28,16 @@ fn is_in_transfer(status: Option<Status>) -> bool
     ensures { result ≡ holds_of status is_in_transfer }
 {
     matches!(status, Some(Status::Sent | Status::Received))
+}
+
+/// Whether a status is given that is not sent.
+fn is_not_sent(status: Option<Status>) -> bool
+    ensures { result ≡ holds_of status (λ it. not (is_sent it)) }
+{
+    matches!(
+        status,
+        Some(Status::Here | Status::Received | Status::Ended)
+    )
 }
 
 impl Tree {
@@ -61,6 +72,16 @@ impl Tree {
             return false;
         }
         !same_action(action, self.schedule_of(record_no).action)
+    }
+
+    /// Whether the record is there and its content has another digest.
+    fn has_other_digest(&self, record_no: RecordNo, digest: [u8; 32]) -> bool
+        ensures { result ≡ holds_of (numbered self.now.records record_no) (λ head. not (bytes_eq head.digest digest)) }
+    {
+        if !self.has_record(record_no) {
+            return false;
+        }
+        self.record(record_no).digest != digest
     }
 
     /// Whether there is no such aggregation, or no such record.
@@ -219,6 +240,28 @@ impl Tree {
         }
         if self.has_other_action(record_no, Action::Review) {
             return Some(Refusal::WrongAction);
+        }
+        None
+    }
+
+    /// Why a receiver's receipt, which names the digest of what was received, may not be told of the
+    /// record, if it may not: `NoSuch`, `Ended`, `NotSent`, `WrongDigest`.
+    pub fn check_receipt(&self, record_no: RecordNo, digest: [u8; 32]) -> Option<Refusal>
+        ensures first { result ≡ first_of (conditions_of_receipt self.now record_no digest) }
+        ensures least { IsLeastOf (conditions_of_receipt self.now record_no digest) result }
+    {
+        if !self.has_record(record_no) {
+            return Some(Refusal::NoSuch);
+        }
+        let status = self.status_of(record_no);
+        if is_ended(status) {
+            return Some(Refusal::Ended);
+        }
+        if is_not_sent(status) {
+            return Some(Refusal::NotSent);
+        }
+        if self.has_other_digest(record_no, digest) {
+            return Some(Refusal::WrongDigest);
         }
         None
     }

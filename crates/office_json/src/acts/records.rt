@@ -1,12 +1,14 @@
 //! The acts on records that are there.
+ghost use Rattle.std.specs.Prelude.{◌≡◌};
 ghost use Rattle.serde_json.specs.View.{view};
-ghost use Rattle.office_json.specs.Acts.{IsActRead, confirm_asked, review_asked, set_record_schedule_asked};
+ghost use Rattle.office_json.specs.Acts.{IsActRead, asked, asks, confirm_asked, receipt_asked, review_asked, set_record_schedule_asked};
 
 use crate::ReadFault;
 use crate::members::has_only;
-use crate::parts::{action_at, both, day_at, number_at, optional_code_at, words_at};
-use office_days::Refusal;
+use crate::parts::{action_at, both, day_at, digest_at, number_at, optional_code_at, words_at};
+use office_days::{Day, Refusal};
 use office_machine::Act;
+use office_tree::{RecordNo, Text};
 use serde_json::Value;
 use std::alloc::Global;
 
@@ -73,6 +75,37 @@ pub(crate) fn review(alloc: Global, value: &Value) -> Result<Act, ReadFault>
             schedule,
             by,
         }),
+        Err(fault) => Err(fault),
+    }
+}
+
+/// The receipt of these.
+#[tactic(auto, unfolding(crate::specs::Acts::asked))]
+fn receipt_of(which: (Day, RecordNo), how: ([u8; 32], Text)) -> Act
+    ensures { asked result ≡ asks (Act.Receipt which.0 which.1 how.0 how.1) }
+{
+    let (day, record_no) = which;
+    let (digest, by) = how;
+    Act::Receipt {
+        day,
+        record_no,
+        digest,
+        by,
+    }
+}
+
+/// `receipt`: the receiver of a record that was sent has it, with the digest that it names.
+#[tactic(auto, unfolding(crate::specs::Acts::receipt_asked))]
+pub(crate) fn receipt(alloc: Global, value: &Value) -> Result<Act, ReadFault>
+    ensures { IsActRead (receipt_asked (view value.now)) result }
+{
+    if !has_only(value, &["act", "day", "record", "digest", "by"]) {
+        return Err(ReadFault::Refused(Refusal::BadText));
+    }
+    let which = both(day_at(value, "day"), number_at(value, "record"));
+    let how = both(digest_at(value, "digest"), words_at(alloc, value, "by"));
+    match both(which, how) {
+        Ok((which, how)) => Ok(receipt_of(which, how)),
         Err(fault) => Err(fault),
     }
 }
