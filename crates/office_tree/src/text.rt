@@ -74,6 +74,14 @@ impl Text {
     }
 }
 
+/// Second texts that are equal to these two.
+pub(crate) fn copy_both(alloc: Global, first: &Text, second: &Text) -> Result<(Text, Text), Memory>
+    ensures { IfOk result (λ both. (both.0 ≡ first.now) × (both.1 ≡ second.now)) }
+{
+    let first = first.copy(alloc)?;
+    Ok((first, second.copy(alloc)?))
+}
+
 impl PartialEq for Text {
     ghost eq = { pointwise nat_eq };
 
