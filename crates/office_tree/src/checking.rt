@@ -8,6 +8,7 @@ ghost use Rattle.office_tree.specs.Lists.{holds_of};
 ghost use Rattle.office_tree.specs.Tree.{chain_of};
 
 use crate::classifying::chain_of;
+use crate::finding::numbered;
 use crate::{AggNo, Aggregation, Code, Record, Text, Tree};
 use office_days::Refusal;
 
@@ -111,11 +112,10 @@ impl Tree {
     pub(crate) fn is_closed(&self, aggregation: AggNo) -> bool
         ensures { result ≡ is_closed self.now.aggregations aggregation }
     {
-        if !self.has_aggregation(aggregation) {
-            return false;
+        match numbered(&self.aggregations, aggregation) {
+            Some(here) => here.closed.is_some(),
+            None => false,
         }
-        let here = &self.aggregations[aggregation as usize - 1];
-        here.closed.is_some()
     }
 
     /// Whether a parent is given that is closed.
@@ -213,7 +213,7 @@ impl Tree {
         if !self.has_aggregation(aggregation) {
             return Some(Refusal::NoSuch);
         }
-        if self.aggregations[aggregation as usize - 1].closed.is_some() {
+        if self.is_closed(aggregation) {
             return Some(Refusal::Closed);
         }
         if has_open_child(&self.aggregations, aggregation) {

@@ -7,6 +7,16 @@ ghost use Rattle.office_tree.specs.Tree.{has_aggregation, has_record};
 
 use crate::{AggNo, Aggregation, Class, Code, Record, RecordNo, Schedule, Status, Tree};
 
+/// The row of that number, if it is there. Rows are numbered 1, 2, ..
+pub(crate) fn numbered<T>(rows: &[T], number: u32) -> Option<&T>
+    ensures { option_copied result ≡ numbered rows.now number }
+{
+    if number == 0 {
+        return None;
+    }
+    rows.get(number as usize - 1)
+}
+
 impl Tree {
     /// The schedule of that code.
     pub fn schedule(&self, code: &Code) -> Option<&Schedule>
