@@ -1,4 +1,5 @@
 pub mod Accepting
+pub mod Adding
 pub mod Amending
 pub mod Bridge
 pub mod Containing

@@ -12,8 +12,8 @@ impl Tree {
         ensures ok { OnOk result (self.new ≡ added_schedule self.old code schedule) }
         ensures err { OnErr result (self.new ≡ self.old) }
     {
-        self.schedules.insert(code, schedule)?;
-        Ok(())
+        self.sound();
+        self.put_schedule(code, schedule)
     }
 
     /// Adds a class under its code.
@@ -22,8 +22,8 @@ impl Tree {
         ensures ok { OnOk result (self.new ≡ added_class self.old code class) }
         ensures err { OnErr result (self.new ≡ self.old) }
     {
-        self.classes.insert(code, class)?;
-        Ok(())
+        self.sound();
+        self.put_class(code, class)
     }
 
     /// Adds an open aggregation, which gets the next number.
@@ -38,6 +38,7 @@ impl Tree {
         ensures ok { OnOk result (self.new ≡ added_aggregation self.old ref_text title parent class) }
         ensures err { OnErr result (self.new ≡ self.old) }
     {
+        self.sound();
         let aggregation = Aggregation {
             ref_text,
             title,
@@ -45,8 +46,7 @@ impl Tree {
             class,
             closed: None,
         };
-        self.aggregations.push(aggregation)?;
-        Ok(())
+        self.put_aggregation(self.aggregation_count() + 1, aggregation)
     }
 
     /// Closes the aggregation on that day. It takes no memory, so it succeeds.
@@ -68,9 +68,7 @@ impl Tree {
         ensures ok { OnOk result (self.new ≡ added_record self.old head) }
         ensures err { OnErr result (self.new ≡ self.old) }
     {
-        self.statuses.try_reserve(1)?;
-        self.records.push(head)?;
-        self.statuses.push(Status::Here)?;
-        Ok(())
+        self.sound();
+        self.put_record(self.record_count() + 1, head, Status::Here)
     }
 }

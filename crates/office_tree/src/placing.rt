@@ -24,6 +24,38 @@ pub fn put_row<T: Drop>(rows: &mut Vec<T>, number: u32, row: T) -> Result<(), Me
     Ok(())
 }
 
+/// Makes room for a row of that number, if it is the next.
+fn make_room<T: Drop>(rows: &mut Vec<T>, number: u32) -> Result<(), Memory>
+    ensures same { rows.new.items ≡ rows.old.items }
+    ensures room { OnOk result (vec_len rows.old < number → vec_len rows.new < vec_capacity rows.new) }
+    ensures in_place { number ≤ vec_len rows.old → IsOk result }
+{
+    if number as usize > rows.len() {
+        rows.try_reserve(1)?;
+    }
+    Ok(())
+}
+
+/// Puts two rows of one number in, each in place of the one with that number, which needs no
+/// memory, or as the next: both or, where memory is refused, neither.
+fn put_both<T: Drop, U: Drop>(
+    firsts: &mut Vec<T>,
+    seconds: &mut Vec<U>,
+    number: u32,
+    first: T,
+    second: U,
+) -> Result<(), Memory>
+    requires low { 0 < number }
+    requires same { vec_len firsts.old ≡ vec_len seconds.old }
+    ensures ok { OnOk result ((firsts.new.items ≡ put firsts.old.items number first) × (seconds.new.items ≡ put seconds.old.items number second)) }
+    ensures err { OnErr result ((firsts.new.items ≡ firsts.old.items) × (seconds.new.items ≡ seconds.old.items)) }
+    ensures in_place { number ≤ vec_len firsts.old → IsOk result }
+{
+    make_room(seconds, number)?;
+    put_row(firsts, number, first)?;
+    put_row(seconds, number, second)
+}
+
 impl Tree {
     /// Puts a schedule under its code, in place of what was there, which needs no memory, or as a
     /// new one.
@@ -75,10 +107,12 @@ impl Tree {
         ensures err { OnErr result (self.new ≡ self.old) }
         ensures in_place { record_no ≤ length self.old.records → IsOk result }
     {
-        if record_no as usize > self.statuses.len() {
-            self.statuses.try_reserve(1)?;
-        }
-        put_row(&mut self.records, record_no, head)?;
-        put_row(&mut self.statuses, record_no, status)
+        put_both(
+            &mut self.records,
+            &mut self.statuses,
+            record_no,
+            head,
+            status,
+        )
     }
 }
