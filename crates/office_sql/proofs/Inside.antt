@@ -1,22 +1,28 @@
 -- Calls inside a transaction: what one statement gives, and any number of changes one after another.
-use Rattle.std.proofs.Common.{◌≡◌, inl, ℕ, ◌+◌, ◌<◌, List, [], ◌∷◌, ◌++◌, length, take, get_or, Ok, Err, Result, refl, sym, subst, ◌∙◌, IsTrue, IsErr, arith}
+use Rattle.std.proofs.Common.{◌≡◌, inl, ℕ, ◌+◌, ◌<◌, List, [], ◌∷◌, ◌++◌, length, take, get_or, Ok, Err, Result, refl, sym, subst, ◌∙◌, IsTrue, IsErr, OnOk, OnErr, arith}
 use Rattle.std.proofs.lemmas.Grind.{common_steps}
 use Rattle.sqlite_value.specs.Order.{Row}
 use Rattle.sqlite.specs.Effect.{Database}
-use Rattle.sqlite.specs.State.{State, HasCleanDisk, Survives, ExecutesInside, Executes}
+use Rattle.sqlite.specs.State.{State, HasCleanDisk, KeepsCommit, Survives, ExecutesInside, Executes}
 use Rattle.sqlite.specs.declared.error.Error.{Error}
 use Rattle.sqlite.proofs.StateLemmas.{survives_then}
 use Rattle.office_sql.specs.Office.{IsOffice, IsInside, GoesInside, AreDone}
 
 -- A statement that ran on this row of parameters, from the change that it makes of the office's tables.
-pub ran_inside : {Changes : Database → Database → Type 0} {old new : State} (sql : List ℕ) (params row : Row) (count : ℕ) → (IsOffice old.now → Executes sql row old new (Ok count) → Changes old.now new.now) → (Changes old.now new.now → IsOffice new.now)
-    → params ≡ row → (HasCleanDisk new → IsTrue old.in_transaction → ExecutesInside 0 sql params old new (Ok count)) → Survives old new (λ _. ⊥) → GoesInside Changes old new (Ok (tt {0}))
-ran_inside {old = old} {new = new} sql params row count changes office same runs survives = record {
+pub ran_inside : {Changes : Database → Database → Type 0} {old new : State} (sql : List ℕ) (params row : Row) → ((count : ℕ) → IsOffice old.now → Executes sql row old new (Ok count) → Changes old.now new.now) → (Changes old.now new.now → IsOffice new.now)
+    → params ≡ row → (r : Result (Unit {0}) Error) → (HasCleanDisk new → IsTrue old.in_transaction → OnOk r ((count : ℕ) × ExecutesInside 0 sql params old new (Ok count)))
+    → (HasCleanDisk new → IsTrue old.is_open → IsTrue old.in_transaction → OnErr r (KeepsCommit old new)) → Survives old new (λ _. ⊥) → GoesInside Changes old new r
+ran_inside {old = old} {new = new} sql params row changes office same (Ok done) ran kept survives = record {
   ok = λ clean inside.
-      let ran = runs clean inside.inside in
-      let did = changes inside.office (subst (λ p. Executes sql p old new (Ok count)) same ran.0) in
-      (did, record { is_open = ran.1.is_open; inside = ran.1.mode; office = office did }, ran.1.committed_is);
+      let it = ran clean inside.inside in
+      let did = changes it.0 inside.office (subst (λ p. Executes sql p old new (Ok it.0)) same it.1.0) in
+      (did, record { is_open = it.1.1.is_open; inside = it.1.1.mode; office = office did }, it.1.1.committed_is);
   err = λ clean inside. tt;
+  survives = survives;
+}
+ran_inside sql params row changes office same (Err e) ran kept survives = record {
+  ok = λ clean inside. tt;
+  err = λ clean inside. kept clean inside.is_open inside.inside;
   survives = survives;
 }
 

@@ -15,6 +15,7 @@ mod putting;
 mod putting_records;
 mod reading;
 mod removing;
+mod running;
 mod values;
 
 pub use content::content_of;

@@ -4,127 +4,128 @@ ghost use Rattle.sqlite.specs.Held.{state};
 ghost use Rattle.office_sql.specs.Made.{AreAllMade, Grows, IsMade, MakesInside};
 ghost use Rattle.office_sql.specs.Schema.{aggregations, certificates, classes, contents, entries, holds, no_schema, office, records, runs, schedules, targets, with_aggregations, with_certificates, with_classes, with_contents, with_entries, with_holds, with_office, with_records, with_runs, with_schedules, with_targets};
 
+use crate::running::execute;
 use sqlite::{Alter, Error, Transaction};
 
 fn create_office<S: Alter>(tx: &mut Transaction<'_, S>) -> Result<(), Error>
     ensures same_reference { tx.new.conn.ghost_name ≡ tx.old.conn.ghost_name }
     ensures made { MakesInside (IsMade office) no_schema (state S.Store tx.old.conn.now) (state S.Store tx.new.conn.now) result }
 {
-    tx.execute(
+    execute(
+        tx,
         "CREATE TABLE office(one INTEGER PRIMARY KEY, version INTEGER NOT NULL, day INTEGER NOT NULL) STRICT",
         &[],
-    )?;
-    Ok(())
+    )
 }
 
 fn create_schedules<S: Alter>(tx: &mut Transaction<'_, S>) -> Result<(), Error>
     ensures same_reference { tx.new.conn.ghost_name ≡ tx.old.conn.ghost_name }
     ensures made { MakesInside (IsMade schedules) with_office (state S.Store tx.old.conn.now) (state S.Store tx.new.conn.now) result }
 {
-    tx.execute(
+    execute(
+        tx,
         "CREATE TABLE schedules(code TEXT PRIMARY KEY, start_at TEXT NOT NULL CHECK (start_at IN ('origin', 'added', 'closed', 'last-addition', 'review')), unit TEXT NOT NULL, span INTEGER NOT NULL, roll TEXT NOT NULL, disposal TEXT NOT NULL) STRICT",
         &[],
-    )?;
-    Ok(())
+    )
 }
 
 fn create_classes<S: Alter>(tx: &mut Transaction<'_, S>) -> Result<(), Error>
     ensures same_reference { tx.new.conn.ghost_name ≡ tx.old.conn.ghost_name }
     ensures made { MakesInside (IsMade classes) with_schedules (state S.Store tx.old.conn.now) (state S.Store tx.new.conn.now) result }
 {
-    tx.execute(
+    execute(
+        tx,
         "CREATE TABLE classes(code TEXT PRIMARY KEY, title TEXT NOT NULL, schedule TEXT NOT NULL) STRICT",
         &[],
-    )?;
-    Ok(())
+    )
 }
 
 fn create_aggregations<S: Alter>(tx: &mut Transaction<'_, S>) -> Result<(), Error>
     ensures same_reference { tx.new.conn.ghost_name ≡ tx.old.conn.ghost_name }
     ensures made { MakesInside (IsMade aggregations) with_classes (state S.Store tx.old.conn.now) (state S.Store tx.new.conn.now) result }
 {
-    tx.execute(
+    execute(
+        tx,
         "CREATE TABLE aggregations(num INTEGER PRIMARY KEY, ref TEXT NOT NULL UNIQUE, title TEXT NOT NULL, parent INTEGER, class TEXT, closed INTEGER) STRICT",
         &[],
-    )?;
-    Ok(())
+    )
 }
 
 fn create_records<S: Alter>(tx: &mut Transaction<'_, S>) -> Result<(), Error>
     ensures same_reference { tx.new.conn.ghost_name ≡ tx.old.conn.ghost_name }
     ensures made { MakesInside (IsMade records) with_aggregations (state S.Store tx.old.conn.now) (state S.Store tx.new.conn.now) result }
 {
-    tx.execute(
+    execute(
+        tx,
         "CREATE TABLE records(num INTEGER PRIMARY KEY, ref TEXT NOT NULL UNIQUE, title TEXT NOT NULL, originated INTEGER NOT NULL, added INTEGER NOT NULL, aggregation INTEGER NOT NULL, size INTEGER NOT NULL, digest TEXT NOT NULL, status TEXT NOT NULL, class TEXT, schedule TEXT, reviewed INTEGER, reviewed_by TEXT, conf_action TEXT, conf_due INTEGER, conf_day INTEGER, conf_by TEXT, receipt_day INTEGER, receipt_by TEXT) STRICT",
         &[],
-    )?;
-    Ok(())
+    )
 }
 
 fn create_contents<S: Alter>(tx: &mut Transaction<'_, S>) -> Result<(), Error>
     ensures same_reference { tx.new.conn.ghost_name ≡ tx.old.conn.ghost_name }
     ensures made { MakesInside (IsMade contents) with_records (state S.Store tx.old.conn.now) (state S.Store tx.new.conn.now) result }
 {
-    tx.execute(
+    execute(
+        tx,
         "CREATE TABLE contents(record INTEGER PRIMARY KEY, bytes BLOB NOT NULL) STRICT",
         &[],
-    )?;
-    Ok(())
+    )
 }
 
 fn create_holds<S: Alter>(tx: &mut Transaction<'_, S>) -> Result<(), Error>
     ensures same_reference { tx.new.conn.ghost_name ≡ tx.old.conn.ghost_name }
     ensures made { MakesInside (IsMade holds) with_contents (state S.Store tx.old.conn.now) (state S.Store tx.new.conn.now) result }
 {
-    tx.execute(
+    execute(
+        tx,
         "CREATE TABLE holds(code TEXT PRIMARY KEY, reason TEXT NOT NULL, placed INTEGER NOT NULL, placed_by TEXT NOT NULL, lifted INTEGER) STRICT",
         &[],
-    )?;
-    Ok(())
+    )
 }
 
 fn create_targets<S: Alter>(tx: &mut Transaction<'_, S>) -> Result<(), Error>
     ensures same_reference { tx.new.conn.ghost_name ≡ tx.old.conn.ghost_name }
     ensures made { MakesInside (IsMade targets) with_holds (state S.Store tx.old.conn.now) (state S.Store tx.new.conn.now) result }
 {
-    tx.execute(
+    execute(
+        tx,
         "CREATE TABLE targets(hold TEXT NOT NULL, kind TEXT NOT NULL, target TEXT NOT NULL, PRIMARY KEY (hold, kind, target)) STRICT",
         &[],
-    )?;
-    Ok(())
+    )
 }
 
 fn create_runs<S: Alter>(tx: &mut Transaction<'_, S>) -> Result<(), Error>
     ensures same_reference { tx.new.conn.ghost_name ≡ tx.old.conn.ghost_name }
     ensures made { MakesInside (IsMade runs) with_targets (state S.Store tx.old.conn.now) (state S.Store tx.new.conn.now) result }
 {
-    tx.execute(
+    execute(
+        tx,
         "CREATE TABLE runs(num INTEGER PRIMARY KEY, day INTEGER NOT NULL, opened_by TEXT NOT NULL, place INTEGER NOT NULL, closed INTEGER NOT NULL) STRICT",
         &[],
-    )?;
-    Ok(())
+    )
 }
 
 fn create_entries<S: Alter>(tx: &mut Transaction<'_, S>) -> Result<(), Error>
     ensures same_reference { tx.new.conn.ghost_name ≡ tx.old.conn.ghost_name }
     ensures made { MakesInside (IsMade entries) with_runs (state S.Store tx.old.conn.now) (state S.Store tx.new.conn.now) result }
 {
-    tx.execute(
+    execute(
+        tx,
         "CREATE TABLE entries(run INTEGER, record INTEGER, outcome TEXT NOT NULL, class TEXT NOT NULL, schedule TEXT NOT NULL, due INTEGER NOT NULL, confirmed_by TEXT NOT NULL, hold TEXT, PRIMARY KEY (run, record)) STRICT",
         &[],
-    )?;
-    Ok(())
+    )
 }
 
 fn create_certificates<S: Alter>(tx: &mut Transaction<'_, S>) -> Result<(), Error>
     ensures same_reference { tx.new.conn.ghost_name ≡ tx.old.conn.ghost_name }
     ensures made { MakesInside (IsMade certificates) with_entries (state S.Store tx.old.conn.now) (state S.Store tx.new.conn.now) result }
 {
-    tx.execute(
+    execute(
+        tx,
         "CREATE TABLE certificates(run INTEGER PRIMARY KEY, body TEXT NOT NULL) STRICT",
         &[],
-    )?;
-    Ok(())
+    )
 }
 
 /// The tables of what an office disposes by.

@@ -4,6 +4,7 @@ ghost use Rattle.office_sql.specs.Office.{GoesInside, Wrote};
 ghost use Rattle.office_sql.specs.Schema.{at, certificates, classes, contents, holds, office, runs, schedules, targets};
 ghost use Rattle.office_sql.specs.Shown.{certificate_row, class_row, content_row, hold_row, office_row, run_row, schedule_row, target_row};
 
+use crate::running::execute;
 use sqlite::{Alter, Error, Transaction, params};
 
 /// Puts the row of `office` in, in place of one with its key.
@@ -16,11 +17,11 @@ pub fn put_office<S: Alter>(
     ensures same_reference { tx.new.conn.ghost_name ≡ tx.old.conn.ghost_name }
     ensures put { GoesInside (Wrote (at 0 office) ((0 ∷ []) ∷ []) (office_row (pos one) (pos version) day)) (state S.Store tx.old.conn.now) (state S.Store tx.new.conn.now) result }
 {
-    tx.execute(
+    execute(
+        tx,
         "INSERT OR REPLACE INTO office VALUES (?1, ?2, ?3)",
         params![one, version, day],
-    )?;
-    Ok(())
+    )
 }
 
 /// Puts a schedule's row in, in place of one with its key.
@@ -36,11 +37,11 @@ pub fn put_schedules<S: Alter>(
     ensures same_reference { tx.new.conn.ghost_name ≡ tx.old.conn.ghost_name }
     ensures put { GoesInside (Wrote (at 1 schedules) ((0 ∷ []) ∷ []) (schedule_row code.now start_at.now unit.now (pos span) roll.now disposal.now)) (state S.Store tx.old.conn.now) (state S.Store tx.new.conn.now) result }
 {
-    tx.execute(
+    execute(
+        tx,
         "INSERT OR REPLACE INTO schedules VALUES (?1, ?2, ?3, ?4, ?5, ?6)",
         params![code, start_at, unit, span, roll, disposal],
-    )?;
-    Ok(())
+    )
 }
 
 /// Puts a class's row in, in place of one with its key.
@@ -53,11 +54,11 @@ pub fn put_classes<S: Alter>(
     ensures same_reference { tx.new.conn.ghost_name ≡ tx.old.conn.ghost_name }
     ensures put { GoesInside (Wrote (at 3 classes) ((0 ∷ []) ∷ []) (class_row code.now title.now schedule.now)) (state S.Store tx.old.conn.now) (state S.Store tx.new.conn.now) result }
 {
-    tx.execute(
+    execute(
+        tx,
         "INSERT OR REPLACE INTO classes VALUES (?1, ?2, ?3)",
         params![code, title, schedule],
-    )?;
-    Ok(())
+    )
 }
 
 /// Puts a content in, in place of one with its key.
@@ -69,11 +70,11 @@ pub fn put_contents<S: Alter>(
     ensures same_reference { tx.new.conn.ghost_name ≡ tx.old.conn.ghost_name }
     ensures put { GoesInside (Wrote (at 9 contents) ((0 ∷ []) ∷ []) (content_row (pos record_no) bytes.now)) (state S.Store tx.old.conn.now) (state S.Store tx.new.conn.now) result }
 {
-    tx.execute(
+    execute(
+        tx,
         "INSERT OR REPLACE INTO contents VALUES (?1, ?2)",
         params![record_no, bytes],
-    )?;
-    Ok(())
+    )
 }
 
 /// Puts a hold's row in, in place of one with its key.
@@ -88,11 +89,11 @@ pub fn put_holds<S: Alter>(
     ensures same_reference { tx.new.conn.ghost_name ≡ tx.old.conn.ghost_name }
     ensures put { GoesInside (Wrote (at 10 holds) ((0 ∷ []) ∷ []) (hold_row code.now reason.now placed placed_by.now lifted)) (state S.Store tx.old.conn.now) (state S.Store tx.new.conn.now) result }
 {
-    tx.execute(
+    execute(
+        tx,
         "INSERT OR REPLACE INTO holds VALUES (?1, ?2, ?3, ?4, ?5)",
         params![code, reason, placed, placed_by, lifted],
-    )?;
-    Ok(())
+    )
 }
 
 /// Puts a target of a hold in, in place of one with its key.
@@ -105,11 +106,11 @@ pub fn put_targets<S: Alter>(
     ensures same_reference { tx.new.conn.ghost_name ≡ tx.old.conn.ghost_name }
     ensures put { GoesInside (Wrote (at 12 targets) ((0 ∷ 1 ∷ 2 ∷ []) ∷ []) (target_row hold.now kind.now target.now)) (state S.Store tx.old.conn.now) (state S.Store tx.new.conn.now) result }
 {
-    tx.execute(
+    execute(
+        tx,
         "INSERT OR REPLACE INTO targets VALUES (?1, ?2, ?3)",
         params![hold, kind, target],
-    )?;
-    Ok(())
+    )
 }
 
 /// Puts a run's row in, in place of one with its key.
@@ -124,11 +125,11 @@ pub fn put_runs<S: Alter>(
     ensures same_reference { tx.new.conn.ghost_name ≡ tx.old.conn.ghost_name }
     ensures put { GoesInside (Wrote (at 14 runs) ((0 ∷ []) ∷ []) (run_row (pos num) day opened_by.now (pos place) closed)) (state S.Store tx.old.conn.now) (state S.Store tx.new.conn.now) result }
 {
-    tx.execute(
+    execute(
+        tx,
         "INSERT OR REPLACE INTO runs VALUES (?1, ?2, ?3, ?4, ?5)",
         params![num, day, opened_by, place, closed],
-    )?;
-    Ok(())
+    )
 }
 
 /// Puts a certificate's row in, in place of one with its key.
@@ -140,9 +141,9 @@ pub fn put_certificates<S: Alter>(
     ensures same_reference { tx.new.conn.ghost_name ≡ tx.old.conn.ghost_name }
     ensures put { GoesInside (Wrote (at 17 certificates) ((0 ∷ []) ∷ []) (certificate_row (pos run) body.now)) (state S.Store tx.old.conn.now) (state S.Store tx.new.conn.now) result }
 {
-    tx.execute(
+    execute(
+        tx,
         "INSERT OR REPLACE INTO certificates VALUES (?1, ?2)",
         params![run, body],
-    )?;
-    Ok(())
+    )
 }
