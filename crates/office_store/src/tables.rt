@@ -1,5 +1,5 @@
 //! The ten tables beside `office`, each read whole by one statement in the order of its key.
-ghost use Rattle.std.specs.Prelude.{◌≡◌, ◌⊎◌, [], ◌∷◌, false, map, take, All, IfOk, IfErr};
+ghost use Rattle.std.specs.Prelude.{◌≡◌, ◌⊎◌, [], ◌∷◌, false, map, take, All, Err, IfOk, IfErr};
 ghost use Rattle.sqlite.specs.Held.{state};
 ghost use Rattle.office_sql.specs.Bags.{rows_of};
 ghost use Rattle.office_sql.specs.Reads.{IsByKey};
@@ -29,8 +29,7 @@ pub(crate) fn schedules<S: Alter>(
     ensures reads { ReadsTables (λ them db. IsByKey (0 ∷ []) (rows_of (at 1 schedules) db) (map schedule_pair them.items)) (state S.Store conn.old) (state S.Store conn.new) result }
     ensures mode { conn.old.in_transaction ≡ false → conn.new.in_transaction ≡ false }
 {
-    let rows = all_schedules(conn).map_err(of_database)?;
-    taken(alloc, &rows)
+    taken(alloc, all_schedules(conn))
 }
 
 /// The rows of `classes`.
@@ -41,8 +40,7 @@ pub(crate) fn classes<S: Alter>(
     ensures reads { ReadsTables (λ them db. IsByKey (0 ∷ []) (rows_of (at 3 classes) db) (map class_pair them.items)) (state S.Store conn.old) (state S.Store conn.new) result }
     ensures mode { conn.old.in_transaction ≡ false → conn.new.in_transaction ≡ false }
 {
-    let rows = all_classes(conn).map_err(of_database)?;
-    taken(alloc, &rows)
+    taken(alloc, all_classes(conn))
 }
 
 /// The rows of `aggregations`.
@@ -53,8 +51,7 @@ pub(crate) fn aggregations<S: Alter>(
     ensures reads { ReadsTables (λ them db. IsByKey (0 ∷ []) (rows_of (at 5 aggregations) db) (map aggregation_pair them.items)) (state S.Store conn.old) (state S.Store conn.new) result }
     ensures mode { conn.old.in_transaction ≡ false → conn.new.in_transaction ≡ false }
 {
-    let rows = all_aggregations(conn).map_err(of_database)?;
-    taken(alloc, &rows)
+    taken(alloc, all_aggregations(conn))
 }
 
 /// The rows of `records`.
@@ -65,8 +62,7 @@ pub(crate) fn records<S: Alter>(
     ensures reads { ReadsTables (λ them db. IsByKey (0 ∷ []) (rows_of (at 7 records) db) (map record_pair them.items)) (state S.Store conn.old) (state S.Store conn.new) result }
     ensures mode { conn.old.in_transaction ≡ false → conn.new.in_transaction ≡ false }
 {
-    let rows = all_records(conn).map_err(of_database)?;
-    taken(alloc, &rows)
+    taken(alloc, all_records(conn))
 }
 
 /// The keys of `contents`.
@@ -77,8 +73,7 @@ pub(crate) fn contents<S: Alter>(
     ensures reads { ReadsTables (λ them db. IsByKey (0 ∷ []) (map (take 1) (rows_of (at 9 contents) db)) (map number_row them.items)) (state S.Store conn.old) (state S.Store conn.new) result }
     ensures mode { conn.old.in_transaction ≡ false → conn.new.in_transaction ≡ false }
 {
-    let rows = all_contents(conn).map_err(of_database)?;
-    taken(alloc, &rows)
+    taken(alloc, all_contents(conn))
 }
 
 /// The rows of `holds`.
@@ -89,8 +84,7 @@ pub(crate) fn holds<S: Alter>(
     ensures reads { ReadsTables (λ them db. IsByKey (0 ∷ []) (rows_of (at 10 holds) db) (map hold_pair them.items)) (state S.Store conn.old) (state S.Store conn.new) result }
     ensures mode { conn.old.in_transaction ≡ false → conn.new.in_transaction ≡ false }
 {
-    let rows = all_holds(conn).map_err(of_database)?;
-    taken(alloc, &rows)
+    taken(alloc, all_holds(conn))
 }
 
 /// The rows of `targets`.
@@ -101,8 +95,7 @@ pub(crate) fn targets<S: Alter>(
     ensures reads { ReadsTables (λ them db. IsByKey (0 ∷ 1 ∷ 2 ∷ []) (rows_of (at 12 targets) db) (map target_pair them.items)) (state S.Store conn.old) (state S.Store conn.new) result }
     ensures mode { conn.old.in_transaction ≡ false → conn.new.in_transaction ≡ false }
 {
-    let rows = all_targets(conn).map_err(of_database)?;
-    taken(alloc, &rows)
+    taken(alloc, all_targets(conn))
 }
 
 /// The rows of `runs`.
@@ -113,8 +106,7 @@ pub(crate) fn runs<S: Alter>(
     ensures reads { ReadsTables (λ them db. IsByKey (0 ∷ []) (rows_of (at 14 runs) db) (map run_pair them.items)) (state S.Store conn.old) (state S.Store conn.new) result }
     ensures mode { conn.old.in_transaction ≡ false → conn.new.in_transaction ≡ false }
 {
-    let rows = all_runs(conn).map_err(of_database)?;
-    taken(alloc, &rows)
+    taken(alloc, all_runs(conn))
 }
 
 /// The rows of `entries`.
@@ -125,8 +117,7 @@ pub(crate) fn entries<S: Alter>(
     ensures reads { ReadsTables (λ them db. IsByKey (0 ∷ 1 ∷ []) (rows_of (at 15 entries) db) (map entry_shown them.items)) (state S.Store conn.old) (state S.Store conn.new) result }
     ensures mode { conn.old.in_transaction ≡ false → conn.new.in_transaction ≡ false }
 {
-    let rows = all_entries(conn).map_err(of_database)?;
-    taken(alloc, &rows)
+    taken(alloc, all_entries(conn))
 }
 
 /// The rows of `certificates`.
@@ -137,17 +128,20 @@ pub(crate) fn certificates<S: Alter>(
     ensures reads { ReadsTables (λ them db. IsByKey (0 ∷ []) (rows_of (at 17 certificates) db) (map certificate_pair them.items)) (state S.Store conn.old) (state S.Store conn.new) result }
     ensures mode { conn.old.in_transaction ≡ false → conn.new.in_transaction ≡ false }
 {
-    let rows = all_certificates(conn).map_err(of_database)?;
-    taken(alloc, &rows)
+    taken(alloc, all_certificates(conn))
 }
 
-// The things for which the rows stand.
-fn taken<T: Stored + Drop>(alloc: Global, rows: &[Row]) -> Result<Vec<T>, Fault>
-    ensures ok { IfOk result (λ them. rows.now ≡ map T.shown them.items) }
-    ensures damaged { IfErr result (λ fault. fault ≡ Fault.Damaged → All T.IsRow rows.now → ⊥) }
-    ensures faults { IfErr result (λ fault. (fault ≡ Fault.Memory) ⊎ (fault ≡ Fault.Damaged)) }
+// The things for which the rows stand, where rows were read.
+fn taken<T: Stored + Drop>(alloc: Global, rows: Result<Vec<Row>, Error>) -> Result<Vec<T>, Fault>
+    ensures ok { IfOk rows (λ rows. IfOk result (λ them. rows.items ≡ map T.shown them.items)) }
+    ensures damaged { IfOk rows (λ rows. IfErr result (λ fault. fault ≡ Fault.Damaged → All T.IsRow rows.items → ⊥)) }
+    ensures faults { IfOk rows (λ _. IfErr result (λ fault. (fault ≡ Fault.Memory) ⊎ (fault ≡ Fault.Damaged))) }
+    ensures failed { IfErr rows (λ _. result ≡ Err Fault.Store) }
 {
-    all(alloc, rows).map_err(of_value)
+    match rows {
+        Ok(rows) => all(alloc, &rows).map_err(of_value),
+        Err(error) => Err(of_database(error)),
+    }
 }
 
 /// The fault of a value that is not read.

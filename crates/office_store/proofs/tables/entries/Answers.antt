@@ -1,27 +1,15 @@
 use Rattle.std.proofs.Common.{rules, [], ◌∷◌}
 use Rattle.sqlite.specs.Held.{state}
-use Rattle.sqlite.specs.State.{HasCleanDisk}
 use Rattle.office_sql.specs.Bags.{rows_of}
-use Rattle.office_sql.specs.Office.{IsAtRest}
-use Rattle.office_sql.specs.Reads.{IsByKey}
 use Rattle.office_sql.specs.Schema.{at, entries}
 use Rattle.office_store.specs.Encoded.{entry_shown}
 use Rattle.office_store.specs.Stored.{IsEntryOfForm, IsRowOf}
-use Rattle.office_store.proofs.ThingsRead.{not_damaged, things_read}
+use Rattle.office_store.proofs.ThingsRead.{table_read}
 use Rattle.office_store.proofs.tables.entries.Goals as goal
 
 pub returns-clause-reads : goal.returns-clause-reads
 returns-clause-reads g c =
-    let old = state g.S.Store c.args.conn.now in
-    let bag = rows_of (at 15 entries) old.now.trees in
-    let rows = c.deref.result.now in
-    let by_key : HasCleanDisk (state g.S.Store c.all_entries.new.conn) → IsAtRest old → IsByKey (0 ∷ 1 ∷ []) bag rows = λ clean rest. rw c.deref.ensures.value (search rules) in
-    record {
-      read = λ clean rest. things_read (0 ∷ 1 ∷ []) bag rows (by_key clean rest) c.taken.result entry_shown (λ them. them.items) c.taken.ensures.ok;
-      same = search rules;
-      faults = search rules;
-      damaged = λ clean rest. not_damaged (0 ∷ 1 ∷ []) bag rows (by_key clean rest) c.taken.result (IsRowOf entry_shown IsEntryOfForm) _ (λ all. all.entries) c.taken.ensures.damaged;
-      version = search rules;
-      leaves = search rules;
-      clean = search rules;
-    }
+    let rows = c.all_entries in
+    let taken = c.taken in
+    table_read (0 ∷ 1 ∷ []) (λ db. rows_of (at 15 entries) db) entry_shown (IsRowOf entry_shown IsEntryOfForm) (λ db all. all.entries) (λ rows. rows.items) (λ them. them.items) (state g.S.Store c.args.conn.now) (state g.S.Store rows.new.conn) rows.result taken.result
+    rows.ensures.rows rows.ensures.same (λ disk rest unchanged. search rules) rows.ensures.clean rows.ensures.survives taken.ensures.ok taken.ensures.damaged taken.ensures.faults taken.ensures.failed
