@@ -6,7 +6,7 @@ ghost use Rattle.office_sql.specs.Values.{OnDamaged};
 ghost use Rattle.office_store.specs.Encoded.{target_kind, target_text};
 ghost use Rattle.office_store.specs.Stored.{IsFormedTargetText, IsHoldPair, IsNumber, IsRowOf, IsTargetPair, hold_pair, number_row, target_pair};
 
-use crate::columns::{code, day, has_columns, no_memory, optional_day, words};
+use crate::columns::{code, code_of, day, has_columns, optional_day, words};
 use crate::stored::Stored;
 use office_holds::{HoldRow, Target};
 use office_sql::{BadValue, number, text};
@@ -21,12 +21,14 @@ impl Stored for (Code, HoldRow) {
 
     fn read(alloc: Global, row: &Row) -> Result<(Code, HoldRow), BadValue> {
         has_columns(row, 5)?;
+        let placed = day(row, 2)?;
+        let lifted = optional_day(row, 4)?;
         let named = code(alloc, row, 0)?;
         let hold = HoldRow {
             reason: words(alloc, row, 1)?,
-            placed: day(row, 2)?,
+            placed,
             placed_by: words(alloc, row, 3)?,
-            lifted: optional_day(row, 4)?,
+            lifted,
         };
         Ok((named, hold))
     }
@@ -52,10 +54,7 @@ fn target(alloc: Global, kind: &str, text: &str) -> Result<Target, BadValue>
     ensures damaged { OnDamaged result ((target : Target) → IsFormedTargetText target → kind.now ≡ target_kind target → text.now ≡ target_text target → ⊥) }
 {
     match kind {
-        "class" => {
-            let read = Code::read(alloc, text).map_err(no_memory)?;
-            Ok(Target::Class(read.ok_or(BadValue::Damaged)?))
-        }
+        "class" => Ok(Target::Class(code_of(alloc, text)?)),
         "aggregation" => Ok(Target::Aggregation(read_number(alloc, text)?)),
         "record" => Ok(Target::Record(read_number(alloc, text)?)),
         _ => Err(BadValue::Damaged),

@@ -24,14 +24,13 @@ impl Stored for (Code, Schedule) {
 
     fn read(alloc: Global, row: &Row) -> Result<(Code, Schedule), BadValue> {
         has_columns(row, 6)?;
-        let named = code(alloc, row, 0)?;
         let schedule = Schedule {
             trigger: trigger(row, 1)?,
             period: period(row)?,
             offset: offset(row, 4)?,
             action: action(row, 5)?,
         };
-        Ok((named, schedule))
+        Ok((code(alloc, row, 0)?, schedule))
     }
 }
 
@@ -68,11 +67,11 @@ impl Stored for (AggNo, Aggregation) {
         has_columns(row, 6)?;
         let numbered = number(row, 0)?;
         let aggregation = Aggregation {
+            parent: optional_number(row, 3)?,
+            closed: optional_day(row, 5)?,
             ref_text: words(alloc, row, 1)?,
             title: words(alloc, row, 2)?,
-            parent: optional_number(row, 3)?,
             class: optional_code(alloc, row, 4)?,
-            closed: optional_day(row, 5)?,
         };
         Ok((numbered, aggregation))
     }

@@ -60,14 +60,14 @@ fn head(alloc: Global, row: &Row) -> Result<HeadColumns, BadValue>
 {
     Ok(HeadColumns {
         number: number(row, 0)?,
-        ref_text: words(alloc, row, 1)?,
-        title: words(alloc, row, 2)?,
         originated: day(row, 3)?,
         added: day(row, 4)?,
         aggregation: number(row, 5)?,
         size: number(row, 6)?,
         digest: digest(row, 7)?,
         status: status(row, 8)?,
+        ref_text: words(alloc, row, 1)?,
+        title: words(alloc, row, 2)?,
     })
 }
 
@@ -77,9 +77,9 @@ fn plan(alloc: Global, row: &Row) -> Result<PlanColumns, BadValue>
     ensures damaged { OnDamaged result ((it : PlanColumns) → IsFormedPlan it → HasFrom row.now 9 (plan_columns it) → ⊥) }
 {
     Ok(PlanColumns {
+        reviewed: optional_day(row, 11)?,
         class: optional_code(alloc, row, 9)?,
         schedule: optional_code(alloc, row, 10)?,
-        reviewed: optional_day(row, 11)?,
         reviewed_by: optional_words(alloc, row, 12)?,
     })
 }
@@ -93,8 +93,8 @@ fn papers(alloc: Global, row: &Row) -> Result<PapersColumns, BadValue>
         conf_action: optional_action(row, 13)?,
         conf_due: optional_due_day(row, 14)?,
         conf_day: optional_day(row, 15)?,
-        conf_by: optional_words(alloc, row, 16)?,
         receipt_day: optional_day(row, 17)?,
+        conf_by: optional_words(alloc, row, 16)?,
         receipt_by: optional_words(alloc, row, 18)?,
     })
 }

@@ -20,9 +20,9 @@ impl Stored for (RunNo, Run) {
         let numbered = number(row, 0)?;
         let run = Run {
             day: day(row, 1)?,
-            by: words(alloc, row, 2)?,
             cursor: number(row, 3)?,
             is_closed: flag(row, 4)?,
+            by: words(alloc, row, 2)?,
         };
         Ok((numbered, run))
     }
@@ -39,9 +39,9 @@ impl Stored for Entry {
             run: number(row, 0)?,
             record_no: number(row, 1)?,
             outcome: outcome(row, 2)?,
+            due: due_day(row, 5)?,
             class: code(alloc, row, 3)?,
             schedule: code(alloc, row, 4)?,
-            due: due_day(row, 5)?,
             confirmed_by: words(alloc, row, 6)?,
             hold: optional_code(alloc, row, 7)?,
         })
