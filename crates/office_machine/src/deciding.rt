@@ -17,10 +17,7 @@ use std::alloc::Global;
 pub(crate) fn two(alloc: Global, first: RowWrite, second: RowWrite) -> Result<Vec<RowWrite>, Memory>
     ensures { IfOk result (λ writes. writes.items ≡ first ∷ second ∷ []) }
 {
-    let mut writes = Vec::with_capacity(alloc, 2)?;
-    writes.push(first)?;
-    writes.push(second)?;
-    Ok(writes)
+    Ok(Vec::from_array(alloc, [first, second])?)
 }
 
 /// A second code that is equal to this one, if there is one.
