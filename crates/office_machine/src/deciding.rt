@@ -7,6 +7,7 @@ ghost use Rattle.office_machine.specs.Conditions.{dated};
 ghost use Rattle.office_machine.specs.State.{with_contents};
 ghost use Rattle.office_machine.specs.Steps.{step_add_aggregation, step_add_class, step_add_schedule, step_close_aggregation, step_set_class_schedule};
 
+use crate::copies::{copy_code, copy_texts};
 use crate::parts::Parts;
 use crate::{Answer, Change, Decision, RowWrite};
 use office_days::{Day, Refusal};
@@ -20,16 +21,6 @@ pub(crate) fn two(alloc: Global, first: RowWrite, second: RowWrite) -> Result<Ve
     Ok(Vec::from_array(alloc, [first, second])?)
 }
 
-/// A second code that is equal to this one, if there is one.
-pub(crate) fn copy_code(alloc: Global, code: Option<&Code>) -> Result<Option<Code>, Memory>
-    ensures { IfOk result (λ c. c ≡ option_copied code.entry) }
-{
-    match code {
-        Some(code) => Ok(Some(code.copy(alloc)?)),
-        None => Ok(None),
-    }
-}
-
 /// An aggregation of these, open.
 fn open_aggregation(
     alloc: Global,
@@ -40,11 +31,13 @@ fn open_aggregation(
 ) -> Result<Aggregation, Memory>
     ensures { IfOk result (λ it. it ≡ record { ref_text = ref_text.now; title = title.now; parent = parent; class = option_copied class.entry; closed = None }) }
 {
+    let class = copy_code(alloc, class)?;
+    let (ref_text, title) = copy_texts(alloc, ref_text, title)?;
     Ok(Aggregation {
-        ref_text: ref_text.copy(alloc)?,
-        title: title.copy(alloc)?,
+        ref_text,
+        title,
         parent,
-        class: copy_code(alloc, class)?,
+        class,
         closed: None,
     })
 }

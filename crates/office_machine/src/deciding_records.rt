@@ -8,7 +8,8 @@ ghost use Rattle.office_machine.specs.Effects.{new_head};
 ghost use Rattle.office_machine.specs.State.{with_contents};
 ghost use Rattle.office_machine.specs.Steps.{step_add_record, step_confirm, step_receipt, step_review, step_set_record_schedule};
 
-use crate::deciding::{copy_code, two};
+use crate::copies::{copy_code, copy_plan, copy_texts};
+use crate::deciding::two;
 use crate::parts::Parts;
 use crate::{Answer, Change, Decision, NewRecord, RowWrite};
 use office_days::{Day, DueDay};
@@ -79,14 +80,16 @@ fn new_head(alloc: Global, day: Day, new: &NewRecord, digest: [u8; 32]) -> Resul
     requires { digest ≡ sha256 new.now.content.items }
     ensures { IfOk result (λ head. head ≡ new_head day new.now) }
 {
+    let (class, schedule) = copy_plan(alloc, &new.class, &new.schedule)?;
+    let (ref_text, title) = copy_texts(alloc, &new.ref_text, &new.title)?;
     Ok(Record {
-        ref_text: new.ref_text.copy(alloc)?,
-        title: new.title.copy(alloc)?,
+        ref_text,
+        title,
         originated: new.originated,
         added: day,
         aggregation: new.aggregation,
-        class: copy_code(alloc, new.class.as_ref())?,
-        schedule: copy_code(alloc, new.schedule.as_ref())?,
+        class,
+        schedule,
         length: new.content.len() as u32,
         digest,
         review: None,

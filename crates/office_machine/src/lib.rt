@@ -16,6 +16,7 @@ mod applying;
 mod certificate;
 mod change;
 mod closing;
+mod copies;
 mod copying;
 mod decide;
 mod deciding;

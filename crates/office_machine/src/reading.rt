@@ -9,7 +9,7 @@ ghost use Rattle.office_machine.specs.Readings.{all_entries_of, ending_entry, re
 ghost use Rattle.office_machine.specs.State.{entry_cmp};
 
 use crate::RecordView;
-use crate::deciding::copy_code;
+use crate::copies::{copy_code, copy_codes, copy_texts};
 use crate::parts::Parts;
 use office_proof::{Entry, RunNo};
 use office_tree::{Confirmation, Memory, RecordNo};
@@ -20,15 +20,18 @@ use std::collections::BTreeMap;
 pub(crate) fn copy_entry(alloc: Global, entry: &Entry) -> Result<Entry, Memory>
     ensures { IfOk result (λ e. e ≡ entry.now) }
 {
+    let confirmed_by = entry.confirmed_by.copy(alloc)?;
+    let hold = copy_code(alloc, entry.hold.as_ref())?;
+    let (class, schedule) = copy_codes(alloc, &entry.class, &entry.schedule)?;
     Ok(Entry {
         run: entry.run,
         record_no: entry.record_no,
         outcome: entry.outcome,
-        class: entry.class.copy(alloc)?,
-        schedule: entry.schedule.copy(alloc)?,
+        class,
+        schedule,
         due: entry.due,
-        confirmed_by: entry.confirmed_by.copy(alloc)?,
-        hold: copy_code(alloc, entry.hold.as_ref())?,
+        confirmed_by,
+        hold,
     })
 }
 
@@ -121,26 +124,34 @@ impl Parts {
         requires { IsTrue (has_record self.now.tree record_no) }
         ensures { IfOk result (λ view. Some view ≡ record_view self.now record_no) }
     {
-        let head = self.tree.record(record_no);
-        let held = self.holds.covering(&self.tree, record_no);
+        let tree = &self.tree;
+        let head = tree.record(record_no);
         let digest = head.digest;
+        let status = tree.status(record_no);
+        let action = tree.schedule_of(record_no).action;
+        let due = tree.due_of(record_no);
+        let counts = tree.counts(record_no);
+        let held = copy_code(alloc, self.holds.covering(tree, record_no))?;
+        let confirmed = copy_confirmation(alloc, head.confirmation.as_ref())?;
+        let (class, schedule) = copy_codes(alloc, tree.class_of(record_no), tree.plan_of(record_no))?;
+        let (ref_text, title) = copy_texts(alloc, &head.ref_text, &head.title)?;
         Ok(RecordView {
             number: record_no,
-            ref_text: head.ref_text.copy(alloc)?,
-            title: head.title.copy(alloc)?,
+            ref_text,
+            title,
             originated: head.originated,
             added: head.added,
             aggregation: head.aggregation,
             length: head.length,
             digest,
-            status: self.tree.status(record_no),
-            class: self.tree.class_of(record_no).copy(alloc)?,
-            schedule: self.tree.plan_of(record_no).copy(alloc)?,
-            action: self.tree.schedule_of(record_no).action,
-            due: self.tree.due_of(record_no),
-            held: copy_code(alloc, held)?,
-            confirmed: copy_confirmation(alloc, head.confirmation.as_ref())?,
-            counts: self.tree.counts(record_no),
+            status,
+            class,
+            schedule,
+            action,
+            due,
+            held,
+            confirmed,
+            counts,
         })
     }
 

@@ -7,7 +7,8 @@ ghost use Rattle.office_machine.specs.Conditions.{refusals_of_reclassify};
 ghost use Rattle.office_machine.specs.State.{with_contents};
 ghost use Rattle.office_machine.specs.Steps.{step_reclassify};
 
-use crate::deciding::{copy_code, two};
+use crate::copies::copy_code;
+use crate::deciding::two;
 use crate::lesser::lesser;
 use crate::parts::Parts;
 use crate::{Answer, Change, Decision, RowWrite};

@@ -1,9 +1,8 @@
 //! The rows of the office's tables, and what writes one of them.
 ghost use Rattle.std.specs.Prelude.{◌≡◌, IfOk};
-ghost use Rattle.std.specs.Option.{option_copied};
 
 use crate::Run;
-use crate::deciding::copy_code;
+use crate::copies::{copy_plan, copy_text, copy_texts};
 use office_days::{Day, DueDay};
 use office_holds::{HoldRow, Target};
 use office_proof::{Entry, RunNo};
@@ -36,41 +35,47 @@ pub struct RecordRow {
     pub receipt_by: Option<Text>,
 }
 
-/// A second text that is equal to this one, if there is one.
-fn copy_text(alloc: Global, text: Option<&Text>) -> Result<Option<Text>, Memory>
-    ensures { IfOk result (λ t. t ≡ option_copied text.entry) }
-{
-    match text {
-        Some(text) => Ok(Some(text.copy(alloc)?)),
-        None => Ok(None),
-    }
-}
-
 impl RecordRow {
+    /// Those who reviewed, who confirmed and who told the receipt, each once more.
+    fn copy_people(
+        &self,
+        alloc: Global,
+    ) -> Result<(Option<Text>, Option<Text>, Option<Text>), Memory>
+        ensures { IfOk result (λ p. p ≡ (self.now.reviewed_by, self.now.conf_by, self.now.receipt_by)) }
+    {
+        let reviewed_by = copy_text(alloc, self.reviewed_by.as_ref())?;
+        let conf_by = copy_text(alloc, self.conf_by.as_ref())?;
+        let receipt_by = copy_text(alloc, self.receipt_by.as_ref())?;
+        Ok((reviewed_by, conf_by, receipt_by))
+    }
+
     /// Second columns that are equal to these.
     pub fn copy(&self, alloc: Global) -> Result<RecordRow, Memory>
         ensures { IfOk result (λ row. row ≡ self.now) }
     {
         let digest = self.digest;
+        let (ref_text, title) = copy_texts(alloc, &self.ref_text, &self.title)?;
+        let (class, schedule) = copy_plan(alloc, &self.class, &self.schedule)?;
+        let (reviewed_by, conf_by, receipt_by) = self.copy_people(alloc)?;
         Ok(RecordRow {
-            ref_text: self.ref_text.copy(alloc)?,
-            title: self.title.copy(alloc)?,
+            ref_text,
+            title,
             originated: self.originated,
             added: self.added,
             aggregation: self.aggregation,
             size: self.size,
             digest,
             status: self.status,
-            class: copy_code(alloc, self.class.as_ref())?,
-            schedule: copy_code(alloc, self.schedule.as_ref())?,
+            class,
+            schedule,
             reviewed: self.reviewed,
-            reviewed_by: copy_text(alloc, self.reviewed_by.as_ref())?,
+            reviewed_by,
             conf_action: self.conf_action,
             conf_due: self.conf_due,
             conf_day: self.conf_day,
-            conf_by: copy_text(alloc, self.conf_by.as_ref())?,
+            conf_by,
             receipt_day: self.receipt_day,
-            receipt_by: copy_text(alloc, self.receipt_by.as_ref())?,
+            receipt_by,
         })
     }
 }

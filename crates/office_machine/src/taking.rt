@@ -10,7 +10,7 @@ ghost use Rattle.office_machine.specs.declared.rows.RowWrite.TheVariants as row_
 ghost use Rattle.office_machine.specs.declared.run.Run.{Run};
 
 use crate::RowWrite;
-use crate::deciding::copy_code;
+use crate::copies::{copy_code, copy_codes};
 use crate::disposing::outcome_by;
 use crate::parts::Parts;
 use office_proof::{Entry, Outcome, RunNo};
@@ -101,15 +101,19 @@ impl Parts {
         let Some(confirmation) = &self.tree.record(record_no).confirmation else {
             unreachable!();
         };
+        let confirmed_by = confirmation.by.copy(alloc)?;
+        let hold = self.hold_told(alloc, record_no, outcome)?;
+        let class = self.tree.class_of(record_no);
+        let (class, schedule) = copy_codes(alloc, class, self.tree.plan_of(record_no))?;
         Ok(Entry {
             run,
             record_no,
             outcome,
-            class: self.tree.class_of(record_no).copy(alloc)?,
-            schedule: self.tree.plan_of(record_no).copy(alloc)?,
+            class,
+            schedule,
             due: confirmation.due,
-            confirmed_by: confirmation.by.copy(alloc)?,
-            hold: self.hold_told(alloc, record_no, outcome)?,
+            confirmed_by,
+            hold,
         })
     }
 
