@@ -1,14 +1,18 @@
 -- What a decision rests on: the first condition of an act's table that holds, or that none does.
-use Rattle.std.proofs.Common.{◌≡◌, ◌≤◌, Bool, List, length, Some, None, sym, ap, ◌∙◌}
+use Rattle.std.proofs.Common.{◌≡◌, ◌≤◌, Bool, List, length, Some, None, Result, Ok, Err, IfOk, sym, ap, ◌∙◌}
 use Rattle.office_days.specs.declared.refusal.Refusal.{Refusal}
 use Rattle.office_tree.specs.Conditions.{first_of}
-use Rattle.office_machine.specs.Acts.{IsChangeTo}
+use Rattle.office_tree.specs.declared.memory.Memory.{Memory}
+use Rattle.office_machine.specs.Acts.{IsChangeTo, IsDecidedTo, IsGoing}
 use Rattle.office_machine.specs.State.{with_contents, Office, State, ByteMap}
 use Rattle.office_machine.specs.Steps.{stepped, by_refusal}
 use Rattle.office_machine.specs.Writes.{CanWrite, all_writes}
 use Rattle.office_machine.specs.declared.answer.Answer.{Answer}
 use Rattle.office_machine.specs.declared.answer.Answer.TheVariants.{Refused}
 use Rattle.office_machine.specs.declared.change.Change.{Change}
+use Rattle.office_machine.specs.declared.change.Decision.{Decision}
+use Rattle.office_machine.specs.declared.change.Decision.TheVariants.{Go, Stay}
+use Rattle.office_machine.specs.declared.rows.RowWrite.{RowWrite}
 
 -- a condition that holds refuses
 pub refused_step : (conditions : List (Refusal × Bool)) (refusal : Refusal) (before : State) (answer : Answer) (next : State) → first_of conditions ≡ Some refusal → stepped conditions before answer next ≡ (Refused refusal, before)
@@ -28,3 +32,10 @@ accepted_change s conditions answer next change accepted same few fits leads = r
   fits = fits;
   leads = λ contents. leads contents ∙ sym (ap (λ (p : Answer × State). p.1) (accepted_step conditions (with_contents s contents) answer (next contents) accepted));
 }
+
+-- a decision to do such writes is right where each change of them is
+pub going : (s : Office) (next : ByteMap → Answer × State) (answer : Answer) (writes : List RowWrite) (decided : Result Decision Memory) → IfOk decided (IsGoing answer writes)
+    → ((change : Change) → change.answer ≡ answer → change.writes.items ≡ writes → IsChangeTo s next change) → IfOk decided (λ d. IsDecidedTo s next d)
+going s next answer writes (Ok (Go change)) goes right = right change goes.0 goes.1
+going s next answer writes (Ok (Stay told)) goes right = absurd goes
+going s next answer writes (Err refused) goes right = tt

@@ -11,6 +11,7 @@ use Rattle.office_machine.specs.declared.answer.Answer.{Answer}
 use Rattle.office_machine.specs.declared.change.Change.{Change}
 use Rattle.office_machine.specs.declared.change.Decision.{Decision}
 use Rattle.office_machine.specs.declared.change.Decision.TheVariants as decision
+use Rattle.office_machine.specs.declared.rows.RowWrite.{RowWrite}
 
 -- the answer to an act, and the state after it
 unfoldable pub step : State → Act → Answer × State
@@ -53,6 +54,11 @@ pub record IsChangeTo (s : Office) (next : ByteMap → Answer × State) (change 
 abbrev pub IsDecidedTo : Office → (ByteMap → Answer × State) → Decision → Type 0
 IsDecidedTo s next (decision.Stay answer) = (contents : ByteMap) → next contents ≡ (answer, with_contents s contents)
 IsDecidedTo s next (decision.Go change) = IsChangeTo s next change
+
+-- a decision to do these writes, with that answer
+abbrev pub IsGoing : Answer → List RowWrite → Decision → Type 0
+IsGoing answer writes (decision.Stay told) = ⊥
+IsGoing answer writes (decision.Go change) = (change.answer ≡ answer) × (change.writes.items ≡ writes)
 
 -- and right for an act: it is that one's step, whatever the contents
 abbrev pub IsDecidedFor : Office → Act → Decision → Type 0

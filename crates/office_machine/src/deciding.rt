@@ -1,13 +1,14 @@
-ghost use Rattle.std.specs.Prelude.{◌≡◌, List, [], ◌∷◌, Bool, None, IfOk};
+ghost use Rattle.std.specs.Prelude.{◌≡◌, List, [], ◌∷◌, ◌++◌, Bool, None, IfOk};
 ghost use Rattle.std.specs.Option.{option_copied};
 ghost use Rattle.office_days.specs.declared.refusal.Refusal.{Refusal};
 ghost use Rattle.office_tree.specs.Conditions.{first_of};
-ghost use Rattle.office_machine.specs.Acts.{IsDecidedTo};
+ghost use Rattle.office_machine.specs.Acts.{IsDecidedTo, IsGoing};
 ghost use Rattle.office_machine.specs.Conditions.{dated};
 ghost use Rattle.office_machine.specs.State.{with_contents};
+ghost use Rattle.office_machine.specs.declared.rows.RowWrite.TheVariants as row_write;
 ghost use Rattle.office_machine.specs.Steps.{step_add_aggregation, step_add_class, step_add_schedule, step_close_aggregation, step_set_class_schedule};
 
-use crate::copies::{copy_code, copy_texts};
+use crate::copies::{copy_code, copy_codes, copy_texts};
 use crate::parts::Parts;
 use crate::{Answer, Change, Decision, RowWrite};
 use office_days::{Day, Refusal};
@@ -19,6 +20,27 @@ pub(crate) fn two(alloc: Global, first: RowWrite, second: RowWrite) -> Result<Ve
     ensures { IfOk result (λ writes. writes.items ≡ first ∷ second ∷ []) }
 {
     Ok(Vec::from_array(alloc, [first, second])?)
+}
+
+/// The writes and then one more.
+pub(crate) fn then(mut writes: Vec<RowWrite>, last: RowWrite) -> Result<Vec<RowWrite>, Memory>
+    ensures { IfOk result (λ all. all.items ≡ writes.items ++ last ∷ []) }
+{
+    writes.push(last)?;
+    Ok(writes)
+}
+
+/// The decision to do that write and then to set the office's day.
+pub(crate) fn go(
+    alloc: Global,
+    answer: Answer,
+    write: RowWrite,
+    day: Day,
+) -> Result<Decision, Memory>
+    ensures { IfOk result (λ d. IsGoing answer (write ∷ row_write.Day day ∷ []) d) }
+{
+    let writes = two(alloc, write, RowWrite::Day { day })?;
+    Ok(Decision::Go(Change { answer, writes }))
 }
 
 /// An aggregation of these, open.
@@ -68,15 +90,7 @@ impl Parts {
         }
         self.tree.sound();
         let code = code.copy(alloc)?;
-        let writes = two(
-            alloc,
-            RowWrite::Schedule { code, schedule },
-            RowWrite::Day { day },
-        )?;
-        Ok(Decision::Go(Change {
-            answer: Answer::Done,
-            writes,
-        }))
+        go(alloc, Answer::Done, RowWrite::Schedule { code, schedule }, day)
     }
 
     /// What is decided of a new class.
@@ -94,19 +108,10 @@ impl Parts {
             return Ok(Decision::Stay(Answer::Refused(refusal)));
         }
         self.tree.sound();
-        let code = code.copy(alloc)?;
         let title = title.copy(alloc)?;
-        let schedule = schedule.copy(alloc)?;
+        let (code, schedule) = copy_codes(alloc, code, schedule)?;
         let class = Class { title, schedule };
-        let writes = two(
-            alloc,
-            RowWrite::Class { code, class },
-            RowWrite::Day { day },
-        )?;
-        Ok(Decision::Go(Change {
-            answer: Answer::Done,
-            writes,
-        }))
+        go(alloc, Answer::Done, RowWrite::Class { code, class }, day)
     }
 
     /// What is decided of another schedule for a class.
@@ -130,18 +135,9 @@ impl Parts {
             Some(it) => it.title.copy(alloc)?,
             None => unreachable!(),
         };
-        let code = class.copy(alloc)?;
-        let schedule = schedule.copy(alloc)?;
+        let (code, schedule) = copy_codes(alloc, class, schedule)?;
         let class = Class { title, schedule };
-        let writes = two(
-            alloc,
-            RowWrite::Class { code, class },
-            RowWrite::Day { day },
-        )?;
-        Ok(Decision::Go(Change {
-            answer: Answer::Done,
-            writes,
-        }))
+        go(alloc, Answer::Done, RowWrite::Class { code, class }, day)
     }
 
     /// What is decided of a new aggregation.
@@ -165,18 +161,11 @@ impl Parts {
         self.tree.sound();
         let number = self.tree.aggregation_count() + 1;
         let aggregation = open_aggregation(alloc, ref_text, title, parent, class)?;
-        let writes = two(
-            alloc,
-            RowWrite::Aggregation {
-                number,
-                aggregation,
-            },
-            RowWrite::Day { day },
-        )?;
-        Ok(Decision::Go(Change {
-            answer: Answer::Number(number),
-            writes,
-        }))
+        let write = RowWrite::Aggregation {
+            number,
+            aggregation,
+        };
+        go(alloc, Answer::Number(number), write, day)
     }
 
     /// What is decided of an aggregation's closing.
@@ -198,10 +187,6 @@ impl Parts {
             number: aggregation,
             aggregation: closed,
         };
-        let writes = two(alloc, write, RowWrite::Day { day })?;
-        Ok(Decision::Go(Change {
-            answer: Answer::Done,
-            writes,
-        }))
+        go(alloc, Answer::Done, write, day)
     }
 }

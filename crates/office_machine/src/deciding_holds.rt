@@ -5,10 +5,11 @@ ghost use Rattle.office_machine.specs.Conditions.{conditions_of_target, lacks_ta
 ghost use Rattle.office_machine.specs.State.{with_contents};
 ghost use Rattle.office_machine.specs.Steps.{step_hold_off, step_hold_on, step_lift_hold, step_place_hold};
 
-use crate::deciding::two;
+use crate::copies::copy_texts;
+use crate::deciding::go;
 use crate::lesser::lesser;
 use crate::parts::Parts;
-use crate::{Answer, Change, Decision, RowWrite};
+use crate::{Answer, Decision, RowWrite};
 use office_days::{Day, Refusal};
 use office_holds::{HoldRow, Target};
 use office_tree::{Code, Memory, Status, Text, Tree};
@@ -69,18 +70,15 @@ impl Parts {
             return Ok(Decision::Stay(Answer::Refused(refusal)));
         }
         self.holds.sound();
+        let code = code.copy(alloc)?;
+        let (reason, placed_by) = copy_texts(alloc, reason, by)?;
         let hold = HoldRow {
-            reason: reason.copy(alloc)?,
+            reason,
             placed: day,
-            placed_by: by.copy(alloc)?,
+            placed_by,
             lifted: None,
         };
-        let code = code.copy(alloc)?;
-        let writes = two(alloc, RowWrite::Hold { code, hold }, RowWrite::Day { day })?;
-        Ok(Decision::Go(Change {
-            answer: Answer::Done,
-            writes,
-        }))
+        go(alloc, Answer::Done, RowWrite::Hold { code, hold }, day)
     }
 
     /// What is decided of a target for a hold.
@@ -101,15 +99,7 @@ impl Parts {
         self.holds.sound();
         let hold = code.copy(alloc)?;
         let target = target.copy(alloc)?;
-        let writes = two(
-            alloc,
-            RowWrite::Target { hold, target },
-            RowWrite::Day { day },
-        )?;
-        Ok(Decision::Go(Change {
-            answer: Answer::Done,
-            writes,
-        }))
+        go(alloc, Answer::Done, RowWrite::Target { hold, target }, day)
     }
 
     /// What is decided of a target that is to be taken off a hold.
@@ -127,15 +117,7 @@ impl Parts {
         }
         let hold = code.copy(alloc)?;
         let target = target.copy(alloc)?;
-        let writes = two(
-            alloc,
-            RowWrite::TargetGone { hold, target },
-            RowWrite::Day { day },
-        )?;
-        Ok(Decision::Go(Change {
-            answer: Answer::Done,
-            writes,
-        }))
+        go(alloc, Answer::Done, RowWrite::TargetGone { hold, target }, day)
     }
 
     /// What is decided of a hold's lifting.
@@ -154,13 +136,9 @@ impl Parts {
         let Some(before) = self.holds.hold(code) else {
             unreachable!();
         };
+        let code = code.copy(alloc)?;
         let mut hold = before.row().copy(alloc)?;
         hold.lifted = Some(day);
-        let code = code.copy(alloc)?;
-        let writes = two(alloc, RowWrite::Hold { code, hold }, RowWrite::Day { day })?;
-        Ok(Decision::Go(Change {
-            answer: Answer::Done,
-            writes,
-        }))
+        go(alloc, Answer::Done, RowWrite::Hold { code, hold }, day)
     }
 }

@@ -1,4 +1,4 @@
-ghost use Rattle.std.specs.Prelude.{◌≡◌, IfOk, [], ◌∷◌, ◌++◌};
+ghost use Rattle.std.specs.Prelude.{◌≡◌, IfOk};
 ghost use Rattle.std.specs.Option.{option_copied, option_map};
 ghost use Rattle.sha2.specs.Sha256.{sha256};
 ghost use Rattle.office_tree.specs.Lists.{or_else};
@@ -9,7 +9,7 @@ ghost use Rattle.office_machine.specs.State.{with_contents};
 ghost use Rattle.office_machine.specs.Steps.{step_add_record, step_confirm, step_receipt, step_review, step_set_record_schedule};
 
 use crate::copies::{copy_code, copy_plan, copy_texts};
-use crate::deciding::two;
+use crate::deciding::{go, then, two};
 use crate::parts::Parts;
 use crate::{Answer, Change, Decision, NewRecord, RowWrite};
 use office_days::{Day, DueDay};
@@ -52,14 +52,6 @@ fn confirmed(
         })),
         None => Ok(None),
     }
-}
-
-/// The writes and then one more.
-fn then(mut writes: Vec<RowWrite>, last: RowWrite) -> Result<Vec<RowWrite>, Memory>
-    ensures { IfOk result (λ all. all.items ≡ writes.items ++ last ∷ []) }
-{
-    writes.push(last)?;
-    Ok(writes)
 }
 
 /// Whether the record is the one that is asked for, where its content has that digest.
@@ -136,8 +128,8 @@ impl Parts {
         }
         self.tree.sound();
         let number = self.tree.record_count() + 1;
-        let head = new_head(alloc, day, new, digest)?;
         let bytes = Vec::from_slice(alloc, &new.content)?;
+        let head = new_head(alloc, day, new, digest)?;
         let write = RowWrite::Record {
             number,
             head,
@@ -168,19 +160,16 @@ impl Parts {
             return Ok(Decision::Stay(Answer::Refused(refusal)));
         }
         self.tree.sound();
-        let mut head = self.tree.record(record_no).copy(alloc)?;
-        head.schedule = copy_code(alloc, schedule)?;
         let status = self.tree.status(record_no);
+        let own = copy_code(alloc, schedule)?;
+        let mut head = self.tree.record(record_no).copy(alloc)?;
+        head.schedule = own;
         let write = RowWrite::Record {
             number: record_no,
             head,
             status,
         };
-        let writes = two(alloc, write, RowWrite::Day { day })?;
-        Ok(Decision::Go(Change {
-            answer: Answer::Done,
-            writes,
-        }))
+        go(alloc, Answer::Done, write, day)
     }
 
     /// What is decided of a confirmation of a record's disposal.
@@ -198,19 +187,16 @@ impl Parts {
             return Ok(Decision::Stay(Answer::Refused(refusal)));
         }
         self.tree.sound();
-        let mut head = self.tree.record(record_no).copy(alloc)?;
-        head.confirmation = confirmed(alloc, action, self.tree.due_of(record_no), day, by)?;
         let status = self.tree.status(record_no);
+        let confirmation = confirmed(alloc, action, self.tree.due_of(record_no), day, by)?;
+        let mut head = self.tree.record(record_no).copy(alloc)?;
+        head.confirmation = confirmation;
         let write = RowWrite::Record {
             number: record_no,
             head,
             status,
         };
-        let writes = two(alloc, write, RowWrite::Day { day })?;
-        Ok(Decision::Go(Change {
-            answer: Answer::Done,
-            writes,
-        }))
+        go(alloc, Answer::Done, write, day)
     }
 
     /// What is decided of a record's review.
@@ -228,24 +214,19 @@ impl Parts {
             return Ok(Decision::Stay(Answer::Refused(refusal)));
         }
         self.tree.sound();
-        let old = self.tree.record(record_no);
-        let mut head = old.copy(alloc)?;
-        head.review = Some(Review {
-            day,
-            by: by.copy(alloc)?,
-        });
-        head.schedule = first_code(alloc, schedule, old.schedule.as_ref())?;
         let status = self.tree.status(record_no);
+        let old = self.tree.record(record_no);
+        let by = by.copy(alloc)?;
+        let schedule = first_code(alloc, schedule, old.schedule.as_ref())?;
+        let mut head = old.copy(alloc)?;
+        head.review = Some(Review { day, by });
+        head.schedule = schedule;
         let write = RowWrite::Record {
             number: record_no,
             head,
             status,
         };
-        let writes = two(alloc, write, RowWrite::Day { day })?;
-        Ok(Decision::Go(Change {
-            answer: Answer::Done,
-            writes,
-        }))
+        go(alloc, Answer::Done, write, day)
     }
 
     /// What is decided of a receiver's receipt for a record that was sent, by which it is received.
@@ -263,20 +244,14 @@ impl Parts {
             return Ok(Decision::Stay(Answer::Refused(refusal)));
         }
         self.tree.sound();
+        let by = by.copy(alloc)?;
         let mut head = self.tree.record(record_no).copy(alloc)?;
-        head.receipt = Some(Receipt {
-            day,
-            by: by.copy(alloc)?,
-        });
+        head.receipt = Some(Receipt { day, by });
         let write = RowWrite::Record {
             number: record_no,
             head,
             status: Status::Received,
         };
-        let writes = two(alloc, write, RowWrite::Day { day })?;
-        Ok(Decision::Go(Change {
-            answer: Answer::Done,
-            writes,
-        }))
+        go(alloc, Answer::Done, write, day)
     }
 }

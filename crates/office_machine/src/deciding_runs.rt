@@ -7,7 +7,7 @@ ghost use Rattle.office_machine.specs.Sound.{IsSoundOffice};
 ghost use Rattle.office_machine.specs.State.{with_contents};
 ghost use Rattle.office_machine.specs.Steps.{step_open_run, step_run_step};
 
-use crate::deciding::two;
+use crate::deciding::{go, two};
 use crate::parts::Parts;
 use crate::{Answer, Change, Decision, RowWrite, Run};
 use office_days::{Day, Refusal};
@@ -50,11 +50,7 @@ impl Parts {
             cursor: 0,
             is_closed: false,
         };
-        let writes = two(alloc, RowWrite::Run { number, run }, RowWrite::Day { day })?;
-        Ok(Decision::Go(Change {
-            answer: Answer::Number(number),
-            writes,
-        }))
+        go(alloc, Answer::Number(number), RowWrite::Run { number, run }, day)
     }
 
     /// What is decided of a step of the open run that takes this record.

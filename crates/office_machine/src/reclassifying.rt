@@ -8,10 +8,10 @@ ghost use Rattle.office_machine.specs.State.{with_contents};
 ghost use Rattle.office_machine.specs.Steps.{step_reclassify};
 
 use crate::copies::copy_code;
-use crate::deciding::two;
+use crate::deciding::go;
 use crate::lesser::lesser;
 use crate::parts::Parts;
-use crate::{Answer, Change, Decision, RowWrite};
+use crate::{Answer, Decision, RowWrite};
 use office_days::Day;
 use office_tree::{AggNo, Classified, Code, Memory, RecordNo};
 use std::alloc::Global;
@@ -29,17 +29,14 @@ impl Parts {
         ensures { IfOk result (λ d. IsDecidedTo self.now (λ contents. step_reclassify (with_contents self.now contents) day (classified.Aggregation number) (option_copied class.entry)) d) }
     {
         self.tree.sound();
+        let class = copy_code(alloc, class)?;
         let mut aggregation = self.tree.aggregation(number).copy(alloc)?;
-        aggregation.class = copy_code(alloc, class)?;
+        aggregation.class = class;
         let write = RowWrite::Aggregation {
             number,
             aggregation,
         };
-        let writes = two(alloc, write, RowWrite::Day { day })?;
-        Ok(Decision::Go(Change {
-            answer: Answer::Done,
-            writes,
-        }))
+        go(alloc, Answer::Done, write, day)
     }
 
     /// What is decided of a record's own class where nothing refuses it.
@@ -54,19 +51,16 @@ impl Parts {
         ensures { IfOk result (λ d. IsDecidedTo self.now (λ contents. step_reclassify (with_contents self.now contents) day (classified.Record number) (option_copied class.entry)) d) }
     {
         self.tree.sound();
-        let mut head = self.tree.record(number).copy(alloc)?;
-        head.class = copy_code(alloc, class)?;
         let status = self.tree.status(number);
+        let class = copy_code(alloc, class)?;
+        let mut head = self.tree.record(number).copy(alloc)?;
+        head.class = class;
         let write = RowWrite::Record {
             number,
             head,
             status,
         };
-        let writes = two(alloc, write, RowWrite::Day { day })?;
-        Ok(Decision::Go(Change {
-            answer: Answer::Done,
-            writes,
-        }))
+        go(alloc, Answer::Done, write, day)
     }
 
     /// What is decided of an own class of an aggregation or a record, set or taken away.

@@ -11,6 +11,7 @@ ghost use Rattle.office_machine.specs.declared.run.Run.{Run};
 
 use crate::RowWrite;
 use crate::copies::{copy_code, copy_codes};
+use crate::deciding::then;
 use crate::disposing::outcome_by;
 use crate::parts::Parts;
 use office_proof::{Entry, Outcome, RunNo};
@@ -132,15 +133,14 @@ impl Parts {
             → writes.items ≡ taking_writes outcome (entry_of self.now run record_no outcome) head it) }
     {
         let entry = self.entry_of(alloc, run, record_no, outcome)?;
+        let writes = Vec::from_array(alloc, [RowWrite::Entry { entry }])?;
+        let writes = with_outcome(alloc, &self.tree, writes, record_no, outcome)?;
         let mut moved = self.run(run).copy(alloc)?;
         moved.cursor = record_no;
-        let mut writes = Vec::with_capacity(alloc, 4)?;
-        writes.push(RowWrite::Entry { entry })?;
-        let mut writes = with_outcome(alloc, &self.tree, writes, record_no, outcome)?;
-        writes.push(RowWrite::Run {
+        let write = RowWrite::Run {
             number: run,
             run: moved,
-        })?;
-        Ok(writes)
+        };
+        then(writes, write)
     }
 }

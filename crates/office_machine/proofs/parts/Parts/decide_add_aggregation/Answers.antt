@@ -5,11 +5,12 @@ use Rattle.office_tree.specs.Sound.{IsSound}
 use Rattle.office_tree.specs.Tree.{TreeState}
 use Rattle.office_machine.specs.Conditions.{refusals_of_add_aggregation}
 use Rattle.office_machine.specs.Effects.{after_add_aggregation}
-use Rattle.office_machine.specs.State.{with_contents, with_office}
+use Rattle.office_machine.specs.State.{ByteMap, with_contents, with_office}
+use Rattle.office_machine.specs.Steps.{step_add_aggregation}
 use Rattle.office_machine.specs.declared.answer.Answer.TheVariants.{Number}
 use Rattle.office_machine.specs.declared.rows.RowWrite.TheVariants as row_write
 use Rattle.office_machine.proofs.DecidedTree.{none_of, aggregation_change}
-use Rattle.office_machine.proofs.Decisions.{refused_step}
+use Rattle.office_machine.proofs.Decisions.{going, refused_step}
 use Rattle.office_machine.proofs.parts.Parts.decide_add_aggregation.Goals.{After-dated}
 use Rattle.office_machine.proofs.parts.Parts.decide_add_aggregation.Goals as goal
 
@@ -31,6 +32,8 @@ returns c =
     let accepted = sym (table (goal.at.returns c).After-dated) ∙ none_of c.dated.result c.in_default.not-Some in
     let count = c.aggregation_count-number.ensures.count ∙ ap (λ (t : TreeState). length t.aggregations) tree in
     let it = c.in_ok-aggregation.ensures in
-    let writes = c.in_ok-writes.ensures ∙ (λ i. row_write.Aggregation (count i + 1) (it i) ∷ row_write.Day c.args.day ∷ []) in
     let number : suc (length s.tree.aggregations) ≡ c.aggregation_count-number.result + 1 = omega (arith, count) in
-    aggregation_change s c.args.day c.args.ref_text.now c.args.title.now c.args.parent (option_copied c.args.class) (record { answer = Number (c.aggregation_count-number.result + 1); writes = c.in_ok-writes.writes }) (subst IsSound tree c.sound.ensures) accepted (ap Number number) writes
+    let next = λ (contents : ByteMap). step_add_aggregation (with_contents s contents) c.args.day c.args.ref_text.now c.args.title.now c.args.parent (option_copied c.args.class) in
+    going s next (Number (c.aggregation_count-number.result + 1)) _ c.go.result c.go.ensures (λ change answer writes.
+    aggregation_change s c.args.day c.args.ref_text.now c.args.title.now c.args.parent (option_copied c.args.class) change (subst IsSound tree c.sound.ensures) accepted (ap Number number ∙ sym answer)
+    (writes ∙ (λ i. row_write.Aggregation (count i + 1) (it i) ∷ row_write.Day c.args.day ∷ [])))

@@ -1,15 +1,16 @@
-use Rattle.std.proofs.Common.{◌≡◌, ◌∙◌, [], ◌∷◌, sym, ap, refl, subst}
+use Rattle.std.proofs.Common.{◌≡◌, ◌∙◌, [], ◌∷◌, sym, ap, subst}
 use Rattle.office_tree.specs.Conditions.{first_of, conditions_of_add_class}
 use Rattle.office_tree.specs.Sound.{IsSound}
 use Rattle.office_tree.specs.Tree.{TreeState}
 use Rattle.office_tree.specs.declared.class.Class.{Class}
 use Rattle.office_machine.specs.Conditions.{refusals_of_add_class}
 use Rattle.office_machine.specs.Effects.{after_add_class}
-use Rattle.office_machine.specs.State.{with_contents, with_office}
+use Rattle.office_machine.specs.State.{ByteMap, with_contents, with_office}
+use Rattle.office_machine.specs.Steps.{step_add_class}
 use Rattle.office_machine.specs.declared.answer.Answer.TheVariants.{Done}
 use Rattle.office_machine.specs.declared.rows.RowWrite.TheVariants as row_write
 use Rattle.office_machine.proofs.DecidedTree.{none_of, class_change}
-use Rattle.office_machine.proofs.Decisions.{refused_step}
+use Rattle.office_machine.proofs.Decisions.{going, refused_step}
 use Rattle.office_machine.proofs.parts.Parts.decide_add_class.Goals.{After-dated}
 use Rattle.office_machine.proofs.parts.Parts.decide_add_class.Goals as goal
 
@@ -32,8 +33,9 @@ pub returns : goal.returns
 returns c =
     let p = (goal.at.returns c).After-dated in
     let accepted = sym (table p) ∙ none_of c.dated.result c.in_default.not-Some in
-    let code = c.in_ok-code.ensures in
     let title = c.in_ok-title.ensures in
-    let schedule = c.in_ok-schedule.ensures in
-    let writes = c.in_ok-writes.ensures ∙ (λ i. row_write.Class (code i) (record { title = title i; schedule = schedule i }) ∷ row_write.Day c.args.day ∷ []) in
-    class_change c.args.self.now c.args.day c.args.code.now (asked p) (record { answer = Done; writes = c.in_ok-writes.writes }) (subst IsSound (ap (λ o. o.tree) c.self.view_is) c.sound.ensures) accepted refl writes
+    let codes = c.in_ok-code.ensures in
+    let next = λ (contents : ByteMap). step_add_class (with_contents c.args.self.now contents) c.args.day c.args.code.now (asked p) in
+    going c.args.self.now next Done _ c.go.result c.go.ensures (λ change answer writes.
+    class_change c.args.self.now c.args.day c.args.code.now (asked p) change (subst IsSound (ap (λ o. o.tree) c.self.view_is) c.sound.ensures) accepted (sym answer)
+    (writes ∙ (λ i. row_write.Class (codes i).0 (record { title = title i; schedule = (codes i).1 }) ∷ row_write.Day c.args.day ∷ [])))

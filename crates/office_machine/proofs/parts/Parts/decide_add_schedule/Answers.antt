@@ -1,14 +1,15 @@
-use Rattle.std.proofs.Common.{◌≡◌, ◌∙◌, [], ◌∷◌, sym, ap, refl, subst}
+use Rattle.std.proofs.Common.{◌≡◌, ◌∙◌, [], ◌∷◌, sym, ap, subst}
 use Rattle.office_tree.specs.Conditions.{first_of, conditions_of_add_schedule}
 use Rattle.office_tree.specs.Sound.{IsSound}
 use Rattle.office_tree.specs.Tree.{TreeState}
 use Rattle.office_machine.specs.Conditions.{refusals_of_add_schedule}
 use Rattle.office_machine.specs.Effects.{after_add_schedule}
-use Rattle.office_machine.specs.State.{with_contents, with_office}
+use Rattle.office_machine.specs.State.{ByteMap, with_contents, with_office}
+use Rattle.office_machine.specs.Steps.{step_add_schedule}
 use Rattle.office_machine.specs.declared.answer.Answer.TheVariants.{Done}
 use Rattle.office_machine.specs.declared.rows.RowWrite.TheVariants as row_write
 use Rattle.office_machine.proofs.DecidedTree.{none_of, schedule_change}
-use Rattle.office_machine.proofs.Decisions.{refused_step}
+use Rattle.office_machine.proofs.Decisions.{going, refused_step}
 use Rattle.office_machine.proofs.parts.Parts.decide_add_schedule.Goals.{After-dated}
 use Rattle.office_machine.proofs.parts.Parts.decide_add_schedule.Goals as goal
 
@@ -26,5 +27,7 @@ returns-in-Some c = λ contents.
 pub returns : goal.returns
 returns c =
     let accepted = sym (table (goal.at.returns c).After-dated) ∙ none_of c.dated.result c.in_default.not-Some in
-    let writes = c.in_ok-writes.ensures ∙ ap (λ code. row_write.Schedule code c.args.schedule ∷ row_write.Day c.args.day ∷ []) c.in_ok-code.ensures in
-    schedule_change c.args.self.now c.args.day c.args.code.now c.args.schedule (record { answer = Done; writes = c.in_ok-writes.writes }) (subst IsSound (ap (λ o. o.tree) c.self.view_is) c.sound.ensures) accepted refl writes
+    let next = λ (contents : ByteMap). step_add_schedule (with_contents c.args.self.now contents) c.args.day c.args.code.now c.args.schedule in
+    let row = ap (λ code. row_write.Schedule code c.args.schedule ∷ row_write.Day c.args.day ∷ []) c.in_ok-code.ensures in
+    going c.args.self.now next Done _ c.go.result c.go.ensures (λ change answer writes.
+    schedule_change c.args.self.now c.args.day c.args.code.now c.args.schedule change (subst IsSound (ap (λ o. o.tree) c.self.view_is) c.sound.ensures) accepted (sym answer) (writes ∙ row))

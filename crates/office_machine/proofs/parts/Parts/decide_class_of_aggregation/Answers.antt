@@ -1,10 +1,14 @@
-use Rattle.std.proofs.Common.{◌≡◌, Some, ap, refl, subst}
+use Rattle.std.proofs.Common.{◌≡◌, Some, ap, subst, sym}
 use Rattle.std.specs.Option.{option_copied}
 use Rattle.office_tree.specs.Lists.{numbered}
 use Rattle.office_tree.specs.Sound.{IsSound}
 use Rattle.office_tree.specs.Tree.{TreeState}
+use Rattle.office_tree.specs.declared.classified.Classified.TheVariants as classified
+use Rattle.office_machine.specs.State.{ByteMap, with_contents}
+use Rattle.office_machine.specs.Steps.{step_reclassify}
 use Rattle.office_machine.specs.declared.answer.Answer.TheVariants.{Done}
 use Rattle.office_machine.proofs.DecidedClasses.{aggregation_reclassified}
+use Rattle.office_machine.proofs.Decisions.{going}
 use Rattle.office_machine.proofs.parts.Parts.decide_class_of_aggregation.Goals as goal
 
 pub returns : goal.returns
@@ -12,5 +16,8 @@ returns c =
     let tree = ap (λ o. o.tree) c.self.view_is in
     let old = c.aggregation.result.now in
     let there = subst (λ (t : TreeState). numbered t.aggregations c.args.number ≡ Some old) tree c.aggregation.ensures in
-    aggregation_reclassified c.args.self.now c.args.day c.args.number (option_copied c.args.class) old (record (c.in_ok-aggregation.aggregation) { class = c.in_ok-aggregation-2.field-0 }) (record { answer = Done; writes = c.in_ok-writes.writes })
-    (subst IsSound tree c.sound.ensures) c.requires there (λ i. record (c.in_ok-aggregation.ensures i) { class = c.in_ok-aggregation-2.ensures i }) refl c.in_ok-writes.ensures
+    let class = option_copied c.args.class in
+    let next = λ (contents : ByteMap). step_reclassify (with_contents c.args.self.now contents) c.args.day (classified.Aggregation c.args.number) class in
+    going c.args.self.now next Done _ c.go.result c.go.ensures (λ change answer writes.
+    aggregation_reclassified c.args.self.now c.args.day c.args.number class old (record (c.in_ok-aggregation.aggregation) { class = c.in_ok-class.class }) change
+    (subst IsSound tree c.sound.ensures) c.requires there (λ i. record (c.in_ok-aggregation.ensures i) { class = c.in_ok-class.ensures i }) (sym answer) writes)

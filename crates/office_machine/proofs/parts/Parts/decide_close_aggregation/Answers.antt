@@ -1,4 +1,4 @@
-use Rattle.std.proofs.Common.{◌≡◌, ◌∙◌, [], ◌∷◌, Some, sym, ap, refl, subst}
+use Rattle.std.proofs.Common.{◌≡◌, ◌∙◌, [], ◌∷◌, Some, sym, ap, subst}
 use Rattle.office_tree.specs.Conditions.{first_of, conditions_of_close_aggregation}
 use Rattle.office_tree.specs.Lists.{numbered}
 use Rattle.office_tree.specs.Sound.{IsSound}
@@ -7,11 +7,12 @@ use Rattle.office_tree.proofs.Accepting.{none_holds, not_false}
 use Rattle.office_tree.proofs.Keeping.{as_closed}
 use Rattle.office_machine.specs.Conditions.{refusals_of_close_aggregation}
 use Rattle.office_machine.specs.Effects.{after_close_aggregation}
-use Rattle.office_machine.specs.State.{with_contents, with_office}
+use Rattle.office_machine.specs.State.{ByteMap, with_contents, with_office}
+use Rattle.office_machine.specs.Steps.{step_close_aggregation}
 use Rattle.office_machine.specs.declared.answer.Answer.TheVariants.{Done}
 use Rattle.office_machine.specs.declared.rows.RowWrite.TheVariants as row_write
 use Rattle.office_machine.proofs.DecidedTree.{none_of, closing_change}
-use Rattle.office_machine.proofs.Decisions.{refused_step}
+use Rattle.office_machine.proofs.Decisions.{going, refused_step}
 use Rattle.office_machine.proofs.parts.Parts.decide_close_aggregation.Goals.{After-dated}
 use Rattle.office_machine.proofs.parts.Parts.decide_close_aggregation.Goals as goal
 
@@ -32,8 +33,10 @@ returns c =
     let tree = ap (λ o. o.tree) c.self.view_is in
     let accepted = sym (table (goal.at.returns c).After-dated) ∙ none_of c.dated.result c.in_default.not-Some in
     let there : numbered s.tree.aggregations c.args.aggregation ≡ Some c.aggregation.result.now = ap (λ (t : TreeState). numbered t.aggregations c.args.aggregation) (sym tree) ∙ c.aggregation.ensures in
-    let writes = c.in_ok-writes.ensures ∙ ap (λ it. row_write.Aggregation c.args.aggregation (as_closed c.args.day it) ∷ row_write.Day c.args.day ∷ []) c.in_ok-closed.ensures in
-    closing_change s c.args.day c.args.aggregation c.aggregation.result.now (record { answer = Done; writes = c.in_ok-writes.writes }) (subst IsSound tree c.sound.ensures) accepted there refl writes
+    let next = λ (contents : ByteMap). step_close_aggregation (with_contents s contents) c.args.day c.args.aggregation in
+    going s next Done _ c.go.result c.go.ensures (λ change answer writes.
+    closing_change s c.args.day c.args.aggregation c.aggregation.result.now change (subst IsSound tree c.sound.ensures) accepted there (sym answer)
+    (writes ∙ ap (λ it. row_write.Aggregation c.args.aggregation (as_closed c.args.day it) ∷ row_write.Day c.args.day ∷ []) c.in_ok-closed.ensures))
 
 pub aggregation-requires : goal.aggregation-requires
 aggregation-requires c =

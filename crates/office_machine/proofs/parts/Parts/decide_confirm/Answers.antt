@@ -1,12 +1,13 @@
-use Rattle.std.proofs.Common.{◌∙◌, sym, ap, refl}
+use Rattle.std.proofs.Common.{◌∙◌, sym, ap}
 use Rattle.office_tree.specs.Conditions.{first_of, conditions_of_confirm}
 use Rattle.office_tree.specs.Tree.{TreeState}
 use Rattle.office_machine.specs.Conditions.{refusals_of_confirm}
 use Rattle.office_machine.specs.Effects.{after_confirm}
-use Rattle.office_machine.specs.State.{with_contents, with_office}
+use Rattle.office_machine.specs.State.{ByteMap, with_contents, with_office}
+use Rattle.office_machine.specs.Steps.{step_confirm}
 use Rattle.office_machine.specs.declared.answer.Answer.TheVariants.{Done}
 use Rattle.office_machine.proofs.DecidedRecords.{IsRead, accepted_in, confirming, record_to_confirm, confirmed_on}
-use Rattle.office_machine.proofs.Decisions.{refused_step}
+use Rattle.office_machine.proofs.Decisions.{going, refused_step}
 use Rattle.office_machine.proofs.parts.Parts.decide_confirm.Goals as goal
 
 pub returns-in-Some : goal.returns-in-Some
@@ -38,7 +39,9 @@ pub returns : goal.returns
 returns c =
     let t = c.self.inside.tree in
     let table = sym (c.dated.ensures (conditions_of_confirm t c.args.day c.args.record_no c.args.action) c.check_confirm.ensures.first) ∙ c.in_default.is in
-    let told = c.in_ok-head-2.ensures ∙ ap (confirming c.args.action c.args.day c.args.by.now) c.due_of.ensures in
+    let told = c.in_ok-confirmation.ensures ∙ ap (confirming c.args.action c.args.day c.args.by.now) c.due_of.ensures in
     let reads : IsRead t c.args.record_no c.record.result.now c.status-status.result = record { sound = c.sound.ensures; there = c.record.ensures; standing = c.status-status.ensures } in
-    confirmed_on c.args.self.now t c.args.day c.args.record_no c.args.action c.args.by.now c.record.result.now (record (c.in_ok-head.head) { confirmation = c.in_ok-head-2.field-0 }) c.status-status.result _
-    (ap (λ o. o.tree) c.self.view_is) table reads (λ i. record (c.in_ok-head.ensures i) { confirmation = told i }) refl c.in_ok-writes.ensures
+    let next = λ (contents : ByteMap). step_confirm (with_contents c.args.self.now contents) c.args.day c.args.record_no c.args.action c.args.by.now in
+    going c.args.self.now next Done _ c.go.result c.go.ensures (λ change answer writes.
+    confirmed_on c.args.self.now t c.args.day c.args.record_no c.args.action c.args.by.now c.record.result.now (record (c.in_ok-head.head) { confirmation = c.in_ok-confirmation.confirmation }) c.status-status.result change
+    (ap (λ o. o.tree) c.self.view_is) table reads (λ i. record (c.in_ok-head.ensures i) { confirmation = told i }) answer writes)

@@ -1,14 +1,15 @@
-use Rattle.std.proofs.Common.{◌≡◌, ◌∙◌, [], ◌∷◌, sym, ap, refl}
+use Rattle.std.proofs.Common.{◌≡◌, ◌∙◌, [], ◌∷◌, sym, ap}
 use Rattle.office_tree.specs.Conditions.{first_of}
 use Rattle.office_holds.specs.Conditions.{conditions_of_hold_off}
 use Rattle.office_holds.specs.Holds.{HoldMap}
 use Rattle.office_machine.specs.Conditions.{refusals_of_hold_off}
 use Rattle.office_machine.specs.Effects.{after_hold_off}
-use Rattle.office_machine.specs.State.{with_contents, with_office}
+use Rattle.office_machine.specs.State.{ByteMap, with_contents, with_office}
+use Rattle.office_machine.specs.Steps.{step_hold_off}
 use Rattle.office_machine.specs.declared.answer.Answer.TheVariants.{Done}
 use Rattle.office_machine.specs.declared.rows.RowWrite.TheVariants as row_write
 use Rattle.office_machine.proofs.DecidedHolds.{uncovering_change}
-use Rattle.office_machine.proofs.Decisions.{refused_step}
+use Rattle.office_machine.proofs.Decisions.{going, refused_step}
 use Rattle.office_machine.proofs.parts.Parts.decide_hold_off.Goals.{After-dated}
 use Rattle.office_machine.proofs.parts.Parts.decide_hold_off.Goals as goal
 
@@ -29,5 +30,6 @@ returns c =
     let accepted = sym (table (goal.at.returns c).After-dated) ∙ c.in_default.is in
     let code = c.in_ok-hold.ensures in
     let target = c.in_ok-target.ensures in
-    let writes = c.in_ok-writes.ensures ∙ (λ i. row_write.TargetGone (code i) (target i) ∷ row_write.Day c.args.day ∷ []) in
-    uncovering_change s c.args.day c.args.code.now c.args.target.now (record { answer = Done; writes = c.in_ok-writes.writes }) accepted refl writes
+    let next = λ (contents : ByteMap). step_hold_off (with_contents s contents) c.args.day c.args.code.now c.args.target.now in
+    going s next Done _ c.go.result c.go.ensures (λ change answer writes.
+    uncovering_change s c.args.day c.args.code.now c.args.target.now change accepted (sym answer) (writes ∙ (λ i. row_write.TargetGone (code i) (target i) ∷ row_write.Day c.args.day ∷ [])))

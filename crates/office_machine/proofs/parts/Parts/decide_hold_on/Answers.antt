@@ -1,15 +1,16 @@
-use Rattle.std.proofs.Common.{◌≡◌, ◌∙◌, [], ◌∷◌, sym, ap, refl, subst}
+use Rattle.std.proofs.Common.{◌≡◌, ◌∙◌, [], ◌∷◌, sym, ap, subst}
 use Rattle.office_tree.specs.Conditions.{first_of}
 use Rattle.office_holds.specs.Conditions.{conditions_of_hold_on}
 use Rattle.office_holds.specs.Forms.{FitsHoldLimits}
 use Rattle.office_machine.specs.Conditions.{conditions_of_covering, conditions_of_target, refusals_of_hold_on}
 use Rattle.office_machine.specs.Effects.{after_hold_on}
 use Rattle.office_machine.specs.Lesser.{lesser}
-use Rattle.office_machine.specs.State.{Office, with_contents, with_office}
+use Rattle.office_machine.specs.State.{ByteMap, Office, with_contents, with_office}
+use Rattle.office_machine.specs.Steps.{step_hold_on}
 use Rattle.office_machine.specs.declared.answer.Answer.TheVariants.{Done}
 use Rattle.office_machine.specs.declared.rows.RowWrite.TheVariants as row_write
 use Rattle.office_machine.proofs.DecidedHolds.{covering_change}
-use Rattle.office_machine.proofs.Decisions.{refused_step}
+use Rattle.office_machine.proofs.Decisions.{going, refused_step}
 use Rattle.office_machine.proofs.LesserRefusals.{lesser_of_covering}
 use Rattle.office_machine.proofs.parts.Parts.decide_hold_on.Goals.{After-dated}
 use Rattle.office_machine.proofs.parts.Parts.decide_hold_on.Goals as goal
@@ -34,5 +35,6 @@ returns c =
     let accepted = sym (table (goal.at.returns c).After-dated) ∙ c.in_default.is in
     let code = c.in_ok-hold.ensures in
     let target = c.in_ok-target.ensures in
-    let writes = c.in_ok-writes.ensures ∙ (λ i. row_write.Target (code i) (target i) ∷ row_write.Day c.args.day ∷ []) in
-    covering_change s c.args.day c.args.code.now c.args.target.now (record { answer = Done; writes = c.in_ok-writes.writes }) (subst FitsHoldLimits (ap (λ o. o.holds) c.self.view_is) c.sound.ensures) accepted refl writes
+    let next = λ (contents : ByteMap). step_hold_on (with_contents s contents) c.args.day c.args.code.now c.args.target.now in
+    going s next Done _ c.go.result c.go.ensures (λ change answer writes.
+    covering_change s c.args.day c.args.code.now c.args.target.now change (subst FitsHoldLimits (ap (λ o. o.holds) c.self.view_is) c.sound.ensures) accepted (sym answer) (writes ∙ (λ i. row_write.Target (code i) (target i) ∷ row_write.Day c.args.day ∷ [])))

@@ -1,4 +1,4 @@
-use Rattle.std.proofs.Common.{◌≡◌, ◌∙◌, [], ◌∷◌, Some, sym, ap, refl, subst}
+use Rattle.std.proofs.Common.{◌≡◌, ◌∙◌, [], ◌∷◌, Some, sym, ap, subst}
 use Rattle.std.specs.FinMap.{get}
 use Rattle.std.specs.Option.{option_copied}
 use Rattle.office_tree.specs.Conditions.{first_of}
@@ -7,11 +7,12 @@ use Rattle.office_holds.specs.Forms.{FitsHoldLimits}
 use Rattle.office_holds.specs.Holds.{HoldMap}
 use Rattle.office_machine.specs.Conditions.{refusals_of_lift_hold}
 use Rattle.office_machine.specs.Effects.{after_lift_hold}
-use Rattle.office_machine.specs.State.{with_contents, with_office}
+use Rattle.office_machine.specs.State.{ByteMap, with_contents, with_office}
+use Rattle.office_machine.specs.Steps.{step_lift_hold}
 use Rattle.office_machine.specs.declared.answer.Answer.TheVariants.{Done}
 use Rattle.office_machine.specs.declared.rows.RowWrite.TheVariants as row_write
 use Rattle.office_machine.proofs.DecidedHolds.{hold_there, lifting_change}
-use Rattle.office_machine.proofs.Decisions.{refused_step}
+use Rattle.office_machine.proofs.Decisions.{going, refused_step}
 use Rattle.office_machine.proofs.parts.Parts.decide_lift_hold.Goals.{After-dated}
 use Rattle.office_machine.proofs.parts.Parts.decide_lift_hold.Goals as goal
 
@@ -33,8 +34,10 @@ returns c =
     let there : get s.holds c.args.code.now ≡ Some c.in-Some-hold.before.now = ap (λ (holds : HoldMap). get holds c.args.code.now) (sym (ap (λ o. o.holds) c.self.view_is)) ∙ sym c.in-Some-hold.ensures in
     let code = c.in_ok-code.ensures in
     let row = c.in_ok-hold.ensures ∙ c.row.ensures in
-    let writes = c.in_ok-writes.ensures ∙ (λ i. row_write.Hold (code i) (record (row i) { lifted = Some c.args.day }) ∷ row_write.Day c.args.day ∷ []) in
-    lifting_change s c.args.day c.args.code.now c.in-Some-hold.before.now (record { answer = Done; writes = c.in_ok-writes.writes }) (subst FitsHoldLimits (ap (λ o. o.holds) c.self.view_is) c.sound.ensures) accepted there refl writes
+    let next = λ (contents : ByteMap). step_lift_hold (with_contents s contents) c.args.day c.args.code.now in
+    going s next Done _ c.go.result c.go.ensures (λ change answer writes.
+    lifting_change s c.args.day c.args.code.now c.in-Some-hold.before.now change (subst FitsHoldLimits (ap (λ o. o.holds) c.self.view_is) c.sound.ensures) accepted there (sym answer)
+    (writes ∙ (λ i. row_write.Hold (code i) (record (row i) { lifted = Some c.args.day }) ∷ row_write.Day c.args.day ∷ [])))
 
 pub unreachable-requires : goal.unreachable-requires
 unreachable-requires c =

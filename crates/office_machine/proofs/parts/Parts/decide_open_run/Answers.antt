@@ -2,11 +2,12 @@ use Rattle.std.proofs.Common.{◌≡◌, ◌∙◌, [], ◌∷◌, suc, ◌+◌,
 use Rattle.office_tree.specs.Conditions.{first_of}
 use Rattle.office_machine.specs.Conditions.{conditions_of_open_run, refusals_of_open_run}
 use Rattle.office_machine.specs.Effects.{after_open_run, new_run}
-use Rattle.office_machine.specs.State.{with_contents, with_office}
+use Rattle.office_machine.specs.State.{ByteMap, with_contents, with_office}
+use Rattle.office_machine.specs.Steps.{step_open_run}
 use Rattle.office_machine.specs.declared.answer.Answer.TheVariants.{Number}
 use Rattle.office_machine.specs.declared.rows.RowWrite.TheVariants as row_write
 use Rattle.office_machine.proofs.DecidedTree.{none_of}
-use Rattle.office_machine.proofs.Decisions.{refused_step}
+use Rattle.office_machine.proofs.Decisions.{going, refused_step}
 use Rattle.office_machine.proofs.OfficeSound.{few_runs}
 use Rattle.office_machine.proofs.OpenedRuns.{opening_change}
 use Rattle.office_machine.proofs.parts.Parts.decide_open_run.Goals.{After-dated}
@@ -30,6 +31,7 @@ returns c =
     let accepted = sym (table (goal.at.returns c).After-dated) ∙ none_of c.dated.result c.in_default.not-Some in
     let count = c.run_count-number.ensures in
     let by = c.in_ok-copy.ensures in
-    let writes = c.in_ok-writes.ensures ∙ (λ i. row_write.Run (count i + 1) (new_run c.args.day (by i)) ∷ row_write.Day c.args.day ∷ []) in
     let number : suc (length s.runs) ≡ c.run_count-number.result + 1 = omega (arith, count) in
-    opening_change s c.args.day c.args.by.now (record { answer = Number (c.run_count-number.result + 1); writes = c.in_ok-writes.writes }) accepted (ap Number number) writes
+    let next = λ (contents : ByteMap). step_open_run (with_contents s contents) c.args.day c.args.by.now in
+    going s next (Number (c.run_count-number.result + 1)) _ c.go.result c.go.ensures (λ change answer writes.
+    opening_change s c.args.day c.args.by.now change accepted (ap Number number ∙ sym answer) (writes ∙ (λ i. row_write.Run (count i + 1) (new_run c.args.day (by i)) ∷ row_write.Day c.args.day ∷ [])))

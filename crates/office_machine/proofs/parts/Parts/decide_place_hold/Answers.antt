@@ -1,15 +1,16 @@
-use Rattle.std.proofs.Common.{◌≡◌, ◌∙◌, [], ◌∷◌, sym, ap, refl, subst}
+use Rattle.std.proofs.Common.{◌≡◌, ◌∙◌, [], ◌∷◌, sym, ap, subst}
 use Rattle.office_tree.specs.Conditions.{first_of}
 use Rattle.office_holds.specs.Conditions.{conditions_of_place_hold}
 use Rattle.office_holds.specs.Forms.{FitsHoldLimits}
 use Rattle.office_holds.specs.Holds.{HoldMap}
 use Rattle.office_machine.specs.Conditions.{refusals_of_place_hold}
 use Rattle.office_machine.specs.Effects.{after_place_hold}
-use Rattle.office_machine.specs.State.{with_contents, with_office}
+use Rattle.office_machine.specs.State.{ByteMap, with_contents, with_office}
+use Rattle.office_machine.specs.Steps.{step_place_hold}
 use Rattle.office_machine.specs.declared.answer.Answer.TheVariants.{Done}
 use Rattle.office_machine.specs.declared.rows.RowWrite.TheVariants as row_write
 use Rattle.office_machine.proofs.DecidedHolds.{placed_row, placing_change}
-use Rattle.office_machine.proofs.Decisions.{refused_step}
+use Rattle.office_machine.proofs.Decisions.{going, refused_step}
 use Rattle.office_machine.proofs.parts.Parts.decide_place_hold.Goals.{After-dated}
 use Rattle.office_machine.proofs.parts.Parts.decide_place_hold.Goals as goal
 
@@ -29,7 +30,8 @@ returns c =
     let s = c.args.self.now in
     let accepted = sym (table (goal.at.returns c).After-dated) ∙ c.in_default.is in
     let code = c.in_ok-code.ensures in
-    let reason = c.in_ok-copy.ensures in
-    let by = c.in_ok-copy-2.ensures in
-    let writes = c.in_ok-writes.ensures ∙ (λ i. row_write.Hold (code i) (placed_row c.args.day (reason i) (by i)) ∷ row_write.Day c.args.day ∷ []) in
-    placing_change s c.args.day c.args.code.now c.args.reason.now c.args.by.now (record { answer = Done; writes = c.in_ok-writes.writes }) (subst FitsHoldLimits (ap (λ o. o.holds) c.self.view_is) c.sound.ensures) accepted refl writes
+    let texts = c.in_ok-reason.ensures in
+    let next = λ (contents : ByteMap). step_place_hold (with_contents s contents) c.args.day c.args.code.now c.args.reason.now c.args.by.now in
+    going s next Done _ c.go.result c.go.ensures (λ change answer writes.
+    placing_change s c.args.day c.args.code.now c.args.reason.now c.args.by.now change (subst FitsHoldLimits (ap (λ o. o.holds) c.self.view_is) c.sound.ensures) accepted (sym answer)
+    (writes ∙ (λ i. row_write.Hold (code i) (placed_row c.args.day (texts i).0 (texts i).1) ∷ row_write.Day c.args.day ∷ [])))

@@ -1,12 +1,13 @@
-use Rattle.std.proofs.Common.{◌∙◌, Some, sym, ap, refl}
+use Rattle.std.proofs.Common.{◌∙◌, Some, sym, ap}
 use Rattle.office_tree.specs.Conditions.{first_of, conditions_of_receipt}
 use Rattle.office_tree.specs.Tree.{TreeState}
 use Rattle.office_machine.specs.Conditions.{refusals_of_receipt}
 use Rattle.office_machine.specs.Effects.{after_receipt}
-use Rattle.office_machine.specs.State.{with_contents, with_office}
+use Rattle.office_machine.specs.State.{ByteMap, with_contents, with_office}
+use Rattle.office_machine.specs.Steps.{step_receipt}
 use Rattle.office_machine.specs.declared.answer.Answer.TheVariants.{Done}
 use Rattle.office_machine.proofs.DecidedRecords.{accepted_in, record_to_receipt, received_on}
-use Rattle.office_machine.proofs.Decisions.{refused_step}
+use Rattle.office_machine.proofs.Decisions.{going, refused_step}
 use Rattle.office_machine.proofs.parts.Parts.decide_receipt.Goals as goal
 
 pub returns-in-Some : goal.returns-in-Some
@@ -26,5 +27,7 @@ pub returns : goal.returns
 returns c =
     let t = c.self.inside.tree in
     let table = sym (c.dated.ensures (conditions_of_receipt t c.args.record_no c.args.digest) c.check_receipt.ensures.first) ∙ c.in_default.is in
-    received_on c.args.self.now t c.args.day c.args.record_no c.args.digest c.args.by.now c.record.result.now (record (c.in_ok-head.head) { receipt = Some (record { day = c.args.day; by = c.in_ok-copy.field-0 }) }) _
-    (ap (λ o. o.tree) c.self.view_is) table c.sound.ensures c.record.ensures (λ i. record (c.in_ok-head.ensures i) { receipt = Some (record { day = c.args.day; by = c.in_ok-copy.ensures i }) }) refl c.in_ok-writes.ensures
+    let next = λ (contents : ByteMap). step_receipt (with_contents c.args.self.now contents) c.args.day c.args.record_no c.args.digest c.args.by.now in
+    going c.args.self.now next Done _ c.go.result c.go.ensures (λ change answer writes.
+    received_on c.args.self.now t c.args.day c.args.record_no c.args.digest c.args.by.now c.record.result.now (record (c.in_ok-head.head) { receipt = Some (record { day = c.args.day; by = c.in_ok-by.by }) }) change
+    (ap (λ o. o.tree) c.self.view_is) table c.sound.ensures c.record.ensures (λ i. record (c.in_ok-head.ensures i) { receipt = Some (record { day = c.args.day; by = c.in_ok-by.ensures i }) }) answer writes)

@@ -1,14 +1,15 @@
-use Rattle.std.proofs.Common.{◌∙◌, Some, sym, ap, refl}
+use Rattle.std.proofs.Common.{◌∙◌, Some, sym, ap}
 use Rattle.std.specs.Option.{option_copied}
 use Rattle.office_tree.specs.Conditions.{first_of, conditions_of_review}
 use Rattle.office_tree.specs.Lists.{or_else}
 use Rattle.office_tree.specs.Tree.{TreeState}
 use Rattle.office_machine.specs.Conditions.{refusals_of_review}
 use Rattle.office_machine.specs.Effects.{after_review}
-use Rattle.office_machine.specs.State.{with_contents, with_office}
+use Rattle.office_machine.specs.State.{ByteMap, with_contents, with_office}
+use Rattle.office_machine.specs.Steps.{step_review}
 use Rattle.office_machine.specs.declared.answer.Answer.TheVariants.{Done}
 use Rattle.office_machine.proofs.DecidedRecords.{IsRead, accepted_in, record_to_review, reviewed_on}
-use Rattle.office_machine.proofs.Decisions.{refused_step}
+use Rattle.office_machine.proofs.Decisions.{going, refused_step}
 use Rattle.office_machine.proofs.parts.Parts.decide_review.Goals as goal
 
 pub returns-in-Some : goal.returns-in-Some
@@ -38,7 +39,9 @@ returns c =
     let t = c.self.inside.tree in
     let schedule = option_copied c.args.schedule in
     let table = sym (c.dated.ensures (conditions_of_review t c.args.day c.args.record_no schedule) c.check_review.ensures.first) ∙ c.in_default.is in
-    let own = c.in_ok-head-2.ensures ∙ ap (or_else schedule) c.as_ref.ensures.value in
+    let own = c.in_ok-schedule.ensures ∙ ap (or_else schedule) c.as_ref.ensures.value in
     let reads : IsRead t c.args.record_no c.record-old.result.now c.status-status.result = record { sound = c.sound.ensures; there = c.record-old.ensures; standing = c.status-status.ensures } in
-    reviewed_on c.args.self.now t c.args.day c.args.record_no schedule c.args.by.now c.record-old.result.now (record (c.in_ok-head.head) { review = Some (record { day = c.args.day; by = c.in_ok-copy.field-0 }); schedule = c.in_ok-head-2.field-0 }) c.status-status.result _
-    (ap (λ o. o.tree) c.self.view_is) table reads (λ i. record (c.in_ok-head.ensures i) { review = Some (record { day = c.args.day; by = c.in_ok-copy.ensures i }); schedule = own i }) refl c.in_ok-writes.ensures
+    let next = λ (contents : ByteMap). step_review (with_contents c.args.self.now contents) c.args.day c.args.record_no schedule c.args.by.now in
+    going c.args.self.now next Done _ c.go.result c.go.ensures (λ change answer writes.
+    reviewed_on c.args.self.now t c.args.day c.args.record_no schedule c.args.by.now c.record-old.result.now (record (c.in_ok-head.head) { review = Some (record { day = c.args.day; by = c.in_ok-by.by }); schedule = c.in_ok-schedule.schedule }) c.status-status.result change
+    (ap (λ o. o.tree) c.self.view_is) table reads (λ i. record (c.in_ok-head.ensures i) { review = Some (record { day = c.args.day; by = c.in_ok-by.ensures i }); schedule = own i }) answer writes)

@@ -1,16 +1,17 @@
-use Rattle.std.proofs.Common.{◌≡◌, ◌∙◌, [], ◌∷◌, Some, sym, ap, refl, subst}
+use Rattle.std.proofs.Common.{◌≡◌, ◌∙◌, [], ◌∷◌, Some, sym, ap, subst}
 use Rattle.std.specs.FinMap.{get}
 use Rattle.office_tree.specs.Conditions.{first_of, conditions_of_set_class_schedule}
 use Rattle.office_tree.specs.Sound.{IsSound}
 use Rattle.office_tree.specs.Tree.{TreeState}
 use Rattle.office_machine.specs.Conditions.{refusals_of_set_class_schedule}
 use Rattle.office_machine.specs.Effects.{after_set_class_schedule}
-use Rattle.office_machine.specs.State.{with_contents, with_office}
+use Rattle.office_machine.specs.State.{ByteMap, with_contents, with_office}
+use Rattle.office_machine.specs.Steps.{step_set_class_schedule}
 use Rattle.office_machine.specs.declared.answer.Answer.TheVariants.{Done}
 use Rattle.office_machine.specs.declared.rows.RowWrite.TheVariants as row_write
 use Rattle.office_machine.proofs.Accepted.{dated_accepted}
 use Rattle.office_machine.proofs.DecidedTree.{none_of, class_there, class_schedule_change}
-use Rattle.office_machine.proofs.Decisions.{refused_step}
+use Rattle.office_machine.proofs.Decisions.{going, refused_step}
 use Rattle.office_machine.proofs.parts.Parts.decide_set_class_schedule.Goals.{After-dated}
 use Rattle.office_machine.proofs.parts.Parts.decide_set_class_schedule.Goals as goal
 
@@ -31,11 +32,12 @@ returns c =
     let tree = ap (λ o. o.tree) c.self.view_is in
     let accepted = sym (table (goal.at.returns c).After-dated) ∙ none_of c.dated.result c.in_default.not-Some in
     let there : get s.tree.classes c.args.class.now ≡ Some c.in-Some-class.it.now = ap (λ (t : TreeState). get t.classes c.args.class.now) (sym tree) ∙ sym c.in-Some-class.ensures in
-    let code = c.in_ok-code.ensures in
     let title = c.in_ok-title-in-Some-class.ensures in
-    let schedule = c.in_ok-schedule.ensures in
-    let writes = c.in_ok-writes.ensures ∙ (λ i. row_write.Class (code i) (record { title = title i; schedule = schedule i }) ∷ row_write.Day c.args.day ∷ []) in
-    class_schedule_change s c.args.day c.args.class.now c.args.schedule.now c.in-Some-class.it.now (record { answer = Done; writes = c.in_ok-writes.writes }) (subst IsSound tree c.sound.ensures) accepted there refl writes
+    let codes = c.in_ok-code.ensures in
+    let next = λ (contents : ByteMap). step_set_class_schedule (with_contents s contents) c.args.day c.args.class.now c.args.schedule.now in
+    going s next Done _ c.go.result c.go.ensures (λ change answer writes.
+    class_schedule_change s c.args.day c.args.class.now c.args.schedule.now c.in-Some-class.it.now change (subst IsSound tree c.sound.ensures) accepted there (sym answer)
+    (writes ∙ (λ i. row_write.Class (codes i).0 (record { title = title i; schedule = (codes i).1 }) ∷ row_write.Day c.args.day ∷ [])))
 
 pub unreachable-requires : goal.unreachable-requires
 unreachable-requires c =
