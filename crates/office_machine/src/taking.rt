@@ -22,7 +22,7 @@ use std::alloc::Global;
 fn with_status(
     alloc: Global,
     tree: &Tree,
-    mut writes: Vec<RowWrite>,
+    writes: Vec<RowWrite>,
     record_no: RecordNo,
     status: Status,
 ) -> Result<Vec<RowWrite>, Memory>
@@ -30,12 +30,12 @@ fn with_status(
     ensures { IfOk result (λ all. (head : Record) → numbered tree.now.records record_no ≡ Some head → all.items ≡ writes.items ++ row_write.Record record_no head status ∷ []) }
 {
     let head = tree.record(record_no).copy(alloc)?;
-    writes.push(RowWrite::Record {
+    let write = RowWrite::Record {
         number: record_no,
         head,
         status,
-    })?;
-    Ok(writes)
+    };
+    then(writes, write)
 }
 
 /// The writes, and then those of the record's own rows.
