@@ -1,13 +1,19 @@
 -- The command line of the office, as `clap` reads it, and what its words ask for. Source: own.
-use Rattle.std.specs.Prelude.{true, codes, List, [], Option, Some, None, unwrap_or, if◌then◌else◌}
+use Rattle.std.specs.Prelude.{true, codes, List, [], ◌∷◌, Option, Some, None, unwrap_or, if◌then◌else◌}
 use Rattle.std.specs.Str.{bytes_eq}
 use Rattle.clap.specs.Words.{App, Row, Rule, Text, first_of, new_app, new_rule, with_rule, with_subcommand}
+use Rattle.office_words.specs.declared.command.Operand.{Operand}
 use Rattle.office_words.specs.declared.words.Words.{Words}
 use Rattle.office_words.specs.declared.words.Words.TheVariants.{Apply, Certificate, Due, Init, Nothing, Plan, Resume, Serve}
 
 -- an operand that must be there
 abbrev pub operand : Text → Rule
 operand name = record (new_rule name) { required = true }
+
+-- with these operands
+abbrev pub with_operands : App → List Operand → App
+with_operands app [] = app
+with_operands app (x ∷ xs) = with_operands (with_rule app (operand x.name.now)) xs
 
 -- `due UNIT COUNT OFFSET DAY`
 abbrev pub due_app : App

@@ -6,6 +6,7 @@
 //! looked at.
 #![tactic(auto)]
 
+mod command;
 mod order;
 mod service;
 mod words;

@@ -1,5 +1,5 @@
 ghost use Rattle.std.specs.Prelude.{◌≡◌, None, Some, if◌then◌else◌};
-ghost use Rattle.office_words.specs.Services.{is_connection_count, is_port, service_numbers};
+ghost use Rattle.office_words.specs.Services.{is_connection_count, is_port, service_numbered, service_numbers};
 
 use office_days::{Refusal, read_numeral};
 
@@ -23,6 +23,16 @@ fn count_of(number: u64) -> Option<u32>
     }
 }
 
+/// The port and the count of connections of those numbers.
+fn service_of(port: u64, count: u64) -> Result<(u16, u32), Refusal>
+    ensures { result ≡ service_numbered (Some port) (Some count) }
+{
+    match (port_of(port), count_of(count)) {
+        (Some(port), Some(count)) => Ok((port, count)),
+        _ => Err(Refusal::BadNumber),
+    }
+}
+
 /// The port of a service, from 1 to 65,535, and how many connections it serves, from 1 to 1,000,000;
 /// each is one or more ASCII digits, leading zeros allowed. What is no digits is told before a number
 /// out of its range.
@@ -30,9 +40,8 @@ fn count_of(number: u64) -> Option<u32>
 pub(crate) fn read_service(port: &str, count: &str) -> Result<(u16, u32), Refusal>
     ensures { result ≡ service_numbers port.now count.now }
 {
-    let port = read_numeral(port).ok_or(Refusal::BadText)?;
-    let count = read_numeral(count).ok_or(Refusal::BadText)?;
-    let port = port_of(port).ok_or(Refusal::BadNumber)?;
-    let count = count_of(count).ok_or(Refusal::BadNumber)?;
-    Ok((port, count))
+    match (read_numeral(port), read_numeral(count)) {
+        (Some(port), Some(count)) => service_of(port, count),
+        _ => Err(Refusal::BadText),
+    }
 }
