@@ -15,11 +15,15 @@ pub fn both<A: Drop, B: Drop>(
 ) -> Result<(A, B), Refusal>
     ensures { result ≡ both first second }
 {
-    match (first, second) {
-        (Ok(a), Ok(b)) => Ok((a, b)),
-        (Ok(_), Err(refusal)) => Err(refusal),
-        (Err(refusal), Ok(_)) => Err(refusal),
-        (Err(a), Err(b)) => Err(if a.number() <= b.number() { a } else { b }),
+    match first {
+        Ok(a) => match second {
+            Ok(b) => Ok((a, b)),
+            Err(refusal) => Err(refusal),
+        },
+        Err(a) => match second {
+            Ok(_) => Err(a),
+            Err(b) => Err(if a.number() <= b.number() { a } else { b }),
+        },
     }
 }
 

@@ -1,4 +1,4 @@
-ghost use Rattle.std.specs.Prelude.{◌≡◌, ◌++◌, length, IfErr, IfOk, IfSome, IsSome, IsTrue, OnOk};
+ghost use Rattle.std.specs.Prelude.{◌≡◌, ◌++◌, length, Err, IfErr, IfOk, IfSome, IsSome, IsTrue, None, OnOk};
 ghost use Rattle.std.specs.Io.KnownBytes.{Appends};
 ghost use Rattle.std.specs.Str.Lines.{lines};
 ghost use Rattle.office_tree.specs.Tree.{has_record};
@@ -6,7 +6,7 @@ ghost use Rattle.office_plan.specs.PlanFile.{due_line, due_lines, due_word, plan
 
 use crate::input::{PlanStop, read_whole};
 use crate::lines::next_line;
-use crate::output::write_out;
+use crate::output::{Io, write_out};
 use crate::plan_step::take_line;
 use office_days::{DueDay, Refusal};
 use office_tree::{Memory, RecordNo, Tree};
@@ -71,6 +71,22 @@ fn lines_of(alloc: Global, tree: &Tree) -> Result<Vec<u8>, AllocError>
     Ok(out)
 }
 
+/// The lines of all records of a plan file, or the first line that is refused, and why.
+fn lines_asked(alloc: Global, bytes: &[u8]) -> Result<Result<Vec<u8>, (u64, Refusal)>, Memory>
+    ensures lines { IfOk result (λ told. IfOk told (λ lines. (plan_refusal (plan_asked bytes.now) ≡ None) × (lines.items ≡ plan_written (plan_asked bytes.now)))) }
+    ensures refused { IfOk result (λ told. IfErr told (λ refused. plan_asked bytes.now ≡ Err refused)) }
+{
+    let mut tree = Tree::new(alloc);
+    match take_lines(alloc, &mut tree, bytes) {
+        Ok(None) => match lines_of(alloc, &tree) {
+            Ok(lines) => Ok(Ok(lines)),
+            Err(_) => Err(Memory),
+        },
+        Ok(Some(refused)) => Ok(Err(refused)),
+        Err(Memory) => Err(Memory),
+    }
+}
+
 /// `office plan FILE`: reads a plan file to its end and then writes, for each of its records, the
 /// number and the due day, or `-` where there is none. `None` after that was written; else the
 /// first line that is refused, counted from 1 with empty lines, and why, with nothing written.
@@ -89,11 +105,12 @@ pub fn plan_to<R: Read, W: Write>(
     ensures unwritten { IfErr result (λ stop. stop ≡ PlanStop.Memory → out.new ≡ out.old) }
 {
     let bytes = read_whole(alloc, reader)?;
-    let mut tree = Tree::new(alloc);
-    if let Some(refused) = take_lines(alloc, &mut tree, bytes.as_slice())? {
-        return Ok(Some(refused));
+    match lines_asked(alloc, bytes.as_slice()) {
+        Ok(Ok(lines)) => match write_out(lines.as_slice(), out) {
+            Ok(()) => Ok(None),
+            Err(Io) => Err(PlanStop::Io),
+        },
+        Ok(Err(refused)) => Ok(Some(refused)),
+        Err(Memory) => Err(PlanStop::Memory),
     }
-    let lines = lines_of(alloc, &tree)?;
-    write_out(lines.as_slice(), out)?;
-    Ok(None)
 }

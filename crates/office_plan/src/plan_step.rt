@@ -22,6 +22,15 @@ fn digits_of(alloc: Global, number: u32) -> Result<Text, Memory>
     }
 }
 
+/// The reference and the title of what has that number: its digits.
+fn names_of(alloc: Global, number: u32) -> Result<(Text, Text), Memory>
+    ensures reference { IfOk result (λ names. names.0 ≡ decimal number) }
+    ensures title { IfOk result (λ names. names.1 ≡ decimal number) }
+{
+    let ref_text = digits_of(alloc, number)?;
+    Ok((ref_text, digits_of(alloc, number)?))
+}
+
 /// A code, as a title.
 fn title_of(alloc: Global, code: &Code) -> Result<Text, Memory>
     ensures { IfOk result (λ title. title ≡ code.now) }
@@ -35,11 +44,10 @@ fn title_of(alloc: Global, code: &Code) -> Result<Text, Memory>
 fn add_schedule(tree: &mut Tree, code: Code, schedule: Schedule) -> Result<Option<Refusal>, Memory>
     ensures { IfOk result (λ refusal. done_or_refused (first_of (conditions_of_add_schedule tree.old code)) (added_schedule tree.old code schedule) ≡ done_or_refused refusal tree.new) }
 {
-    if let Some(refusal) = tree.check_add_schedule(&code) {
-        return Ok(Some(refusal));
+    match tree.check_add_schedule(&code) {
+        Some(refusal) => Ok(Some(refusal)),
+        None => tree.apply_add_schedule(code, schedule).and(Ok(None)),
     }
-    tree.apply_add_schedule(code, schedule)?;
-    Ok(None)
 }
 
 fn add_class(
@@ -54,8 +62,8 @@ fn add_class(
         return Ok(Some(refusal));
     }
     let title = title_of(alloc, &code)?;
-    tree.apply_add_class(code, Class { title, schedule })?;
-    Ok(None)
+    tree.apply_add_class(code, Class { title, schedule })
+        .and(Ok(None))
 }
 
 fn add_aggregation(
@@ -66,14 +74,13 @@ fn add_aggregation(
 ) -> Result<Option<Refusal>, Memory>
     ensures { IfOk result (λ refusal. done_or_refused (first_of (conditions_of_add_aggregation tree.old (next_aggregation tree.old) parent class)) (added_aggregation tree.old (next_aggregation tree.old) (next_aggregation tree.old) parent class) ≡ done_or_refused refusal tree.new) }
 {
-    let number = tree.aggregation_count() + 1;
-    let ref_text = digits_of(alloc, number)?;
-    if let Some(refusal) = tree.check_add_aggregation(&ref_text, parent, class.as_ref()) {
-        return Ok(Some(refusal));
+    let (ref_text, title) = names_of(alloc, tree.aggregation_count() + 1)?;
+    match tree.check_add_aggregation(&ref_text, parent, class.as_ref()) {
+        Some(refusal) => Ok(Some(refusal)),
+        None => tree
+            .apply_add_aggregation(ref_text, title, parent, class)
+            .and(Ok(None)),
     }
-    let title = digits_of(alloc, number)?;
-    tree.apply_add_aggregation(ref_text, title, parent, class)?;
-    Ok(None)
 }
 
 fn close_aggregation(
@@ -83,11 +90,10 @@ fn close_aggregation(
 ) -> Result<Option<Refusal>, Memory>
     ensures { IfOk result (λ refusal. done_or_refused (first_of (conditions_of_close_aggregation tree.old aggregation)) (closed_aggregation tree.old aggregation day) ≡ done_or_refused refusal tree.new) }
 {
-    if let Some(refusal) = tree.check_close_aggregation(aggregation) {
-        return Ok(Some(refusal));
+    match tree.check_close_aggregation(aggregation) {
+        Some(refusal) => Ok(Some(refusal)),
+        None => tree.apply_close_aggregation(aggregation, day).and(Ok(None)),
     }
-    tree.apply_close_aggregation(aggregation, day)?;
-    Ok(None)
 }
 
 /// Where a record of a plan file belongs, and its days.
@@ -101,9 +107,10 @@ struct Planned {
 }
 
 /// The head of a record of a plan file, with no content.
-fn head_of(ref_text: Text, title: Text, planned: Planned) -> Record
-    ensures { result ≡ record (planned_head ref_text planned.aggregation planned.class planned.schedule planned.originated planned.added) { title = title } }
+fn head_of(names: (Text, Text), planned: Planned) -> Record
+    ensures { result ≡ record (planned_head names.0 planned.aggregation planned.class planned.schedule planned.originated planned.added) { title = names.1 } }
 {
+    let (ref_text, title) = names;
     let Planned {
         aggregation,
         class,
@@ -127,23 +134,26 @@ fn head_of(ref_text: Text, title: Text, planned: Planned) -> Record
     }
 }
 
-fn add_record(alloc: Global, tree: &mut Tree, planned: Planned) -> Result<Option<Refusal>, Memory>
-    ensures { IfOk result (λ refusal. done_or_refused (first_of (conditions_of_add_record tree.old (next_record tree.old) planned.aggregation planned.class planned.schedule)) (added_record tree.old (planned_head (next_record tree.old) planned.aggregation planned.class planned.schedule planned.originated planned.added)) ≡ done_or_refused refusal tree.new) }
+/// Why the tree refuses a record.
+fn refusal_of(tree: &Tree, head: &Record) -> Option<Refusal>
+    ensures { result ≡ first_of (conditions_of_add_record tree.now head.now.ref_text head.now.aggregation head.now.class head.now.schedule) }
 {
-    let number = tree.record_count() + 1;
-    let ref_text = digits_of(alloc, number)?;
-    let title = digits_of(alloc, number)?;
-    let head = head_of(ref_text, title, planned);
-    if let Some(refusal) = tree.check_add_record(
+    tree.check_add_record(
         &head.ref_text,
         head.aggregation,
         head.class.as_ref(),
         head.schedule.as_ref(),
-    ) {
-        return Ok(Some(refusal));
+    )
+}
+
+fn add_record(alloc: Global, tree: &mut Tree, planned: Planned) -> Result<Option<Refusal>, Memory>
+    ensures { IfOk result (λ refusal. done_or_refused (first_of (conditions_of_add_record tree.old (next_record tree.old) planned.aggregation planned.class planned.schedule)) (added_record tree.old (planned_head (next_record tree.old) planned.aggregation planned.class planned.schedule planned.originated planned.added)) ≡ done_or_refused refusal tree.new) }
+{
+    let head = head_of(names_of(alloc, tree.record_count() + 1)?, planned);
+    match refusal_of(tree, &head) {
+        Some(refusal) => Ok(Some(refusal)),
+        None => tree.apply_add_record(head).and(Ok(None)),
     }
-    tree.apply_add_record(head)?;
-    Ok(None)
 }
 
 /// Does what a line asks for, or gives why the tree refuses it.
