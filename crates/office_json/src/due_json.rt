@@ -4,7 +4,7 @@ ghost use Rattle.serde_json.specs.View.{members_view, view};
 ghost use Rattle.serde_json.specs.Written.{has_float};
 ghost use Rattle.office_json.specs.DueJson.{due_data, due_row_data, put_plan, put_rest};
 
-use crate::told_parts::{code_value, due_day_value, put_number, put_text};
+use crate::told::{Told, put_all, told_code, told_due};
 use office_machine::RecordView;
 use office_tree::Memory;
 use serde_json::{Map, Value};
@@ -19,11 +19,16 @@ fn put_plan(
 ) -> Result<(), AllocError>
     ensures { OnOk result (members_view map.new.entries ≡ put_plan told.now (members_view map.old.entries)) }
 {
-    put_text(map, alloc, "action", told.action.text())?;
-    put_text(map, alloc, "class", told.class.text())?;
-    serde_json::put(map, alloc, "confirmed", Value::Bool(told.counts))?;
-    let due = due_day_value(alloc, told.due)?;
-    serde_json::put(map, alloc, "due", due)
+    put_all(
+        map,
+        alloc,
+        &[
+            ("action", Told::Text(told.action.text())),
+            ("class", Told::Text(told.class.text())),
+            ("confirmed", Told::Flag(told.counts)),
+            ("due", told_due(told.due)),
+        ],
+    )
 }
 
 /// Puts the members from `held` on.
@@ -35,11 +40,16 @@ fn put_rest(
 ) -> Result<(), AllocError>
     ensures { OnOk result (members_view map.new.entries ≡ put_rest told.now (members_view map.old.entries)) }
 {
-    let held = code_value(alloc, told.held.as_ref())?;
-    serde_json::put(map, alloc, "held", held)?;
-    put_number(map, alloc, "record", told.number)?;
-    put_text(map, alloc, "ref", told.ref_text.text())?;
-    put_text(map, alloc, "schedule", told.schedule.text())
+    put_all(
+        map,
+        alloc,
+        &[
+            ("held", told_code(told.held.as_ref())),
+            ("record", Told::Number(u64::from(told.number))),
+            ("ref", Told::Text(told.ref_text.text())),
+            ("schedule", Told::Text(told.schedule.text())),
+        ],
+    )
 }
 
 /// A record that is due, in JSON. `Memory` comes where an allocation was refused.

@@ -24,6 +24,7 @@ mod read_fault;
 mod record_json;
 mod replies;
 mod targets;
+mod told;
 mod told_parts;
 
 pub use acts::read_act;

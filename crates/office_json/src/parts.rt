@@ -13,7 +13,7 @@ use crate::ReadFault;
 use crate::members::{is_given, text_at};
 use office_days::{Day, Offset, Period, Refusal, Unit};
 use office_proof::read_digest;
-use office_tree::{Action, AggNo, Code, Text, Trigger};
+use office_tree::{Action, AggNo, Code, Memory, Text, Trigger};
 use serde_json::Value;
 use std::alloc::Global;
 
@@ -42,25 +42,31 @@ pub fn both<A: Drop, B: Drop>(
 pub(crate) fn day_at(value: &Value, name: &str) -> Result<Day, ReadFault>
     ensures { IsReadAs (day_part (get name.now (view value.now))) result }
 {
-    let text = text_at(value, name).ok_or(Refusal::BadText)?;
-    let day = Day::read(text).ok_or(Refusal::BadText)?;
-    Ok(day)
+    text_at(value, name)
+        .and_then(Day::read)
+        .ok_or(ReadFault::Refused(Refusal::BadText))
 }
 
 /// The code that a text is; else `BadText`.
 pub fn read_code(alloc: Global, text: &str) -> Result<Code, ReadFault>
     ensures { IsReadAs (ok_or (code_named text.now) BadText) result }
 {
-    let code = Code::read(alloc, text)?.ok_or(Refusal::BadText)?;
-    Ok(code)
+    match Code::read(alloc, text) {
+        Ok(Some(code)) => Ok(code),
+        Ok(None) => Err(ReadFault::Refused(Refusal::BadText)),
+        Err(Memory) => Err(ReadFault::Memory),
+    }
 }
 
 /// The words that a text is, as of a title; else `BadText`.
 pub fn read_words(alloc: Global, text: &str) -> Result<Text, ReadFault>
     ensures { IsReadAs (ok_or (text_named text.now) BadText) result }
 {
-    let words = Text::read(alloc, text)?.ok_or(Refusal::BadText)?;
-    Ok(words)
+    match Text::read(alloc, text) {
+        Ok(Some(words)) => Ok(words),
+        Ok(None) => Err(ReadFault::Refused(Refusal::BadText)),
+        Err(Memory) => Err(ReadFault::Memory),
+    }
 }
 
 /// A code.
@@ -68,8 +74,10 @@ pub fn read_words(alloc: Global, text: &str) -> Result<Text, ReadFault>
 pub(crate) fn code_at(alloc: Global, value: &Value, name: &str) -> Result<Code, ReadFault>
     ensures { IsReadAs (code_part (get name.now (view value.now))) result }
 {
-    let text = text_at(value, name).ok_or(Refusal::BadText)?;
-    read_code(alloc, text)
+    match text_at(value, name) {
+        Some(text) => read_code(alloc, text),
+        None => Err(ReadFault::Refused(Refusal::BadText)),
+    }
 }
 
 /// A text in words, as a title.
@@ -77,8 +85,10 @@ pub(crate) fn code_at(alloc: Global, value: &Value, name: &str) -> Result<Code, 
 pub(crate) fn words_at(alloc: Global, value: &Value, name: &str) -> Result<Text, ReadFault>
     ensures { IsReadAs (text_part (get name.now (view value.now))) result }
 {
-    let text = text_at(value, name).ok_or(Refusal::BadText)?;
-    read_words(alloc, text)
+    match text_at(value, name) {
+        Some(text) => read_words(alloc, text),
+        None => Err(ReadFault::Refused(Refusal::BadText)),
+    }
 }
 
 /// A trigger.
@@ -86,9 +96,9 @@ pub(crate) fn words_at(alloc: Global, value: &Value, name: &str) -> Result<Text,
 pub(crate) fn trigger_at(value: &Value, name: &str) -> Result<Trigger, ReadFault>
     ensures { IsReadAs (trigger_part (get name.now (view value.now))) result }
 {
-    let text = text_at(value, name).ok_or(Refusal::BadText)?;
-    let trigger = Trigger::read(text).ok_or(Refusal::BadText)?;
-    Ok(trigger)
+    text_at(value, name)
+        .and_then(Trigger::read)
+        .ok_or(ReadFault::Refused(Refusal::BadText))
 }
 
 /// An offset.
@@ -96,9 +106,9 @@ pub(crate) fn trigger_at(value: &Value, name: &str) -> Result<Trigger, ReadFault
 pub(crate) fn offset_at(value: &Value, name: &str) -> Result<Offset, ReadFault>
     ensures { IsReadAs (offset_part (get name.now (view value.now))) result }
 {
-    let text = text_at(value, name).ok_or(Refusal::BadText)?;
-    let offset = Offset::read(text).ok_or(Refusal::BadText)?;
-    Ok(offset)
+    text_at(value, name)
+        .and_then(Offset::read)
+        .ok_or(ReadFault::Refused(Refusal::BadText))
 }
 
 /// An action.
@@ -106,9 +116,9 @@ pub(crate) fn offset_at(value: &Value, name: &str) -> Result<Offset, ReadFault>
 pub(crate) fn action_at(value: &Value, name: &str) -> Result<Action, ReadFault>
     ensures { IsReadAs (action_part (get name.now (view value.now))) result }
 {
-    let text = text_at(value, name).ok_or(Refusal::BadText)?;
-    let action = Action::read(text).ok_or(Refusal::BadText)?;
-    Ok(action)
+    text_at(value, name)
+        .and_then(Action::read)
+        .ok_or(ReadFault::Refused(Refusal::BadText))
 }
 
 /// A digest, in 64 lower-case hexadecimal digits.
@@ -117,8 +127,7 @@ pub(crate) fn digest_at(value: &Value, name: &str) -> Result<[u8; 32], ReadFault
     ensures { IsReadAs (digest_part (get name.now (view value.now))) result }
 {
     let text = text_at(value, name).ok_or(Refusal::BadText)?;
-    let digest = read_digest(text).ok_or(Refusal::BadText)?;
-    Ok(digest)
+    read_digest(text).ok_or(ReadFault::Refused(Refusal::BadText))
 }
 
 /// The number of a thing.
@@ -160,11 +169,11 @@ fn period_of(unit: Unit, count: u64) -> Option<Period>
 pub(crate) fn period_at(value: &Value) -> Result<Period, ReadFault>
     ensures { IsReadAs (period_part (get (codes "unit") (view value.now)) (get (codes "count") (view value.now))) result }
 {
-    let text = text_at(value, "unit").ok_or(Refusal::BadText)?;
-    let unit = Unit::read(text).ok_or(Refusal::BadText)?;
+    let unit = text_at(value, "unit")
+        .and_then(Unit::read)
+        .ok_or(Refusal::BadText)?;
     let count = count_at(value, "count")?;
-    let period = period_of(unit, count).ok_or(Refusal::BadNumber)?;
-    Ok(period)
+    period_of(unit, count).ok_or(ReadFault::Refused(Refusal::BadNumber))
 }
 
 /// A code that may be null or missing.

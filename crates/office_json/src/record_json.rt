@@ -4,12 +4,11 @@ ghost use Rattle.serde_json.specs.View.{members_view, view};
 ghost use Rattle.serde_json.specs.Written.{has_float};
 ghost use Rattle.office_json.specs.RecordJson.{confirmed_data, ended_data, or_null, put_first, put_last, put_second, put_third, record_data};
 
-use crate::digits::put_digest;
-use crate::told_parts::{code_value, day_value, due_day_value, put_day, put_number, put_text};
+use crate::told::{Told, object_of, put_all, told_code, told_due};
 use office_machine::RecordView;
 use office_proof::Entry;
 use office_tree::{Confirmation, Memory};
-use serde_json::{Map, Value, json};
+use serde_json::{Map, Value};
 use std::alloc::{AllocError, Global};
 
 /// A confirmation.
@@ -17,9 +16,15 @@ use std::alloc::{AllocError, Global};
 fn confirmation_value(alloc: Global, it: &Confirmation) -> Result<Value, AllocError>
     ensures { IfOk result (λ value. view value ≡ confirmed_data it.now) }
 {
-    let day = day_value(alloc, it.day)?;
-    let due = due_day_value(alloc, Some(it.due))?;
-    json!(in alloc; {"action": it.action.text(), "by": it.by.text(), "day": day, "due": due})
+    object_of(
+        alloc,
+        &[
+            ("action", Told::Text(it.action.text())),
+            ("by", Told::Text(it.by.text())),
+            ("day", Told::Day(it.day)),
+            ("due", Told::Due(it.due)),
+        ],
+    )
 }
 
 /// A confirmation, or null.
@@ -37,7 +42,11 @@ fn confirmed_value(alloc: Global, it: Option<&Confirmation>) -> Result<Value, Al
 fn entry_value(alloc: Global, entry: &Entry) -> Result<Value, AllocError>
     ensures { IfOk result (λ value. view value ≡ ended_data entry.now) }
 {
-    json!(in alloc; {"outcome": entry.outcome.text(), "run": entry.run})
+    let run = Told::Number(u64::from(entry.run));
+    object_of(
+        alloc,
+        &[("outcome", Told::Text(entry.outcome.text())), ("run", run)],
+    )
 }
 
 /// The outcome and the run of an entry, or null.
@@ -59,9 +68,15 @@ fn put_first(
 ) -> Result<(), AllocError>
     ensures { OnOk result (members_view map.new.entries ≡ put_first told.now (members_view map.old.entries)) }
 {
-    put_day(map, alloc, "added", told.added)?;
-    put_number(map, alloc, "aggregation", told.aggregation)?;
-    put_text(map, alloc, "class", told.class.text())?;
+    put_all(
+        map,
+        alloc,
+        &[
+            ("added", Told::Day(told.added)),
+            ("aggregation", Told::Number(u64::from(told.aggregation))),
+            ("class", Told::Text(told.class.text())),
+        ],
+    )?;
     let confirmed = confirmed_value(alloc, told.confirmed.as_ref())?;
     serde_json::put(map, alloc, "confirmed", confirmed)
 }
@@ -76,13 +91,15 @@ fn put_second(
 ) -> Result<(), AllocError>
     ensures { OnOk result (members_view map.new.entries ≡ put_second told.now (option_copied ending.entry) (members_view map.old.entries)) }
 {
-    put_digest(map, alloc, "digest", &told.digest)?;
-    let due = due_day_value(alloc, told.due)?;
-    serde_json::put(map, alloc, "due", due)?;
+    let due = told_due(told.due);
+    put_all(
+        map,
+        alloc,
+        &[("digest", Told::Digest(&told.digest)), ("due", due)],
+    )?;
     let ended = ended_value(alloc, ending)?;
     serde_json::put(map, alloc, "ended", ended)?;
-    let held = code_value(alloc, told.held.as_ref())?;
-    serde_json::put(map, alloc, "held", held)
+    put_all(map, alloc, &[("held", told_code(told.held.as_ref()))])
 }
 
 /// Puts the members from `length` to `ref`.
@@ -94,10 +111,16 @@ fn put_third(
 ) -> Result<(), AllocError>
     ensures { OnOk result (members_view map.new.entries ≡ put_third told.now (members_view map.old.entries)) }
 {
-    put_number(map, alloc, "length", told.length)?;
-    put_number(map, alloc, "number", told.number)?;
-    put_day(map, alloc, "originated", told.originated)?;
-    put_text(map, alloc, "ref", told.ref_text.text())
+    put_all(
+        map,
+        alloc,
+        &[
+            ("length", Told::Number(u64::from(told.length))),
+            ("number", Told::Number(u64::from(told.number))),
+            ("originated", Told::Day(told.originated)),
+            ("ref", Told::Text(told.ref_text.text())),
+        ],
+    )
 }
 
 /// Puts the members from `schedule` on.
@@ -109,9 +132,15 @@ fn put_last(
 ) -> Result<(), AllocError>
     ensures { OnOk result (members_view map.new.entries ≡ put_last told.now (members_view map.old.entries)) }
 {
-    put_text(map, alloc, "schedule", told.schedule.text())?;
-    put_text(map, alloc, "status", told.status.text())?;
-    put_text(map, alloc, "title", told.title.text())
+    put_all(
+        map,
+        alloc,
+        &[
+            ("schedule", Told::Text(told.schedule.text())),
+            ("status", Told::Text(told.status.text())),
+            ("title", Told::Text(told.title.text())),
+        ],
+    )
 }
 
 /// What is told of a record in JSON, with the entry that ended it, if one did. `Memory` comes where an

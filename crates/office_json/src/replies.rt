@@ -4,7 +4,8 @@ ghost use Rattle.serde_json.specs.View.{view};
 ghost use Rattle.serde_json.specs.Written.{compact_text, has_float};
 ghost use Rattle.office_json.specs.Replies.{answers_data, bad_act_data, fault_data, stopped_data};
 
-use crate::answers::answer_value;
+use crate::answers::{answer_value, numbered_value};
+use crate::told::{Told, object_of};
 use office_days::Refusal;
 use office_machine::Answer;
 use office_tree::Memory;
@@ -28,7 +29,7 @@ pub fn fault_value(alloc: Global, number: u32) -> Result<Value, Memory>
     ensures value { IfOk result (λ value. view value ≡ fault_data number) }
     ensures no_float { IfOk result (λ value. has_float (view value) ≡ false) }
 {
-    let value = json!(in alloc; {"fault": number})?;
+    let value = numbered_value(alloc, "fault", number)?;
     Ok(value)
 }
 
@@ -49,7 +50,15 @@ pub fn bad_act_value(alloc: Global, place: u64, refusal: Refusal) -> Result<Valu
     ensures value { IfOk result (λ value. view value ≡ bad_act_data place refusal) }
     ensures no_float { IfOk result (λ value. has_float (view value) ≡ false) }
 {
-    let value = json!(in alloc; {"error": "act", "place": place, "refused": refusal.number()})?;
+    let number = u64::from(refusal.number());
+    let value = object_of(
+        alloc,
+        &[
+            ("error", Told::Text("act")),
+            ("place", Told::Number(place)),
+            ("refused", Told::Number(number)),
+        ],
+    )?;
     Ok(value)
 }
 

@@ -117,6 +117,8 @@ pub(crate) fn classified_at(value: &Value, name: &str) -> Result<Classified, Rea
 pub(crate) fn target_at(alloc: Global, value: &Value, name: &str) -> Result<Target, ReadFault>
     ensures { IsReadAs (target_part (get name.now (view value.now))) result }
 {
-    let text = text_at(value, name).ok_or(Refusal::BadText)?;
-    read_target(alloc, text)
+    match text_at(value, name) {
+        Some(text) => read_target(alloc, text),
+        None => Err(ReadFault::Refused(Refusal::BadText)),
+    }
 }

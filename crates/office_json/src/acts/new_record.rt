@@ -110,9 +110,8 @@ pub(crate) fn add_record(alloc: Global, value: &Value) -> Result<Act, ReadFault>
     if !has_only(value, &names) {
         return Err(ReadFault::Refused(Refusal::BadText));
     }
-    let heading = read_heading(alloc, value);
     let content = content_at(alloc, value, "content")?;
-    match both(heading, told(content)) {
+    match both(read_heading(alloc, value), told(content)) {
         Ok((heading, content)) => Ok(act_of(heading, content)),
         Err(fault) => Err(fault),
     }
