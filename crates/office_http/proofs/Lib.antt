@@ -6,3 +6,4 @@ pub mod NumberLemmas
 pub mod OneRequest
 pub mod SegmentLemmas
 pub mod Utf8Lemmas
+pub mod RouteLemmas

@@ -5,7 +5,7 @@ ghost use Rattle.office_http.specs.Fields.{and_value, same_name, found_bytes, fo
 use httparse::spans::{HeaderSpan, Span};
 
 /// The values of the field lines of one name.
-#[derive(Clone, Copy, Debug)]
+#[derive(Clone, Copy)]
 pub(crate) enum Found {
     /// There is no such line.
     Missing,

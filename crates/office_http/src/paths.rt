@@ -1,13 +1,13 @@
 ghost use Rattle.std.specs.Prelude.{◌≡◌, ◌==◌, IfOk, true, false, MatchOption, None, Some};
 ghost use Rattle.std.specs.List.{list_any};
 ghost use Rattle.matchit.specs.Seek.{first};
-ghost use Rattle.office_http.specs.Paths.{is_path, named_segment, office_routes, resource_at};
+ghost use Rattle.office_http.specs.Paths.{is_path, named_segment, office_routes, resource_at, with_route};
 
-use matchit::{InsertError, Router};
+use matchit::Router;
 use std::alloc::{AllocError, Global};
 
 /// What a path names.
-#[derive(Clone, Copy, PartialEq, Eq, Debug, Drop)]
+#[derive(Clone, Copy, Drop)]
 pub(crate) enum Resource {
     /// The acts that are handed in.
     Acts,
@@ -23,19 +23,32 @@ pub(crate) enum Resource {
     Certificate,
 }
 
+/// The routes with one more.
+#[tactic(auto, using(crate::proofs::RouteLemmas::route_inserted))]
+fn with_route(
+    mut router: Router<Resource>,
+    route: &str,
+    resource: Resource,
+) -> Result<Router<Resource>, AllocError>
+    ensures { IfOk result (λ longer. longer ≡ with_route route.now resource router) }
+{
+    match router.insert(route, resource) {
+        Ok(()) => Ok(router),
+        Err(_) => Err(AllocError),
+    }
+}
+
 /// The routes of all paths that there are.
 #[tactic(auto, unfolding(crate::specs::Paths::office_routes))]
-fn office_router(alloc: Global) -> Result<Router<Resource>, InsertError>
+fn office_router(alloc: Global) -> Result<Router<Resource>, AllocError>
     ensures { IfOk result (λ router. router ≡ office_routes) }
 {
-    let mut router = Router::new(alloc);
-    router.insert("/acts", Resource::Acts)?;
-    router.insert("/run/resume", Resource::OpenRun)?;
-    router.insert("/records/{n}", Resource::Record)?;
-    router.insert("/records/{n}/content", Resource::Content)?;
-    router.insert("/due/{day}", Resource::Due)?;
-    router.insert("/certificates/{n}", Resource::Certificate)?;
-    Ok(router)
+    let router = with_route(Router::new(alloc), "/acts", Resource::Acts)?;
+    let router = with_route(router, "/run/resume", Resource::OpenRun)?;
+    let router = with_route(router, "/records/{n}", Resource::Record)?;
+    let router = with_route(router, "/records/{n}/content", Resource::Content)?;
+    let router = with_route(router, "/due/{day}", Resource::Due)?;
+    with_route(router, "/certificates/{n}", Resource::Certificate)
 }
 
 /// What a path names among the routes.
@@ -52,10 +65,8 @@ fn routed(router: &Router<Resource>, path: &str) -> Option<Resource>
 pub(crate) fn resource_at(alloc: Global, path: &str) -> Result<Option<Resource>, AllocError>
     ensures { IfOk result (λ resource. resource ≡ resource_at path.now) }
 {
-    match office_router(alloc) {
-        Ok(router) => Ok(routed(&router, path)),
-        Err(_) => Err(AllocError),
-    }
+    let router = office_router(alloc)?;
+    Ok(routed(&router, path))
 }
 
 /// Whether the target has a query.

@@ -9,7 +9,7 @@ use office_plan::Io;
 use std::io::Read;
 
 /// What a buffer tells of the head of a request.
-#[derive(Clone, Copy, Debug)]
+#[derive(Clone, Copy)]
 pub(crate) enum Seen {
     /// It begins with a whole head, whose parts lie there.
     Whole(RequestSpans),

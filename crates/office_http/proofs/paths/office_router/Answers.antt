@@ -1,15 +1,10 @@
-use Rattle.std.proofs.Common.{refl}
-use Rattle.matchit.proofs.OnLiterals.{matchit_on_literals}
-use Rattle.office_http.specs.Paths.{office_routes}
+use Rattle.std.proofs.Common.{◌≡◌, IfOk, [], codes, subst, refl}
+use Rattle.office_http.specs.Paths.{Routes, office_routes, with_route}
+use Rattle.office_http.specs.declared.paths.Resource.TheVariants.{Acts, OpenRun, Record, Content, Due, Certificate}
 use Rattle.office_http.proofs.paths.office_router.Goals as goal
 
 pub returns : goal.returns
-unfolding matchit_on_literals office_routes
+unfolding office_routes
 returns c =
-    let a = c.in_ok-insert.ensures in
-    let b = c.in_ok-insert-2.ensures in
-    let d = c.in_ok-insert-3.ensures in
-    let e = c.in_ok-insert-4.ensures in
-    let f = c.in_ok-insert-5.ensures in
-    let g = c.in_ok-insert-6.ensures in
-    rw (g.1, f.1, e.1, d.1, b.1, a.1, c.new-router.ensures) refl
+    let others : c.in_ok-router-5.router ≡ with_route (codes "/due/{day}") Due (with_route (codes "/records/{n}/content") Content (with_route (codes "/records/{n}") Record (with_route (codes "/run/resume") OpenRun (with_route (codes "/acts") Acts [])))) = rw (c.in_ok-router-5.ensures, c.in_ok-router-4.ensures, c.in_ok-router-3.ensures, c.in_ok-router-2.ensures, c.in_ok-router.ensures, c.new.ensures) refl in
+    subst (λ (routes : Routes). IfOk c.with_route-6.result (λ made. made ≡ with_route (codes "/certificates/{n}") Certificate routes)) others c.with_route-6.ensures
