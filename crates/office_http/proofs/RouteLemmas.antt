@@ -1,5 +1,5 @@
 -- A route that was taken has its place among the others.
-use Rattle.std.proofs.Common.{◌≡◌, ◌⊎◌, inl, inr, Result, Ok, Err}
+use Rattle.std.proofs.Common.{◌≡◌, inl, inr, Result, Ok, Err}
 use Rattle.matchit.specs.Router.{InsertsRead}
 use Rattle.matchit.specs.Route.{Scan}
 use Rattle.matchit.specs.declared.error.InsertError.{InsertError}

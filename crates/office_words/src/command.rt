@@ -50,8 +50,10 @@ fn with_command<'a>(
 ) -> Result<Command<'a>, AllocError>
     ensures { IfOk result (λ c. app_of c ≡ with_subcommand (app_of command.entry) (with_operands (new_app name.entry.now) operands.now).top) }
 {
-    let subcommand = command_of(alloc, name, about, operands)?;
-    command.subcommand(subcommand)
+    match command_of(alloc, name, about, operands) {
+        Ok(subcommand) => command.subcommand(subcommand),
+        Err(error) => Err(error),
+    }
 }
 
 /// With the commands that open no office.

@@ -70,14 +70,14 @@ pub fn order_of<'a>(words: Words<'a>) -> Result<Order<'a>, Refusal>
         Words::Init { file } => Ok(Order::Init { file }),
         Words::Apply { file, acts } => Ok(Order::Apply { file, acts }),
         Words::Resume { file } => Ok(Order::Resume { file }),
-        Words::Certificate { file, number } => {
-            let run = read_thing_number(number)?;
-            Ok(Order::Certificate { file, run })
-        }
-        Words::Serve { file, port, count } => {
-            let (port, count) = read_service(port, count)?;
-            Ok(Order::Serve { file, port, count })
-        }
+        Words::Certificate { file, number } => match read_thing_number(number) {
+            Ok(run) => Ok(Order::Certificate { file, run }),
+            Err(refusal) => Err(refusal),
+        },
+        Words::Serve { file, port, count } => match read_service(port, count) {
+            Ok((port, count)) => Ok(Order::Serve { file, port, count }),
+            Err(refusal) => Err(refusal),
+        },
         Words::Nothing => Ok(Order::Nothing),
     }
 }
