@@ -1,5 +1,5 @@
 -- What is told of an act: what is told of its parts.
-use Rattle.std.proofs.Common.{◌≡◌, ◌∙◌, ◌⊎◌, Bool, true, cond, Result, Ok, Err, IsOk, IfErr, IfOk, MatchResult, refl, sym, ap, inl}
+use Rattle.std.proofs.Common.{◌≡◌, ◌∙◌, Bool, true, cond, Result, Ok, Err, IfErr, IfOk, refl, sym, inl}
 use Rattle.serde_json.specs.Data.{Data}
 use Rattle.office_days.specs.declared.refusal.Refusal.{Refusal}
 use Rattle.office_days.specs.declared.refusal.Refusal.TheVariants.{BadText}

@@ -1,5 +1,5 @@
 -- What stands after the bytes that a text begins with.
-use Rattle.std.proofs.Common.{◌≡◌, ◌∙◌, ℕ, eqb, Bool, true, false, cond, List, length, drop, Bor, Option, Some, None, MatchOption, option_map, refl, ap, subst, sym}
+use Rattle.std.proofs.Common.{◌≡◌, ◌∙◌, ℕ, eqb, Bool, true, false, cond, List, length, drop, Bor, Option, Some, None, MatchOption, option_map, ap, subst, sym}
 use Rattle.std.specs.List.{starts_with}
 use Rattle.std.specs.Str.{IsCharBoundary}
 use Rattle.std.specs.Str.Pattern.{FindsTextPrefix, StripsPrefix}

@@ -1,5 +1,5 @@
 -- The texts that name a class, an aggregation or a record. Source: own.
-use Rattle.std.specs.Prelude.{ℕ, ◌||◌, ◌==◌, Bool, eqb, is_none, List, length, drop, Option, Some, None, Result, Ok, Err, codes, ok_or, option_and_then, option_map, unwrap_or, if◌then◌else◌}
+use Rattle.std.specs.Prelude.{ℕ, ◌||◌, ◌==◌, Bool, eqb, is_none, List, length, drop, Option, Some, None, Result, Err, codes, ok_or, option_and_then, option_map, unwrap_or, if◌then◌else◌}
 use Rattle.std.specs.List.{starts_with}
 use Rattle.serde_json.specs.Data.{Data}
 use Rattle.serde_json.specs.Find.{as_str}

@@ -1,16 +1,17 @@
 //! What is told of acts besides a single answer, and the text of what is told.
-ghost use Rattle.std.specs.Prelude.{◌≡◌, false, IfOk, string_bytes};
-ghost use Rattle.serde_json.specs.View.{view};
+ghost use Rattle.std.specs.Prelude.{◌≡◌, codes, false, IfOk, OnOk, string_bytes};
+ghost use Rattle.serde_json.specs.Data.{unsigned, number as number_data, put as with_member};
+ghost use Rattle.serde_json.specs.View.{members_view, view};
 ghost use Rattle.serde_json.specs.Written.{compact_text, has_float};
 ghost use Rattle.office_json.specs.Replies.{answers_data, bad_act_data, fault_data, stopped_data};
 
 use crate::answers::{answer_value, numbered_value};
-use crate::told::{Told, object_of};
+use crate::told::{Told, object_of, put_all};
 use office_days::Refusal;
 use office_machine::Answer;
 use office_tree::Memory;
-use serde_json::{Value, json};
-use std::alloc::Global;
+use serde_json::{Map, Value};
+use std::alloc::{AllocError, Global};
 
 /// Answers in JSON, an array of them in their order. `Memory` comes where an allocation was refused.
 pub fn answers_value(alloc: Global, answers: &[Answer]) -> Result<Value, Memory>
@@ -33,6 +34,19 @@ pub fn fault_value(alloc: Global, number: u32) -> Result<Value, Memory>
     Ok(value)
 }
 
+/// Puts the answers before a fault, and the number of the fault.
+fn put_stopped(
+    map: &mut Map<String, Value>,
+    alloc: Global,
+    answers: Value,
+    number: u32,
+) -> Result<(), AllocError>
+    ensures { OnOk result (members_view map.new.entries ≡ with_member (codes "fault") (number_data (unsigned number)) (with_member (codes "answers") (view answers) (members_view map.old.entries))) }
+{
+    serde_json::put(map, alloc, "answers", answers)?;
+    put_all(map, alloc, &[("fault", Told::Number(u64::from(number)))])
+}
+
 /// `{"answers":[..],"fault":N}`: the answers to the acts before a fault, and the number of the fault.
 #[tactic(auto, using(crate::proofs::Floatless::stopped_has_none))]
 pub fn stopped_value(alloc: Global, answers: &[Answer], number: u32) -> Result<Value, Memory>
@@ -40,8 +54,9 @@ pub fn stopped_value(alloc: Global, answers: &[Answer], number: u32) -> Result<V
     ensures no_float { IfOk result (λ value. has_float (view value) ≡ false) }
 {
     let values = answers_value(alloc, answers)?;
-    let value = json!(in alloc; {"answers": values, "fault": number})?;
-    Ok(value)
+    let mut map = Map::new(alloc);
+    put_stopped(&mut map, alloc, values, number)?;
+    Ok(Value::Object(map))
 }
 
 /// `{"error":"act","place":P,"refused":N}`: the place, from 0, of a value that asks for no act, and the

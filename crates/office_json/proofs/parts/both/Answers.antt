@@ -1,5 +1,4 @@
 use Rattle.std.proofs.Common.{◌≡◌, ◌∙◌, Result, Err, ap, sym}
-use Rattle.office_json.specs.Parts.{both, lesser, IsReadAs}
 use Rattle.office_json.specs.declared.read_fault.ReadFault.{ReadFault}
 use Rattle.office_json.proofs.Pairs.{both_read, both_reads}
 use Rattle.office_json.proofs.parts.both.Goals.{in-Ok-second-2, in-Err-second-2}

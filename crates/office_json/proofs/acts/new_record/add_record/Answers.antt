@@ -2,7 +2,7 @@ use Rattle.std.proofs.Common.{◌≡◌, ◌∙◌, ℕ, List, rules, sym, subst
 use Rattle.serde_json.specs.Find.{get}
 use Rattle.serde_json.specs.View.{view}
 use Rattle.office_days.specs.declared.refusal.Refusal.{Refusal}
-use Rattle.office_json.specs.Acts.{Asked, added, asked, add_record_asked}
+use Rattle.office_json.specs.Acts.{Asked, added, add_record_asked}
 use Rattle.office_json.specs.Contents.{content_part}
 use Rattle.office_json.specs.Parts.{IsReadAs}
 use Rattle.office_json.proofs.Faults.{act_fault, act_ok, plain_fault}

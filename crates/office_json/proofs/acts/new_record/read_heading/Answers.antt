@@ -1,4 +1,4 @@
-use Rattle.std.proofs.Common.{◌≡◌, ◌∙◌, ap, sym}
+use Rattle.std.proofs.Common.{◌∙◌, ap, sym}
 use Rattle.office_json.specs.Acts.{headed, heading_part}
 use Rattle.office_json.specs.Parts.{made}
 use Rattle.office_json.proofs.Made.{fault_made}
