@@ -1,126 +1,113 @@
-//! What no contract says: that the clauses mean what people worked out by hand, that a call can
-//! succeed at all, and what a failing writer leaves.
-
-use office_days::{Day, Refusal};
+//! Due days, day texts and their numbers.
+use crate::rows::{must_hold, word, words_of};
+use crate::streams::Narrow;
+use crate::written::as_told;
+use office_days::Day;
 use office_plan::{Io, due_to};
-use std::alloc::AllocGlobal;
-use std::io;
-use std::io::Write;
-use std::process::Abort;
+use std::alloc::Global;
+use std::test::Fail;
 
-/// Each row's words must be answered as it says.
-fn all_answered(rt: &(impl Abort + AllocGlobal), rows: &[([&str; 4], Result<&str, Refusal>)]) {
-    for &([unit, count, offset, day], want) in rows {
-        let mut out = Vec::new(rt.alloc());
-        let answer = due_to(unit, count, offset, day, &mut out);
-        assert_eq!(rt; answer, Ok(want.err()), "{count} {unit} {offset} {day}");
-        assert_eq!(rt; out.as_slice(), want.unwrap_or("").as_bytes());
+const ROWS: &str = "
+    # 29 February and years
+    due years 1 none 2020-02-29 = 2021-02-28
+    due years 100 none 2000-02-29 = 2100-02-28
+    # a month from the 31st, and a week over the end of a leap February
+    due months 1 none 2020-01-31 = 2020-02-29
+    due months 1 none 1900-01-31 = 1900-02-28
+    due weeks 1 none 2024-02-26 = 2024-03-04
+    # the offsets
+    due days 0 month 2023-12-31 = 2024-01-01
+    due days 0 quarter 2024-01-01 = 2024-01-01
+    due days 0 quarter 2024-10-02 = 2025-01-01
+    due years 7 from-month-4 2017-06-30 = 2025-04-01
+    # the greatest due day, and zeros in front of a count
+    due years 500 from-month-12 2999-12-31 = 3500-12-01
+    due years 00000000000000000000007 none 2017-06-30 = 2024-06-30
+    # a count over the limit, however long, unless a text is bad too
+    due years 501 none 2017-06-30 = refused 3
+    due years 99999999999999999999999 none 2017-06-30 = refused 3
+    due years 501 from-month-04 2017-06-30 = refused 2
+    # texts that are not of their form
+    due|years||none|2017-06-30 = refused 2
+    due years +7 none 2017-06-30 = refused 2
+    due year 7 none 2017-06-30 = refused 2
+    due years 7 none 2023-02-29 = refused 2
+    due years 7 none 2024-2-01 = refused 2
+    due years 7 none 3000-01-01 = refused 2
+    due years 7 none 0000-12-31 = refused 2
+    # days and their numbers
+    day 2023-02-29 = none
+    day 2024-2-01 = none
+    day 3000-01-01 = none
+    day 0000-12-31 = none
+    day 0001-01-01 = -719162
+    day 1970-01-01 = 0
+    day 2024-02-29 = 19782
+    day 2999-12-31 = 376199
+";
+
+/// Whether a writer with room for fewer bytes than the eleven of a line fails the due day, and one with
+/// room for them does not.
+fn fails_at_each_byte(unit: &str, count: &str, offset: &str, day: &str) -> bool {
+    (0..11).all(|room| due_to(unit, count, offset, day, &mut Narrow { room }) == Err(Io))
+        && due_to(unit, count, offset, day, &mut Narrow { room: 11 }) == Ok(None)
+}
+
+/// The line of a due day, without its end.
+fn due_line(alloc: Global, out: &[u8], fails: bool) -> Option<Vec<u8>> {
+    match out.strip_suffix(b"\n") {
+        Some(day) if fails => Vec::from_slice(alloc, day).ok(),
+        _ => None,
     }
 }
 
-#[test]
-fn due_days_worked_out_by_hand(rt: HostRuntime) {
-    let rows = [
-        // 29 February and years
-        (["years", "1", "none", "2020-02-29"], Ok("2021-02-28\n")),
-        (["years", "100", "none", "2000-02-29"], Ok("2100-02-28\n")),
-        // a month from the 31st, and a week over the end of a leap February
-        (["months", "1", "none", "2020-01-31"], Ok("2020-02-29\n")),
-        (["months", "1", "none", "1900-01-31"], Ok("1900-02-28\n")),
-        (["weeks", "1", "none", "2024-02-26"], Ok("2024-03-04\n")),
-        // the offsets
-        (["days", "0", "month", "2023-12-31"], Ok("2024-01-01\n")),
-        (["days", "0", "quarter", "2024-01-01"], Ok("2024-01-01\n")),
-        (["days", "0", "quarter", "2024-10-02"], Ok("2025-01-01\n")),
-        (
-            ["years", "7", "from-month-4", "2017-06-30"],
-            Ok("2025-04-01\n"),
-        ),
-        // the greatest due day, and zeros in front of a count
-        (
-            ["years", "500", "from-month-12", "2999-12-31"],
-            Ok("3500-12-01\n"),
-        ),
-        (
-            ["years", "00000000000000000000007", "none", "2017-06-30"],
-            Ok("2024-06-30\n"),
-        ),
-    ];
-    all_answered(&rt, &rows);
-}
-
-#[test]
-fn what_is_no_due_day(rt: HostRuntime) {
-    let (text, number) = (Err(Refusal::BadText), Err(Refusal::BadNumber));
-    let rows = [
-        // a count over the limit, however long, unless a text is bad too
-        (["years", "501", "none", "2017-06-30"], number),
-        (
-            ["years", "99999999999999999999999", "none", "2017-06-30"],
-            number,
-        ),
-        (["years", "501", "from-month-04", "2017-06-30"], text),
-        // texts that are not of their form
-        (["years", "", "none", "2017-06-30"], text),
-        (["years", "+7", "none", "2017-06-30"], text),
-        (["year", "7", "none", "2017-06-30"], text),
-        (["years", "7", "none", "2023-02-29"], text),
-        (["years", "7", "none", "2024-2-01"], text),
-        (["years", "7", "none", "3000-01-01"], text),
-        (["years", "7", "none", "0000-12-31"], text),
-    ];
-    all_answered(&rt, &rows);
-}
-
-#[test]
-fn days_and_their_numbers(rt: HostRuntime) {
-    for text in ["2023-02-29", "2024-2-01", "3000-01-01", "0000-12-31"] {
-        assert_eq!(rt; Day::read(text), None);
-    }
-    for (text, number) in [
-        ("0001-01-01", -719_162),
-        ("1970-01-01", 0),
-        ("2024-02-29", 19_782),
-        ("2999-12-31", 376_199),
-    ] {
-        let day = Day::read(text).expect(&rt, "the calendar has the day");
-        assert_eq!(rt; day.number(), number);
-        assert_eq!(rt; day.text().as_slice(), text.as_bytes());
-    }
-}
-
-/// A writer that takes some bytes and then fails.
-#[derive(Drop)]
-struct Narrow {
-    room: usize,
-}
-
-impl Write for Narrow {
-    fn write(&mut self, buf: &[u8]) -> io::Result<usize> {
-        if self.room == 0 {
-            return Err(io::Error::from(io::ErrorKind::StorageFull));
+/// The due day that words ask for, or its refusal, for which a writer is not touched.
+fn due_told(alloc: Global, unit: &str, count: &str, offset: &str, day: &str) -> Option<Vec<u8>> {
+    let mut out = Vec::new(alloc);
+    match due_to(unit, count, offset, day, &mut out).ok()? {
+        None => due_line(alloc, &out, fails_at_each_byte(unit, count, offset, day)),
+        Some(refusal) => {
+            let again = due_to(unit, count, offset, day, &mut Narrow { room: 0 });
+            if again != Ok(Some(refusal)) || !out.is_empty() {
+                return None;
+            }
+            Some(
+                format!(in alloc; "refused {}", refusal.number())
+                    .ok()?
+                    .into_bytes(),
+            )
         }
-        let taken = buf.len().min(self.room);
-        self.room -= taken;
-        Ok(taken)
     }
+}
 
-    fn flush(&mut self) -> io::Result<()> {
-        Ok(())
+/// The number of the day that a text names, which its day must give back.
+fn day_told(alloc: Global, text: &str) -> Option<Vec<u8>> {
+    match Day::read(text) {
+        None => as_told(alloc, "none"),
+        Some(day) if day.text().as_slice() == text.as_bytes() => {
+            Some(format!(in alloc; "{}", day.number()).ok()?.into_bytes())
+        }
+        Some(_) => None,
+    }
+}
+
+fn told(alloc: Global, ask: &str) -> Option<Vec<u8>> {
+    let words = words_of(alloc, ask)?;
+    match word(&words, 0) {
+        "due" => due_told(
+            alloc,
+            word(&words, 1),
+            word(&words, 2),
+            word(&words, 3),
+            word(&words, 4),
+        ),
+        "day" => day_told(alloc, word(&words, 1)),
+        _ => None,
     }
 }
 
 #[test]
-fn a_writer_that_fails_at_each_byte(rt: HostRuntime) {
-    for room in 0..11 {
-        let mut out = Narrow { room };
-        let answer = due_to("years", "7", "from-month-4", "2017-06-30", &mut out);
-        assert_eq!(rt; answer, Err(Io));
-        let mut out = Narrow { room };
-        let answer = due_to("years", "501", "none", "2017-06-30", &mut out);
-        assert_eq!(rt; answer, Ok(Some(Refusal::BadNumber)));
-    }
-    let mut out = Narrow { room: 11 };
-    let answer = due_to("years", "7", "from-month-4", "2017-06-30", &mut out);
-    assert_eq!(rt; answer, Ok(None));
+fn due_days_and_days(rt: HostRuntime) -> Result<(), Fail> {
+    let alloc = rt.alloc();
+    must_hold(alloc, ROWS, |ask| told(alloc, ask))
 }

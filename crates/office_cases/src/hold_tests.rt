@@ -1,252 +1,249 @@
-//! What holds cover, in a tree worked out by hand.
-use office_days::{Day, Offset, Period, Refusal, Unit};
+//! What holds cover, and why acts on them are refused.
+use crate::offices::told_act;
+use crate::rows::{must_hold, word, words_of};
+use crate::written::as_told;
+use office_days::{Day, Refusal};
 use office_holds::{Holds, Target};
-use office_tree::{
-    Action, AggNo, Class, Classified, Code, Record, RecordNo, Schedule, Text, Tree, Trigger,
-};
+use office_machine::Machine;
+use office_tree::{Classified, Code, Text, Tree};
+use std::alloc::Global;
 use std::test::Fail;
 
-fn day(text: &str) -> Result<Day, Fail> {
-    Ok(Day::read(text).ok_or("no day")?)
+/// Two classes with an aggregation of each, records 1 and 3 in the first and record 2 in the second, and record 4
+/// in an aggregation in the first.
+const TREE: &str = "
+    2024-01-02 add-schedule D1 added years 1 none destroy = done
+    2024-01-02 add-class FIN D1 = done
+    2024-01-02 add-class LEG D1 = done
+    2024-01-02 add-root A FIN = number 1
+    2024-01-02 add-root B LEG = number 2
+    2024-01-02 add-child C 1 = number 3
+    2024-01-02 add-empty-record r1 1 = number 1
+    2024-01-02 add-empty-record r2 2 = number 2
+    2024-01-02 add-empty-record r3 1 = number 3
+    2024-01-02 add-empty-record r4 3 = number 4
+";
+
+/// A record is held until each hold on it is lifted, and the least of them is told.
+const LIFTED: &str = "
+    place H-2 = done
+    cover H-2 record 1 = done
+    place H-10 = done
+    cover H-10 record 1 = done
+    place Z = done
+    cover Z record 1 = done
+    place a = done
+    cover a record 1 = done
+    covering 1 = H-10
+    held = 1
+    lift H-10 = done
+    covering 1 = H-2
+    held = 1
+    lift H-2 = done
+    covering 1 = Z
+    held = 1
+    lift Z = done
+    covering 1 = a
+    held = 1
+    lift a = done
+    covering 1 = none
+    held = nothing
+";
+
+/// A hold covers what is of a class or in an aggregation.
+const COVERED: &str = "
+    place H-1 = done
+    cover H-1 class FIN = done
+    held = 1 3 4
+    uncover H-1 class FIN = done
+    held = nothing
+    place H-2 = done
+    cover H-2 aggregation 3 = done
+    held = 4
+    place H-3 = done
+    cover H-3 aggregation 1 = done
+    held = 1 3 4
+";
+
+/// A lifted hold stays and takes no target.
+const STAYING: &str = "
+    cover H-1 record 1 = refused 5
+    lift H-1 = refused 5
+    place H-1 = done
+    cover H-1 record 1 = done
+    cover H-1 record 1 = refused 4
+    uncover H-1 record 2 = refused 5
+    cover H-1 record 2 = done
+    uncover H-1 record 2 = done
+    lift H-1 = done
+    place H-1 = refused 4
+    cover H-1 record 1 = refused 4
+    cover H-1 record 2 = refused 12
+    uncover H-1 record 1 = refused 12
+    lift H-1 = refused 12
+";
+
+/// A held class is not left.
+const LEAVING: &str = "
+    place H-1 = done
+    cover H-1 class FIN = done
+    reclassify record 1 LEG = refused 11
+    reclassify aggregation 1 LEG = refused 11
+    reclassify record 1 FIN = not refused
+    reclassify record 1 - = not refused
+    reclassify record 2 FIN = not refused
+    lift H-1 = done
+    reclassify record 1 LEG = not refused
+";
+
+/// The number of a refusal.
+fn refused(alloc: Global, refusal: Refusal) -> Option<Vec<u8>> {
+    Some(
+        format!(in alloc; "refused {}", refusal.number())
+            .ok()?
+            .into_bytes(),
+    )
 }
 
-fn code(rt: &HostRuntime, text: &str) -> Result<Code, Fail> {
-    Ok(Code::read(rt.alloc(), text)?.ok_or("no code")?)
+/// The code of that text.
+fn code(alloc: Global, text: &str) -> Option<Code> {
+    Code::read(alloc, text).ok()?
 }
 
-fn text(rt: &HostRuntime, text: &str) -> Result<Text, Fail> {
-    Ok(Text::read(rt.alloc(), text)?.ok_or("no text")?)
-}
-
-fn add_schedule(rt: &HostRuntime, tree: &mut Tree, name: &str) -> Result<(), Fail> {
-    let name = code(rt, name)?;
-    if tree.check_add_schedule(&name).is_some() {
-        return Err(Fail::new("the schedule is refused"));
+/// A class, an aggregation or a record.
+fn target_of(alloc: Global, kind: &str, name: &str) -> Option<Target> {
+    match kind {
+        "class" => Some(Target::Class(code(alloc, name)?)),
+        "aggregation" => Some(Target::Aggregation(name.parse::<u32>().ok()?)),
+        "record" => Some(Target::Record(name.parse::<u32>().ok()?)),
+        _ => None,
     }
-    let schedule = Schedule {
-        trigger: Trigger::Added,
-        period: Period::new(Unit::Years, 1).ok_or("no period")?,
-        offset: Offset::AnyDay,
-        action: Action::Destroy,
-    };
-    Ok(tree.apply_add_schedule(name, schedule)?)
 }
 
-fn add_class(rt: &HostRuntime, tree: &mut Tree, name: &str) -> Result<(), Fail> {
-    let class = Class {
-        title: text(rt, name)?,
-        schedule: code(rt, "D1")?,
-    };
-    let name = code(rt, name)?;
-    if tree.check_add_class(&name, &class.schedule).is_some() {
-        return Err(Fail::new("the class is refused"));
+/// An aggregation or a record.
+fn classified_of(kind: &str, name: &str) -> Option<Classified> {
+    let number = name.parse::<u32>().ok()?;
+    match kind {
+        "aggregation" => Some(Classified::Aggregation(number)),
+        "record" => Some(Classified::Record(number)),
+        _ => None,
     }
-    Ok(tree.apply_add_class(name, class)?)
 }
 
-fn add_aggregation(
-    rt: &HostRuntime,
-    tree: &mut Tree,
-    name: &str,
-    parent: Option<AggNo>,
-    class: Option<Code>,
-) -> Result<(), Fail> {
-    let ref_text = text(rt, name)?;
-    if tree
-        .check_add_aggregation(&ref_text, parent, class.as_ref())
-        .is_some()
-    {
-        return Err(Fail::new("the aggregation is refused"));
+fn place(alloc: Global, holds: &mut Holds, name: &str) -> Option<Vec<u8>> {
+    let on = Day::read("2024-01-02")?;
+    let reason = Text::read(alloc, "why").ok()??;
+    let by = Text::read(alloc, "who").ok()??;
+    let name = code(alloc, name)?;
+    if let Some(refusal) = holds.check_place(&name) {
+        return refused(alloc, refusal);
     }
-    Ok(tree.apply_add_aggregation(ref_text, text(rt, name)?, parent, class)?)
+    holds.place(name, on, reason, by).ok()?;
+    as_told(alloc, "done")
 }
 
-fn add_record(
-    rt: &HostRuntime,
-    tree: &mut Tree,
-    name: &str,
-    aggregation: AggNo,
-) -> Result<(), Fail> {
-    let ref_text = text(rt, name)?;
-    if tree
-        .check_add_record(&ref_text, aggregation, None, None)
-        .is_some()
-    {
-        return Err(Fail::new("the record is refused"));
+fn cover(alloc: Global, holds: &mut Holds, name: &str, target: Target) -> Option<Vec<u8>> {
+    let name = code(alloc, name)?;
+    if let Some(refusal) = holds.check_cover(&name, &target) {
+        return refused(alloc, refusal);
     }
-    let head = Record {
-        ref_text,
-        title: text(rt, name)?,
-        originated: day("2024-01-02")?,
-        added: day("2024-01-02")?,
-        aggregation,
-        class: None,
-        schedule: None,
-        length: 0,
-        digest: [0; 32],
-        review: None,
-        confirmation: None,
-        receipt: None,
-    };
-    Ok(tree.apply_add_record(head)?)
+    holds.cover(&name, target).ok()?;
+    as_told(alloc, "done")
 }
 
-/// Two classes with an aggregation of each, records 1 and 3 in the first and record 2 in the second,
-/// and record 4 in an aggregation in the first.
-fn base_tree(rt: &HostRuntime) -> Result<Tree, Fail> {
-    let mut tree = Tree::new(rt.alloc());
-    add_schedule(rt, &mut tree, "D1")?;
-    add_class(rt, &mut tree, "FIN")?;
-    add_class(rt, &mut tree, "LEG")?;
-    add_aggregation(rt, &mut tree, "A", None, Some(code(rt, "FIN")?))?;
-    add_aggregation(rt, &mut tree, "B", None, Some(code(rt, "LEG")?))?;
-    add_aggregation(rt, &mut tree, "C", Some(1), None)?;
-    add_record(rt, &mut tree, "r1", 1)?;
-    add_record(rt, &mut tree, "r2", 2)?;
-    add_record(rt, &mut tree, "r3", 1)?;
-    add_record(rt, &mut tree, "r4", 3)?;
-    Ok(tree)
-}
-
-/// Places a hold with one target.
-fn hold(rt: &HostRuntime, holds: &mut Holds, name: &str, target: Target) -> Result<(), Fail> {
-    let name = code(rt, name)?;
-    if holds.check_place(&name).is_some() {
-        return Err(Fail::new("the hold is refused"));
-    }
-    let placed = name.copy(rt.alloc())?;
-    holds.place(
-        placed,
-        day("2024-01-02")?,
-        text(rt, "why")?,
-        text(rt, "who")?,
-    )?;
-    if holds.check_cover(&name, &target).is_some() {
-        return Err(Fail::new("the target is refused"));
-    }
-    Ok(holds.cover(&name, target)?)
-}
-
-fn lift(rt: &HostRuntime, holds: &mut Holds, name: &str) -> Result<(), Fail> {
-    let name = code(rt, name)?;
-    if holds.check_lift(&name).is_some() {
-        return Err(Fail::new("the lifting is refused"));
-    }
-    holds.lift(&name, day("2024-01-03")?);
-    Ok(())
-}
-
-fn uncover(rt: &HostRuntime, holds: &mut Holds, name: &str, target: &Target) -> Result<(), Fail> {
-    let name = code(rt, name)?;
-    if holds.check_uncover(&name, target).is_some() {
-        return Err(Fail::new("the uncovering is refused"));
+fn uncover(alloc: Global, holds: &mut Holds, name: &str, target: &Target) -> Option<Vec<u8>> {
+    let name = code(alloc, name)?;
+    if let Some(refusal) = holds.check_uncover(&name, target) {
+        return refused(alloc, refusal);
     }
     holds.uncover(&name, target);
-    Ok(())
+    as_told(alloc, "done")
 }
 
-/// Which of the records 1 to 4 are there and held.
-fn held(holds: &Holds, tree: &Tree) -> [bool; 4] {
-    [1, 2, 3, 4].map(|record_no| tree.has_record(record_no) && holds.held(tree, record_no))
+fn lift(alloc: Global, holds: &mut Holds, name: &str) -> Option<Vec<u8>> {
+    let on = Day::read("2024-01-03")?;
+    let name = code(alloc, name)?;
+    if let Some(refusal) = holds.check_lift(&name) {
+        return refused(alloc, refusal);
+    }
+    holds.lift(&name, on);
+    as_told(alloc, "done")
 }
 
-/// The code of the least hold that covers a record that is there.
-fn covering<'a>(holds: &'a Holds, tree: &Tree, record_no: RecordNo) -> Option<&'a str> {
+/// The records that are held.
+fn held(alloc: Global, tree: &Tree, holds: &Holds) -> Option<Vec<u8>> {
+    let mut out = String::new(alloc);
+    for record_no in 1..5 {
+        if tree.has_record(record_no) && holds.held(tree, record_no) {
+            let space = if out.is_empty() { "" } else { " " };
+            let text = format!(in alloc; "{space}{record_no}").ok()?;
+            out.push_str(text.as_str()).ok()?;
+        }
+    }
+    Some(out.into_bytes())
+}
+
+/// The least hold that covers a record.
+fn covering(alloc: Global, tree: &Tree, holds: &Holds, name: &str) -> Option<Vec<u8>> {
+    let record_no = name.parse::<u32>().ok()?;
     if !tree.has_record(record_no) {
         return None;
     }
-    holds.covering(tree, record_no).map(|code| code.text())
-}
-
-#[test]
-fn a_record_is_held_until_each_hold_on_it_is_lifted(rt: HostRuntime) -> Result<(), Fail> {
-    let tree = base_tree(&rt)?;
-    let mut holds = Holds::new(rt.alloc());
-    hold(&rt, &mut holds, "H-2", Target::Record(1))?;
-    hold(&rt, &mut holds, "H-10", Target::Record(1))?;
-    hold(&rt, &mut holds, "Z", Target::Record(1))?;
-    hold(&rt, &mut holds, "a", Target::Record(1))?;
-    for name in ["H-10", "H-2", "Z", "a"] {
-        assert_eq!(rt; covering(&holds, &tree, 1), Some(name));
-        assert_eq!(rt; held(&holds, &tree), [true, false, false, false]);
-        lift(&rt, &mut holds, name)?;
+    match holds.covering(tree, record_no) {
+        Some(code) => as_told(alloc, code.text()),
+        None => as_told(alloc, "none"),
     }
-    assert_eq!(rt; covering(&holds, &tree, 1), None);
-    assert_eq!(rt; held(&holds, &tree), [false; 4]);
-    Ok(())
 }
 
-#[test]
-fn a_hold_covers_what_is_of_a_class_or_in_an_aggregation(rt: HostRuntime) -> Result<(), Fail> {
-    let tree = base_tree(&rt)?;
-    let mut holds = Holds::new(rt.alloc());
-    let finance = Target::Class(code(&rt, "FIN")?);
-    hold(&rt, &mut holds, "H-1", finance.copy(rt.alloc())?)?;
-    assert_eq!(rt; held(&holds, &tree), [true, false, true, true]);
-    uncover(&rt, &mut holds, "H-1", &finance)?;
-    assert_eq!(rt; held(&holds, &tree), [false; 4]);
-    hold(&rt, &mut holds, "H-2", Target::Aggregation(3))?;
-    assert_eq!(rt; held(&holds, &tree), [false, false, false, true]);
-    hold(&rt, &mut holds, "H-3", Target::Aggregation(1))?;
-    assert_eq!(rt; held(&holds, &tree), [true, false, true, true]);
-    Ok(())
-}
-
-#[test]
-fn a_lifted_hold_stays_and_takes_no_target(rt: HostRuntime) -> Result<(), Fail> {
-    let mut holds = Holds::new(rt.alloc());
-    let name = code(&rt, "H-1")?;
-    assert_eq!(rt;
-        holds.check_cover(&name, &Target::Record(1)),
-        Some(Refusal::NoSuch)
-    );
-    assert_eq!(rt; holds.check_lift(&name), Some(Refusal::NoSuch));
-    hold(&rt, &mut holds, "H-1", Target::Record(1))?;
-    assert_eq!(rt;
-        holds.check_cover(&name, &Target::Record(1)),
-        Some(Refusal::Exists)
-    );
-    assert_eq!(rt; holds.check_cover(&name, &Target::Record(2)), None);
-    assert_eq!(rt;
-        holds.check_uncover(&name, &Target::Record(2)),
-        Some(Refusal::NoSuch)
-    );
-    lift(&rt, &mut holds, "H-1")?;
-    assert_eq!(rt; holds.check_place(&name), Some(Refusal::Exists));
-    assert_eq!(rt;
-        holds.check_cover(&name, &Target::Record(1)),
-        Some(Refusal::Exists)
-    );
-    assert_eq!(rt;
-        holds.check_cover(&name, &Target::Record(2)),
-        Some(Refusal::Lifted)
-    );
-    assert_eq!(rt;
-        holds.check_uncover(&name, &Target::Record(1)),
-        Some(Refusal::Lifted)
-    );
-    assert_eq!(rt; holds.check_lift(&name), Some(Refusal::Lifted));
-    Ok(())
-}
-
-#[test]
-fn a_held_class_is_not_left(rt: HostRuntime) -> Result<(), Fail> {
-    let tree = base_tree(&rt)?;
-    let mut holds = Holds::new(rt.alloc());
-    let (finance, legal) = (code(&rt, "FIN")?, code(&rt, "LEG")?);
-    let target = Target::Class(finance.copy(rt.alloc())?);
-    hold(&rt, &mut holds, "H-1", target)?;
-    let (first, above) = (Classified::Record(1), Classified::Aggregation(1));
-    let held = Some(Refusal::HeldClass);
-    assert_eq!(rt; holds.check_reclassify(&tree, first, Some(&legal)), held);
-    assert_eq!(rt; holds.check_reclassify(&tree, above, Some(&legal)), held);
-    assert_eq!(rt; holds.check_reclassify(&tree, first, Some(&finance)), None);
-    assert_eq!(rt; holds.check_reclassify(&tree, first, None), None);
-    assert_eq!(rt;
-        holds.check_reclassify(&tree, Classified::Record(2), Some(&finance)),
+/// Whether the holds refuse another class.
+fn reclassify(
+    alloc: Global,
+    tree: &Tree,
+    holds: &Holds,
+    target: Classified,
+    class: &str,
+) -> Option<Vec<u8>> {
+    let class = if class == "-" {
         None
-    );
-    lift(&rt, &mut holds, "H-1")?;
-    assert_eq!(rt; holds.check_reclassify(&tree, first, Some(&legal)), None);
-    Ok(())
+    } else {
+        Some(code(alloc, class)?)
+    };
+    match holds.check_reclassify(tree, target, class.as_ref()) {
+        Some(refusal) => refused(alloc, refusal),
+        None => as_told(alloc, "not refused"),
+    }
+}
+
+/// What is told to holds or asked of them, over a tree.
+fn told(alloc: Global, tree: &Tree, holds: &mut Holds, ask: &str) -> Option<Vec<u8>> {
+    let words = words_of(alloc, ask)?;
+    let (name, kind, thing) = (word(&words, 1), word(&words, 2), word(&words, 3));
+    match word(&words, 0) {
+        "place" => place(alloc, holds, name),
+        "cover" => cover(alloc, holds, name, target_of(alloc, kind, thing)?),
+        "uncover" => uncover(alloc, holds, name, &target_of(alloc, kind, thing)?),
+        "lift" => lift(alloc, holds, name),
+        "held" => held(alloc, tree, holds),
+        "covering" => covering(alloc, tree, holds, name),
+        "reclassify" => reclassify(alloc, tree, holds, classified_of(name, kind)?, thing),
+        _ => None,
+    }
+}
+
+/// Tells a story to new holds.
+fn must_go(alloc: Global, tree: &Tree, story: &str) -> Result<(), Fail> {
+    let mut holds = Holds::new(alloc);
+    must_hold(alloc, story, |ask| told(alloc, tree, &mut holds, ask))
+}
+
+#[test]
+fn holds(rt: HostRuntime) -> Result<(), Fail> {
+    let alloc = rt.alloc();
+    let mut office = Machine::new(alloc);
+    must_hold(alloc, TREE, |ask| told_act(alloc, &mut office, ask))?;
+    let tree = office.tree();
+    must_go(alloc, tree, LIFTED)?;
+    must_go(alloc, tree, COVERED)?;
+    must_go(alloc, tree, STAYING)?;
+    must_go(alloc, tree, LEAVING)
 }

@@ -1,10 +1,9 @@
-//! Plan files worked out by hand, and what a failing reader or writer leaves.
-
-use office_days::Refusal;
+//! Plan files, and what a failing reader or writer leaves.
+use crate::rows::must_hold;
+use crate::streams::{Narrow, Sent};
+use crate::written::{as_told, bytes_of};
 use office_plan::{PlanStop, plan_to};
-use office_tree::{Code, Status, Text};
-use std::io;
-use std::io::{Read, Write};
+use std::alloc::Global;
 use std::test::Fail;
 
 /// Two schedules, two classes, an aggregation in another, which is closed, and three records.
@@ -20,193 +19,130 @@ record 1 - - 2024-01-02 2024-01-02
 close 2 2024-01-31
 ";
 
-/// One class and two records of it.
+/// One class and two records of it, the last line without its end.
 const TWO: &str = "schedule D1 added years 1 none destroy
 class FIN D1
 aggregation FIN -
 record 1 - - 2024-01-02 2024-01-02
-record 1 - - 2024-01-02 2024-02-29
+record 1 - - 2024-01-02 2024-02-29";
+
+/// `CLOSED` and `TWO` stand for those files.
+const ROWS: &str = r"
+    plan CLOSED = 1 2024-04-01\n2 -\n3 -\n
+    plan TWO + \n = 1 2025-01-02\n2 2025-02-28\n
+    plan TWO = 1 2025-01-02\n2 2025-02-28\n
+    plan schedule D1 added years 1 none destroy\r\nclass FIN D1\r\naggregation FIN -\r\nrecord 1 - - 2024-01-02 2024-01-02\r\nrecord 1 - - 2024-01-02 2024-02-29\r\n = 1 2025-01-02\n2 2025-02-28\n
+    plan nothing = nothing
+    plan \n\r\n\n = nothing
+    # the last addition is the greatest day
+    plan schedule L last-addition days 30 none destroy\nclass FIN L\naggregation FIN -\nrecord 1 - - 2024-01-02 2024-03-01\nrecord 1 - - 2024-01-02 2024-01-02\n = 1 2024-03-31\n2 2024-03-31\n
+
+    # a further line that is refused
+    plan CLOSED + aggregation - - = line 11 refused 10
+    plan CLOSED + aggregation FIN 2 = line 11 refused 7
+    plan CLOSED + close 2 2024-02-01 = line 11 refused 7
+    plan CLOSED + record 9 - - 2024-01-02 2024-01-02 = line 11 refused 5
+    plan CLOSED + record 0 - - 2024-01-02 2024-01-02 = line 11 refused 3
+    plan CLOSED + record 1 - - 2024-01-02 2023-02-29 = line 11 refused 2
+    plan CLOSED + record 0 - - 2024-01-02 2023-02-29 = line 11 refused 2
+    plan CLOSED + schedule C added days 0 none keep = line 11 refused 4
+    plan CLOSED + schedule - added days 0 none keep = line 11 refused 2
+    plan CLOSED + schedule X added years 501 none keep = line 11 refused 3
+    plan CLOSED + schedule X added years 501 no keep = line 11 refused 2
+    plan CLOSED + class FIN NON = line 11 refused 4
+    plan CLOSED + class NEW NON = line 11 refused 5
+    plan CLOSED + class A - = line 11 refused 2
+    plan CLOSED + close 1 = line 11 refused 2
+    plan CLOSED + close  1 2024-02-01 = line 11 refused 2
+    plan CLOSED + open 1 2024-02-01 = line 11 refused 2
+    plan CLOSED + \s = line 11 refused 2
+    plan CLOSED + \r = line 11 refused 2
+
+    # of several lines the first is told: an open child, a lone carriage return, a byte that is no text
+    plan schedule C closed months 1 quarter destroy\nschedule K added days 0 none keep\nclass FIN C\nclass PER K\naggregation FIN -\naggregation - 1\nrecord 2 - - 2024-01-02 2024-01-02\nrecord 2 PER - 2024-01-02 2024-01-02\nrecord 1 - - 2024-01-02 2024-01-02\nclose 1 2024-01-31\nx\n = line 10 refused 8
+    plan \r = line 1 refused 2
+    plan \n\nclass \xff D1\nx\n = line 3 refused 2
+
+    # the ninth aggregation is too deep
+    plan schedule D added days 0 none keep\nclass A D\naggregation A -\naggregation - 1\naggregation - 2\naggregation - 3\naggregation - 4\naggregation - 5\naggregation - 6\naggregation - 7\n = nothing
+    plan schedule D added days 0 none keep\nclass A D\naggregation A -\naggregation - 1\naggregation - 2\naggregation - 3\naggregation - 4\naggregation - 5\naggregation - 6\naggregation - 7\naggregation - 8\n = line 11 refused 9
+
+    reader TWO + \n = fails at each byte
+    writer TWO + \n = fails at each byte
 ";
 
-/// What is printed of some bytes, or the line that is refused.
-fn plan_of(rt: &HostRuntime, bytes: &[u8], out: &mut Vec<u8>) -> Option<(u64, Refusal)> {
-    let mut reader = bytes;
-    plan_to(rt.alloc(), &mut reader, out).ok().flatten()
-}
-
-#[test]
-fn plans_worked_out_by_hand(rt: HostRuntime) -> Result<(), Fail> {
-    let crlf = TWO.replace(rt.alloc(), "\n", "\r\n")?;
-    let rows = [
-        (CLOSED, "1 2024-04-01\n2 -\n3 -\n"),
-        (TWO, "1 2025-01-02\n2 2025-02-28\n"),
-        (crlf.as_str(), "1 2025-01-02\n2 2025-02-28\n"),
-        (TWO.trim_end(), "1 2025-01-02\n2 2025-02-28\n"),
-        ("", ""),
-        ("\n\r\n\n", ""),
-    ];
-    for (text, printed) in rows {
-        let mut out = Vec::new(rt.alloc());
-        assert_eq!(rt; plan_of(&rt, text.as_bytes(), &mut out), None);
-        assert_eq!(rt; out.as_slice(), printed.as_bytes());
+/// What is printed of a file, or the line that is refused, where nothing is printed.
+fn plan_told(alloc: Global, file: &[u8]) -> Option<Vec<u8>> {
+    let mut reader = file;
+    let mut out = Vec::new(alloc);
+    match plan_to(alloc, &mut reader, &mut out).ok()? {
+        None => Some(out),
+        Some((line, refusal)) if out.is_empty() => {
+            let text = format!(in alloc; "line {line} refused {}", refusal.number()).ok()?;
+            Some(text.into_bytes())
+        }
+        Some(_) => None,
     }
-    Ok(())
 }
 
-#[test]
-fn the_last_addition_is_the_greatest_day(rt: HostRuntime) {
-    let text = "schedule L last-addition days 30 none destroy
-class FIN L
-aggregation FIN -
-record 1 - - 2024-01-02 2024-03-01
-record 1 - - 2024-01-02 2024-01-02
-";
-    let mut out = Vec::new(rt.alloc());
-    assert_eq!(rt; plan_of(&rt, text.as_bytes(), &mut out), None);
-    assert_eq!(rt; out.as_slice(), "1 2024-03-31\n2 2024-03-31\n".as_bytes());
+/// Whether a reader that breaks after these bytes of a file stops its plan, with nothing printed.
+fn breaks_after(alloc: Global, bytes: &[u8]) -> bool {
+    let mut reader = Sent {
+        bytes,
+        most: 1,
+        breaks: true,
+    };
+    let mut out = Vec::new(alloc);
+    plan_to(alloc, &mut reader, &mut out) == Err(PlanStop::Io) && out.is_empty()
 }
 
-#[test]
-fn a_further_line_that_is_refused(rt: HostRuntime) -> Result<(), Fail> {
-    let rows = [
-        ("aggregation - -", Refusal::NeedsClass),
-        ("aggregation FIN 2", Refusal::Closed),
-        ("close 2 2024-02-01", Refusal::Closed),
-        ("record 9 - - 2024-01-02 2024-01-02", Refusal::NoSuch),
-        ("record 0 - - 2024-01-02 2024-01-02", Refusal::BadNumber),
-        ("record 1 - - 2024-01-02 2023-02-29", Refusal::BadText),
-        ("record 0 - - 2024-01-02 2023-02-29", Refusal::BadText),
-        ("schedule C added days 0 none keep", Refusal::Exists),
-        ("schedule - added days 0 none keep", Refusal::BadText),
-        ("schedule X added years 501 none keep", Refusal::BadNumber),
-        ("schedule X added years 501 no keep", Refusal::BadText),
-        ("class FIN NON", Refusal::Exists),
-        ("class NEW NON", Refusal::NoSuch),
-        ("class A -", Refusal::BadText),
-        ("close 1", Refusal::BadText),
-        ("close  1 2024-02-01", Refusal::BadText),
-        ("open 1 2024-02-01", Refusal::BadText),
-        (" ", Refusal::BadText),
-        ("\r", Refusal::BadText),
-    ];
-    for (line, refusal) in rows {
-        let text = format!(in rt.alloc(); "{CLOSED}{line}")?;
-        let mut out = Vec::new(rt.alloc());
-        let refused = plan_of(&rt, text.as_bytes(), &mut out);
-        assert_eq!(rt; refused, Some((11, refusal)), "at {line}");
-        assert!(rt; out.is_empty());
-    }
-    Ok(())
-}
-
-#[test]
-fn the_first_refused_line_is_told(rt: HostRuntime) -> Result<(), Fail> {
-    let open_child = CLOSED.replace(rt.alloc(), "close 2 2024-01-31", "close 1 2024-01-31\nx")?;
-    let rows = [
-        (open_child.as_bytes(), (10, Refusal::ChildOpen)),
-        (b"\r", (1, Refusal::BadText)),
-        (b"\n\nclass \xff D1\nx\n", (3, Refusal::BadText)),
-    ];
-    for (bytes, want) in rows {
-        let mut out = Vec::new(rt.alloc());
-        assert_eq!(rt; plan_of(&rt, bytes, &mut out), Some(want));
-    }
-    Ok(())
-}
-
-#[test]
-fn the_ninth_aggregation_is_too_deep(rt: HostRuntime) -> Result<(), Fail> {
-    let mut text = format!(in rt.alloc();
-        "schedule D added days 0 none keep\nclass A D\naggregation A -\n"
-    )?;
-    for parent in 1..8 {
-        text.push_str(format!(in rt.alloc(); "aggregation - {parent}\n")?.as_str())?;
-    }
-    let mut out = Vec::new(rt.alloc());
-    assert_eq!(rt; plan_of(&rt, text.as_bytes(), &mut out), None);
-    text.push_str("aggregation - 8\n")?;
-    assert_eq!(rt;
-        plan_of(&rt, text.as_bytes(), &mut out),
-        Some((11, Refusal::TooDeep))
-    );
-    Ok(())
-}
-
-/// A reader that gives some bytes, one at a time, and then fails.
-#[derive(Drop)]
-struct Cut<'a> {
-    bytes: &'a [u8],
-}
-
-impl Read for Cut<'_> {
-    fn read(&mut self, buf: &mut [u8]) -> io::Result<usize> {
-        match (self.bytes.split_first(), buf.first_mut()) {
-            (Some((byte, rest)), Some(place)) => {
-                *place = *byte;
-                self.bytes = rest;
-                Ok(1)
-            }
-            _ => Err(io::Error::from(io::ErrorKind::BrokenPipe)),
+/// A reader that breaks after each number of bytes.
+fn reader_told(alloc: Global, file: &[u8]) -> Option<Vec<u8>> {
+    for end in 0..file.len() {
+        if !breaks_after(alloc, &file[..end]) {
+            return None;
         }
     }
+    as_told(alloc, "fails at each byte")
 }
 
-/// A writer that takes some bytes and then fails.
-#[derive(Drop)]
-struct Narrow {
-    room: usize,
-}
-
-impl Write for Narrow {
-    fn write(&mut self, buf: &[u8]) -> io::Result<usize> {
-        if self.room == 0 {
-            return Err(io::Error::from(io::ErrorKind::StorageFull));
+/// A writer with too little room for what is printed, and one with enough.
+fn writer_told(alloc: Global, file: &[u8]) -> Option<Vec<u8>> {
+    let printed = plan_told(alloc, file)?;
+    for room in 0..printed.len() {
+        let mut reader = file;
+        if plan_to(alloc, &mut reader, &mut Narrow { room }) != Err(PlanStop::Io) {
+            return None;
         }
-        let taken = buf.len().min(self.room);
-        self.room -= taken;
-        Ok(taken)
     }
+    let mut reader = file;
+    let room = printed.len();
+    match plan_to(alloc, &mut reader, &mut Narrow { room }) {
+        Ok(None) => as_told(alloc, "fails at each byte"),
+        _ => None,
+    }
+}
 
-    fn flush(&mut self) -> io::Result<()> {
-        Ok(())
+/// The file that is written so.
+fn file_of(alloc: Global, written: &str) -> Option<Vec<u8>> {
+    let written = written.replace(alloc, "CLOSED", CLOSED).ok()?;
+    let written = written.as_str().replace(alloc, "TWO", TWO).ok()?;
+    bytes_of(alloc, written.as_str())
+}
+
+fn told(alloc: Global, ask: &str) -> Option<Vec<u8>> {
+    let (word, written) = ask.split_once(" ")?;
+    let file = file_of(alloc, written)?;
+    match word {
+        "plan" => plan_told(alloc, &file),
+        "reader" => reader_told(alloc, &file),
+        "writer" => writer_told(alloc, &file),
+        _ => None,
     }
 }
 
 #[test]
-fn a_reader_that_fails_at_each_byte(rt: HostRuntime) {
-    for end in 0..TWO.len() {
-        let mut reader = Cut {
-            bytes: &TWO.as_bytes()[..end],
-        };
-        let mut out = Vec::new(rt.alloc());
-        let answer = plan_to(rt.alloc(), &mut reader, &mut out);
-        assert_eq!(rt; answer, Err(PlanStop::Io));
-        assert!(rt; out.is_empty());
-    }
-}
-
-#[test]
-fn a_plan_writer_that_fails_at_each_byte(rt: HostRuntime) {
-    for room in 0..26 {
-        let mut reader = TWO.as_bytes();
-        let answer = plan_to(rt.alloc(), &mut reader, &mut Narrow { room });
-        assert_eq!(rt; answer, Err(PlanStop::Io));
-    }
-    let mut reader = TWO.as_bytes();
-    let answer = plan_to(rt.alloc(), &mut reader, &mut Narrow { room: 26 });
-    assert_eq!(rt; answer, Ok(None));
-}
-
-#[test]
-fn codes_and_texts_are_read_and_copied(rt: HostRuntime) -> Result<(), Fail> {
-    let code = Code::read(rt.alloc(), "A-9")?.ok_or("a code")?;
-    assert_eq!(rt; code.copy(rt.alloc())?.text(), "A-9");
-    let text = Text::read(rt.alloc(), "Akten, 2023 \u{e4}")?.ok_or("a text")?;
-    assert_eq!(rt; text.copy(rt.alloc())?.text(), "Akten, 2023 \u{e4}");
-    for bad in ["", "ABCDEFGHIJKLMNOPQ", "A_B", "\u{e4}"] {
-        assert!(rt; Code::read(rt.alloc(), bad)?.is_none());
-    }
-    assert!(rt; Text::read(rt.alloc(), "a\u{85}b")?.is_none());
-    assert_eq!(rt; Status::read("received"), Some(Status::Received));
-    Ok(())
+fn plans(rt: HostRuntime) -> Result<(), Fail> {
+    let alloc = rt.alloc();
+    must_hold(alloc, ROWS, |ask| told(alloc, ask))
 }

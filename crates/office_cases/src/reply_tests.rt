@@ -1,23 +1,78 @@
-//! Answers worked out by hand, and what a writer that fails leaves.
-
-use crate::request_tests::Pieces;
+//! Answers whole, with their status and how many bytes they have, and what a writer that fails leaves.
+use crate::rows::must_hold;
+use crate::streams::{Narrow, Sent};
+use crate::written::bytes_of;
 use httparse::spans::HeaderSpan;
 use office_http::{
-    Allow, Body, Check, Failure, Head, Io, Kind, LONGEST_HEAD, Plan, Reply, Status, check_reply,
+    Allow, Body, Failure, Head, Io, Kind, LONGEST_HEAD, Plan, Reply, Status, check_reply,
     failure_reply, is_head_in, plan_in, read_head, write_reply,
 };
-use std::alloc::{AllocGlobal, Global};
-use std::io;
-use std::io::Write;
-use std::process::Abort;
+use std::alloc::Global;
 use std::test::Fail;
+
+/// The answer to a request whose head does not pass a check, read in pieces of several sizes; to a failure; and
+/// of bodies that are texts and octets. Each is also written with too little room.
+const ROWS: &str = r#"
+    reply GET /nothing HTTP/1.1\r\nHost: h\r\n\r\n = 404 in 113 bytes: HTTP/1.1 404 Not Found\r\nContent-Type: application/json\r\nContent-Length: 16\r\nConnection: close\r\n\r\n{"error":"path"}
+    reply HEAD /nothing HTTP/1.1\r\nHost: h\r\n\r\n = 404 in 97 bytes: HTTP/1.1 404 Not Found\r\nContent-Type: application/json\r\nContent-Length: 16\r\nConnection: close\r\n\r\n
+    reply HEAD /acts HTTP/1.1\r\nHost: h\r\n\r\n = 405 in 119 bytes: HTTP/1.1 405 Method Not Allowed\r\nContent-Type: application/json\r\nContent-Length: 18\r\nAllow: POST\r\nConnection: close\r\n\r\n
+    reply HEAD /nothing HTTP/1.1\r\n\r\n = 400 in 99 bytes: HTTP/1.1 400 Bad Request\r\nContent-Type: application/json\r\nContent-Length: 16\r\nConnection: close\r\n\r\n
+    reply DELETE /records/1 HTTP/1.1\r\nHost: h\r\n\r\n = 405 in 136 bytes: HTTP/1.1 405 Method Not Allowed\r\nContent-Type: application/json\r\nContent-Length: 18\r\nAllow: GET\r\nConnection: close\r\n\r\n{"error":"method"}
+
+    # each check has its answer
+    reply POST /acts HTTP/1.1\r\nContent-Length: 2\r\n\r\n = 400 in 115 bytes: HTTP/1.1 400 Bad Request\r\nContent-Type: application/json\r\nContent-Length: 16\r\nConnection: close\r\n\r\n{"error":"host"}
+    reply GET /records HTTP/1.1\r\nHost: h\r\n\r\n = 404 in 113 bytes: HTTP/1.1 404 Not Found\r\nContent-Type: application/json\r\nContent-Length: 16\r\nConnection: close\r\n\r\n{"error":"path"}
+    reply POST /acts HTTP/1.1\r\nHost: h\r\nTransfer-Encoding: chunked\r\nContent-Length: 5\r\n\r\n = 501 in 121 bytes: HTTP/1.1 501 Not Implemented\r\nContent-Type: application/json\r\nContent-Length: 18\r\nConnection: close\r\n\r\n{"error":"coding"}
+    reply POST /acts HTTP/1.1\r\nHost: h\r\n\r\n = 411 in 121 bytes: HTTP/1.1 411 Length Required\r\nContent-Type: application/json\r\nContent-Length: 18\r\nConnection: close\r\n\r\n{"error":"length"}
+    reply POST /acts HTTP/1.1\r\nHost: h\r\nContent-Length: +5\r\n\r\n = 400 in 117 bytes: HTTP/1.1 400 Bad Request\r\nContent-Type: application/json\r\nContent-Length: 18\r\nConnection: close\r\n\r\n{"error":"length"}
+    reply POST /acts HTTP/1.1\r\nHost: h\r\nContent-Length: 1048577\r\n\r\n = 413 in 121 bytes: HTTP/1.1 413 Payload Too Large\r\nContent-Type: application/json\r\nContent-Length: 16\r\nConnection: close\r\n\r\n{"error":"size"}
+
+    # each failure has its answer
+    failure head = 400 in 115 bytes: HTTP/1.1 400 Bad Request\r\nContent-Type: application/json\r\nContent-Length: 16\r\nConnection: close\r\n\r\n{"error":"head"}
+    failure body = 400 in 115 bytes: HTTP/1.1 400 Bad Request\r\nContent-Type: application/json\r\nContent-Length: 16\r\nConnection: close\r\n\r\n{"error":"body"}
+    failure json = 400 in 115 bytes: HTTP/1.1 400 Bad Request\r\nContent-Type: application/json\r\nContent-Length: 16\r\nConnection: close\r\n\r\n{"error":"json"}
+    failure memory = 503 in 125 bytes: HTTP/1.1 503 Service Unavailable\r\nContent-Type: application/json\r\nContent-Length: 18\r\nConnection: close\r\n\r\n{"error":"memory"}
+    failure record = 404 in 115 bytes: HTTP/1.1 404 Not Found\r\nContent-Type: application/json\r\nContent-Length: 18\r\nConnection: close\r\n\r\n{"error":"record"}
+    failure content = 404 in 116 bytes: HTTP/1.1 404 Not Found\r\nContent-Type: application/json\r\nContent-Length: 19\r\nConnection: close\r\n\r\n{"error":"content"}
+    failure certificate = 404 in 120 bytes: HTTP/1.1 404 Not Found\r\nContent-Type: application/json\r\nContent-Length: 23\r\nConnection: close\r\n\r\n{"error":"certificate"}
+    failure day = 400 in 114 bytes: HTTP/1.1 400 Bad Request\r\nContent-Type: application/json\r\nContent-Length: 15\r\nConnection: close\r\n\r\n{"error":"day"}
+
+    # a body of each other kind
+    text RUN 1\n = 200 in 104 bytes: HTTP/1.1 200 OK\r\nContent-Type: text/plain; charset=utf-8\r\nContent-Length: 6\r\nConnection: close\r\n\r\nRUN 1\n
+    octets \0\xff = 409 in 105 bytes: HTTP/1.1 409 Conflict\r\nContent-Type: application/octet-stream\r\nContent-Length: 2\r\nConnection: close\r\n\r\n\0\xff
+"#;
+
+/// An answer with its status and its size, where a writer fails that has room for fewer bytes.
+fn written(alloc: Global, reply: &Reply, is_head: bool) -> Option<Vec<u8>> {
+    let mut out = Vec::new(alloc);
+    let status = write_reply(reply, is_head, &mut out).ok()?;
+    let size = out.len();
+    for room in 0..size {
+        if write_reply(reply, is_head, &mut Narrow { room }) != Err(Io) {
+            return None;
+        }
+    }
+    if write_reply(reply, is_head, &mut Narrow { room: size }) != Ok(status) {
+        return None;
+    }
+    let mut told = format!(in alloc; "{status} in {size} bytes: ")
+        .ok()?
+        .into_bytes();
+    told.extend_from_slice(&out).ok()?;
+    Some(told)
+}
 
 /// The answer to a head that does not pass a check, read in pieces.
 fn refused(alloc: Global, bytes: &[u8], most: usize) -> Option<Vec<u8>> {
     let mut buf = Vec::with_capacity(alloc, LONGEST_HEAD).ok()?;
     let mut headers = [HeaderSpan::default(); 64];
-    let Ok(Head::Found(head)) = read_head(&mut Pieces { bytes, most }, &mut buf, &mut headers)
-    else {
+    let breaks = false;
+    let mut reader = Sent {
+        bytes,
+        most,
+        breaks,
+    };
+    let Ok(Head::Found(head)) = read_head(&mut reader, &mut buf, &mut headers) else {
         return None;
     };
     let is_head = is_head_in(&buf, &head);
@@ -27,186 +82,66 @@ fn refused(alloc: Global, bytes: &[u8], most: usize) -> Option<Vec<u8>> {
     }
 }
 
-/// The bytes of an answer.
-fn written(alloc: Global, reply: &Reply, is_head: bool) -> Option<Vec<u8>> {
-    let mut out = Vec::new(alloc);
-    write_reply(reply, is_head, &mut out).ok()?;
-    Some(out)
-}
-
-#[test]
-fn answers_worked_out_by_hand(rt: HostRuntime) -> Result<(), Fail> {
-    let rows = [
-        (
-            "GET /nothing HTTP/1.1\r\nHost: h\r\n\r\n",
-            113,
-            "HTTP/1.1 404 Not Found\r\nContent-Type: application/json\r\nContent-Length: 16\r\nConnection: close\r\n\r\n{\"error\":\"path\"}",
-        ),
-        (
-            "HEAD /nothing HTTP/1.1\r\nHost: h\r\n\r\n",
-            97,
-            "HTTP/1.1 404 Not Found\r\nContent-Type: application/json\r\nContent-Length: 16\r\nConnection: close\r\n\r\n",
-        ),
-        (
-            "HEAD /acts HTTP/1.1\r\nHost: h\r\n\r\n",
-            119,
-            "HTTP/1.1 405 Method Not Allowed\r\nContent-Type: application/json\r\nContent-Length: 18\r\nAllow: POST\r\nConnection: close\r\n\r\n",
-        ),
-        (
-            "HEAD /nothing HTTP/1.1\r\n\r\n",
-            99,
-            "HTTP/1.1 400 Bad Request\r\nContent-Type: application/json\r\nContent-Length: 16\r\nConnection: close\r\n\r\n",
-        ),
-        (
-            "DELETE /records/1 HTTP/1.1\r\nHost: h\r\n\r\n",
-            136,
-            "HTTP/1.1 405 Method Not Allowed\r\nContent-Type: application/json\r\nContent-Length: 18\r\nAllow: GET\r\nConnection: close\r\n\r\n{\"error\":\"method\"}",
-        ),
-    ];
-    for (request, size, answer) in rows {
-        for most in [1, 2, 7, 4_096] {
-            let bytes = refused(rt.alloc(), request.as_bytes(), most).ok_or("no answer")?;
-            assert_eq!(rt; bytes.len(), size);
-            assert_eq!(rt; bytes.as_slice(), answer.as_bytes());
+/// The answer to a head that does not pass a check, however it is cut.
+fn reply_told(alloc: Global, bytes: &[u8]) -> Option<Vec<u8>> {
+    let told = refused(alloc, bytes, 4_096)?;
+    for most in [1, 2, 7] {
+        if refused(alloc, bytes, most)? != told {
+            return None;
         }
     }
-    Ok(())
+    Some(told)
 }
 
-/// An answer of JSON, as its head and body stand.
-fn error_text(alloc: Global, status: &str, body: &str) -> Result<String, Fail> {
-    let size = body.len();
-    let line = "Content-Type: application/json\r\n";
-    Ok(format!(in alloc;
-        "HTTP/1.1 {status}\r\n{line}Content-Length: {size}\r\nConnection: close\r\n\r\n{body}"
-    )?)
-}
-
-/// A reply must be written as an answer of JSON.
-fn written_as(
-    rt: &(impl Abort + AllocGlobal),
-    reply: &Reply,
-    status: &str,
-    body: &str,
-) -> Result<(), Fail> {
-    let bytes = written(rt.alloc(), reply, false).ok_or("no answer")?;
-    let text = error_text(rt.alloc(), status, body)?;
-    assert_eq!(rt; bytes.as_slice(), text.as_bytes());
-    Ok(())
-}
-
-#[test]
-fn each_check_has_its_answer(rt: HostRuntime) -> Result<(), Fail> {
-    let coding = "501 Not Implemented";
-    let length = "411 Length Required";
-    let rows = [
-        (Check::Host, "400 Bad Request", "{\"error\":\"host\"}"),
-        (Check::Path, "404 Not Found", "{\"error\":\"path\"}"),
-        (Check::TransferCoding, coding, "{\"error\":\"coding\"}"),
-        (Check::LengthMissing, length, "{\"error\":\"length\"}"),
-        (
-            Check::LengthInvalid,
-            "400 Bad Request",
-            "{\"error\":\"length\"}",
-        ),
-        (
-            Check::ContentTooLarge,
-            "413 Payload Too Large",
-            "{\"error\":\"size\"}",
-        ),
-    ];
-    for (check, status, body) in rows {
-        written_as(&rt, &check_reply(check), status, body)?;
+/// The failure of that word.
+fn failure_of(word: &[u8]) -> Option<Failure> {
+    match word {
+        b"head" => Some(Failure::Head),
+        b"body" => Some(Failure::Body),
+        b"json" => Some(Failure::Json),
+        b"memory" => Some(Failure::Memory),
+        b"record" => Some(Failure::Record),
+        b"content" => Some(Failure::Content),
+        b"certificate" => Some(Failure::Certificate),
+        b"day" => Some(Failure::Day),
+        _ => None,
     }
-    Ok(())
 }
 
-#[test]
-fn each_failure_has_its_answer(rt: HostRuntime) -> Result<(), Fail> {
-    let bad = "400 Bad Request";
-    let missing = "404 Not Found";
-    let rows = [
-        (Failure::Head, bad, "{\"error\":\"head\"}"),
-        (Failure::Body, bad, "{\"error\":\"body\"}"),
-        (Failure::Json, bad, "{\"error\":\"json\"}"),
-        (
-            Failure::Memory,
-            "503 Service Unavailable",
-            "{\"error\":\"memory\"}",
-        ),
-        (Failure::Record, missing, "{\"error\":\"record\"}"),
-        (Failure::Content, missing, "{\"error\":\"content\"}"),
-        (Failure::Certificate, missing, "{\"error\":\"certificate\"}"),
-        (Failure::Day, bad, "{\"error\":\"day\"}"),
-    ];
-    for (failure, status, body) in rows {
-        written_as(&rt, &failure_reply(failure), status, body)?;
-    }
-    Ok(())
-}
-
-#[test]
-fn a_body_of_each_kind(rt: HostRuntime) -> Result<(), Fail> {
-    let text = Reply {
+/// What was asked for, as a text.
+fn text_reply(text: String) -> Reply {
+    Reply {
         status: Status::Fine,
         kind: Kind::Plain,
         allow: Allow::Any,
-        body: Body::Text("RUN 1\n".to_string(rt.alloc())?),
-    };
-    let plain =
-        "HTTP/1.1 200 OK\r\nContent-Type: text/plain; charset=utf-8\r\nContent-Length: 6\r\nConnection: close\r\n\r\nRUN 1\n";
-    assert_eq!(rt;
-        written(rt.alloc(), &text, false)
-            .ok_or("no answer")?
-            .as_slice(),
-        plain.as_bytes()
-    );
-    let octets = Reply {
+        body: Body::Text(text),
+    }
+}
+
+/// A refusal, as octets.
+fn octets_reply(octets: Vec<u8>) -> Reply {
+    Reply {
         status: Status::Conflict,
         kind: Kind::Octets,
         allow: Allow::Any,
-        body: Body::Bytes(b"\0\xff".to_vec(rt.alloc())?),
-    };
-    let bytes =
-        b"HTTP/1.1 409 Conflict\r\nContent-Type: application/octet-stream\r\nContent-Length: 2\r\nConnection: close\r\n\r\n\0\xff";
-    assert_eq!(rt;
-        written(rt.alloc(), &octets, false)
-            .ok_or("no answer")?
-            .as_slice(),
-        bytes.as_slice()
-    );
-    Ok(())
-}
-
-/// A writer that takes some bytes and then fails.
-#[derive(Drop)]
-struct Narrow {
-    room: usize,
-}
-
-impl Write for Narrow {
-    fn write(&mut self, buf: &[u8]) -> io::Result<usize> {
-        if self.room == 0 {
-            return Err(io::Error::from(io::ErrorKind::BrokenPipe));
-        }
-        let taken = buf.len().min(self.room);
-        self.room -= taken;
-        Ok(taken)
+        body: Body::Bytes(octets),
     }
+}
 
-    fn flush(&mut self) -> io::Result<()> {
-        Ok(())
+fn told(alloc: Global, ask: &str) -> Option<Vec<u8>> {
+    let (word, rest) = ask.split_once(" ")?;
+    let bytes = bytes_of(alloc, rest)?;
+    match word {
+        "reply" => reply_told(alloc, &bytes),
+        "failure" => written(alloc, &failure_reply(failure_of(&bytes)?), false),
+        "text" => written(alloc, &text_reply(String::from_utf8(bytes).ok()?), false),
+        "octets" => written(alloc, &octets_reply(bytes), false),
+        _ => None,
     }
 }
 
 #[test]
-fn a_writer_that_fails_at_each_byte(rt: HostRuntime) {
-    let reply = check_reply(Check::Path);
-    for room in 0..113 {
-        assert_eq!(rt; write_reply(&reply, false, &mut Narrow { room }), Err(Io));
-    }
-    assert_eq!(rt;
-        write_reply(&reply, false, &mut Narrow { room: 113 }),
-        Ok(404)
-    );
+fn replies(rt: HostRuntime) -> Result<(), Fail> {
+    let alloc = rt.alloc();
+    must_hold(alloc, ROWS, |ask| told(alloc, ask))
 }
