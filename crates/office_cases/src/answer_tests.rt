@@ -1,118 +1,142 @@
 //! Answers, faults and what a failing writer leaves of them, as JSON.
-use crate::answering::{answers_of, refusal_of};
+ghost use Rattle.std.specs.Prelude.{◌≡◌, IfOk, false};
+ghost use Rattle.serde_json.specs.Value.{view};
+ghost use Rattle.serde_json.specs.Data.{has_float};
+
 use crate::rows::must_hold;
 use crate::streams::Narrow;
+use crate::written::push;
 use office_days::Refusal;
 use office_json::{
     Io, answer_value, answers_value, bad_act_value, fault_value, stopped_value, text_of,
     write_answers,
 };
 use office_machine::Answer;
+use office_proof::Outcome;
 use office_tree::Memory;
+use serde_json::Value;
 use std::alloc::Global;
 use std::test::Fail;
 
+/// The answers of the rows.
+const ANSWERS: [(&str, Answer); 11] = [
+    ("Done", Answer::Done),
+    ("Number(1)", Answer::Number(1)),
+    ("Number(7)", Answer::Number(7)),
+    ("Same(7)", Answer::Same(7)),
+    ("Same(4294967295)", Answer::Same(4_294_967_295)),
+    ("Step(1, Destroyed)", Answer::Step(1, Outcome::Destroyed)),
+    ("Step(2, Sent)", Answer::Step(2, Outcome::Sent)),
+    ("Step(20, Skipped)", Answer::Step(20, Outcome::Skipped)),
+    ("RunClosed(1)", Answer::RunClosed(1)),
+    ("Refused(NoSuch)", Answer::Refused(Refusal::NoSuch)),
+    (
+        "Refused(WrongDigest)",
+        Answer::Refused(Refusal::WrongDigest),
+    ),
+];
+
 const ROWS: &str = r#"
     # one answer alone, and as a line
-    value done = {"done":true}
-    value number 1 = {"number":1}
-    value same 4294967295 = {"number":4294967295,"same":true}
-    value step 1 destroyed = {"outcome":"destroyed","record":1}
-    value step 20 skipped = {"outcome":"skipped","record":20}
-    value closed 1 = {"certificate":1}
-    value refused 5 = {"refused":5}
-    lines done = {"done":true}\n
-    lines number 1 = {"number":1}\n
-    lines same 4294967295 = {"number":4294967295,"same":true}\n
-    lines step 1 destroyed = {"outcome":"destroyed","record":1}\n
-    lines step 20 skipped = {"outcome":"skipped","record":20}\n
-    lines closed 1 = {"certificate":1}\n
-    lines refused 5 = {"refused":5}\n
+    value Done = {"done":true}
+    value Number(1) = {"number":1}
+    value Same(4294967295) = {"number":4294967295,"same":true}
+    value Step(1, Destroyed) = {"outcome":"destroyed","record":1}
+    value Step(20, Skipped) = {"outcome":"skipped","record":20}
+    value RunClosed(1) = {"certificate":1}
+    value Refused(NoSuch) = {"refused":5}
+    lines Done = {"done":true}\n
+    lines Number(1) = {"number":1}\n
+    lines Same(4294967295) = {"number":4294967295,"same":true}\n
+    lines Step(1, Destroyed) = {"outcome":"destroyed","record":1}\n
+    lines Step(20, Skipped) = {"outcome":"skipped","record":20}\n
+    lines RunClosed(1) = {"certificate":1}\n
+    lines Refused(NoSuch) = {"refused":5}\n
 
     # the lines stand in the order of the answers; each row is also written with too little room
-    lines number 7, refused 20, done = {"number":7}\n{"refused":20}\n{"done":true}\n
+    lines Number(7); Refused(WrongDigest); Done = {"number":7}\n{"refused":20}\n{"done":true}\n
     lines nothing = nothing
-    lines same 7, step 2 sent = {"number":7,"same":true}\n{"outcome":"sent","record":2}\n
+    lines Same(7); Step(2, Sent) = {"number":7,"same":true}\n{"outcome":"sent","record":2}\n
 
     # answers to a list of acts
-    answers number 1, refused 5 = [{"number":1},{"refused":5}]
+    answers Number(1); Refused(NoSuch) = [{"number":1},{"refused":5}]
     answers nothing = []
-    stopped-by-31 number 1, refused 5 = {"answers":[{"number":1},{"refused":5}],"fault":31}
+    stopped-by-31 Number(1); Refused(NoSuch) = {"answers":[{"number":1},{"refused":5}],"fault":31}
 
     # a fault alone, and an act that does not read
-    fault 30 = {"fault":30}
-    bad-act-18446744073709551615 3 = {"error":"act","place":18446744073709551615,"refused":3}
+    fault-30 = {"fault":30}
+    bad-act-18446744073709551615-3 = {"error":"act","place":18446744073709551615,"refused":3}
 "#;
 
-/// The text of an answer alone.
-fn answer_text(alloc: Global, answer: &Answer) -> Result<String, Memory> {
-    let value = answer_value(alloc, answer)?;
-    text_of(alloc, &value)
-}
-
-/// The text of the answers to a list of acts.
-fn answers_text(alloc: Global, answers: &[Answer]) -> Result<String, Memory> {
-    let value = answers_value(alloc, answers)?;
-    text_of(alloc, &value)
-}
-
-/// The text of the answers before a fault.
-fn stopped_text(alloc: Global, answers: &[Answer], fault: u32) -> Result<String, Memory> {
-    let value = stopped_value(alloc, answers, fault)?;
-    text_of(alloc, &value)
-}
-
-/// The text of a fault.
-fn fault_text(alloc: Global, fault: u32) -> Result<String, Memory> {
-    let value = fault_value(alloc, fault)?;
-    text_of(alloc, &value)
-}
-
-/// The text that tells an act that does not read.
-fn bad_act_text(alloc: Global, place: u64, refusal: Refusal) -> Result<String, Memory> {
-    let value = bad_act_value(alloc, place, refusal)?;
-    text_of(alloc, &value)
-}
-
-/// The lines of answers, where a writer fails that has room for fewer bytes.
-fn lines_told(alloc: Global, answers: &[Answer]) -> Option<Vec<u8>> {
-    let mut out = Vec::new(alloc);
-    write_answers(answers, &mut out).ok()?;
-    let size = out.len();
-    let fails = (0..size).all(|room| write_answers(answers, &mut Narrow { room }) == Err(Io));
-    let ends = write_answers(answers, &mut Narrow { room: size }) == Ok(());
-    if fails && ends { Some(out) } else { None }
-}
-
-/// What is told of a list of answers.
-fn list_told(alloc: Global, word: &str, answers: &[Answer]) -> Option<Vec<u8>> {
-    let text = match word {
-        "value" => answer_text(alloc, answers.first()?),
-        "answers" => answers_text(alloc, answers),
-        "stopped-by-31" => stopped_text(alloc, answers, 31),
-        "lines" => return lines_told(alloc, answers),
-        _ => return None,
-    };
-    Some(text.ok()?.into_bytes())
-}
-
-fn told(alloc: Global, ask: &str) -> Option<Vec<u8>> {
-    let (word, written) = ask.split_once(" ")?;
-    match word {
-        "fault" => {
-            let fault = written.parse::<u32>().ok()?;
-            Some(fault_text(alloc, fault).ok()?.into_bytes())
+/// The answer that is written so.
+fn answer_of(written: &str) -> Option<Answer> {
+    for (name, answer) in ANSWERS {
+        if name == written {
+            return Some(answer);
         }
-        "bad-act-18446744073709551615" => {
-            let refusal = refusal_of(written)?;
-            Some(bad_act_text(alloc, u64::MAX, refusal).ok()?.into_bytes())
-        }
-        _ => list_told(alloc, word, &answers_of(alloc, written)?),
     }
+    None
+}
+
+/// Appends the answers that are written so, with `; ` between them.
+fn push_answers(answers: &mut Vec<Answer>, written: &str) -> Option<()> {
+    for answer in written.split("; ") {
+        if !answer.is_empty() {
+            answers.push(answer_of(answer)?).ok()?;
+        }
+    }
+    Some(())
+}
+
+/// Appends the lines of answers, where a writer fails that has room for fewer bytes.
+fn push_lines(answers: &[Answer], out: &mut Vec<u8>) -> Option<()> {
+    write_answers(answers, out).ok()?;
+    for room in 0..out.len() {
+        if write_answers(answers, &mut Narrow { room }) != Err(Io) {
+            return None;
+        }
+    }
+    let room = out.len();
+    write_answers(answers, &mut Narrow { room }).ok()
+}
+
+/// The value of answers, of the fault 30, or of an act that does not read.
+fn value_of(alloc: Global, word: &str, answers: &[Answer]) -> Result<Value, Memory>
+    ensures { IfOk result (λ value. has_float (view value) ≡ false) }
+{
+    match word {
+        "value" => answer_value(alloc, answers.first().unwrap_or(&Answer::Done)),
+        "answers" => answers_value(alloc, answers),
+        "stopped-by-31" => stopped_value(alloc, answers, 31),
+        "fault-30" => fault_value(alloc, 30),
+        "bad-act-18446744073709551615-3" => bad_act_value(alloc, u64::MAX, Refusal::BadNumber),
+        _ => Err(Memory),
+    }
+}
+
+/// The text of such a value.
+fn text_told(alloc: Global, word: &str, answers: &[Answer]) -> Result<String, Memory> {
+    let value = value_of(alloc, word, answers)?;
+    text_of(alloc, &value)
+}
+
+/// Tells answers by a word.
+fn tell_answers(word: &str, answers: &[Answer], out: &mut Vec<u8>) -> Option<()> {
+    if word == "lines" {
+        return push_lines(answers, out);
+    }
+    let text = text_told(*out.allocator(), word, answers).ok()?;
+    push(out, text.as_str())
+}
+
+fn tell(word: &str, asked: &[u8], out: &mut Vec<u8>) -> Option<()> {
+    let text = str::from_utf8(asked).ok()?;
+    let mut answers = Vec::new(*out.allocator());
+    push_answers(&mut answers, text)?;
+    tell_answers(word, &answers, out)
 }
 
 #[test]
 fn answers(rt: HostRuntime) -> Result<(), Fail> {
-    let alloc = rt.alloc();
-    must_hold(alloc, ROWS, |ask| told(alloc, ask))
+    must_hold(rt.alloc(), ROWS, tell)
 }

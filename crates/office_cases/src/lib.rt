@@ -1,14 +1,15 @@
 //! Cases worked out by hand, each a row of text: what is asked, ` = `, and what must come of it.
 //!
 //! Rows stand in their subject's file and begin with the word of what they ask: `due`, `plan`,
-//! `digest`, .. A line that begins with `#` is a remark. The words of a row stand between spaces, or
-//! between bars where a word is empty or has a space in it. Where a row tells bytes, they are written
-//! as text in which `\r`, `\n`, `\t`, `\s` and `\0` are a carriage return, a line feed, a tab, a space
-//! and a zero, `\\` is a backslash, and `\xff` is the byte of that number. They may come in pieces with
-//! ` + ` between them, of which each may end in ` x N` where it stands N times; `nothing` is no byte. A
-//! row whose answer is another, or which is not of this language, is named by the test that fails.
+//! `digest`, .. A line that begins with `#` is a remark. What follows is written as text in which `\r`, `\n`, `\t`,
+//! `\s`, `\0`, `\1` and `\f` are a carriage return, a line feed, a tab, a space and the bytes 0, 1 and 255, and a
+//! backslash before any other character is that character. It may come in pieces with ` + ` between
+//! them, of which each may end in ` x N` where it stands N times; `nothing` is no byte. Words stand between
+//! spaces, or between bars where one of them is empty or has a space in it. A row whose answer is another, or which
+//! is not of this language, is named by the test that fails, with its line in its text.
 //!
-//! Stories in `holds_tests` and `office_tests` are rows that are told to one office, one after another.
+//! In `hold_tests` and `office_tests` rows are told one after another, as a story: acts, each on its day, with
+//! what is answered, and what the office tells in between.
 #![tactic(auto)]
 
 #[cfg(test)]

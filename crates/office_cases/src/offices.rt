@@ -1,88 +1,130 @@
 //! One office in memory, to which acts are told row by row.
 //!
-//! An act is told in short, its day first, as `2024-01-02 hold-on H-2 record:1`, or as its JSON. What is short
-//! is written out by its form and read as any other act; a title is the ref, a holder's or a registrar's name
-//! and a reason are always the same.
+//! An act is told in short, its day first, as `2024-01-02 hold-on H-2 record:1`, or as its JSON after the word `act`.
+//! What is short is written out by its form and read as any other act; a title is the ref, and a reason and the
+//! name of who acts are always the same.
 ghost use Rattle.office_machine.specs.Acts.{CanBeMade};
 
-use crate::answering::answer_told;
-use crate::rows::{word, words_of};
+use crate::answering::push_answer;
+use crate::rows::word;
 use office_json::read_act;
-use office_machine::{Act, Answer, Change, Decision, Machine};
+use office_machine::{Act, Change, Decision, Machine};
 use serde_json::Value;
 use std::alloc::Global;
 
 /// The form of each act: `$0` is the day, `$1` the act's word, and `$2` and so on what follows.
-const FORMS: &str = r#"
-    add-schedule {"act":"$1","day":"$0","code":"$2","trigger":"$3","unit":"$4","count":$5,"offset":"$6","action":"$7"}
-    add-class {"act":"$1","day":"$0","code":"$2","title":"$2","schedule":"$3"}
-    set-class-schedule {"act":"$1","day":"$0","class":"$2","schedule":"$3"}
-    add-root {"act":"add-aggregation","day":"$0","ref":"$2","title":"$2","class":"$3"}
-    add-child {"act":"add-aggregation","day":"$0","ref":"$2","title":"$2","parent":$3}
-    close-aggregation {"act":"$1","day":"$0","aggregation":$2}
-    add-record {"act":"$1","day":"$0","ref":"$2","title":"$2","originated":"2024-01-02","aggregation":$3,"content":"$4"}
-    add-empty-record {"act":"add-record","day":"$0","ref":"$2","title":"$2","originated":"2024-01-02","aggregation":$3,"content":""}
-    place-hold {"act":"$1","day":"$0","code":"$2","reason":"court","by":"registrar"}
-    hold-on {"act":"$1","day":"$0","hold":"$2","target":"$3"}
-    lift-hold {"act":"$1","day":"$0","hold":"$2"}
-    confirm {"act":"$1","day":"$0","record":$2,"action":"$3","by":"registrar"}
-    open-run {"act":"$1","day":"$0","by":"registrar"}
-    run-step {"act":"$1"}
-"#;
+const FORMS: [(&str, &str); 16] = [
+    (
+        "add-schedule",
+        r#"{"act":"$1","day":"$0","code":"$2","trigger":"$3","unit":"$4","count":$5,"offset":"$6","action":"$7"}"#,
+    ),
+    (
+        "add-class",
+        r#"{"act":"$1","day":"$0","code":"$2","title":"$2","schedule":"$3"}"#,
+    ),
+    (
+        "set-class-schedule",
+        r#"{"act":"$1","day":"$0","class":"$2","schedule":"$3"}"#,
+    ),
+    (
+        "add-root",
+        r#"{"act":"add-aggregation","day":"$0","ref":"$2","title":"$2","class":"$3"}"#,
+    ),
+    (
+        "add-child",
+        r#"{"act":"add-aggregation","day":"$0","ref":"$2","title":"$2","parent":$3}"#,
+    ),
+    (
+        "close-aggregation",
+        r#"{"act":"$1","day":"$0","aggregation":$2}"#,
+    ),
+    (
+        "add-record",
+        r#"{"act":"$1","day":"$0","ref":"$2","title":"$2","originated":"2024-01-02","aggregation":$3,"content":"$4"}"#,
+    ),
+    (
+        "add-empty-record",
+        r#"{"act":"add-record","day":"$0","ref":"$2","title":"$2","originated":"2024-01-02","aggregation":$3,"content":""}"#,
+    ),
+    (
+        "place-hold",
+        r#"{"act":"$1","day":"$0","code":"$2","reason":"court","by":"registrar"}"#,
+    ),
+    (
+        "hold-on",
+        r#"{"act":"$1","day":"$0","hold":"$2","target":"$3"}"#,
+    ),
+    (
+        "hold-off",
+        r#"{"act":"$1","day":"$0","hold":"$2","target":"$3"}"#,
+    ),
+    ("lift-hold", r#"{"act":"$1","day":"$0","hold":"$2"}"#),
+    (
+        "confirm",
+        r#"{"act":"$1","day":"$0","record":$2,"action":"$3","by":"registrar"}"#,
+    ),
+    ("open-run", r#"{"act":"$1","day":"$0","by":"registrar"}"#),
+    ("run-step", r#"{"act":"$1"}"#),
+    (
+        "reclassify",
+        r#"{"act":"$1","day":"$0","target":"$2","class":"$3"}"#,
+    ),
+];
+
+/// The places of a form.
+const PLACES: [&str; 8] = ["$0", "$1", "$2", "$3", "$4", "$5", "$6", "$7"];
 
 /// The form of an act, by its word.
-fn form_of(name: &str) -> Option<&'static str> {
-    for line in FORMS.lines() {
-        if let Some((word, form)) = line.trim().split_once(" ") {
-            if word == name {
-                return Some(form);
-            }
+fn form_of(name: &str) -> &'static str {
+    for (word, form) in FORMS {
+        if word == name {
+            return form;
         }
     }
-    None
+    ""
 }
 
 /// The JSON of an act that is told in short.
-fn written_out(alloc: Global, words: &[&str]) -> Option<String> {
-    let form = form_of(word(words, 1))?;
-    let mut text = String::from_str(alloc, form).ok()?;
-    for (place, word) in words.iter().enumerate() {
-        let sign = format!(in alloc; "${place}").ok()?;
-        text = text.as_str().replace(alloc, sign.as_str(), word).ok()?;
+fn written_out(alloc: Global, day: &str, ask: &str) -> Option<String> {
+    let form = form_of(word(ask, 0));
+    let mut text = form.replace(alloc, "$0", day).ok()?;
+    for (place, word) in PLACES.into_iter().skip(1).zip(ask.split(" ")) {
+        text = text.as_str().replace(alloc, place, word).ok()?;
     }
     Some(text)
 }
 
 /// The act that a text of JSON asks for.
-fn act_of(alloc: Global, text: &str) -> Option<Act> {
+fn read(alloc: Global, text: &str) -> Option<Act> {
     let value = Value::from_str(alloc, text).ok()?;
     read_act(alloc, &value).ok()
 }
 
-/// Makes a change, and gives its answer.
-fn made(office: &mut Machine, change: Change) -> Option<Answer>
+/// The act that a row tells by its first word and what follows.
+pub(crate) fn act_of(alloc: Global, first: &str, rest: &str) -> Option<Act> {
+    if first == "act" {
+        return read(alloc, rest);
+    }
+    let text = written_out(alloc, first, rest)?;
+    read(alloc, text.as_str())
+}
+
+/// Makes a change, and tells its answer.
+fn make(office: &mut Machine, change: Change, out: &mut Vec<u8>) -> Option<()>
     requires { CanBeMade office.old change }
 {
     let answer = change.answer;
-    office.apply(change).ok()?;
-    Some(answer)
-}
-
-/// What the office answers to an act, which is done where it is accepted.
-fn answered(alloc: Global, office: &mut Machine, act: &Act) -> Option<Answer> {
-    match office.decide(alloc, act).ok()? {
-        Decision::Stay(answer) => Some(answer),
-        Decision::Go(change) => made(office, change),
+    match office.apply(change) {
+        Ok(()) => push_answer(out, answer),
+        Err(_) => None,
     }
 }
 
-/// What the office answers to an act that is told.
-pub(crate) fn told_act(alloc: Global, office: &mut Machine, ask: &str) -> Option<Vec<u8>> {
-    let act = if ask.starts_with("{") {
-        act_of(alloc, ask)?
-    } else {
-        let words = words_of(alloc, ask)?;
-        act_of(alloc, written_out(alloc, &words)?.as_str())?
-    };
-    answer_told(alloc, answered(alloc, office, &act)?)
+/// Tells what the office answers to an act, which is done where it is accepted.
+pub(crate) fn perform(office: &mut Machine, act: &Act, out: &mut Vec<u8>) -> Option<()> {
+    match office.decide(*out.allocator(), act) {
+        Ok(Decision::Stay(answer)) => push_answer(out, answer),
+        Ok(Decision::Go(change)) => make(office, change, out),
+        Err(_) => None,
+    }
 }

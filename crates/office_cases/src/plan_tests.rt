@@ -1,13 +1,15 @@
 //! Plan files, and what a failing reader or writer leaves.
+use crate::answering::push_refused;
 use crate::rows::must_hold;
 use crate::streams::{Narrow, Sent};
-use crate::written::{as_told, bytes_of};
+use crate::written::push;
 use office_plan::{PlanStop, plan_to};
 use std::alloc::Global;
+use std::io::Write;
 use std::test::Fail;
 
 /// Two schedules, two classes, an aggregation in another, which is closed, and three records.
-const CLOSED: &str = "schedule C closed months 1 quarter destroy
+pub(crate) const CLOSED: &str = "schedule C closed months 1 quarter destroy
 schedule K added days 0 none keep
 class FIN C
 class PER K
@@ -20,7 +22,7 @@ close 2 2024-01-31
 ";
 
 /// One class and two records of it, the last line without its end.
-const TWO: &str = "schedule D1 added years 1 none destroy
+pub(crate) const TWO: &str = "schedule D1 added years 1 none destroy
 class FIN D1
 aggregation FIN -
 record 1 - - 2024-01-02 2024-01-02
@@ -61,88 +63,69 @@ const ROWS: &str = r"
     # of several lines the first is told: an open child, a lone carriage return, a byte that is no text
     plan schedule C closed months 1 quarter destroy\nschedule K added days 0 none keep\nclass FIN C\nclass PER K\naggregation FIN -\naggregation - 1\nrecord 2 - - 2024-01-02 2024-01-02\nrecord 2 PER - 2024-01-02 2024-01-02\nrecord 1 - - 2024-01-02 2024-01-02\nclose 1 2024-01-31\nx\n = line 10 refused 8
     plan \r = line 1 refused 2
-    plan \n\nclass \xff D1\nx\n = line 3 refused 2
+    plan \n\nclass \f D1\nx\n = line 3 refused 2
 
     # the ninth aggregation is too deep
     plan schedule D added days 0 none keep\nclass A D\naggregation A -\naggregation - 1\naggregation - 2\naggregation - 3\naggregation - 4\naggregation - 5\naggregation - 6\naggregation - 7\n = nothing
     plan schedule D added days 0 none keep\nclass A D\naggregation A -\naggregation - 1\naggregation - 2\naggregation - 3\naggregation - 4\naggregation - 5\naggregation - 6\naggregation - 7\naggregation - 8\n = line 11 refused 9
 
     reader TWO + \n = fails at each byte
-    writer TWO + \n = fails at each byte
+    writer TWO + \n = fails at each of 26 bytes
 ";
 
 /// What is printed of a file, or the line that is refused, where nothing is printed.
-fn plan_told(alloc: Global, file: &[u8]) -> Option<Vec<u8>> {
-    let mut reader = file;
-    let mut out = Vec::new(alloc);
-    match plan_to(alloc, &mut reader, &mut out).ok()? {
-        None => Some(out),
-        Some((line, refusal)) if out.is_empty() => {
-            let text = format!(in alloc; "line {line} refused {}", refusal.number()).ok()?;
-            Some(text.into_bytes())
+fn tell_plan(mut file: &[u8], out: &mut Vec<u8>) -> Option<()> {
+    match plan_to(*out.allocator(), &mut file, out) {
+        Ok(None) => Some(()),
+        Ok(Some((line, refusal))) if out.is_empty() => {
+            write!(out, "line {line} ").ok()?;
+            push_refused(out, refusal)
         }
-        Some(_) => None,
-    }
-}
-
-/// Whether a reader that breaks after these bytes of a file stops its plan, with nothing printed.
-fn breaks_after(alloc: Global, bytes: &[u8]) -> bool {
-    let mut reader = Sent {
-        bytes,
-        most: 1,
-        breaks: true,
-    };
-    let mut out = Vec::new(alloc);
-    plan_to(alloc, &mut reader, &mut out) == Err(PlanStop::Io) && out.is_empty()
-}
-
-/// A reader that breaks after each number of bytes.
-fn reader_told(alloc: Global, file: &[u8]) -> Option<Vec<u8>> {
-    for end in 0..file.len() {
-        if !breaks_after(alloc, &file[..end]) {
-            return None;
-        }
-    }
-    as_told(alloc, "fails at each byte")
-}
-
-/// A writer with too little room for what is printed, and one with enough.
-fn writer_told(alloc: Global, file: &[u8]) -> Option<Vec<u8>> {
-    let printed = plan_told(alloc, file)?;
-    for room in 0..printed.len() {
-        let mut reader = file;
-        if plan_to(alloc, &mut reader, &mut Narrow { room }) != Err(PlanStop::Io) {
-            return None;
-        }
-    }
-    let mut reader = file;
-    let room = printed.len();
-    match plan_to(alloc, &mut reader, &mut Narrow { room }) {
-        Ok(None) => as_told(alloc, "fails at each byte"),
         _ => None,
     }
 }
 
-/// The file that is written so.
-fn file_of(alloc: Global, written: &str) -> Option<Vec<u8>> {
-    let written = written.replace(alloc, "CLOSED", CLOSED).ok()?;
-    let written = written.as_str().replace(alloc, "TWO", TWO).ok()?;
-    bytes_of(alloc, written.as_str())
+/// A reader that breaks after each number of bytes, for which nothing is printed.
+fn tell_reader(file: &[u8], out: &mut Vec<u8>) -> Option<()> {
+    for end in 0..file.len() {
+        let mut reader = Sent::breaking(&file[..end]);
+        if plan_to(*out.allocator(), &mut reader, out) != Err(PlanStop::Io) || !out.is_empty() {
+            return None;
+        }
+    }
+    push(out, "fails at each byte")
 }
 
-fn told(alloc: Global, ask: &str) -> Option<Vec<u8>> {
-    let (word, written) = ask.split_once(" ")?;
-    let file = file_of(alloc, written)?;
+/// How a plan ends for a writer with that much room.
+fn plan_into(alloc: Global, mut file: &[u8], room: usize) -> Result<bool, PlanStop> {
+    let refused = plan_to(alloc, &mut file, &mut Narrow { room })?;
+    Ok(refused.is_none())
+}
+
+/// A writer with room for fewer bytes than the 26 that are printed, and one with room for them.
+fn tell_writer(file: &[u8], out: &mut Vec<u8>) -> Option<()> {
+    let alloc = *out.allocator();
+    for room in 0..26 {
+        if plan_into(alloc, file, room) != Err(PlanStop::Io) {
+            return None;
+        }
+    }
+    match plan_into(alloc, file, 26) {
+        Ok(true) => push(out, "fails at each of 26 bytes"),
+        _ => None,
+    }
+}
+
+fn tell(word: &str, file: &[u8], out: &mut Vec<u8>) -> Option<()> {
     match word {
-        "plan" => plan_told(alloc, &file),
-        "reader" => reader_told(alloc, &file),
-        "writer" => writer_told(alloc, &file),
+        "plan" => tell_plan(file, out),
+        "reader" => tell_reader(file, out),
+        "writer" => tell_writer(file, out),
         _ => None,
     }
 }
 
 #[test]
 fn plans(rt: HostRuntime) -> Result<(), Fail> {
-    let alloc = rt.alloc();
-    must_hold(alloc, ROWS, |ask| told(alloc, ask))
+    must_hold(rt.alloc(), ROWS, tell)
 }

@@ -1,12 +1,12 @@
 //! Digests that other programs work out, and which words, codes and texts there are.
 use crate::rows::must_hold;
-use crate::written::{as_told, bytes_of};
+use crate::written::push;
 use office_proof::{Outcome, digest_of};
 use office_tree::{Code, Status, Text};
-use std::alloc::Global;
+use std::io::Write;
 use std::test::Fail;
 
-const ROWS: &str = r"
+const ROWS: &str = "
     # worked out with sha256sum; that of abc is also the example of FIPS 180-4, and the last content is
     # longer than a block of 64 bytes
     digest nothing = e3b0c44298fc1c149afbf4c8996fb92427ae41e4649b934ca495991b7852b855
@@ -21,8 +21,8 @@ const ROWS: &str = r"
     outcome nothing = none
     outcome Destroyed = none
     outcome destroy = none
-    outcome sent\s = none
-    outcome \ssent = none
+    outcome sent\\s = none
+    outcome \\ssent = none
     outcome received = none
     outcome ended = none
 
@@ -31,59 +31,57 @@ const ROWS: &str = r"
     code nothing = none
     code ABCDEFGHIJKLMNOPQ = none
     code A_B = none
-    code \xc3\xa4 = none
-    text Akten, 2023 \xc3\xa4 = Akten, 2023 \xc3\xa4
-    text a\xc2\x85b = none
-    status received = Received
+    code \u{e4} = none
+    text Akten, 2023 \u{e4} = Akten, 2023 \u{e4}
+    text a\u{85}b = none
+    status received = Some(Received)
 ";
 
+/// The digits of the digest of a content.
+fn tell_digest(content: &[u8], out: &mut Vec<u8>) -> Option<()> {
+    let digits = hex::encode(*out.allocator(), &digest_of(content)).ok()?;
+    push(out, digits.as_str())
+}
+
 /// The outcome of a word, and the word of that outcome.
-fn outcome_told(alloc: Global, word: &str) -> Option<Vec<u8>> {
+fn tell_outcome(word: &str, out: &mut Vec<u8>) -> Option<()> {
     match Outcome::read(word) {
-        None => as_told(alloc, "none"),
-        Some(outcome) => {
-            let told = format!(in alloc; "{outcome:?} {}", outcome.text()).ok()?;
-            Some(told.into_bytes())
-        }
+        None => push(out, "none"),
+        Some(outcome) => write!(out, "{outcome:?} {}", outcome.text()).ok(),
     }
 }
 
 /// The text of a copy of the code that a text is.
-fn code_told(alloc: Global, text: &str) -> Option<Vec<u8>> {
+fn tell_code(text: &str, out: &mut Vec<u8>) -> Option<()> {
+    let alloc = *out.allocator();
     match Code::read(alloc, text).ok()? {
-        None => as_told(alloc, "none"),
-        Some(code) => as_told(alloc, code.copy(alloc).ok()?.text()),
+        None => push(out, "none"),
+        Some(code) => push(out, code.copy(alloc).ok()?.text()),
     }
 }
 
 /// The text of a copy of the line in words that a text is.
-fn text_told(alloc: Global, text: &str) -> Option<Vec<u8>> {
+fn tell_text(text: &str, out: &mut Vec<u8>) -> Option<()> {
+    let alloc = *out.allocator();
     match Text::read(alloc, text).ok()? {
-        None => as_told(alloc, "none"),
-        Some(text) => as_told(alloc, text.copy(alloc).ok()?.text()),
+        None => push(out, "none"),
+        Some(text) => push(out, text.copy(alloc).ok()?.text()),
     }
 }
 
-fn told(alloc: Global, ask: &str) -> Option<Vec<u8>> {
-    let (word, written) = ask.split_once(" ")?;
-    let bytes = bytes_of(alloc, written)?;
-    let text = str::from_utf8(&bytes).ok()?;
+fn tell(word: &str, asked: &[u8], out: &mut Vec<u8>) -> Option<()> {
+    let text = str::from_utf8(asked).ok()?;
     match word {
-        "digest" => Some(hex::encode(alloc, &digest_of(&bytes)).ok()?.into_bytes()),
-        "outcome" => outcome_told(alloc, text),
-        "code" => code_told(alloc, text),
-        "text" => text_told(alloc, text),
-        "status" => Some(
-            format!(in alloc; "{:?}", Status::read(text)?)
-                .ok()?
-                .into_bytes(),
-        ),
+        "digest" => tell_digest(asked, out),
+        "outcome" => tell_outcome(text, out),
+        "code" => tell_code(text, out),
+        "text" => tell_text(text, out),
+        "status" => write!(out, "{:?}", Status::read(text)).ok(),
         _ => None,
     }
 }
 
 #[test]
 fn digests_and_words(rt: HostRuntime) -> Result<(), Fail> {
-    let alloc = rt.alloc();
-    must_hold(alloc, ROWS, |ask| told(alloc, ask))
+    must_hold(rt.alloc(), ROWS, tell)
 }

@@ -1,13 +1,12 @@
 //! Answers whole, with their status and how many bytes they have, and what a writer that fails leaves.
 use crate::rows::must_hold;
 use crate::streams::{Narrow, Sent};
-use crate::written::bytes_of;
 use httparse::spans::HeaderSpan;
 use office_http::{
     Allow, Body, Failure, Head, Io, Kind, LONGEST_HEAD, Plan, Reply, Status, check_reply,
     failure_reply, is_head_in, plan_in, read_head, write_reply,
 };
-use std::alloc::Global;
+use std::io::Write;
 use std::test::Fail;
 
 /// The answer to a request whose head does not pass a check, read in pieces of several sizes; to a failure; and
@@ -39,109 +38,109 @@ const ROWS: &str = r#"
 
     # a body of each other kind
     text RUN 1\n = 200 in 104 bytes: HTTP/1.1 200 OK\r\nContent-Type: text/plain; charset=utf-8\r\nContent-Length: 6\r\nConnection: close\r\n\r\nRUN 1\n
-    octets \0\xff = 409 in 105 bytes: HTTP/1.1 409 Conflict\r\nContent-Type: application/octet-stream\r\nContent-Length: 2\r\nConnection: close\r\n\r\n\0\xff
+    octets \0\f = 409 in 105 bytes: HTTP/1.1 409 Conflict\r\nContent-Type: application/octet-stream\r\nContent-Length: 2\r\nConnection: close\r\n\r\n\0\f
 "#;
 
-/// An answer with its status and its size, where a writer fails that has room for fewer bytes.
-fn written(alloc: Global, reply: &Reply, is_head: bool) -> Option<Vec<u8>> {
-    let mut out = Vec::new(alloc);
-    let status = write_reply(reply, is_head, &mut out).ok()?;
-    let size = out.len();
+/// Whether a writer fails that has room for fewer bytes than an answer has, and one with room for them gives its
+/// status.
+fn fails_at_each_byte(reply: &Reply, is_head: bool, size: usize, status: u16) -> bool {
     for room in 0..size {
         if write_reply(reply, is_head, &mut Narrow { room }) != Err(Io) {
-            return None;
+            return false;
         }
     }
-    if write_reply(reply, is_head, &mut Narrow { room: size }) != Ok(status) {
-        return None;
+    write_reply(reply, is_head, &mut Narrow { room: size }) == Ok(status)
+}
+
+/// An answer with its status and its size.
+fn tell_reply(reply: &Reply, is_head: bool, out: &mut Vec<u8>) -> Option<()> {
+    let mut answer = Vec::new(*out.allocator());
+    match write_reply(reply, is_head, &mut answer) {
+        Ok(status) if fails_at_each_byte(reply, is_head, answer.len(), status) => {
+            write!(out, "{status} in {} bytes: ", answer.len()).ok()?;
+            out.extend_from_slice(&answer).ok()
+        }
+        _ => None,
     }
-    let mut told = format!(in alloc; "{status} in {size} bytes: ")
-        .ok()?
-        .into_bytes();
-    told.extend_from_slice(&out).ok()?;
-    Some(told)
 }
 
 /// The answer to a head that does not pass a check, read in pieces.
-fn refused(alloc: Global, bytes: &[u8], most: usize) -> Option<Vec<u8>> {
+fn tell_refused(most: usize, bytes: &[u8], out: &mut Vec<u8>) -> Option<()> {
+    let alloc = *out.allocator();
     let mut buf = Vec::with_capacity(alloc, LONGEST_HEAD).ok()?;
     let mut headers = [HeaderSpan::default(); 64];
-    let breaks = false;
-    let mut reader = Sent {
-        bytes,
-        most,
-        breaks,
-    };
+    let mut reader = Sent::in_pieces(bytes, most);
     let Ok(Head::Found(head)) = read_head(&mut reader, &mut buf, &mut headers) else {
         return None;
     };
     let is_head = is_head_in(&buf, &head);
     match plan_in(alloc, &buf, &head, &headers) {
-        Ok(Plan::Refuse(check)) => written(alloc, &check_reply(check), is_head),
+        Ok(Plan::Refuse(check)) => tell_reply(&check_reply(check), is_head, out),
         _ => None,
     }
 }
 
-/// The answer to a head that does not pass a check, however it is cut.
-fn reply_told(alloc: Global, bytes: &[u8]) -> Option<Vec<u8>> {
-    let told = refused(alloc, bytes, 4_096)?;
-    for most in [1, 2, 7] {
-        if refused(alloc, bytes, most)? != told {
-            return None;
+/// The failures by their words.
+const FAILURES: [(&str, Failure); 8] = [
+    ("head", Failure::Head),
+    ("body", Failure::Body),
+    ("json", Failure::Json),
+    ("memory", Failure::Memory),
+    ("record", Failure::Record),
+    ("content", Failure::Content),
+    ("certificate", Failure::Certificate),
+    ("day", Failure::Day),
+];
+
+/// The answer to a failure.
+fn tell_failure(bytes: &[u8], out: &mut Vec<u8>) -> Option<()> {
+    for (word, failure) in FAILURES {
+        if word.as_bytes() == bytes {
+            return tell_reply(&failure_reply(failure), false, out);
         }
     }
-    Some(told)
-}
-
-/// The failure of that word.
-fn failure_of(word: &[u8]) -> Option<Failure> {
-    match word {
-        b"head" => Some(Failure::Head),
-        b"body" => Some(Failure::Body),
-        b"json" => Some(Failure::Json),
-        b"memory" => Some(Failure::Memory),
-        b"record" => Some(Failure::Record),
-        b"content" => Some(Failure::Content),
-        b"certificate" => Some(Failure::Certificate),
-        b"day" => Some(Failure::Day),
-        _ => None,
-    }
+    None
 }
 
 /// What was asked for, as a text.
-fn text_reply(text: String) -> Reply {
-    Reply {
+fn tell_text(bytes: &[u8], out: &mut Vec<u8>) -> Option<()> {
+    let text = String::from_str(*out.allocator(), str::from_utf8(bytes).ok()?).ok()?;
+    let reply = Reply {
         status: Status::Fine,
         kind: Kind::Plain,
         allow: Allow::Any,
         body: Body::Text(text),
-    }
+    };
+    tell_reply(&reply, false, out)
 }
 
 /// A refusal, as octets.
-fn octets_reply(octets: Vec<u8>) -> Reply {
-    Reply {
+fn tell_octets(bytes: &[u8], out: &mut Vec<u8>) -> Option<()> {
+    let octets = Vec::from_slice(*out.allocator(), bytes).ok()?;
+    let reply = Reply {
         status: Status::Conflict,
         kind: Kind::Octets,
         allow: Allow::Any,
         body: Body::Bytes(octets),
-    }
+    };
+    tell_reply(&reply, false, out)
 }
 
-fn told(alloc: Global, ask: &str) -> Option<Vec<u8>> {
-    let (word, rest) = ask.split_once(" ")?;
-    let bytes = bytes_of(alloc, rest)?;
+fn tell(most: usize, word: &str, bytes: &[u8], out: &mut Vec<u8>) -> Option<()> {
     match word {
-        "reply" => reply_told(alloc, &bytes),
-        "failure" => written(alloc, &failure_reply(failure_of(&bytes)?), false),
-        "text" => written(alloc, &text_reply(String::from_utf8(bytes).ok()?), false),
-        "octets" => written(alloc, &octets_reply(bytes), false),
+        "reply" => tell_refused(most, bytes, out),
+        "failure" => tell_failure(bytes, out),
+        "text" => tell_text(bytes, out),
+        "octets" => tell_octets(bytes, out),
         _ => None,
     }
 }
 
 #[test]
 fn replies(rt: HostRuntime) -> Result<(), Fail> {
-    let alloc = rt.alloc();
-    must_hold(alloc, ROWS, |ask| told(alloc, ask))
+    for most in [1, 2, 7, 4_096] {
+        let tell = |word: &str, bytes: &[u8], out: &mut Vec<u8>| tell(most, word, bytes, out);
+        must_hold(rt.alloc(), ROWS, tell)?;
+    }
+    Ok(())
 }

@@ -1,10 +1,12 @@
 //! Heads and bodies as clients send them, in pieces of several sizes, and what a reader that fails leaves.
+ghost use Rattle.std.specs.Prelude.{◌≤◌, vec_capacity};
+
 use crate::rows::must_hold;
 use crate::streams::Sent;
-use crate::written::{as_told, bytes_of};
+use crate::written::push;
 use httparse::spans::HeaderSpan;
 use office_http::{Head, Io, LONGEST_HEAD, ReadStop, plan_in, read_body, read_head};
-use std::alloc::Global;
+use std::io::Write;
 use std::test::Fail;
 
 /// What is done for a head; a day is told by its number, and 19782 is that of 2024-02-29.
@@ -76,7 +78,7 @@ const HEADS: &str = r"
     plan GET /records/1 HTTP/2.0\r\nHost: h\r\n\r\n = no head
     plan GET /records/1\r\nHost: h\r\n\r\n = no head
     plan GET /records/1 HTTP/1.1\r\nHost : h\r\n\r\n = no head
-    plan \x01 = no head
+    plan \1 = no head
     plan nothing = no byte
 
     # the most lines, and one more
@@ -98,112 +100,83 @@ const BODIES: &str = r#"
 "#;
 
 /// What is done for the head of some bytes that come in pieces.
-fn plan_of(alloc: Global, bytes: &[u8], most: usize) -> Option<String> {
+fn tell_plan(most: usize, bytes: &[u8], out: &mut Vec<u8>) -> Option<()> {
+    let alloc = *out.allocator();
     let mut buf = Vec::with_capacity(alloc, LONGEST_HEAD).ok()?;
     let mut headers = [HeaderSpan::default(); 64];
-    let breaks = false;
-    let mut reader = Sent {
-        bytes,
-        most,
-        breaks,
-    };
-    match read_head(&mut reader, &mut buf, &mut headers).ok()? {
-        Head::Found(head) => {
-            let plan = plan_in(alloc, &buf, &head, &headers).ok()?;
-            format!(in alloc; "{plan:?}").ok()
-        }
-        Head::Missing => String::from_str(alloc, "no head").ok(),
-        Head::Empty => String::from_str(alloc, "no byte").ok(),
+    let mut reader = Sent::in_pieces(bytes, most);
+    match read_head(&mut reader, &mut buf, &mut headers) {
+        Ok(Head::Found(head)) => match plan_in(alloc, &buf, &head, &headers) {
+            Ok(plan) => write!(out, "{plan:?}").ok(),
+            Err(_) => None,
+        },
+        Ok(Head::Missing) => push(out, "no head"),
+        Ok(Head::Empty) => push(out, "no byte"),
+        Err(Io) => None,
     }
 }
 
-/// What is done for the head of some bytes, however they are cut.
-fn plan_told(alloc: Global, bytes: &[u8]) -> Option<Vec<u8>> {
-    let plan = plan_of(alloc, bytes, 4_096)?;
-    for most in [1, 2, 7] {
-        if plan_of(alloc, bytes, most)? != plan {
-            return None;
-        }
-    }
-    Some(plan.into_bytes())
+/// Appends what was read of a body, and whether it is whole.
+fn push_body(out: &mut Vec<u8>, whole: bool, body: &[u8]) -> Option<()> {
+    push(out, if whole { "whole: " } else { "cut: " })?;
+    out.extend_from_slice(body).ok()
 }
 
 /// The body of twenty bytes that follows a head, and whether it is whole.
-fn body_of(alloc: Global, bytes: &[u8], most: usize) -> Option<Vec<u8>> {
-    let breaks = false;
-    let mut reader = Sent {
-        bytes,
-        most,
-        breaks,
-    };
-    let mut buf = Vec::with_capacity(alloc, LONGEST_HEAD).ok()?;
+fn tell_body(most: usize, bytes: &[u8], out: &mut Vec<u8>) -> Option<()> {
+    let mut reader = Sent::in_pieces(bytes, most);
+    let mut buf = Vec::with_capacity(*out.allocator(), LONGEST_HEAD).ok()?;
     let mut headers = [HeaderSpan::default(); 64];
     let Ok(Head::Found(head)) = read_head(&mut reader, &mut buf, &mut headers) else {
         return None;
     };
     let end = head.len.saturating_add(20);
-    let whole = read_body(&mut reader, &mut buf, head.len, end).ok()?;
-    let mut told = as_told(alloc, if whole { "whole: " } else { "cut: " })?;
-    let body = buf.get(head.len..end.min(buf.len()))?;
-    told.extend_from_slice(body).ok()?;
-    Some(told)
-}
-
-/// The body after a head, however it is cut.
-fn body_told(alloc: Global, bytes: &[u8]) -> Option<Vec<u8>> {
-    let body = body_of(alloc, bytes, 4_096)?;
-    for most in [1, 2, 7] {
-        if body_of(alloc, bytes, most)? != body {
-            return None;
+    match read_body(&mut reader, &mut buf, head.len, end) {
+        Ok(whole) => {
+            let body = buf.get(head.len..end.min(buf.len())).unwrap_or(b"");
+            push_body(out, whole, body)
         }
+        Err(_) => None,
     }
-    Some(body)
 }
 
 /// Whether a reader that breaks after these bytes is told as failing, for a head and for a body.
-fn breaks_after(alloc: Global, bytes: &[u8]) -> Option<bool> {
-    let (most, breaks) = (1, true);
-    let mut buf = Vec::with_capacity(alloc, LONGEST_HEAD).ok()?;
+fn is_told_as_broken(bytes: &[u8], buf: &mut Vec<u8>) -> bool
+    requires { 16_384 ≤ vec_capacity buf.old }
+{
     let mut headers = [HeaderSpan::default(); 64];
-    let mut reader = Sent {
-        bytes,
-        most,
-        breaks,
-    };
-    let head = read_head(&mut reader, &mut buf, &mut headers);
-    let mut reader = Sent {
-        bytes,
-        most,
-        breaks,
-    };
-    let body = read_body(&mut reader, &mut buf, 0, 4_096);
-    Some(matches!(head, Err(Io)) && body == Err(ReadStop::Io))
+    buf.clear();
+    let head = read_head(&mut Sent::breaking(bytes), buf, &mut headers);
+    let body = read_body(&mut Sent::breaking(bytes), buf, 0, 4_096);
+    matches!(head, Err(Io)) && body == Err(ReadStop::Io)
 }
 
 /// A reader that breaks before each of these bytes.
-fn reader_told(alloc: Global, bytes: &[u8]) -> Option<Vec<u8>> {
+fn tell_reader(bytes: &[u8], out: &mut Vec<u8>) -> Option<()> {
     for end in 0..bytes.len() {
-        if !breaks_after(alloc, &bytes[..end])? {
+        let mut buf = Vec::with_capacity(*out.allocator(), LONGEST_HEAD).ok()?;
+        if !is_told_as_broken(&bytes[..end], &mut buf) {
             return None;
         }
     }
-    as_told(alloc, "fails before each byte")
+    push(out, "fails before each byte")
 }
 
-fn told(alloc: Global, ask: &str) -> Option<Vec<u8>> {
-    let (word, written) = ask.split_once(" ")?;
-    let bytes = bytes_of(alloc, written)?;
+fn tell(most: usize, word: &str, bytes: &[u8], out: &mut Vec<u8>) -> Option<()> {
     match word {
-        "plan" => plan_told(alloc, &bytes),
-        "body" => body_told(alloc, &bytes),
-        "reader" => reader_told(alloc, &bytes),
+        "plan" => tell_plan(most, bytes, out),
+        "body" => tell_body(most, bytes, out),
+        "reader" => tell_reader(bytes, out),
         _ => None,
     }
 }
 
 #[test]
 fn requests(rt: HostRuntime) -> Result<(), Fail> {
-    let alloc = rt.alloc();
-    must_hold(alloc, HEADS, |ask| told(alloc, ask))?;
-    must_hold(alloc, BODIES, |ask| told(alloc, ask))
+    for most in [1, 2, 7, 4_096] {
+        let tell = |word: &str, bytes: &[u8], out: &mut Vec<u8>| tell(most, word, bytes, out);
+        must_hold(rt.alloc(), HEADS, tell)?;
+        must_hold(rt.alloc(), BODIES, tell)?;
+    }
+    Ok(())
 }

@@ -1,26 +1,13 @@
 //! What goes through the rows of a text.
-use crate::written::bytes_of;
+use crate::written::push_bytes;
 use std::alloc::Global;
 use std::test::Fail;
 
-/// The words of what is asked, between spaces, or between bars where there are any.
-pub(crate) fn words_of<'a>(alloc: Global, ask: &'a str) -> Option<Vec<&'a str>> {
-    let between = if ask.contains("|") { "|" } else { " " };
-    ask.split(between).collect(alloc).ok()
-}
-
-/// The word at that place, or an empty one where there are fewer.
-pub(crate) fn word<'a>(words: &[&'a str], at: usize) -> &'a str {
-    match words.get(at) {
-        Some(word) => word,
-        None => "",
-    }
-}
-
-/// What a row asks, and what must come of it.
-fn parts_of(alloc: Global, row: &str) -> Option<(&str, Vec<u8>)> {
-    let (ask, answer) = row.split_once(" = ")?;
-    Some((ask, bytes_of(alloc, answer)?))
+/// The word of a text at that place from 0, or an empty one where there are fewer: words stand between
+/// spaces, or between bars where there are any.
+pub(crate) fn word(text: &str, at: usize) -> &str {
+    let between = if text.contains("|") { "|" } else { " " };
+    text.split(between).nth(at).unwrap_or("")
 }
 
 /// Whether a line is a row: not empty and no remark.
@@ -28,20 +15,35 @@ fn is_row(line: &str) -> bool {
     !line.is_empty() && !line.starts_with("#")
 }
 
-/// What is told of each row's question must be its answer.
-pub(crate) fn must_hold<F: FnMut(&str) -> Option<Vec<u8>>>(
+/// The parts of a row: its first word, what it asks, and what must come of it.
+fn parts_of(row: &str) -> Option<(&str, &str, &str)> {
+    let (ask, answer) = row.split_once(" = ")?;
+    let (word, what) = ask.split_once(" ").unwrap_or((ask, "nothing"));
+    Some((word, what, answer))
+}
+
+/// What is told of each row, by its first word and the bytes that it asks about, must be its answer.
+pub(crate) fn must_hold<F: FnMut(&str, &[u8], &mut Vec<u8>) -> Option<()>>(
     alloc: Global,
     rows: &str,
-    mut told: F,
+    mut tell: F,
 ) -> Result<(), Fail>
-    requires { F.IsAlwaysCallable told }
+    requires { F.IsAlwaysCallable tell }
 {
-    for line in rows.lines() {
+    let mut asked = Vec::new(alloc);
+    let mut told = Vec::new(alloc);
+    let mut wanted = Vec::new(alloc);
+    for (before, line) in rows.lines().enumerate() {
         let row = line.trim();
         if is_row(row) {
-            let (ask, answer) = parts_of(alloc, row).ok_or("no row")?;
-            if told(ask) != Some(answer) {
-                return Err(Fail::new(format_args!("{row}")));
+            asked.clear();
+            told.clear();
+            wanted.clear();
+            let (word, what, answer) = parts_of(row).unwrap_or(("", "", ""));
+            let is_read = push_bytes(&mut asked, what).and(push_bytes(&mut wanted, answer));
+            let is_told = tell(word, &asked, &mut told);
+            if is_read.is_none() || is_told.is_none() || told != wanted {
+                return Err(Fail::new(format_args!("line {before}: {row}")));
             }
         }
     }

@@ -5,9 +5,31 @@ use std::io::{ErrorKind, Read, Write};
 /// A reader that gives its bytes in pieces of at most so many, and then ends, or fails if it breaks.
 #[derive(Drop)]
 pub(crate) struct Sent<'a> {
-    pub bytes: &'a [u8],
-    pub most: usize,
-    pub breaks: bool,
+    bytes: &'a [u8],
+    most: usize,
+    breaks: bool,
+}
+
+impl<'a> Sent<'a> {
+    /// A reader that gives its bytes in such pieces, and then ends.
+    pub(crate) fn in_pieces(bytes: &'a [u8], most: usize) -> Sent<'a> {
+        let breaks = false;
+        Sent {
+            bytes,
+            most,
+            breaks,
+        }
+    }
+
+    /// A reader that gives its bytes one by one, and then fails.
+    pub(crate) fn breaking(bytes: &'a [u8]) -> Sent<'a> {
+        let (most, breaks) = (1, true);
+        Sent {
+            bytes,
+            most,
+            breaks,
+        }
+    }
 }
 
 impl Read for Sent<'_> {

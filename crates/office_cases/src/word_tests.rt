@@ -1,7 +1,9 @@
 //! Words of the command line: that they are taken at all, and of which kind the errors of others are.
-use crate::rows::{must_hold, words_of};
+use crate::answering::push_refused;
+use crate::rows::must_hold;
 use office_words::{Order, order_of, read_words};
-use std::alloc::Global;
+use std::io;
+use std::io::Write;
 use std::test::Fail;
 
 /// Each row is a command line. A refusal is that of an operand; what is no command of the program is told
@@ -28,10 +30,10 @@ const ROWS: &str = "
     office due --help = DisplayHelp
 
     # numbers of no run
-    office|certificate|office.db| = refused 2
+    office certificate|office.db| = refused 2
     office certificate office.db one = refused 2
     office certificate office.db +1 = refused 2
-    office|certificate|office.db|1  = refused 2
+    office certificate|office.db|1  = refused 2
     office certificate office.db 0 = refused 3
     office certificate office.db 000 = refused 3
     office certificate office.db 4294967296 = refused 3
@@ -44,46 +46,52 @@ const ROWS: &str = "
     office serve office.db 80 1000001 = refused 3
     office serve office.db 99999999999999999999999 1 = refused 3
     office serve office.db http 1 = refused 2
-    office|serve|office.db|80| = refused 2
+    office serve|office.db|80| = refused 2
     office serve office.db 80 +1 = refused 2
     office serve office.db 0 many = refused 2
     office serve office.db http 0 = refused 2
 ";
 
 /// What is ordered.
-fn order_text(alloc: Global, order: Order<'_>) -> Option<String> {
+fn tell_order(order: &Order<'_>, out: &mut Vec<u8>) -> io::Result<()> {
     match order {
         Order::Due {
             unit,
             count,
             offset,
             day,
-        } => format!(in alloc; "due {unit} {count} {offset} {day}").ok(),
-        Order::Plan { file } => format!(in alloc; "plan {file}").ok(),
-        Order::Init { file } => format!(in alloc; "init {file}").ok(),
-        Order::Apply { file, acts } => format!(in alloc; "apply {file} {acts}").ok(),
-        Order::Resume { file } => format!(in alloc; "resume {file}").ok(),
-        Order::Certificate { file, run } => format!(in alloc; "certificate {file} {run}").ok(),
-        Order::Serve { file, port, count } => format!(in alloc; "serve {file} {port} {count}").ok(),
-        Order::Nothing => None,
+        } => write!(out, "due {unit} {count} {offset} {day}"),
+        Order::Plan { file } => write!(out, "plan {file}"),
+        Order::Init { file } => write!(out, "init {file}"),
+        Order::Apply { file, acts } => write!(out, "apply {file} {acts}"),
+        Order::Resume { file } => write!(out, "resume {file}"),
+        Order::Certificate { file, run } => write!(out, "certificate {file} {run}"),
+        Order::Serve { file, port, count } => write!(out, "serve {file} {port} {count}"),
+        Order::Nothing => write!(out, "nothing"),
+    }
+}
+
+/// What some words order.
+fn tell_words(words: &[&str], out: &mut Vec<u8>) -> Option<()> {
+    match read_words(*out.allocator(), words) {
+        Ok(words) => match order_of(words) {
+            Ok(order) => tell_order(&order, out).ok(),
+            Err(refusal) => push_refused(out, refusal),
+        },
+        Err(error) => write!(out, "{:?}", error.kind()).ok(),
     }
 }
 
 /// What the words of a row order. With memory at hand, its want is no answer.
-fn told(alloc: Global, ask: &str) -> Option<Vec<u8>> {
-    let words = words_of(alloc, ask)?;
-    let text = match read_words(alloc, &words) {
-        Ok(words) => match order_of(words) {
-            Ok(order) => order_text(alloc, order)?,
-            Err(refusal) => format!(in alloc; "refused {}", refusal.number()).ok()?,
-        },
-        Err(error) => format!(in alloc; "{:?}", error.kind()).ok()?,
-    };
-    Some(text.into_bytes())
+fn tell(program: &str, asked: &[u8], out: &mut Vec<u8>) -> Option<()> {
+    let text = str::from_utf8(asked).ok()?;
+    let between = if text.contains("|") { "|" } else { " " };
+    let words = [program].into_iter().chain(text.split(between));
+    let words: Vec<&str> = words.collect(*out.allocator()).ok()?;
+    tell_words(&words, out)
 }
 
 #[test]
 fn words(rt: HostRuntime) -> Result<(), Fail> {
-    let alloc = rt.alloc();
-    must_hold(alloc, ROWS, |ask| told(alloc, ask))
+    must_hold(rt.alloc(), ROWS, tell)
 }

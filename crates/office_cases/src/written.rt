@@ -1,80 +1,64 @@
 //! Bytes as rows write them.
-use std::alloc::Global;
+use crate::plan_tests::{CLOSED, TWO};
 
-/// The byte of a letter after a backslash.
-fn control_of(letter: &str) -> Option<u8> {
+/// The byte that a letter after a backslash stands for.
+fn escaped(letter: u8) -> u8 {
     match letter {
-        "r" => Some(b'\r'),
-        "n" => Some(b'\n'),
-        "t" => Some(b'\t'),
-        "s" => Some(b' '),
-        "0" => Some(0),
-        _ => None,
+        b'r' => b'\r',
+        b'n' => b'\n',
+        b't' => b'\t',
+        b's' => b' ',
+        b'0' => 0,
+        b'1' => 1,
+        b'f' => 0xff,
+        other => other,
     }
-}
-
-/// Appends a byte and the text after it.
-fn push_byte(out: &mut Vec<u8>, byte: u8, rest: &str) -> Option<()> {
-    out.push(byte).ok()?;
-    out.extend_from_slice(rest.as_bytes()).ok()
-}
-
-/// Appends what stands after a backslash.
-fn push_escaped(out: &mut Vec<u8>, part: &str) -> Option<()> {
-    let (letter, rest) = part.split_at_checked(1)?;
-    if letter != "x" {
-        return push_byte(out, control_of(letter)?, rest);
-    }
-    let (digits, rest) = rest.split_at_checked(2)?;
-    push_byte(out, u8::from_str_radix(digits, 16).ok()?, rest)
 }
 
 /// Appends what a text writes.
 fn push_text(out: &mut Vec<u8>, text: &str) -> Option<()> {
-    let mut is_plain = true;
-    for part in text.split("\\") {
-        if is_plain {
-            out.extend_from_slice(part.as_bytes()).ok()?;
-            is_plain = false;
-        } else if part.is_empty() {
-            out.push(b'\\').ok()?;
-            is_plain = true;
+    let mut is_escape = false;
+    for byte in text.bytes() {
+        if byte == b'\\' && !is_escape {
+            is_escape = true;
         } else {
-            push_escaped(out, part)?;
+            out.push(if is_escape { escaped(byte) } else { byte }).ok()?;
+            is_escape = false;
         }
     }
     Some(())
 }
 
+/// Appends a piece that stands once.
+fn push_named(out: &mut Vec<u8>, piece: &str) -> Option<()> {
+    match piece {
+        "nothing" => Some(()),
+        "CLOSED" => push_text(out, CLOSED),
+        "TWO" => push_text(out, TWO),
+        _ => push_text(out, piece),
+    }
+}
+
 /// Appends a piece, as often as it says.
 fn push_piece(out: &mut Vec<u8>, piece: &str) -> Option<()> {
-    let (text, times) = match piece.rsplit_once(" x ") {
-        Some((text, times)) => (text, times.parse::<u32>().ok()?),
-        None => (piece, 1),
+    let Some((text, times)) = piece.rsplit_once(" x ") else {
+        return push_named(out, piece);
     };
-    for _ in 0..times {
+    for _ in 0..times.parse::<u32>().unwrap_or(0) {
         push_text(out, text)?;
     }
     Some(())
 }
 
-/// The bytes that are written so.
-pub(crate) fn bytes_of(alloc: Global, written: &str) -> Option<Vec<u8>> {
-    let mut out = Vec::new(alloc);
+/// Appends the bytes that are written so.
+pub(crate) fn push_bytes(out: &mut Vec<u8>, written: &str) -> Option<()> {
     for piece in written.split(" + ") {
-        if piece != "nothing" {
-            push_piece(&mut out, piece)?;
-        }
+        push_piece(out, piece)?;
     }
-    Some(out)
+    Some(())
 }
 
-/// The text that is written so.
-pub(crate) fn text_of(alloc: Global, written: &str) -> Option<String> {
-    String::from_utf8(bytes_of(alloc, written)?).ok()
-}
-
-/// A text as bytes.
-pub(crate) fn as_told(alloc: Global, text: &str) -> Option<Vec<u8>> {
-    Vec::from_slice(alloc, text.as_bytes()).ok()
+/// Appends a text as it stands.
+pub(crate) fn push(out: &mut Vec<u8>, text: &str) -> Option<()> {
+    out.extend_from_slice(text.as_bytes()).ok()
 }
