@@ -71,9 +71,12 @@ fn receipt_of(day: Option<Day>, by: Option<Text>) -> Option<Option<Receipt>>
 pub(crate) fn record_of(row: RecordRow) -> Option<(Record, Status)>
     ensures { MatchOption result ((head : Record) (status : Status) → record_row head status ≢ row) (λ p. record_row p.0 p.1 ≡ row) }
 {
-    let review = review_of(row.reviewed, row.reviewed_by)?;
-    let confirmation = confirmation_of(row.conf_action, row.conf_due, row.conf_day, row.conf_by)?;
-    let receipt = receipt_of(row.receipt_day, row.receipt_by)?;
+    let review = review_of(row.reviewed, row.reviewed_by);
+    let confirmation = confirmation_of(row.conf_action, row.conf_due, row.conf_day, row.conf_by);
+    let receipt = receipt_of(row.receipt_day, row.receipt_by);
+    let (Some(review), Some(confirmation), Some(receipt)) = (review, confirmation, receipt) else {
+        return None;
+    };
     let digest = row.digest;
     let head = Record {
         ref_text: row.ref_text,
