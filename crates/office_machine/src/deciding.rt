@@ -90,7 +90,12 @@ impl Parts {
         }
         self.tree.sound();
         let code = code.copy(alloc)?;
-        go(alloc, Answer::Done, RowWrite::Schedule { code, schedule }, day)
+        go(
+            alloc,
+            Answer::Done,
+            RowWrite::Schedule { code, schedule },
+            day,
+        )
     }
 
     /// What is decided of a new class.

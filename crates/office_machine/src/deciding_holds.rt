@@ -117,7 +117,12 @@ impl Parts {
         }
         let hold = code.copy(alloc)?;
         let target = target.copy(alloc)?;
-        go(alloc, Answer::Done, RowWrite::TargetGone { hold, target }, day)
+        go(
+            alloc,
+            Answer::Done,
+            RowWrite::TargetGone { hold, target },
+            day,
+        )
     }
 
     /// What is decided of a hold's lifting.

@@ -50,7 +50,12 @@ impl Parts {
             cursor: 0,
             is_closed: false,
         };
-        go(alloc, Answer::Number(number), RowWrite::Run { number, run }, day)
+        go(
+            alloc,
+            Answer::Number(number),
+            RowWrite::Run { number, run },
+            day,
+        )
     }
 
     /// What is decided of a step of the open run that takes this record.

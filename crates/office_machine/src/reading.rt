@@ -133,7 +133,11 @@ impl Parts {
         let counts = tree.counts(record_no);
         let held = copy_code(alloc, self.holds.covering(tree, record_no))?;
         let confirmed = copy_confirmation(alloc, head.confirmation.as_ref())?;
-        let (class, schedule) = copy_codes(alloc, tree.class_of(record_no), tree.plan_of(record_no))?;
+        let (class, schedule) = copy_codes(
+            alloc,
+            tree.class_of(record_no),
+            tree.plan_of(record_no),
+        )?;
         let (ref_text, title) = copy_texts(alloc, &head.ref_text, &head.title)?;
         Ok(RecordView {
             number: record_no,
