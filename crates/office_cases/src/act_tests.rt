@@ -8,7 +8,6 @@ use office_json::{ListFault, ReadFault, read_act, read_acts};
 use office_machine::{Act, NewRecord};
 use office_tree::{Code, Text};
 use serde_json::Value;
-use std::alloc::Global;
 use std::io::Write;
 use std::test::Fail;
 
@@ -107,10 +106,10 @@ const ACTS: &str = r#"
 
 /// Each row is the content of a new record, whose other members are good.
 const CONTENTS: &str = r"
-    content nothing = read
-    content YQ== = read
-    content YWI= = read
-    content YWJj = read
+    content nothing = 2024-01-02 add-record r, r, in 1, class -, schedule -, of 2024-01-02:\s
+    content YQ== = 2024-01-02 add-record r, r, in 1, class -, schedule -, of 2024-01-02:\sa
+    content YWI= = 2024-01-02 add-record r, r, in 1, class -, schedule -, of 2024-01-02:\sab
+    content YWJj = 2024-01-02 add-record r, r, in 1, class -, schedule -, of 2024-01-02:\sabc
     # without padding, with too much of it, with bits left over, spaced, and in the alphabet for URLs
     content YQ = refused 2
     content YWJj==== = refused 2
@@ -119,7 +118,7 @@ const CONTENTS: &str = r"
     content _-8= = refused 2
     content \= = refused 2
     # at most 262,144 bytes; 87,381 groups of four are 262,143
-    content YWJj x 87381 + YQ== = read
+    content YWJj x 87381 + YQ== = 2024-01-02 add-record r, r, in 1, class -, schedule -, of 2024-01-02:\s + abc x 87381 + a
     content YWJj x 87381 + YWI= = refused 3
     content YWJj x 87381 + YWJj = refused 3
     content YWJj x 87381 + YW = refused 2
@@ -225,36 +224,39 @@ fn tell_act(act: &Act, out: &mut Vec<u8>) -> Option<()> {
     }
 }
 
-/// The act that was read, or its refusal.
-fn tell_read(read: &Result<Act, ReadFault>, out: &mut Vec<u8>) -> Option<()> {
-    match read {
-        Ok(act) => tell_act(act, out),
-        Err(ReadFault::Refused(refusal)) => push_refused(out, *refusal),
-        Err(ReadFault::Memory) => None,
+/// A fault of reading; none for want of memory.
+fn tell_fault(fault: ReadFault, out: &mut Vec<u8>) -> Option<()> {
+    match fault {
+        ReadFault::Refused(refusal) => push_refused(out, refusal),
+        ReadFault::Memory => None,
     }
 }
 
-/// Whether an act was read, or its refusal.
-fn tell_whether(read: &Result<Act, ReadFault>, out: &mut Vec<u8>) -> Option<()> {
-    match read {
-        Ok(_) => push(out, "read"),
-        Err(ReadFault::Refused(refusal)) => push_refused(out, *refusal),
-        Err(ReadFault::Memory) => None,
+/// The act that a value asks for, or its refusal.
+fn tell_asked(value: &Value, out: &mut Vec<u8>) -> Option<()> {
+    match read_act(*out.allocator(), value) {
+        Ok(act) => tell_act(&act, out),
+        Err(fault) => tell_fault(fault, out),
     }
 }
 
-/// The act that a text asks for; none where it is no JSON.
-fn act_of(alloc: Global, text: &str) -> Option<Result<Act, ReadFault>> {
-    let value = Value::from_str(alloc, text).ok()?;
-    Some(read_act(alloc, &value))
+/// The act that a text of JSON asks for, or its refusal.
+fn tell_json(text: &str, out: &mut Vec<u8>) -> Option<()> {
+    match Value::from_str(*out.allocator(), text) {
+        Ok(value) => tell_asked(&value, out),
+        Err(_) => None,
+    }
 }
 
-/// A new record of that content.
-fn record_of(alloc: Global, content: &str) -> Option<Result<Act, ReadFault>> {
-    let text = format!(in alloc;
+/// A new record of that content, or its refusal.
+fn tell_content(content: &str, out: &mut Vec<u8>) -> Option<()> {
+    let text = format!(in *out.allocator();
         "{{\"act\":\"add-record\",\"day\":\"2024-01-02\",\"ref\":\"r\",\"title\":\"r\",\"originated\":\"2024-01-02\",\"aggregation\":1,\"content\":\"{content}\"}}"
-    ).ok()?;
-    act_of(alloc, text.as_str())
+    );
+    match text {
+        Ok(text) => tell_json(text.as_str(), out),
+        Err(_) => None,
+    }
 }
 
 /// How many acts the bytes of an array have, or the fault; none for want of memory.
@@ -266,20 +268,13 @@ fn tell_list(asked: &[u8], out: &mut Vec<u8>) -> Option<()> {
     }
 }
 
-fn tell_text(word: &str, text: &str, out: &mut Vec<u8>) -> Option<()> {
-    let alloc = *out.allocator();
+fn tell(word: &str, asked: &[u8], out: &mut Vec<u8>) -> Option<()> {
     match word {
-        "act" => tell_read(&act_of(alloc, text)?, out),
-        "content" => tell_whether(&record_of(alloc, text)?, out),
+        "act" => tell_json(str::from_utf8(asked).ok()?, out),
+        "content" => tell_content(str::from_utf8(asked).ok()?, out),
+        "list" => tell_list(asked, out),
         _ => None,
     }
-}
-
-fn tell(word: &str, asked: &[u8], out: &mut Vec<u8>) -> Option<()> {
-    if word == "list" {
-        return tell_list(asked, out);
-    }
-    tell_text(word, str::from_utf8(asked).ok()?, out)
 }
 
 #[test]

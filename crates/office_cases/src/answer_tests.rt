@@ -1,7 +1,7 @@
 //! Answers, faults and what a failing writer leaves of them, as JSON.
 ghost use Rattle.std.specs.Prelude.{◌≡◌, IfOk, false};
-ghost use Rattle.serde_json.specs.Value.{view};
-ghost use Rattle.serde_json.specs.Data.{has_float};
+ghost use Rattle.serde_json.specs.View.{view};
+ghost use Rattle.serde_json.specs.Written.{has_float};
 
 use crate::rows::must_hold;
 use crate::streams::Narrow;
@@ -17,24 +17,6 @@ use office_tree::Memory;
 use serde_json::Value;
 use std::alloc::Global;
 use std::test::Fail;
-
-/// The answers of the rows.
-const ANSWERS: [(&str, Answer); 11] = [
-    ("Done", Answer::Done),
-    ("Number(1)", Answer::Number(1)),
-    ("Number(7)", Answer::Number(7)),
-    ("Same(7)", Answer::Same(7)),
-    ("Same(4294967295)", Answer::Same(4_294_967_295)),
-    ("Step(1, Destroyed)", Answer::Step(1, Outcome::Destroyed)),
-    ("Step(2, Sent)", Answer::Step(2, Outcome::Sent)),
-    ("Step(20, Skipped)", Answer::Step(20, Outcome::Skipped)),
-    ("RunClosed(1)", Answer::RunClosed(1)),
-    ("Refused(NoSuch)", Answer::Refused(Refusal::NoSuch)),
-    (
-        "Refused(WrongDigest)",
-        Answer::Refused(Refusal::WrongDigest),
-    ),
-];
 
 const ROWS: &str = r#"
     # one answer alone, and as a line
@@ -70,12 +52,20 @@ const ROWS: &str = r#"
 
 /// The answer that is written so.
 fn answer_of(written: &str) -> Option<Answer> {
-    for (name, answer) in ANSWERS {
-        if name == written {
-            return Some(answer);
-        }
+    match written {
+        "Done" => Some(Answer::Done),
+        "Number(1)" => Some(Answer::Number(1)),
+        "Number(7)" => Some(Answer::Number(7)),
+        "Same(7)" => Some(Answer::Same(7)),
+        "Same(4294967295)" => Some(Answer::Same(4_294_967_295)),
+        "Step(1, Destroyed)" => Some(Answer::Step(1, Outcome::Destroyed)),
+        "Step(2, Sent)" => Some(Answer::Step(2, Outcome::Sent)),
+        "Step(20, Skipped)" => Some(Answer::Step(20, Outcome::Skipped)),
+        "RunClosed(1)" => Some(Answer::RunClosed(1)),
+        "Refused(NoSuch)" => Some(Answer::Refused(Refusal::NoSuch)),
+        "Refused(WrongDigest)" => Some(Answer::Refused(Refusal::WrongDigest)),
+        _ => None,
     }
-    None
 }
 
 /// Appends the answers that are written so, with `; ` between them.

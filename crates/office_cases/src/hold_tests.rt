@@ -115,10 +115,26 @@ fn place(
     }
 }
 
-fn cover(holds: &mut Holds, code: &Code, target: Target, out: &mut Vec<u8>) -> Option<()> {
-    if let Some(refusal) = holds.check_cover(code, &target) {
+fn place_copied(
+    holds: &mut Holds,
+    day: Day,
+    code: &Code,
+    reason: &Text,
+    by: &Text,
+    out: &mut Vec<u8>,
+) -> Option<()> {
+    let alloc = *out.allocator();
+    let code = code.copy(alloc).ok()?;
+    let reason = reason.copy(alloc).ok()?;
+    let by = by.copy(alloc).ok()?;
+    place(holds, day, code, reason, by, out)
+}
+
+fn cover(holds: &mut Holds, code: &Code, target: &Target, out: &mut Vec<u8>) -> Option<()> {
+    if let Some(refusal) = holds.check_cover(code, target) {
         return push_refused(out, refusal);
     }
+    let target = target.copy(*out.allocator()).ok()?;
     match holds.cover(code, target) {
         Ok(()) => push(out, "Done"),
         Err(_) => None,
@@ -156,19 +172,19 @@ fn reclassify(
 }
 
 /// What holds answer to an act.
-fn tell_act(tree: &Tree, holds: &mut Holds, act: Act, out: &mut Vec<u8>) -> Option<()> {
+fn tell_act(tree: &Tree, holds: &mut Holds, act: &Act, out: &mut Vec<u8>) -> Option<()> {
     match act {
         Act::PlaceHold {
             day,
             code,
             reason,
             by,
-        } => place(holds, day, code, reason, by, out),
-        Act::HoldOn { code, target, .. } => cover(holds, &code, target, out),
-        Act::HoldOff { code, target, .. } => uncover(holds, &code, &target, out),
-        Act::LiftHold { day, code } => lift(holds, day, &code, out),
+        } => place_copied(holds, *day, code, reason, by, out),
+        Act::HoldOn { code, target, .. } => cover(holds, code, target, out),
+        Act::HoldOff { code, target, .. } => uncover(holds, code, target, out),
+        Act::LiftHold { day, code } => lift(holds, *day, code, out),
         Act::Reclassify { target, class, .. } => {
-            reclassify(tree, holds, target, class.as_ref(), out)
+            reclassify(tree, holds, *target, class.as_ref(), out)
         }
         _ => None,
     }
@@ -201,7 +217,7 @@ fn tell(tree: &Tree, holds: &mut Holds, word: &str, asked: &[u8], out: &mut Vec<
     match word {
         "held" => tell_held(tree, holds, out),
         "covering-record-1" => tell_covering(tree, holds, out),
-        _ => tell_act(tree, holds, act_of(*out.allocator(), word, text)?, out),
+        _ => tell_act(tree, holds, &act_of(*out.allocator(), word, text)?, out),
     }
 }
 

@@ -199,17 +199,28 @@ fn tell_entry(office: &Machine, entry: &Entry, out: &mut Vec<u8>) -> Option<()> 
 
 /// The line of the last entry, or what it would be with no hold in it.
 fn tell_last_entry(office: &Machine, is_free: bool, out: &mut Vec<u8>) -> Option<()> {
-    let mut entry = office.entries(*out.allocator()).ok()?.pop()?;
-    if is_free {
-        entry.hold = None;
+    let mut entries = office.entries(*out.allocator()).ok()?;
+    match entries.pop() {
+        Some(mut entry) => {
+            if is_free {
+                entry.hold = None;
+            }
+            tell_entry(office, &entry, out)
+        }
+        None => None,
     }
-    tell_entry(office, &entry, out)
 }
 
 /// The text of what is told of a record, with the entry that ended it.
 fn view_text(alloc: Global, view: &RecordView, ended: Option<&Entry>) -> Result<String, Memory> {
     let value = record_value(alloc, view, ended)?;
     text_of(alloc, &value)
+}
+
+/// Appends what is told of a record, with the entry that ended it.
+fn push_view(view: &RecordView, ended: Option<&Entry>, out: &mut Vec<u8>) -> Option<()> {
+    let text = view_text(*out.allocator(), view, ended).ok()?;
+    push(out, text.as_str())
 }
 
 /// What is told of a record, with the entry that ended a record of that number.
@@ -219,10 +230,10 @@ fn tell_view(
     ended: RecordNo,
     out: &mut Vec<u8>,
 ) -> Option<()> {
-    let alloc = *out.allocator();
-    let ended = office.entry_of(alloc, ended).ok()?;
-    let text = view_text(alloc, view, ended.as_ref()).ok()?;
-    push(out, text.as_str())
+    match office.entry_of(*out.allocator(), ended) {
+        Ok(ended) => push_view(view, ended.as_ref(), out),
+        Err(_) => None,
+    }
 }
 
 /// What is told of a record.
@@ -246,29 +257,40 @@ fn tell_ended(office: &Machine, record_no: RecordNo, out: &mut Vec<u8>) -> Optio
     }
 }
 
-/// What is told of the records that are due on a day.
-fn due_rows(alloc: Global, office: &Machine, day: Day) -> Result<Vec<RecordView>, Memory> {
-    let mut rows = Vec::new(alloc);
-    for record_no in office.due_list(alloc, day)? {
-        if let Some(view) = office.record(alloc, record_no)? {
-            rows.push(view)?;
+/// Appends what is told of records.
+fn push_views(
+    office: &Machine,
+    numbers: &[RecordNo],
+    views: &mut Vec<RecordView>,
+) -> Result<(), Memory> {
+    for number in numbers {
+        if let Some(view) = office.record(*views.allocator(), *number)? {
+            views.push(view)?;
         }
     }
-    Ok(rows)
+    Ok(())
 }
 
 /// The text of records that are due.
-fn due_text(alloc: Global, rows: &[RecordView]) -> Result<String, Memory> {
-    let value = due_value(alloc, rows)?;
+fn due_text(alloc: Global, views: &[RecordView]) -> Result<String, Memory> {
+    let value = due_value(alloc, views)?;
     text_of(alloc, &value)
 }
 
-/// What is told of the records that are due on a day.
-fn tell_due(office: &Machine, text: &str, out: &mut Vec<u8>) -> Option<()> {
-    let alloc = *out.allocator();
-    let rows = due_rows(alloc, office, Day::read(text)?).ok()?;
-    let text = due_text(alloc, &rows).ok()?;
+/// Appends what is told of records that are due.
+fn push_due(views: &[RecordView], out: &mut Vec<u8>) -> Option<()> {
+    let text = due_text(*out.allocator(), views).ok()?;
     push(out, text.as_str())
+}
+
+/// What is told of the records that are due on a day.
+fn tell_due(office: &Machine, day: Day, out: &mut Vec<u8>) -> Option<()> {
+    let numbers = office.due_list(*out.allocator(), day).ok()?;
+    let mut views = Vec::new(*out.allocator());
+    match push_views(office, &numbers, &mut views) {
+        Ok(()) => push_due(&views, out),
+        Err(_) => None,
+    }
 }
 
 /// What is told of the thing of that number.
@@ -281,6 +303,12 @@ fn tell_thing(office: &Machine, word: &str, number: u32, out: &mut Vec<u8>) -> O
     }
 }
 
+/// What an office answers to an act.
+fn tell_act(office: &mut Machine, word: &str, text: &str, out: &mut Vec<u8>) -> Option<()> {
+    let act = act_of(*out.allocator(), word, text)?;
+    perform(office, &act, out)
+}
+
 /// What is told of an office as a whole, or what it answers to an act.
 fn tell_office(office: &mut Machine, word: &str, text: &str, out: &mut Vec<u8>) -> Option<()> {
     match word {
@@ -289,8 +317,8 @@ fn tell_office(office: &mut Machine, word: &str, text: &str, out: &mut Vec<u8>) 
         "today" => out.extend_from_slice(&office.day().text()).ok(),
         "last-entry" => tell_last_entry(office, false, out),
         "last-entry-without-hold" => tell_last_entry(office, true, out),
-        "due" => tell_due(office, text, out),
-        _ => perform(office, &act_of(*out.allocator(), word, text)?, out),
+        "due" => tell_due(office, Day::read(text)?, out),
+        _ => tell_act(office, word, text, out),
     }
 }
 

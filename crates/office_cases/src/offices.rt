@@ -12,86 +12,64 @@ use office_machine::{Act, Change, Decision, Machine};
 use serde_json::Value;
 use std::alloc::Global;
 
-/// The form of each act: `$0` is the day, `$1` the act's word, and `$2` and so on what follows.
-const FORMS: [(&str, &str); 16] = [
-    (
-        "add-schedule",
-        r#"{"act":"$1","day":"$0","code":"$2","trigger":"$3","unit":"$4","count":$5,"offset":"$6","action":"$7"}"#,
-    ),
-    (
-        "add-class",
-        r#"{"act":"$1","day":"$0","code":"$2","title":"$2","schedule":"$3"}"#,
-    ),
-    (
-        "set-class-schedule",
-        r#"{"act":"$1","day":"$0","class":"$2","schedule":"$3"}"#,
-    ),
-    (
-        "add-root",
-        r#"{"act":"add-aggregation","day":"$0","ref":"$2","title":"$2","class":"$3"}"#,
-    ),
-    (
-        "add-child",
-        r#"{"act":"add-aggregation","day":"$0","ref":"$2","title":"$2","parent":$3}"#,
-    ),
-    (
-        "close-aggregation",
-        r#"{"act":"$1","day":"$0","aggregation":$2}"#,
-    ),
-    (
-        "add-record",
-        r#"{"act":"$1","day":"$0","ref":"$2","title":"$2","originated":"2024-01-02","aggregation":$3,"content":"$4"}"#,
-    ),
-    (
-        "add-empty-record",
-        r#"{"act":"add-record","day":"$0","ref":"$2","title":"$2","originated":"2024-01-02","aggregation":$3,"content":""}"#,
-    ),
-    (
-        "place-hold",
-        r#"{"act":"$1","day":"$0","code":"$2","reason":"court","by":"registrar"}"#,
-    ),
-    (
-        "hold-on",
-        r#"{"act":"$1","day":"$0","hold":"$2","target":"$3"}"#,
-    ),
-    (
-        "hold-off",
-        r#"{"act":"$1","day":"$0","hold":"$2","target":"$3"}"#,
-    ),
-    ("lift-hold", r#"{"act":"$1","day":"$0","hold":"$2"}"#),
-    (
-        "confirm",
-        r#"{"act":"$1","day":"$0","record":$2,"action":"$3","by":"registrar"}"#,
-    ),
-    ("open-run", r#"{"act":"$1","day":"$0","by":"registrar"}"#),
-    ("run-step", r#"{"act":"$1"}"#),
-    (
-        "reclassify",
-        r#"{"act":"$1","day":"$0","target":"$2","class":"$3"}"#,
-    ),
-];
-
-/// The places of a form.
-const PLACES: [&str; 8] = ["$0", "$1", "$2", "$3", "$4", "$5", "$6", "$7"];
-
-/// The form of an act, by its word.
+/// The form of an act, by its word: `$0` is the day, `$1` the act's word, and `$2` and so on what follows.
 fn form_of(name: &str) -> &'static str {
-    for (word, form) in FORMS {
-        if word == name {
-            return form;
+    match name {
+        "add-schedule" => {
+            r#"{"act":"$1","day":"$0","code":"$2","trigger":"$3","unit":"$4","count":$5,"offset":"$6","action":"$7"}"#
         }
+        "add-class" => { r#"{"act":"$1","day":"$0","code":"$2","title":"$2","schedule":"$3"}"# }
+        "set-class-schedule" => { r#"{"act":"$1","day":"$0","class":"$2","schedule":"$3"}"# }
+        "add-root" => {
+            r#"{"act":"add-aggregation","day":"$0","ref":"$2","title":"$2","class":"$3"}"#
+        }
+        "add-child" => {
+            r#"{"act":"add-aggregation","day":"$0","ref":"$2","title":"$2","parent":$3}"#
+        }
+        "close-aggregation" => { r#"{"act":"$1","day":"$0","aggregation":$2}"# }
+        "add-record" => {
+            r#"{"act":"$1","day":"$0","ref":"$2","title":"$2","originated":"2024-01-02","aggregation":$3,"content":"$4"}"#
+        }
+        "add-empty-record" => {
+            r#"{"act":"add-record","day":"$0","ref":"$2","title":"$2","originated":"2024-01-02","aggregation":$3,"content":""}"#
+        }
+        "place-hold" => {
+            r#"{"act":"$1","day":"$0","code":"$2","reason":"court","by":"registrar"}"#
+        }
+        "hold-on" => { r#"{"act":"$1","day":"$0","hold":"$2","target":"$3"}"# }
+        "hold-off" => { r#"{"act":"$1","day":"$0","hold":"$2","target":"$3"}"# }
+        "lift-hold" => { r#"{"act":"$1","day":"$0","hold":"$2"}"# }
+        "confirm" => { r#"{"act":"$1","day":"$0","record":$2,"action":"$3","by":"registrar"}"# }
+        "open-run" => { r#"{"act":"$1","day":"$0","by":"registrar"}"# }
+        "run-step" => { r#"{"act":"$1"}"# }
+        "reclassify" => { r#"{"act":"$1","day":"$0","target":"$2","class":"$3"}"# }
+        _ => "",
     }
-    ""
 }
 
-/// The JSON of an act that is told in short.
-fn written_out(alloc: Global, day: &str, ask: &str) -> Option<String> {
-    let form = form_of(word(ask, 0));
-    let mut text = form.replace(alloc, "$0", day).ok()?;
-    for (place, word) in PLACES.into_iter().skip(1).zip(ask.split(" ")) {
-        text = text.as_str().replace(alloc, place, word).ok()?;
+/// The word for a place of a form; what is no place stands for itself.
+fn word_at<'a>(place: &'a str, day: &'a str, ask: &'a str) -> &'a str {
+    match place {
+        "0" => day,
+        "1" => word(ask, 0),
+        "2" => word(ask, 1),
+        "3" => word(ask, 2),
+        "4" => word(ask, 3),
+        "5" => word(ask, 4),
+        "6" => word(ask, 5),
+        "7" => word(ask, 6),
+        _ => place,
     }
-    Some(text)
+}
+
+/// Writes out an act that is told in short.
+fn write_out(form: &str, day: &str, ask: &str, text: &mut String) -> Option<()> {
+    for piece in form.split("$") {
+        let (place, rest) = piece.split_at_checked(1)?;
+        text.push_str(word_at(place, day, ask)).ok()?;
+        text.push_str(rest).ok()?;
+    }
+    Some(())
 }
 
 /// The act that a text of JSON asks for.
@@ -105,7 +83,8 @@ pub(crate) fn act_of(alloc: Global, first: &str, rest: &str) -> Option<Act> {
     if first == "act" {
         return read(alloc, rest);
     }
-    let text = written_out(alloc, first, rest)?;
+    let mut text = String::new(alloc);
+    write_out(form_of(word(rest, 0)), first, rest, &mut text)?;
     read(alloc, text.as_str())
 }
 

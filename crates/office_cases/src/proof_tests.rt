@@ -51,21 +51,37 @@ fn tell_outcome(word: &str, out: &mut Vec<u8>) -> Option<()> {
     }
 }
 
-/// The text of a copy of the code that a text is.
-fn tell_code(text: &str, out: &mut Vec<u8>) -> Option<()> {
-    let alloc = *out.allocator();
-    match Code::read(alloc, text).ok()? {
-        None => push(out, "none"),
-        Some(code) => push(out, code.copy(alloc).ok()?.text()),
+/// Appends the text of a copy of a code.
+fn push_code(code: &Code, out: &mut Vec<u8>) -> Option<()> {
+    match code.copy(*out.allocator()) {
+        Ok(copy) => push(out, copy.text()),
+        Err(_) => None,
     }
 }
 
-/// The text of a copy of the line in words that a text is.
+/// The code that a text is.
+fn tell_code(text: &str, out: &mut Vec<u8>) -> Option<()> {
+    match Code::read(*out.allocator(), text) {
+        Ok(Some(code)) => push_code(&code, out),
+        Ok(None) => push(out, "none"),
+        Err(_) => None,
+    }
+}
+
+/// Appends the text of a copy of a line in words.
+fn push_text(text: &Text, out: &mut Vec<u8>) -> Option<()> {
+    match text.copy(*out.allocator()) {
+        Ok(copy) => push(out, copy.text()),
+        Err(_) => None,
+    }
+}
+
+/// The line in words that a text is.
 fn tell_text(text: &str, out: &mut Vec<u8>) -> Option<()> {
-    let alloc = *out.allocator();
-    match Text::read(alloc, text).ok()? {
-        None => push(out, "none"),
-        Some(text) => push(out, text.copy(alloc).ok()?.text()),
+    match Text::read(*out.allocator(), text) {
+        Ok(Some(text)) => push_text(&text, out),
+        Ok(None) => push(out, "none"),
+        Err(_) => None,
     }
 }
 

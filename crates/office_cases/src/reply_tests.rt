@@ -80,26 +80,25 @@ fn tell_refused(most: usize, bytes: &[u8], out: &mut Vec<u8>) -> Option<()> {
     }
 }
 
-/// The failures by their words.
-const FAILURES: [(&str, Failure); 8] = [
-    ("head", Failure::Head),
-    ("body", Failure::Body),
-    ("json", Failure::Json),
-    ("memory", Failure::Memory),
-    ("record", Failure::Record),
-    ("content", Failure::Content),
-    ("certificate", Failure::Certificate),
-    ("day", Failure::Day),
-];
+/// The failure of that word.
+fn failure_of(word: &str) -> Option<Failure> {
+    match word {
+        "head" => Some(Failure::Head),
+        "body" => Some(Failure::Body),
+        "json" => Some(Failure::Json),
+        "memory" => Some(Failure::Memory),
+        "record" => Some(Failure::Record),
+        "content" => Some(Failure::Content),
+        "certificate" => Some(Failure::Certificate),
+        "day" => Some(Failure::Day),
+        _ => None,
+    }
+}
 
 /// The answer to a failure.
 fn tell_failure(bytes: &[u8], out: &mut Vec<u8>) -> Option<()> {
-    for (word, failure) in FAILURES {
-        if word.as_bytes() == bytes {
-            return tell_reply(&failure_reply(failure), false, out);
-        }
-    }
-    None
+    let failure = failure_of(str::from_utf8(bytes).ok()?)?;
+    tell_reply(&failure_reply(failure), false, out)
 }
 
 /// What was asked for, as a text.

@@ -5,7 +5,7 @@ use crate::rows::must_hold;
 use crate::streams::Sent;
 use crate::written::push;
 use httparse::spans::HeaderSpan;
-use office_http::{Head, Io, LONGEST_HEAD, ReadStop, plan_in, read_body, read_head};
+use office_http::{Head, Io, LONGEST_HEAD, Plan, ReadStop, plan_in, read_body, read_head};
 use std::io::Write;
 use std::test::Fail;
 
@@ -99,6 +99,11 @@ const BODIES: &str = r#"
     reader GET /records/1 HTTP/1.1\r\nHost: h\r\n\r\n = fails before each byte
 "#;
 
+/// Appends what is done for a head.
+fn push_plan(plan: Plan, out: &mut Vec<u8>) -> Option<()> {
+    write!(out, "{plan:?}").ok()
+}
+
 /// What is done for the head of some bytes that come in pieces.
 fn tell_plan(most: usize, bytes: &[u8], out: &mut Vec<u8>) -> Option<()> {
     let alloc = *out.allocator();
@@ -107,7 +112,7 @@ fn tell_plan(most: usize, bytes: &[u8], out: &mut Vec<u8>) -> Option<()> {
     let mut reader = Sent::in_pieces(bytes, most);
     match read_head(&mut reader, &mut buf, &mut headers) {
         Ok(Head::Found(head)) => match plan_in(alloc, &buf, &head, &headers) {
-            Ok(plan) => write!(out, "{plan:?}").ok(),
+            Ok(plan) => push_plan(plan, out),
             Err(_) => None,
         },
         Ok(Head::Missing) => push(out, "no head"),

@@ -10,16 +10,27 @@ pub(crate) fn word(text: &str, at: usize) -> &str {
     text.split(between).nth(at).unwrap_or("")
 }
 
+/// The words of a text.
+pub(crate) fn words_of<'a>(alloc: Global, text: &'a str) -> Option<Vec<&'a str>> {
+    let between = if text.contains("|") { "|" } else { " " };
+    text.split(between).collect(alloc).ok()
+}
+
 /// Whether a line is a row: not empty and no remark.
 fn is_row(line: &str) -> bool {
     !line.is_empty() && !line.starts_with("#")
 }
 
-/// The parts of a row: its first word, what it asks, and what must come of it.
-fn parts_of(row: &str) -> Option<(&str, &str, &str)> {
-    let (ask, answer) = row.split_once(" = ")?;
+/// A row: its first word, the bytes that it asks about, and those that must come of it.
+fn row_of(alloc: Global, line: &str) -> Option<(&str, Vec<u8>, Vec<u8>)> {
+    let (ask, answer) = line.split_once(" = ")?;
     let (word, what) = ask.split_once(" ").unwrap_or((ask, "nothing"));
-    Some((word, what, answer))
+    let mut asked = Vec::new(alloc);
+    let mut wanted = Vec::new(alloc);
+    match push_bytes(&mut asked, what).and(push_bytes(&mut wanted, answer)) {
+        Some(()) => Some((word, asked, wanted)),
+        None => None,
+    }
 }
 
 /// What is told of each row, by its first word and the bytes that it asks about, must be its answer.
@@ -30,19 +41,18 @@ pub(crate) fn must_hold<F: FnMut(&str, &[u8], &mut Vec<u8>) -> Option<()>>(
 ) -> Result<(), Fail>
     requires { F.IsAlwaysCallable tell }
 {
-    let mut asked = Vec::new(alloc);
     let mut told = Vec::new(alloc);
-    let mut wanted = Vec::new(alloc);
     for (before, line) in rows.lines().enumerate() {
         let row = line.trim();
         if is_row(row) {
-            asked.clear();
-            told.clear();
-            wanted.clear();
-            let (word, what, answer) = parts_of(row).unwrap_or(("", "", ""));
-            let is_read = push_bytes(&mut asked, what).and(push_bytes(&mut wanted, answer));
-            let is_told = tell(word, &asked, &mut told);
-            if is_read.is_none() || is_told.is_none() || told != wanted {
+            let is_met = match row_of(alloc, row) {
+                Some((word, asked, wanted)) => {
+                    told.clear();
+                    tell(word, &asked, &mut told).is_some() && told == wanted
+                }
+                None => false,
+            };
+            if !is_met {
                 return Err(Fail::new(format_args!("line {before}: {row}")));
             }
         }
