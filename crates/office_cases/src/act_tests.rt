@@ -1,6 +1,5 @@
 //! Acts and lists of acts as people write them, and which fault is told of a bad one.
 use crate::answering::push_refused;
-use crate::rows::must_hold;
 use crate::written::push;
 use office_days::Day;
 use office_holds::Target;
@@ -9,11 +8,10 @@ use office_machine::{Act, NewRecord};
 use office_tree::{Code, Text};
 use serde_json::Value;
 use std::io::Write;
-use std::test::Fail;
 
 /// An act that is read is told by its members where it places a hold, adds a record, takes an aggregation off
 /// a hold or reclassifies, and else as `an act`.
-const ACTS: &str = r#"
+pub(crate) const ACTS: &str = r#"
     # each kind
     act {"act":"add-schedule","day":"2024-01-02","code":"D1","trigger":"added","unit":"years","count":1,"offset":"none","action":"destroy"} = an act
     act {"act":"add-class","day":"2024-01-02","code":"FIN","title":"Finance","schedule":"D1"} = an act
@@ -105,7 +103,7 @@ const ACTS: &str = r#"
 "#;
 
 /// Each row is the content of a new record, whose other members are good.
-const CONTENTS: &str = r"
+pub(crate) const CONTENTS: &str = r"
     content nothing = 2024-01-02 add-record r, r, in 1, class -, schedule -, of 2024-01-02:\s
     content YQ== = 2024-01-02 add-record r, r, in 1, class -, schedule -, of 2024-01-02:\sa
     content YWI= = 2024-01-02 add-record r, r, in 1, class -, schedule -, of 2024-01-02:\sab
@@ -125,7 +123,7 @@ const CONTENTS: &str = r"
 ";
 
 /// How many acts a text has, or the fault; a bad act is told by its place, from 0.
-const LISTS: &str = r#"
+pub(crate) const LISTS: &str = r#"
     list [] = 0 acts
     list \s[ {"act":"open-run","day":"2024-01-02","by":"an archivist"},\n{"act":"run-step"} ]\n = 2 acts
     list nothing = NotJson
@@ -268,18 +266,11 @@ fn tell_list(asked: &[u8], out: &mut Vec<u8>) -> Option<()> {
     }
 }
 
-fn tell(word: &str, asked: &[u8], out: &mut Vec<u8>) -> Option<()> {
+pub(crate) fn tell(word: &str, asked: &[u8], out: &mut Vec<u8>) -> Option<()> {
     match word {
         "act" => tell_json(str::from_utf8(asked).ok()?, out),
         "content" => tell_content(str::from_utf8(asked).ok()?, out),
         "list" => tell_list(asked, out),
         _ => None,
     }
-}
-
-#[test]
-fn acts(rt: HostRuntime) -> Result<(), Fail> {
-    must_hold(rt.alloc(), ACTS, tell)?;
-    must_hold(rt.alloc(), CONTENTS, tell)?;
-    must_hold(rt.alloc(), LISTS, tell)
 }

@@ -3,7 +3,6 @@ ghost use Rattle.std.specs.Prelude.{◌≡◌, IfOk, false};
 ghost use Rattle.serde_json.specs.View.{view};
 ghost use Rattle.serde_json.specs.Written.{has_float};
 
-use crate::rows::must_hold;
 use crate::streams::Narrow;
 use crate::written::push;
 use office_days::Refusal;
@@ -16,9 +15,8 @@ use office_proof::Outcome;
 use office_tree::Memory;
 use serde_json::Value;
 use std::alloc::Global;
-use std::test::Fail;
 
-const ROWS: &str = r#"
+pub(crate) const ROWS: &str = r#"
     # one answer alone, and as a line
     value Done = {"done":true}
     value Number(1) = {"number":1}
@@ -119,14 +117,9 @@ fn tell_answers(word: &str, answers: &[Answer], out: &mut Vec<u8>) -> Option<()>
     push(out, text.as_str())
 }
 
-fn tell(word: &str, asked: &[u8], out: &mut Vec<u8>) -> Option<()> {
+pub(crate) fn tell(word: &str, asked: &[u8], out: &mut Vec<u8>) -> Option<()> {
     let text = str::from_utf8(asked).ok()?;
     let mut answers = Vec::new(*out.allocator());
     push_answers(&mut answers, text)?;
     tell_answers(word, &answers, out)
-}
-
-#[test]
-fn answers(rt: HostRuntime) -> Result<(), Fail> {
-    must_hold(rt.alloc(), ROWS, tell)
 }

@@ -1,7 +1,6 @@
 //! What holds cover, and why acts on them are refused.
 use crate::answering::push_refused;
 use crate::offices::{act_of, perform};
-use crate::rows::must_hold;
 use crate::written::push;
 use office_days::Day;
 use office_holds::{Holds, Target};
@@ -9,11 +8,10 @@ use office_machine::{Act, Machine};
 use office_tree::{Classified, Code, Text, Tree};
 use std::alloc::Global;
 use std::io::Write;
-use std::test::Fail;
 
 /// Two classes with an aggregation of each, records 1 and 3 in the first and record 2 in the second, and record 4
 /// in an aggregation in the first.
-const TREE: &str = "
+pub(crate) const TREE: &str = "
     2024-01-02 add-schedule D1 added years 1 none destroy = Done
     2024-01-02 add-class FIN D1 = Done
     2024-01-02 add-class LEG D1 = Done
@@ -27,7 +25,7 @@ const TREE: &str = "
 ";
 
 /// A record is held until each hold on it is lifted, and the least of them is told.
-const LIFTED: &str = "
+pub(crate) const LIFTED: &str = "
     2024-01-02 place-hold H-2 = Done
     2024-01-02 hold-on H-2 record:1 = Done
     2024-01-02 place-hold H-10 = Done
@@ -53,7 +51,7 @@ const LIFTED: &str = "
 ";
 
 /// A hold covers what is of a class or in an aggregation.
-const COVERED: &str = "
+pub(crate) const COVERED: &str = "
     2024-01-02 place-hold H-1 = Done
     2024-01-02 hold-on H-1 class:FIN = Done
     held = 1;3;4;
@@ -68,7 +66,7 @@ const COVERED: &str = "
 ";
 
 /// A lifted hold stays and takes no target.
-const STAYING: &str = "
+pub(crate) const STAYING: &str = "
     2024-01-02 hold-on H-1 record:1 = refused 5
     2024-01-03 lift-hold H-1 = refused 5
     2024-01-02 place-hold H-1 = Done
@@ -86,7 +84,7 @@ const STAYING: &str = "
 ";
 
 /// A held class is not left.
-const LEAVING: &str = r#"
+pub(crate) const LEAVING: &str = r#"
     2024-01-02 place-hold H-1 = Done
     2024-01-02 hold-on H-1 class:FIN = Done
     2024-01-02 reclassify record:1 LEG = refused 11
@@ -171,8 +169,8 @@ fn reclassify(
     }
 }
 
-/// What holds answer to an act.
-fn tell_act(tree: &Tree, holds: &mut Holds, act: &Act, out: &mut Vec<u8>) -> Option<()> {
+/// What holds answer to an act on them, and the office that has their tree to any other.
+fn tell_act(office: &mut Machine, holds: &mut Holds, act: &Act, out: &mut Vec<u8>) -> Option<()> {
     match act {
         Act::PlaceHold {
             day,
@@ -184,9 +182,9 @@ fn tell_act(tree: &Tree, holds: &mut Holds, act: &Act, out: &mut Vec<u8>) -> Opt
         Act::HoldOff { code, target, .. } => uncover(holds, code, target, out),
         Act::LiftHold { day, code } => lift(holds, *day, code, out),
         Act::Reclassify { target, class, .. } => {
-            reclassify(tree, holds, *target, class.as_ref(), out)
+            reclassify(office.tree(), holds, *target, class.as_ref(), out)
         }
-        _ => None,
+        _ => perform(office, act, out),
     }
 }
 
@@ -211,44 +209,18 @@ fn tell_covering(tree: &Tree, holds: &Holds, out: &mut Vec<u8>) -> Option<()> {
     }
 }
 
-/// What is told to holds or asked of them, over a tree.
-fn tell(tree: &Tree, holds: &mut Holds, word: &str, asked: &[u8], out: &mut Vec<u8>) -> Option<()> {
+/// What is told to holds or asked of them, over the tree of an office.
+pub(crate) fn tell(
+    office: &mut Machine,
+    holds: &mut Holds,
+    word: &str,
+    asked: &[u8],
+    out: &mut Vec<u8>,
+) -> Option<()> {
     let text = str::from_utf8(asked).ok()?;
     match word {
-        "held" => tell_held(tree, holds, out),
-        "covering-record-1" => tell_covering(tree, holds, out),
-        _ => tell_act(tree, holds, &act_of(*out.allocator(), word, text)?, out),
+        "held" => tell_held(office.tree(), holds, out),
+        "covering-record-1" => tell_covering(office.tree(), holds, out),
+        _ => tell_act(office, holds, &act_of(*out.allocator(), word, text)?, out),
     }
-}
-
-/// Tells an office the acts that make its tree.
-fn tell_tree(office: &mut Machine, word: &str, asked: &[u8], out: &mut Vec<u8>) -> Option<()> {
-    let text = str::from_utf8(asked).ok()?;
-    perform(office, &act_of(*out.allocator(), word, text)?, out)
-}
-
-/// Tells a story to new holds.
-fn must_go(alloc: Global, tree: &Tree, story: &str) -> Result<(), Fail> {
-    let mut holds = Holds::new(alloc);
-    must_hold(
-        alloc,
-        story,
-        |word, asked, out| tell(tree, &mut holds, word, asked, out),
-    )
-}
-
-#[test]
-fn holds(rt: HostRuntime) -> Result<(), Fail> {
-    let alloc = rt.alloc();
-    let mut office = Machine::new(alloc);
-    must_hold(
-        alloc,
-        TREE,
-        |word, asked, out| tell_tree(&mut office, word, asked, out),
-    )?;
-    let tree = office.tree();
-    must_go(alloc, tree, LIFTED)?;
-    must_go(alloc, tree, COVERED)?;
-    must_go(alloc, tree, STAYING)?;
-    must_go(alloc, tree, LEAVING)
 }

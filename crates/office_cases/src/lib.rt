@@ -19,6 +19,8 @@ mod answer_tests;
 #[cfg(test)]
 mod answering;
 #[cfg(test)]
+mod case_tests;
+#[cfg(test)]
 mod due_tests;
 #[cfg(test)]
 mod hold_tests;

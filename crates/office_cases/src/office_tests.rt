@@ -1,6 +1,5 @@
 //! What is told of an office in memory: spent aggregations, runs and their certificates, records, what is due.
 use crate::offices::{act_of, perform};
-use crate::rows::must_hold;
 use crate::written::push;
 use office_days::Day;
 use office_json::{due_value, record_value, text_of};
@@ -9,10 +8,9 @@ use office_proof::{Entry, RunNo, entry_line};
 use office_tree::{Memory, RecordNo, Status};
 use std::alloc::Global;
 use std::io::Write;
-use std::test::Fail;
 
 /// What is closed is spent once all records below it are ended.
-const SPENDING: &str = "
+pub(crate) const SPENDING: &str = "
     2024-01-02 add-schedule D1 added years 1 none destroy = Done
     2024-01-02 add-class FIN D1 = Done
     2024-01-02 add-root A FIN = Number(1)
@@ -39,7 +37,7 @@ const SPENDING: &str = "
 
 /// The digest in the last line is that of the 75 bytes above it, worked out with `sha256sum`; the
 /// certificate has 147 bytes.
-const NOTHING_TO_DO: &str = r"
+pub(crate) const NOTHING_TO_DO: &str = r"
     certificate 1 = none
     2025-01-02 open-run = Number(1)
     2025-01-02 run-step = RunClosed(1)
@@ -48,7 +46,7 @@ const NOTHING_TO_DO: &str = r"
 
 /// Two classes with an aggregation of each, and three records, all on one day. A record that is there already
 /// is told as the same on any day, and leaves the office's day as it is.
-const BASE: &str = "
+pub(crate) const BASE: &str = "
     today = 0001-01-01
     2024-01-02 add-schedule D1 added years 1 none destroy = Done
     2024-01-02 add-class FIN D1 = Done
@@ -66,7 +64,7 @@ const BASE: &str = "
 
 /// Holds on record 2 by its class and by itself, and one that is placed on record 3 between two steps of a run.
 /// The digest is that of the empty content, worked out with `sha256sum`.
-const RUN: &str = r"
+pub(crate) const RUN: &str = r"
     2025-01-02 place-hold H-9 = Done
     2025-01-02 hold-on H-9 class:LEG = Done
     2025-01-02 place-hold H-2 = Done
@@ -94,7 +92,7 @@ const RUN: &str = r"
 
 /// What is told of records that are here. The digests are those of `abc`, an example of FIPS 180-4, and of
 /// nothing, by `sha256sum`; what is told of record 1 has 293 bytes.
-const HERE: &str = r#"
+pub(crate) const HERE: &str = r#"
     record 1 = {"added":"2024-01-02","aggregation":1,"class":"FIN","confirmed":null,"digest":"ba7816bf8f01cfea414140de5dae2223b00361a396177a9cb410ff61f20015ad","due":"2025-01-02","ended":null,"held":null,"length":3,"number":1,"originated":"2024-01-02","ref":"r1","schedule":"D1","status":"here","title":"r1"}
     record 4 = none
     due 2025-01-01 = []
@@ -115,7 +113,7 @@ const HERE: &str = r#"
 "#;
 
 /// A record that is confirmed and held, and another that is due beside it.
-const HELD: &str = r#"
+pub(crate) const HELD: &str = r#"
     2018-01-02 add-schedule D1 added years 7 none destroy = Done
     2018-01-02 add-schedule T30 added years 7 month transfer = Done
     2018-01-02 add-schedule K added days 0 none keep = Done
@@ -322,29 +320,15 @@ fn tell_office(office: &mut Machine, word: &str, text: &str, out: &mut Vec<u8>) 
     }
 }
 
-fn tell(office: &mut Machine, word: &str, asked: &[u8], out: &mut Vec<u8>) -> Option<()> {
+pub(crate) fn tell(
+    office: &mut Machine,
+    word: &str,
+    asked: &[u8],
+    out: &mut Vec<u8>,
+) -> Option<()> {
     let text = str::from_utf8(asked).ok()?;
     match text.parse::<u32>() {
         Ok(number) => tell_thing(office, word, number, out),
         Err(_) => tell_office(office, word, text, out),
     }
-}
-
-/// Tells a story to a new office.
-fn must_go(alloc: Global, start: &str, story: &str) -> Result<(), Fail> {
-    let mut office = Machine::new(alloc);
-    let story = format!(in alloc; "{start}{story}")?;
-    must_hold(alloc, story.as_str(), |word, asked, out| {
-        tell(&mut office, word, asked, out)
-    })
-}
-
-#[test]
-fn offices(rt: HostRuntime) -> Result<(), Fail> {
-    let alloc = rt.alloc();
-    must_go(alloc, "", SPENDING)?;
-    must_go(alloc, "", NOTHING_TO_DO)?;
-    must_go(alloc, BASE, RUN)?;
-    must_go(alloc, BASE, HERE)?;
-    must_go(alloc, "", HELD)
 }

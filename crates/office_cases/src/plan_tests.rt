@@ -1,12 +1,10 @@
 //! Plan files, and what a failing reader or writer leaves.
 use crate::answering::push_refused;
-use crate::rows::must_hold;
 use crate::streams::{Narrow, Sent};
 use crate::written::push;
 use office_plan::{PlanStop, plan_to};
 use std::alloc::Global;
 use std::io::Write;
-use std::test::Fail;
 
 /// Two schedules, two classes, an aggregation in another, which is closed, and three records.
 pub(crate) const CLOSED: &str = "schedule C closed months 1 quarter destroy
@@ -29,7 +27,7 @@ record 1 - - 2024-01-02 2024-01-02
 record 1 - - 2024-01-02 2024-02-29";
 
 /// `CLOSED` and `TWO` stand for those files.
-const ROWS: &str = r"
+pub(crate) const ROWS: &str = r"
     plan CLOSED = 1 2024-04-01\n2 -\n3 -\n
     plan TWO + \n = 1 2025-01-02\n2 2025-02-28\n
     plan TWO = 1 2025-01-02\n2 2025-02-28\n
@@ -116,16 +114,11 @@ fn tell_writer(file: &[u8], out: &mut Vec<u8>) -> Option<()> {
     }
 }
 
-fn tell(word: &str, file: &[u8], out: &mut Vec<u8>) -> Option<()> {
+pub(crate) fn tell(word: &str, file: &[u8], out: &mut Vec<u8>) -> Option<()> {
     match word {
         "plan" => tell_plan(file, out),
         "reader" => tell_reader(file, out),
         "writer" => tell_writer(file, out),
         _ => None,
     }
-}
-
-#[test]
-fn plans(rt: HostRuntime) -> Result<(), Fail> {
-    must_hold(rt.alloc(), ROWS, tell)
 }

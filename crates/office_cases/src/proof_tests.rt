@@ -1,12 +1,10 @@
 //! Digests that other programs work out, and which words, codes and texts there are.
-use crate::rows::must_hold;
 use crate::written::push;
 use office_proof::{Outcome, digest_of};
 use office_tree::{Code, Status, Text};
 use std::io::Write;
-use std::test::Fail;
 
-const ROWS: &str = "
+pub(crate) const ROWS: &str = "
     # worked out with sha256sum; that of abc is also the example of FIPS 180-4, and the last content is
     # longer than a block of 64 bytes
     digest nothing = e3b0c44298fc1c149afbf4c8996fb92427ae41e4649b934ca495991b7852b855
@@ -85,7 +83,7 @@ fn tell_text(text: &str, out: &mut Vec<u8>) -> Option<()> {
     }
 }
 
-fn tell(word: &str, asked: &[u8], out: &mut Vec<u8>) -> Option<()> {
+pub(crate) fn tell(word: &str, asked: &[u8], out: &mut Vec<u8>) -> Option<()> {
     let text = str::from_utf8(asked).ok()?;
     match word {
         "digest" => tell_digest(asked, out),
@@ -95,9 +93,4 @@ fn tell(word: &str, asked: &[u8], out: &mut Vec<u8>) -> Option<()> {
         "status" => write!(out, "{:?}", Status::read(text)).ok(),
         _ => None,
     }
-}
-
-#[test]
-fn digests_and_words(rt: HostRuntime) -> Result<(), Fail> {
-    must_hold(rt.alloc(), ROWS, tell)
 }

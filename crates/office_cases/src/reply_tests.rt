@@ -1,5 +1,4 @@
 //! Answers whole, with their status and how many bytes they have, and what a writer that fails leaves.
-use crate::rows::must_hold;
 use crate::streams::{Narrow, Sent};
 use httparse::spans::HeaderSpan;
 use office_http::{
@@ -7,11 +6,10 @@ use office_http::{
     failure_reply, is_head_in, plan_in, read_head, write_reply,
 };
 use std::io::Write;
-use std::test::Fail;
 
 /// The answer to a request whose head does not pass a check, read in pieces of several sizes; to a failure; and
 /// of bodies that are texts and octets. Each is also written with too little room.
-const ROWS: &str = r#"
+pub(crate) const ROWS: &str = r#"
     reply GET /nothing HTTP/1.1\r\nHost: h\r\n\r\n = 404 in 113 bytes: HTTP/1.1 404 Not Found\r\nContent-Type: application/json\r\nContent-Length: 16\r\nConnection: close\r\n\r\n{"error":"path"}
     reply HEAD /nothing HTTP/1.1\r\nHost: h\r\n\r\n = 404 in 97 bytes: HTTP/1.1 404 Not Found\r\nContent-Type: application/json\r\nContent-Length: 16\r\nConnection: close\r\n\r\n
     reply HEAD /acts HTTP/1.1\r\nHost: h\r\n\r\n = 405 in 119 bytes: HTTP/1.1 405 Method Not Allowed\r\nContent-Type: application/json\r\nContent-Length: 18\r\nAllow: POST\r\nConnection: close\r\n\r\n
@@ -125,7 +123,7 @@ fn tell_octets(bytes: &[u8], out: &mut Vec<u8>) -> Option<()> {
     tell_reply(&reply, false, out)
 }
 
-fn tell(most: usize, word: &str, bytes: &[u8], out: &mut Vec<u8>) -> Option<()> {
+pub(crate) fn tell(most: usize, word: &str, bytes: &[u8], out: &mut Vec<u8>) -> Option<()> {
     match word {
         "reply" => tell_refused(most, bytes, out),
         "failure" => tell_failure(bytes, out),
@@ -133,13 +131,4 @@ fn tell(most: usize, word: &str, bytes: &[u8], out: &mut Vec<u8>) -> Option<()> 
         "octets" => tell_octets(bytes, out),
         _ => None,
     }
-}
-
-#[test]
-fn replies(rt: HostRuntime) -> Result<(), Fail> {
-    for most in [1, 2, 7, 4_096] {
-        let tell = |word: &str, bytes: &[u8], out: &mut Vec<u8>| tell(most, word, bytes, out);
-        must_hold(rt.alloc(), ROWS, tell)?;
-    }
-    Ok(())
 }

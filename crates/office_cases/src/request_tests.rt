@@ -1,16 +1,14 @@
 //! Heads and bodies as clients send them, in pieces of several sizes, and what a reader that fails leaves.
 ghost use Rattle.std.specs.Prelude.{◌≤◌, vec_capacity};
 
-use crate::rows::must_hold;
 use crate::streams::Sent;
 use crate::written::push;
 use httparse::spans::HeaderSpan;
 use office_http::{Head, Io, LONGEST_HEAD, Plan, ReadStop, plan_in, read_body, read_head};
 use std::io::Write;
-use std::test::Fail;
 
 /// What is done for a head; a day is told by its number, and 19782 is that of 2024-02-29.
-const HEADS: &str = r"
+pub(crate) const HEADS: &str = r"
     # hosts of each version
     plan POST /acts HTTP/1.1\r\nContent-Length: 2\r\n\r\n = Refuse(Host)
     plan GET /nothing HTTP/1.1\r\nHost: a\r\nHOST: a\r\n\r\n = Refuse(Host)
@@ -91,7 +89,7 @@ const HEADS: &str = r"
 ";
 
 /// The body that follows a head.
-const BODIES: &str = r#"
+pub(crate) const BODIES: &str = r#"
     body POST /acts HTTP/1.1\r\nHost: h\r\nContent-Length: 20\r\n\r\n[{"act":"run-step"}] = whole: [{"act":"run-step"}]
     body POST /acts HTTP/1.1\r\nHost: h\r\nContent-Length: 20\r\n\r\n[{"act":"run-step"}]GET = whole: [{"act":"run-step"}]
     body POST /acts HTTP/1.1\r\nHost: h\r\nContent-Length: 20\r\n\r\n[{"ac = cut: [{"ac
@@ -167,21 +165,11 @@ fn tell_reader(bytes: &[u8], out: &mut Vec<u8>) -> Option<()> {
     push(out, "fails before each byte")
 }
 
-fn tell(most: usize, word: &str, bytes: &[u8], out: &mut Vec<u8>) -> Option<()> {
+pub(crate) fn tell(most: usize, word: &str, bytes: &[u8], out: &mut Vec<u8>) -> Option<()> {
     match word {
         "plan" => tell_plan(most, bytes, out),
         "body" => tell_body(most, bytes, out),
         "reader" => tell_reader(bytes, out),
         _ => None,
     }
-}
-
-#[test]
-fn requests(rt: HostRuntime) -> Result<(), Fail> {
-    for most in [1, 2, 7, 4_096] {
-        let tell = |word: &str, bytes: &[u8], out: &mut Vec<u8>| tell(most, word, bytes, out);
-        must_hold(rt.alloc(), HEADS, tell)?;
-        must_hold(rt.alloc(), BODIES, tell)?;
-    }
-    Ok(())
 }

@@ -1,5 +1,11 @@
 //! What goes through the rows of a text.
 use crate::written::push_bytes;
+use crate::{
+    act_tests, answer_tests, due_tests, hold_tests, office_tests, plan_tests, proof_tests,
+    reply_tests, request_tests, word_tests,
+};
+use office_holds::Holds;
+use office_machine::Machine;
 use std::alloc::Global;
 use std::test::Fail;
 
@@ -14,6 +20,46 @@ pub(crate) fn word(text: &str, at: usize) -> &str {
 pub(crate) fn words_of<'a>(alloc: Global, text: &'a str) -> Option<Vec<&'a str>> {
     let between = if text.contains("|") { "|" } else { " " };
     text.split(between).collect(alloc).ok()
+}
+
+/// Of what rows are.
+#[derive(Clone, Copy)]
+pub(crate) enum Subject {
+    Acts,
+    Answers,
+    Days,
+    Holds,
+    Offices,
+    Plans,
+    Digests,
+    Words,
+    /// Bytes come in pieces of at most so many.
+    Requests(usize),
+    /// The same, for what is answered.
+    Replies(usize),
+}
+
+/// What is told of a row by its first word and the bytes that it asks about.
+fn tell(
+    subject: Subject,
+    office: &mut Machine,
+    holds: &mut Holds,
+    word: &str,
+    asked: &[u8],
+    out: &mut Vec<u8>,
+) -> Option<()> {
+    match subject {
+        Subject::Acts => act_tests::tell(word, asked, out),
+        Subject::Answers => answer_tests::tell(word, asked, out),
+        Subject::Days => due_tests::tell(word, asked, out),
+        Subject::Holds => hold_tests::tell(office, holds, word, asked, out),
+        Subject::Offices => office_tests::tell(office, word, asked, out),
+        Subject::Plans => plan_tests::tell(word, asked, out),
+        Subject::Digests => proof_tests::tell(word, asked, out),
+        Subject::Words => word_tests::tell(word, asked, out),
+        Subject::Requests(most) => request_tests::tell(most, word, asked, out),
+        Subject::Replies(most) => reply_tests::tell(most, word, asked, out),
+    }
 }
 
 /// Whether a line is a row: not empty and no remark.
@@ -33,29 +79,51 @@ fn row_of(alloc: Global, line: &str) -> Option<(&str, Vec<u8>, Vec<u8>)> {
     }
 }
 
-/// What is told of each row, by its first word and the bytes that it asks about, must be its answer.
-pub(crate) fn must_hold<F: FnMut(&str, &[u8], &mut Vec<u8>) -> Option<()>>(
+/// Whether what is told of a row is its answer.
+fn is_met(
     alloc: Global,
+    subject: Subject,
+    office: &mut Machine,
+    holds: &mut Holds,
+    row: &str,
+    told: &mut Vec<u8>,
+) -> bool {
+    match row_of(alloc, row) {
+        Some((word, asked, wanted)) => {
+            tell(subject, office, holds, word, &asked, told).is_some() && *told == wanted
+        }
+        None => false,
+    }
+}
+
+/// Tells the rows of a subject, each of which must have its answer.
+fn must_go(
+    alloc: Global,
+    subject: Subject,
+    office: &mut Machine,
+    holds: &mut Holds,
     rows: &str,
-    mut tell: F,
-) -> Result<(), Fail>
-    requires { F.IsAlwaysCallable tell }
-{
+) -> Result<(), Fail> {
     let mut told = Vec::new(alloc);
     for (before, line) in rows.lines().enumerate() {
         let row = line.trim();
-        if is_row(row) {
-            let is_met = match row_of(alloc, row) {
-                Some((word, asked, wanted)) => {
-                    told.clear();
-                    tell(word, &asked, &mut told).is_some() && told == wanted
-                }
-                None => false,
-            };
-            if !is_met {
-                return Err(Fail::new(format_args!("line {before}: {row}")));
-            }
+        told.clear();
+        if is_row(row) && !is_met(alloc, subject, office, holds, row, &mut told) {
+            return Err(Fail::new(format_args!("line {before}: {row}")));
         }
     }
     Ok(())
+}
+
+/// The rows of a subject must hold, told to a new office after those of a start.
+pub(crate) fn must_hold(
+    alloc: Global,
+    subject: Subject,
+    start: &str,
+    rows: &str,
+) -> Result<(), Fail> {
+    let mut office = Machine::new(alloc);
+    let mut holds = Holds::new(alloc);
+    must_go(alloc, subject, &mut office, &mut holds, start)?;
+    must_go(alloc, subject, &mut office, &mut holds, rows)
 }

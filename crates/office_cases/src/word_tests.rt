@@ -1,14 +1,13 @@
 //! Words of the command line: that they are taken at all, and of which kind the errors of others are.
 use crate::answering::push_refused;
-use crate::rows::{must_hold, words_of};
+use crate::rows::words_of;
 use crate::written::push;
 use office_words::{Order, order_of, read_words};
 use std::io::Write;
-use std::test::Fail;
 
 /// Each row is a command line. A refusal is that of an operand; what is no command of the program is told
 /// by the kind of the error of `clap`.
-const ROWS: &str = "
+pub(crate) const ROWS: &str = "
     words office due years 7 from-month-4 2017-06-30 = due years 7 from-month-4 2017-06-30
     words office plan tree.txt = plan tree.txt
     words office init office.db = init office.db
@@ -100,13 +99,8 @@ fn tell_words(words: &[&str], out: &mut Vec<u8>) -> Option<()> {
 }
 
 /// What the words of a row order. With memory at hand, its want is no answer.
-fn tell(_word: &str, asked: &[u8], out: &mut Vec<u8>) -> Option<()> {
+pub(crate) fn tell(_word: &str, asked: &[u8], out: &mut Vec<u8>) -> Option<()> {
     let text = str::from_utf8(asked).ok()?;
     let words = words_of(*out.allocator(), text)?;
     tell_words(&words, out)
-}
-
-#[test]
-fn words(rt: HostRuntime) -> Result<(), Fail> {
-    must_hold(rt.alloc(), ROWS, tell)
 }
