@@ -4,7 +4,7 @@ use crate::written::push;
 use office_days::Day;
 use office_holds::Target;
 use office_json::{ListFault, ReadFault, read_act, read_acts};
-use office_machine::{Act, NewRecord};
+use office_rules::{Act, NewRecord};
 use office_tree::{Code, Text};
 use serde_json::Value;
 use std::io::Write;

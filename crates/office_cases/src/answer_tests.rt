@@ -10,8 +10,8 @@ use office_json::{
     Io, answer_value, answers_value, bad_act_value, fault_value, stopped_value, text_of,
     write_answers,
 };
-use office_machine::Answer;
 use office_proof::Outcome;
+use office_rules::Answer;
 use office_tree::Memory;
 use serde_json::Value;
 use std::alloc::Global;

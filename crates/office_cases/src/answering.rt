@@ -1,6 +1,6 @@
 //! Answers of the office as rows write them.
 use office_days::Refusal;
-use office_machine::Answer;
+use office_rules::Answer;
 use std::io::Write;
 
 /// A refusal, by its number.

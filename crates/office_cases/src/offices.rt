@@ -3,12 +3,13 @@
 //! An act is told in short, its day first, as `2024-01-02 hold-on H-2 record:1`, or as its JSON after the word `act`.
 //! What is short is written out by its form and read as any other act; a title is the ref, and a reason and the
 //! name of who acts are always the same.
-ghost use Rattle.office_machine.specs.Acts.{CanBeMade};
+ghost use Rattle.office_rules.specs.Acts.{CanBeMade};
 
 use crate::answering::push_answer;
 use crate::rows::word;
 use office_json::read_act;
-use office_machine::{Act, Change, Decision, Machine};
+use office_machine::Machine;
+use office_rules::{Act, Change, Decision};
 use serde_json::Value;
 use std::alloc::Global;
 

@@ -7,12 +7,12 @@ use Rattle.sqlite.specs.State as sqlite
 use Rattle.sqlite.specs.State.{HasCleanDisk}
 use Rattle.sqlite_trees.specs.Tree.{Trees}
 use Rattle.sqlite_trees.specs.declared.store.Store.{Ghosts}
-use Rattle.office_machine.specs.Acts.{after}
-use Rattle.office_machine.specs.Rows.{rows_of}
-use Rattle.office_machine.specs.Sound.{IsSound}
-use Rattle.office_machine.specs.State.{State}
-use Rattle.office_machine.specs.declared.act.Act.{Act}
-use Rattle.office_machine.specs.declared.answer.Answer.{Answer}
+use Rattle.office_rules.specs.Acts.{after}
+use Rattle.office_rules.specs.Rows.{rows_of}
+use Rattle.office_rules.specs.Sound.{IsSound}
+use Rattle.office_rules.specs.State.{State}
+use Rattle.office_rules.specs.declared.act.Act.{Act}
+use Rattle.office_rules.specs.declared.answer.Answer.{Answer}
 use Rattle.office_store.specs.Stands.{HoldsRows, LeavesWithin, Stands}
 use Rattle.office_store.specs.declared.fault.Fault.{Fault}
 use Rattle.office_store.specs.declared.fault.Fault.TheVariants as fault

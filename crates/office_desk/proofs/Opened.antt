@@ -12,13 +12,13 @@ use Rattle.sqlite_schema.specs.Names.{same_name, table_named}
 use Rattle.sqlite_trees.specs.Tree.{Trees}
 use Rattle.office_sql.specs.Office.{IsAtRest, IsBlank}
 use Rattle.office_sql.specs.Schema.{no_schema, office_schema}
-use Rattle.office_machine.specs.Founding.{AreTablesOf, HaveKeys}
-use Rattle.office_machine.specs.Rows.{rows_of}
-use Rattle.office_machine.specs.Sound.{IsSound}
-use Rattle.office_machine.specs.State.{ByteMap, Office, State, with_contents}
-use Rattle.office_machine.specs.Tables.{StandsFor}
-use Rattle.office_machine.specs.declared.tables.Tables.{Tables}
-use Rattle.office_machine.proofs.KeyedRows.{rows_by-find}
+use Rattle.office_rules.specs.Founding.{AreTablesOf, HaveKeys}
+use Rattle.office_rules.specs.Rows.{rows_of}
+use Rattle.office_rules.specs.Sound.{IsSound}
+use Rattle.office_rules.specs.State.{ByteMap, Office, State, with_contents}
+use Rattle.office_rules.specs.Tables.{StandsFor}
+use Rattle.office_rules.specs.declared.tables.Tables.{Tables}
+use Rattle.office_rules.proofs.KeyedRows.{rows_by-find}
 use Rattle.office_store.specs.Stands.{HasContents, Stands}
 use Rattle.office_desk.specs.Opening.{AreCertificatesTexts, StandFor}
 

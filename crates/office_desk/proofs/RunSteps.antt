@@ -9,17 +9,17 @@ use Rattle.sqlite_trees.specs.Tree.{Trees}
 use Rattle.sqlite_trees.specs.declared.store.Store.{Ghosts}
 use Rattle.office_days.specs.declared.refusal.Refusal.TheVariants.{NoRun}
 use Rattle.office_proof.specs.declared.outcome.Outcome.{Outcome}
-use Rattle.office_machine.specs.Acts.{after, step}
-use Rattle.office_machine.specs.Rows.{rows_of}
-use Rattle.office_machine.specs.Runs.{IsMidway, after_steps, candidates, closed, next_ready, open_run, step_of, with_outcomes}
-use Rattle.office_machine.specs.State.{State, Office, with_contents}
-use Rattle.office_machine.specs.Steps.{answer_at, answer_in, stepped}
-use Rattle.office_machine.specs.declared.act.Act.{Act}
-use Rattle.office_machine.specs.declared.act.Act.TheVariants as act
-use Rattle.office_machine.specs.declared.answer.Answer.{Answer}
-use Rattle.office_machine.specs.declared.answer.Answer.TheVariants.{Step, RunClosed}
-use Rattle.office_machine.proofs.OneStep.{candidates_rest, next_is, step_none, step_some}
-use Rattle.office_machine.proofs.OpenRun.{closed_is_closed, open_after, opened}
+use Rattle.office_rules.specs.Acts.{after, step}
+use Rattle.office_rules.specs.Rows.{rows_of}
+use Rattle.office_rules.specs.Runs.{IsMidway, after_steps, candidates, closed, next_ready, open_run, step_of, with_outcomes}
+use Rattle.office_rules.specs.State.{State, Office, with_contents}
+use Rattle.office_rules.specs.Steps.{answer_at, answer_in, stepped}
+use Rattle.office_rules.specs.declared.act.Act.{Act}
+use Rattle.office_rules.specs.declared.act.Act.TheVariants as act
+use Rattle.office_rules.specs.declared.answer.Answer.{Answer}
+use Rattle.office_rules.specs.declared.answer.Answer.TheVariants.{Step, RunClosed}
+use Rattle.office_rules.proofs.OneStep.{candidates_rest, next_is, step_none, step_some}
+use Rattle.office_rules.proofs.OpenRun.{closed_is_closed, open_after, opened}
 use Rattle.office_store.specs.Stands.{HoldsRows, LeavesWithin, Stands}
 use Rattle.office_store.specs.declared.fault.Fault.{Fault}
 use Rattle.office_store.specs.declared.fault.Fault.TheVariants as fault

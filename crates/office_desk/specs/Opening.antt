@@ -2,9 +2,9 @@
 use Rattle.std.specs.Prelude.{◌≡◌, ℕ, List, Some, IsUtf8}
 use Rattle.std.specs.FinMap.{get}
 use Rattle.sqlite_trees.specs.Tree.{Trees}
-use Rattle.office_machine.specs.Rows.{rows_of}
-use Rattle.office_machine.specs.Sound.{IsSound}
-use Rattle.office_machine.specs.State.{State}
+use Rattle.office_rules.specs.Rows.{rows_of}
+use Rattle.office_rules.specs.Sound.{IsSound}
+use Rattle.office_rules.specs.State.{State}
 use Rattle.office_store.specs.Stands.{Stands}
 
 -- each certificate is a text

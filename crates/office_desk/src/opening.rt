@@ -3,8 +3,8 @@ ghost use Rattle.std.specs.Prelude.{◌≡◌, ◌≢◌, IfErr, IfOk, codes, fa
 ghost use Rattle.sqlite_schema.specs.Names.{table_named};
 ghost use Rattle.sqlite.specs.Held.{state};
 ghost use Rattle.sqlite.specs.State.{HasCleanDisk};
-ghost use Rattle.office_machine.specs.Sound.{IsSound};
-ghost use Rattle.office_machine.specs.State.{State, empty_state};
+ghost use Rattle.office_rules.specs.Sound.{IsSound};
+ghost use Rattle.office_rules.specs.State.{State, empty_state};
 ghost use Rattle.office_sql.specs.Names.{has_other_table};
 ghost use Rattle.office_sql.specs.Office.{IsAtRest, IsBlank};
 ghost use Rattle.office_store.specs.Adopted.{IsOtherVersion, LeavesLess};
@@ -14,8 +14,8 @@ ghost use Rattle.office_desk.specs.Opening.{StandFor, StandForNone};
 
 use crate::Desk;
 use office_machine::Machine;
-use office_machine::laws::soundness::law_of_soundness;
 use office_rows::Rebuild;
+use office_rules::laws::soundness::law_of_soundness;
 use office_store::laws::{law_of_found_rows, law_of_read_rows};
 use office_store::{Fault, Store};
 use sqlite::{Alter, Connection};

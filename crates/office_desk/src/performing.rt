@@ -2,20 +2,20 @@
 ghost use Rattle.std.specs.Prelude.{◌≡◌, ◌≢◌, ◌+◌, ℕ, IfErr, IfOk, IsTrue, OnErr, OnOk, Err, [], ◌∷◌, ◌++◌, false, take};
 ghost use Rattle.sqlite.specs.Held.{state};
 ghost use Rattle.sqlite.specs.State.{HasCleanDisk};
-ghost use Rattle.office_machine.specs.Acts.{CanBeMade, after, answers as answers_of, step};
-ghost use Rattle.office_machine.specs.Rows.{rows_of};
-ghost use Rattle.office_machine.specs.Runs.{IsMidway, open_run};
-ghost use Rattle.office_machine.specs.Writes.{all_office_writes, all_writes};
+ghost use Rattle.office_rules.specs.Acts.{CanBeMade, after, answers as answers_of, step};
+ghost use Rattle.office_rules.specs.Rows.{rows_of};
+ghost use Rattle.office_rules.specs.Runs.{IsMidway, open_run};
+ghost use Rattle.office_rules.specs.Writes.{all_office_writes, all_writes};
 ghost use Rattle.office_store.specs.Stands.{HoldsRows};
-ghost use Rattle.office_machine.specs.State.{State};
+ghost use Rattle.office_rules.specs.State.{State};
 ghost use Rattle.office_desk.specs.Fates.{LeavesFates};
 ghost use Rattle.office_desk.specs.Leaving.{IsFrontAnswered, StandsAt, StopsAt, StopsLeaving};
 ghost use Rattle.office_desk.specs.Resuming.{AreRunSteps, LeavesMidway};
 
 use crate::Desk;
 use crate::fates::law_of_fates;
-use office_machine::laws::resuming::law_of_resumption;
-use office_machine::{Act, Answer, Change, Decision};
+use office_rules::laws::resuming::law_of_resumption;
+use office_rules::{Act, Answer, Change, Decision};
 use office_store::Fault;
 use sqlite::Alter;
 

@@ -2,16 +2,16 @@
 ghost use Rattle.std.specs.Prelude.{◌≡◌, ℕ, suc, IfErr, IfOk, IsTrue, OnOk, Err, Some, None, false};
 ghost use Rattle.sqlite.specs.Held.{state};
 ghost use Rattle.sqlite.specs.State.{HasCleanDisk};
-ghost use Rattle.office_machine.specs.Runs.{IsMidway, after_steps, open_run, whole};
-ghost use Rattle.office_machine.specs.State.{State};
+ghost use Rattle.office_rules.specs.Runs.{IsMidway, after_steps, open_run, whole};
+ghost use Rattle.office_rules.specs.State.{State};
 ghost use Rattle.office_desk.specs.Fates.{LeavesStepFates};
 ghost use Rattle.office_desk.specs.Leaving.{LeavesRowsOf, StandsAt, StopsAt, StopsLeaving};
 ghost use Rattle.office_desk.specs.Resuming.{LeavesMidway, resumed_answer};
 
 use crate::Desk;
 use crate::fates::law_of_fates;
-use office_machine::laws::resuming::law_of_resumption;
-use office_machine::{Act, Answer};
+use office_rules::laws::resuming::law_of_resumption;
+use office_rules::{Act, Answer};
 use office_store::Fault;
 use sqlite::Alter;
 

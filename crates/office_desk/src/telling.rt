@@ -3,12 +3,12 @@ ghost use Rattle.std.specs.Prelude.{◌≡◌, ◌⊎◌, ℕ, Err, IfErr, IfOk,
 ghost use Rattle.std.specs.FinMap.{get};
 ghost use Rattle.std.specs.Option.{option_map};
 ghost use Rattle.std.specs.String.{string_bytes};
-ghost use Rattle.office_machine.specs.Readings.{IsDueList, all_entries_of, ending_entry, record_view};
+ghost use Rattle.office_rules.specs.Readings.{IsDueList, all_entries_of, ending_entry, record_view};
 
 use crate::Desk;
 use office_days::Day;
-use office_machine::RecordView;
 use office_proof::{Entry, RunNo};
+use office_rules::RecordView;
 use office_store::Fault;
 use office_tree::{Memory, RecordNo};
 use sqlite::Alter;

@@ -6,7 +6,7 @@ use Rattle.office_days.specs.declared.refusal.Refusal.{Refusal}
 use Rattle.office_proof.specs.Outcomes.{outcome_word}
 use Rattle.office_proof.specs.declared.outcome.Outcome.{Outcome}
 use Rattle.office_proof.specs.declared.outcome.Outcome.TheVariants.{Destroyed, Transferred, Sent, Skipped}
-use Rattle.office_machine.specs.declared.answer.Answer.TheVariants.{Done, Number, Same, Step, RunClosed, Refused}
+use Rattle.office_rules.specs.declared.answer.Answer.TheVariants.{Done, Number, Same, Step, RunClosed, Refused}
 use Rattle.office_json.specs.Answers.{answer_line, answer_text}
 
 pub done_line : answer_line Done ≡ codes "{\"done\":true}\n"

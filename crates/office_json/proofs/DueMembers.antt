@@ -2,7 +2,7 @@
 use Rattle.std.proofs.Common.{◌≡◌, refl}
 use Rattle.serde_json.proofs.OnLiterals.{serde_json_on_literals}
 use Rattle.serde_json.specs.Data.{Members, object, no_members}
-use Rattle.office_machine.specs.declared.record_view.RecordView.{RecordView}
+use Rattle.office_rules.specs.declared.record_view.RecordView.{RecordView}
 use Rattle.office_json.specs.DueJson.{due_row_data, put_plan, put_rest}
 
 in_order : (r : RecordView) → object (put_rest r (put_plan r no_members)) ≡ due_row_data r

@@ -3,7 +3,7 @@ use Rattle.std.proofs.Common.{◌≡◌, ◌∙◌, Bool, true, cond, Result, Ok
 use Rattle.serde_json.specs.Data.{Data}
 use Rattle.office_days.specs.declared.refusal.Refusal.{Refusal}
 use Rattle.office_days.specs.declared.refusal.Refusal.TheVariants.{BadText}
-use Rattle.office_machine.specs.declared.act.Act.{Act}
+use Rattle.office_rules.specs.declared.act.Act.{Act}
 use Rattle.office_json.specs.Acts.{Asked, asked, IsActRead, IsReadFault}
 use Rattle.office_json.specs.Parts.{fault_of, made}
 use Rattle.office_json.specs.declared.read_fault.ReadFault.{ReadFault}

@@ -5,9 +5,9 @@ use Rattle.serde_json.specs.Data.{Data}
 use Rattle.serde_json.specs.Find.{get, as_str}
 use Rattle.office_days.specs.declared.refusal.Refusal.{Refusal}
 use Rattle.office_days.specs.declared.refusal.Refusal.TheVariants.{BadText}
-use Rattle.office_machine.specs.declared.act.Act.{Act}
-use Rattle.office_machine.specs.declared.act.Act.TheVariants as act
-use Rattle.office_machine.specs.declared.new_record.NewRecord.{NewRecord}
+use Rattle.office_rules.specs.declared.act.Act.{Act}
+use Rattle.office_rules.specs.declared.act.Act.TheVariants as act
+use Rattle.office_rules.specs.declared.new_record.NewRecord.{NewRecord}
 use Rattle.office_json.specs.Contents.{content_part}
 use Rattle.office_json.specs.Members.{only}
 use Rattle.office_json.specs.Parts.{both, fault_of, made, optional, day_part, code_part, text_part, trigger_part, offset_part, action_part, digest_part, number_part, period_part}

@@ -5,8 +5,8 @@ use Rattle.serde_json.specs.Data.{Data, boolean, number, unsigned, string, objec
 use Rattle.serde_json.specs.Written.{compact_text}
 use Rattle.office_days.specs.Refusals.{refusal_number}
 use Rattle.office_proof.specs.Outcomes.{outcome_word}
-use Rattle.office_machine.specs.declared.answer.Answer.{Answer}
-use Rattle.office_machine.specs.declared.answer.Answer.TheVariants.{Done, Number, Same, Step, RunClosed, Refused}
+use Rattle.office_rules.specs.declared.answer.Answer.{Answer}
+use Rattle.office_rules.specs.declared.answer.Answer.TheVariants.{Done, Number, Same, Step, RunClosed, Refused}
 
 -- an object of one member, a number
 abbrev pub numbered_data : List ℕ → ℕ → Data

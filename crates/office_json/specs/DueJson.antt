@@ -3,7 +3,7 @@ use Rattle.std.specs.Prelude.{List, map, codes}
 use Rattle.serde_json.specs.Data.{Data, boolean, number, unsigned, string, array, object, Members, member, no_members, put}
 use Rattle.serde_json.specs.View.{items_of}
 use Rattle.office_tree.specs.Words.{action_word}
-use Rattle.office_machine.specs.declared.record_view.RecordView.{RecordView}
+use Rattle.office_rules.specs.declared.record_view.RecordView.{RecordView}
 use Rattle.office_json.specs.RecordJson.{day_data, or_null}
 
 -- a record that is due, and whether a confirmation of it counts; the members stand in the order of their names

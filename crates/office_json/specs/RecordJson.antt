@@ -7,7 +7,7 @@ use Rattle.office_tree.specs.Words.{action_word, status_word}
 use Rattle.office_tree.specs.declared.head.Confirmation.{Confirmation}
 use Rattle.office_proof.specs.Outcomes.{outcome_word}
 use Rattle.office_proof.specs.declared.entry.Entry.{Entry}
-use Rattle.office_machine.specs.declared.record_view.RecordView.{RecordView}
+use Rattle.office_rules.specs.declared.record_view.RecordView.{RecordView}
 use Rattle.hex.specs.Hex.{encode_lower}
 
 -- a day in its ten bytes

@@ -4,7 +4,7 @@ use Rattle.serde_json.specs.Data.{Data, number, unsigned, string, array, object,
 use Rattle.serde_json.specs.View.{items_of}
 use Rattle.office_days.specs.Refusals.{refusal_number}
 use Rattle.office_days.specs.declared.refusal.Refusal.{Refusal}
-use Rattle.office_machine.specs.declared.answer.Answer.{Answer}
+use Rattle.office_rules.specs.declared.answer.Answer.{Answer}
 use Rattle.office_json.specs.Answers.{answer_data, numbered_data}
 
 -- the answers to acts, in their order

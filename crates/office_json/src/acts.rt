@@ -16,7 +16,7 @@ use aggregations::{add_aggregation, close_aggregation, reclassify};
 use holds::{hold_off, hold_on, lift_hold, place_hold};
 use new_record::add_record;
 use office_days::Refusal;
-use office_machine::Act;
+use office_rules::Act;
 use records::{confirm, receipt, review, set_record_schedule};
 use runs::{open_run, run_step};
 use schedules::{add_class, add_schedule, set_class_schedule};

@@ -7,8 +7,8 @@ ghost use Rattle.office_proof.specs.Outcomes.{outcome_word};
 ghost use Rattle.office_proof.specs.declared.outcome.Outcome.{Outcome};
 ghost use Rattle.office_json.specs.Answers.{answer_line, answer_lines, answer_text};
 
-use office_machine::Answer;
 use office_plan::Io;
+use office_rules::Answer;
 use std::io;
 use std::io::Write;
 

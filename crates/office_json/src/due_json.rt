@@ -5,7 +5,7 @@ ghost use Rattle.serde_json.specs.Written.{has_float};
 ghost use Rattle.office_json.specs.DueJson.{due_data, due_row_data, put_plan, put_rest};
 
 use crate::told::{Told, put_all, told_code, told_due};
-use office_machine::RecordView;
+use office_rules::RecordView;
 use office_tree::Memory;
 use serde_json::{Map, Value};
 use std::alloc::{AllocError, Global};

@@ -12,18 +12,18 @@ use Rattle.office_tree.specs.declared.head.Record.{Record}
 use Rattle.office_tree.specs.declared.status.Status.TheVariants.{Here}
 use Rattle.office_tree.proofs.Keeping.{IsSound-add_record}
 use Rattle.office_tree.proofs.Putting.{put_next}
-use Rattle.office_machine.specs.Acts.{IsChangeTo}
-use Rattle.office_machine.specs.Conditions.{dated, refusals_of_add_record, same_record}
-use Rattle.office_machine.specs.Effects.{new_head, with_new_record, with_tree}
-use Rattle.office_machine.specs.State.{with_contents, Office, ByteMap}
-use Rattle.office_machine.specs.Steps.{by_same_record, step_add_record}
-use Rattle.office_machine.specs.Writes.{CanWrite, all_writes}
-use Rattle.office_machine.specs.declared.answer.Answer.TheVariants.{Number, Refused}
-use Rattle.office_machine.specs.declared.change.Change.{Change}
-use Rattle.office_machine.specs.declared.new_record.NewRecord.{NewRecord}
-use Rattle.office_machine.specs.declared.rows.RowWrite.{RowWrite}
-use Rattle.office_machine.specs.declared.rows.RowWrite.TheVariants as row_write
-use Rattle.office_machine.proofs.Accepted.{dated_accepted}
+use Rattle.office_rules.specs.Acts.{IsChangeTo}
+use Rattle.office_rules.specs.Conditions.{dated, refusals_of_add_record, same_record}
+use Rattle.office_rules.specs.Effects.{new_head, with_new_record, with_tree}
+use Rattle.office_rules.specs.State.{with_contents, Office, ByteMap}
+use Rattle.office_rules.specs.Steps.{by_same_record, step_add_record}
+use Rattle.office_rules.specs.Writes.{CanWrite, all_writes}
+use Rattle.office_rules.specs.declared.answer.Answer.TheVariants.{Number, Refused}
+use Rattle.office_rules.specs.declared.change.Change.{Change}
+use Rattle.office_rules.specs.declared.new_record.NewRecord.{NewRecord}
+use Rattle.office_rules.specs.declared.rows.RowWrite.{RowWrite}
+use Rattle.office_rules.specs.declared.rows.RowWrite.TheVariants as row_write
+use Rattle.office_rules.proofs.Accepted.{dated_accepted}
 use Rattle.office_machine.proofs.Decisions.{refused_step, accepted_change}
 
 -- the table's answer depends on the tree, the class and the schedule alone

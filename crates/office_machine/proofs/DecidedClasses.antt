@@ -12,14 +12,14 @@ use Rattle.office_tree.specs.declared.status.Status.{Status}
 use Rattle.office_tree.proofs.Amending.{IsSound-reclassify}
 use Rattle.office_tree.proofs.Places.{numbered_within}
 use Rattle.office_tree.proofs.Putting.{put-edited, put_same}
-use Rattle.office_machine.specs.Acts.{IsChangeTo}
-use Rattle.office_machine.specs.Conditions.{conditions_of_reclassifying, refusals_of_reclassify}
-use Rattle.office_machine.specs.State.{Office, with_contents}
-use Rattle.office_machine.specs.Steps.{step_reclassify}
-use Rattle.office_machine.specs.declared.answer.Answer.TheVariants.{Done}
-use Rattle.office_machine.specs.declared.change.Change.{Change}
-use Rattle.office_machine.specs.declared.rows.RowWrite.TheVariants as row_write
-use Rattle.office_machine.proofs.Accepted.{accepted_by_tree}
+use Rattle.office_rules.specs.Acts.{IsChangeTo}
+use Rattle.office_rules.specs.Conditions.{conditions_of_reclassifying, refusals_of_reclassify}
+use Rattle.office_rules.specs.State.{Office, with_contents}
+use Rattle.office_rules.specs.Steps.{step_reclassify}
+use Rattle.office_rules.specs.declared.answer.Answer.TheVariants.{Done}
+use Rattle.office_rules.specs.declared.change.Change.{Change}
+use Rattle.office_rules.specs.declared.rows.RowWrite.TheVariants as row_write
+use Rattle.office_rules.proofs.Accepted.{accepted_by_tree}
 use Rattle.office_machine.proofs.DecidedTree.{put_change}
 
 -- the tree stays sound

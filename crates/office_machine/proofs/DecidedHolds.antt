@@ -15,17 +15,17 @@ use Rattle.office_holds.specs.Rows.{hold_from, put_hold}
 use Rattle.office_holds.specs.declared.row.HoldRow.{HoldRow}
 use Rattle.office_holds.specs.declared.target.Target.{Target}
 use Rattle.office_holds.proofs.Keeping.{FitsHoldLimits-held_on, FitsHoldLimits-lifted_hold, FitsHoldLimits-placed_hold, placed_by_put}
-use Rattle.office_machine.specs.Acts.{IsChangeTo}
-use Rattle.office_machine.specs.Conditions.{conditions_of_covering, dated, lacks_target, refusals_of_hold_off, refusals_of_hold_on, refusals_of_lift_hold, refusals_of_place_hold}
-use Rattle.office_machine.specs.Effects.{with_holds}
-use Rattle.office_machine.specs.State.{Office, ByteMap, with_contents, with_office}
-use Rattle.office_machine.specs.Steps.{step_hold_off, step_hold_on, step_lift_hold, step_place_hold, stepped}
-use Rattle.office_machine.specs.Writes.{CanPut, CanWrite, all_writes, write}
-use Rattle.office_machine.specs.declared.answer.Answer.TheVariants.{Done}
-use Rattle.office_machine.specs.declared.change.Change.{Change}
-use Rattle.office_machine.specs.declared.rows.RowWrite.{RowWrite}
-use Rattle.office_machine.specs.declared.rows.RowWrite.TheVariants as row_write
-use Rattle.office_machine.proofs.Accepted.{accepted_of, dated_accepted}
+use Rattle.office_rules.specs.Acts.{IsChangeTo}
+use Rattle.office_rules.specs.Conditions.{conditions_of_covering, dated, lacks_target, refusals_of_hold_off, refusals_of_hold_on, refusals_of_lift_hold, refusals_of_place_hold}
+use Rattle.office_rules.specs.Effects.{with_holds}
+use Rattle.office_rules.specs.State.{Office, ByteMap, with_contents, with_office}
+use Rattle.office_rules.specs.Steps.{step_hold_off, step_hold_on, step_lift_hold, step_place_hold, stepped}
+use Rattle.office_rules.specs.Writes.{CanPut, CanWrite, all_writes, write}
+use Rattle.office_rules.specs.declared.answer.Answer.TheVariants.{Done}
+use Rattle.office_rules.specs.declared.change.Change.{Change}
+use Rattle.office_rules.specs.declared.rows.RowWrite.{RowWrite}
+use Rattle.office_rules.specs.declared.rows.RowWrite.TheVariants as row_write
+use Rattle.office_rules.proofs.Accepted.{accepted_of, dated_accepted}
 use Rattle.office_machine.proofs.Decisions.{accepted_change}
 
 -- a row that is put into the holds, and the day

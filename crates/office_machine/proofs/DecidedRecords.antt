@@ -18,17 +18,17 @@ use Rattle.office_tree.proofs.Accepting.{none_holds, neither, not_false}
 use Rattle.office_tree.proofs.Amending.{IsSound-confirm, IsSound-receipt, IsSound-review, IsSound-set_record_schedule}
 use Rattle.office_tree.proofs.Places.{numbered_within}
 use Rattle.office_tree.proofs.Putting.{put-edited, put_edited_to, put_same}
-use Rattle.office_machine.specs.Acts.{IsChangeTo}
-use Rattle.office_machine.specs.Conditions.{dated, refusals_of_confirm, refusals_of_receipt, refusals_of_review, refusals_of_set_record_schedule}
-use Rattle.office_machine.specs.Effects.{with_tree}
-use Rattle.office_machine.specs.State.{with_contents, Office, with_office}
-use Rattle.office_machine.specs.Steps.{stepped, step_confirm, step_receipt, step_review, step_set_record_schedule}
-use Rattle.office_machine.specs.Writes.{CanWrite, all_writes}
-use Rattle.office_machine.specs.declared.answer.Answer.TheVariants.{Done}
-use Rattle.office_machine.specs.declared.change.Change.{Change}
-use Rattle.office_machine.specs.declared.rows.RowWrite.{RowWrite}
-use Rattle.office_machine.specs.declared.rows.RowWrite.TheVariants as row_write
-use Rattle.office_machine.proofs.Accepted.{dated_accepted}
+use Rattle.office_rules.specs.Acts.{IsChangeTo}
+use Rattle.office_rules.specs.Conditions.{dated, refusals_of_confirm, refusals_of_receipt, refusals_of_review, refusals_of_set_record_schedule}
+use Rattle.office_rules.specs.Effects.{with_tree}
+use Rattle.office_rules.specs.State.{with_contents, Office, with_office}
+use Rattle.office_rules.specs.Steps.{stepped, step_confirm, step_receipt, step_review, step_set_record_schedule}
+use Rattle.office_rules.specs.Writes.{CanWrite, all_writes}
+use Rattle.office_rules.specs.declared.answer.Answer.TheVariants.{Done}
+use Rattle.office_rules.specs.declared.change.Change.{Change}
+use Rattle.office_rules.specs.declared.rows.RowWrite.{RowWrite}
+use Rattle.office_rules.specs.declared.rows.RowWrite.TheVariants as row_write
+use Rattle.office_rules.proofs.Accepted.{dated_accepted}
 use Rattle.office_machine.proofs.Decisions.{accepted_change}
 
 -- ---- what an accepted act says of the tree

@@ -17,18 +17,18 @@ use Rattle.office_tree.proofs.Amending.{IsSound-set_class_schedule, as_scheduled
 use Rattle.office_tree.proofs.Keeping.{IsSound-add_schedule, IsSound-add_class, IsSound-add_aggregation, IsSound-close_aggregation, as_closed}
 use Rattle.office_tree.proofs.Places.{numbered_within}
 use Rattle.office_tree.proofs.Putting.{put_next, put-edited}
-use Rattle.office_machine.specs.Acts.{IsChangeTo}
-use Rattle.office_machine.specs.Conditions.{dated, refusals_of_add_schedule, refusals_of_add_class, refusals_of_set_class_schedule, refusals_of_add_aggregation, refusals_of_close_aggregation}
-use Rattle.office_machine.specs.Effects.{with_tree}
-use Rattle.office_machine.specs.State.{with_contents, Office, ByteMap, with_office}
-use Rattle.office_machine.specs.Steps.{stepped, step_add_schedule, step_add_class, step_set_class_schedule, step_add_aggregation, step_close_aggregation}
-use Rattle.office_machine.specs.Writes.{all_writes, write, CanWrite, CanPut}
-use Rattle.office_machine.specs.declared.answer.Answer.{Answer}
-use Rattle.office_machine.specs.declared.answer.Answer.TheVariants.{Done, Number}
-use Rattle.office_machine.specs.declared.change.Change.{Change}
-use Rattle.office_machine.specs.declared.rows.RowWrite.{RowWrite}
-use Rattle.office_machine.specs.declared.rows.RowWrite.TheVariants as row_write
-use Rattle.office_machine.proofs.Accepted.{dated_accepted}
+use Rattle.office_rules.specs.Acts.{IsChangeTo}
+use Rattle.office_rules.specs.Conditions.{dated, refusals_of_add_schedule, refusals_of_add_class, refusals_of_set_class_schedule, refusals_of_add_aggregation, refusals_of_close_aggregation}
+use Rattle.office_rules.specs.Effects.{with_tree}
+use Rattle.office_rules.specs.State.{with_contents, Office, ByteMap, with_office}
+use Rattle.office_rules.specs.Steps.{stepped, step_add_schedule, step_add_class, step_set_class_schedule, step_add_aggregation, step_close_aggregation}
+use Rattle.office_rules.specs.Writes.{all_writes, write, CanWrite, CanPut}
+use Rattle.office_rules.specs.declared.answer.Answer.{Answer}
+use Rattle.office_rules.specs.declared.answer.Answer.TheVariants.{Done, Number}
+use Rattle.office_rules.specs.declared.change.Change.{Change}
+use Rattle.office_rules.specs.declared.rows.RowWrite.{RowWrite}
+use Rattle.office_rules.specs.declared.rows.RowWrite.TheVariants as row_write
+use Rattle.office_rules.proofs.Accepted.{dated_accepted}
 use Rattle.office_machine.proofs.Decisions.{accepted_change}
 
 abbrev pub new_aggregation : List ℕ → List ℕ → Option ℕ → Option (List ℕ) → Aggregation

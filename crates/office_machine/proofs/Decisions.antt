@@ -3,16 +3,16 @@ use Rattle.std.proofs.Common.{◌≡◌, ◌≤◌, Bool, List, length, Some, No
 use Rattle.office_days.specs.declared.refusal.Refusal.{Refusal}
 use Rattle.office_tree.specs.Conditions.{first_of}
 use Rattle.office_tree.specs.declared.memory.Memory.{Memory}
-use Rattle.office_machine.specs.Acts.{IsChangeTo, IsDecidedTo, IsGoing}
-use Rattle.office_machine.specs.State.{with_contents, Office, State, ByteMap}
-use Rattle.office_machine.specs.Steps.{stepped, by_refusal}
-use Rattle.office_machine.specs.Writes.{CanWrite, all_writes}
-use Rattle.office_machine.specs.declared.answer.Answer.{Answer}
-use Rattle.office_machine.specs.declared.answer.Answer.TheVariants.{Refused}
-use Rattle.office_machine.specs.declared.change.Change.{Change}
-use Rattle.office_machine.specs.declared.change.Decision.{Decision}
-use Rattle.office_machine.specs.declared.change.Decision.TheVariants.{Go, Stay}
-use Rattle.office_machine.specs.declared.rows.RowWrite.{RowWrite}
+use Rattle.office_rules.specs.Acts.{IsChangeTo, IsDecidedTo, IsGoing}
+use Rattle.office_rules.specs.State.{with_contents, Office, State, ByteMap}
+use Rattle.office_rules.specs.Steps.{stepped, by_refusal}
+use Rattle.office_rules.specs.Writes.{CanWrite, all_writes}
+use Rattle.office_rules.specs.declared.answer.Answer.{Answer}
+use Rattle.office_rules.specs.declared.answer.Answer.TheVariants.{Refused}
+use Rattle.office_rules.specs.declared.change.Change.{Change}
+use Rattle.office_rules.specs.declared.change.Decision.{Decision}
+use Rattle.office_rules.specs.declared.change.Decision.TheVariants.{Go, Stay}
+use Rattle.office_rules.specs.declared.rows.RowWrite.{RowWrite}
 
 -- a condition that holds refuses
 pub refused_step : (conditions : List (Refusal × Bool)) (refusal : Refusal) (before : State) (answer : Answer) (next : State) → first_of conditions ≡ Some refusal → stepped conditions before answer next ≡ (Refused refusal, before)

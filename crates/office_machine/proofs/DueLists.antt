@@ -24,7 +24,7 @@ use Rattle.office_tree.specs.Tree.{TreeState, due_by, due_of, is_keep, schedule_
 use Rattle.office_tree.specs.declared.aggregation.Aggregation.{Aggregation}
 use Rattle.office_tree.specs.declared.head.Record.{Record}
 use Rattle.office_tree.specs.declared.schedule.Schedule.{Schedule}
-use Rattle.office_machine.specs.Readings.{AreDuePairs, IsDueList, due_cmp, due_here, is_due_here}
+use Rattle.office_rules.specs.Readings.{AreDuePairs, IsDueList, due_cmp, due_here, is_due_here}
 use Rattle.office_tree.specs.Disposal.{is_here}
 
 -- by due day, then number

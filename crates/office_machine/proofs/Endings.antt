@@ -15,8 +15,8 @@ use Rattle.office_tree.specs.declared.status.Status.TheVariants.{Here, Sent, Rec
 use Rattle.office_tree.proofs.Places.{numbered_within}
 use Rattle.office_proof.specs.Outcomes.{is_ending}
 use Rattle.office_proof.specs.declared.entry.Entry.{Entry}
-use Rattle.office_machine.specs.Founding.{AreEndings, EachHasOneEnding, TwoRunsEndOne}
-use Rattle.office_machine.proofs.SoundMaps.{put_cases, put_elsewhere, put_here, same_or_not, some_is}
+use Rattle.office_rules.specs.Founding.{AreEndings, EachHasOneEnding, TwoRunsEndOne}
+use Rattle.office_rules.proofs.SoundMaps.{put_cases, put_elsewhere, put_here, same_or_not, some_is}
 
 -- a map of runs by record
 abbrev Ends : Type 0

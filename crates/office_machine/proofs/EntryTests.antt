@@ -18,15 +18,15 @@ use Rattle.office_proof.specs.Outcomes.{is_ending, is_skipping, is_transferring}
 use Rattle.office_proof.specs.declared.entry.Entry.{Entry}
 use Rattle.office_proof.specs.declared.outcome.Outcome.{Outcome}
 use Rattle.office_proof.specs.declared.outcome.Outcome.TheVariants as outcome
-use Rattle.office_machine.specs.Founding.{EachHasOneEnding, is_entry_right}
-use Rattle.office_machine.specs.Sound.{EntriesStand, IsNamedEntry}
-use Rattle.office_machine.specs.State.{Office}
-use Rattle.office_machine.specs.declared.run.Run.{Run}
+use Rattle.office_rules.specs.Founding.{EachHasOneEnding, is_entry_right}
+use Rattle.office_rules.specs.Sound.{EntriesStand, IsNamedEntry}
+use Rattle.office_rules.specs.State.{Office}
+use Rattle.office_rules.specs.declared.run.Run.{Run}
 use Rattle.office_machine.proofs.Endings.{ended_only}
-use Rattle.office_machine.proofs.Listing.{AreKeyed, value_found, found_value}
-use Rattle.office_machine.proofs.SoundMaps.{one_there}
-use Rattle.office_machine.proofs.SoundPlans.{numbered_there}
-use Rattle.office_machine.proofs.SoundTaken.{holds_is}
+use Rattle.office_rules.proofs.Listing.{AreKeyed, value_found, found_value}
+use Rattle.office_rules.proofs.SoundMaps.{one_there}
+use Rattle.office_rules.proofs.SoundPlans.{numbered_there}
+use Rattle.office_rules.proofs.SoundTaken.{holds_is}
 
 -- what the items of soundness say of entries
 pub record AreEntriesSound (s : Office) : Type 0 where

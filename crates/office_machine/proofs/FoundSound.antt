@@ -20,15 +20,15 @@ use Rattle.office_holds.specs.Founding.{is_pair}
 use Rattle.office_holds.specs.Forms.{AreFormedHolds, FitsHoldLimits}
 use Rattle.office_proof.specs.Forms.{IsFormedEntry}
 use Rattle.office_proof.specs.declared.entry.Entry.{Entry}
-use Rattle.office_machine.specs.Copies.{HaveSameRows}
-use Rattle.office_machine.specs.Founding.{AreEntriesKeyed, AreTablesOf, DoPartsAgree, EachHasOneEnding, HaveKeys, IsFormedOffice, entry_rows}
-use Rattle.office_machine.specs.Rows.{rows_of}
-use Rattle.office_machine.specs.Sound.{IsFormedRun, IsSound}
-use Rattle.office_machine.specs.State.{ByteMap, EntryMap, entry_cmp, Office, State, with_contents}
-use Rattle.office_machine.specs.Tables.{StandsFor}
-use Rattle.office_machine.specs.declared.run.Run.{Run}
-use Rattle.office_machine.specs.declared.tables.Tables.{Tables}
-use Rattle.office_machine.proofs.OneState.{one_office}
+use Rattle.office_rules.specs.Copies.{HaveSameRows}
+use Rattle.office_rules.specs.Founding.{AreEntriesKeyed, AreTablesOf, DoPartsAgree, EachHasOneEnding, HaveKeys, IsFormedOffice, entry_rows}
+use Rattle.office_rules.specs.Rows.{rows_of}
+use Rattle.office_rules.specs.Sound.{IsFormedRun, IsSound}
+use Rattle.office_rules.specs.State.{ByteMap, EntryMap, entry_cmp, Office, State, with_contents}
+use Rattle.office_rules.specs.Tables.{StandsFor}
+use Rattle.office_rules.specs.declared.run.Run.{Run}
+use Rattle.office_rules.specs.declared.tables.Tables.{Tables}
+use Rattle.office_rules.proofs.OneState.{one_office}
 use Rattle.office_machine.proofs.EntryTests.{AreEntriesSound, entries_sound, entries_tested}
 use Rattle.office_machine.proofs.PartsTests.{contents_stand, days_sound, days_tested, keys_of_live, papers_sound, papers_tested}
 

@@ -9,12 +9,12 @@ use Rattle.std.specs.String.{string_bytes}
 use Rattle.office_rows.specs.Rows.{numbered_rows}
 use Rattle.office_rows.proofs.Maps.{entries_of_ordered, keys_ascend}
 use Rattle.office_holds.specs.Founding.{AreRowsOf}
-use Rattle.office_machine.specs.Founding.{AreTablesOf, HaveKeys, entry_rows}
-use Rattle.office_machine.specs.Rows.{rows_of}
-use Rattle.office_machine.specs.State.{ByteMap, Office, State, entry_cmp}
-use Rattle.office_machine.specs.Tables.{StandsFor}
+use Rattle.office_rules.specs.Founding.{AreTablesOf, HaveKeys, entry_rows}
+use Rattle.office_rules.specs.Rows.{rows_of}
+use Rattle.office_rules.specs.State.{ByteMap, Office, State, entry_cmp}
+use Rattle.office_rules.specs.Tables.{StandsFor}
 use Rattle.office_machine.specs.TreeRows.{AreTreeRows}
-use Rattle.office_machine.specs.declared.tables.Tables.{Tables}
+use Rattle.office_rules.specs.declared.tables.Tables.{Tables}
 use Rattle.office_machine.proofs.MapRows.{certificate_keys, keys_of_none, with_no_bytes}
 
 -- an office with the rows of the tables, whatever its contents are

@@ -18,10 +18,10 @@ use Rattle.office_tree.specs.declared.class.Class.{Class}
 use Rattle.office_tree.specs.declared.head.Record.{Record}
 use Rattle.office_tree.specs.declared.schedule.Schedule.{Schedule}
 use Rattle.office_tree.specs.declared.status.Status.{Status}
-use Rattle.office_machine.specs.Rows.{record_rows}
+use Rattle.office_rules.specs.Rows.{record_rows}
 use Rattle.office_machine.specs.TreeRows.{AreTreeRows}
-use Rattle.office_machine.specs.declared.rows.RecordRow.{RecordRow}
-use Rattle.office_machine.proofs.NumberedRows.{same_numbered, same_heads, same_statuses}
+use Rattle.office_rules.specs.declared.rows.RecordRow.{RecordRow}
+use Rattle.office_rules.proofs.NumberedRows.{same_numbered, same_heads, same_statuses}
 
 module _ (schedules : List (List ℕ × Schedule)) (classes : List (List ℕ × Class)) (aggregations : List Aggregation) (heads : List Record) (statuses : List Status)
     (schedules_ascend : IsStrictlySortedBy code_cmp (keys_of schedules)) (classes_ascend : IsStrictlySortedBy code_cmp (keys_of classes))

@@ -10,9 +10,9 @@ use Rattle.office_tree.specs.Lists.{holds_of}
 use Rattle.office_tree.specs.declared.classified.Classified.{Classified}
 use Rattle.office_holds.specs.Conditions.{conditions_of_hold_on, conditions_of_leaving_class, has_all_targets, holds_target, is_lifted, would_leave_held_class}
 use Rattle.office_holds.specs.declared.target.Target.{Target}
-use Rattle.office_machine.specs.Conditions.{conditions_of_covering, conditions_of_reclassifying, conditions_of_target, lacks_target, target_status}
+use Rattle.office_rules.specs.Conditions.{conditions_of_covering, conditions_of_reclassifying, conditions_of_target, lacks_target, target_status}
 use Rattle.office_machine.specs.Lesser.{lesser}
-use Rattle.office_machine.specs.State.{Office}
+use Rattle.office_rules.specs.State.{Office}
 
 covering_by : (ended lacks exists no_hold full lifted : Bool)
     → lesser (first_of ((Exists, exists) ∷ (NoSuch, no_hold) ∷ (Full, full) ∷ (Lifted, lifted) ∷ [])) (first_of ((NoSuch, lacks) ∷ (Ended, ended) ∷ []))

@@ -13,8 +13,8 @@ use Rattle.std.specs.String.{string_bytes}
 use Rattle.std.specs.declared.alloc.Global.{Global}
 use Rattle.office_proof.specs.declared.entry.Entry.{Entry}
 use Rattle.office_rows.proofs.Ascending.{above_front}
-use Rattle.office_machine.specs.Founding.{entry_rows}
-use Rattle.office_machine.specs.State.{entry_cmp}
+use Rattle.office_rules.specs.Founding.{entry_rows}
+use Rattle.office_rules.specs.State.{entry_cmp}
 
 -- a certificate's row with its bytes
 abbrev pub text_row : ℕ × String Global → ℕ × List ℕ

@@ -1,10 +1,10 @@
 -- The least ready record above a run's cursor, looked for number by number.
 use Rattle.std.proofs.Common.{◌≡◌, ◌<◌, ◌+◌, ◌-◌, ℕ, suc, Bool, true, false, cond, ◌∷◌, length, find, Option, Some, ℤ, pos, unwrap_or, option_map, ap, ◌∙◌, arith}
 use Rattle.office_tree.specs.Lists.{numbered, numbers_after}
-use Rattle.office_machine.specs.Disposing.{is_ready}
-use Rattle.office_machine.specs.Runs.{next_ready}
-use Rattle.office_machine.specs.State.{Office}
-use Rattle.office_machine.specs.declared.run.Run.{Run}
+use Rattle.office_rules.specs.Disposing.{is_ready}
+use Rattle.office_rules.specs.Runs.{next_ready}
+use Rattle.office_rules.specs.State.{Office}
+use Rattle.office_rules.specs.declared.run.Run.{Run}
 
 -- the least ready record above that number
 abbrev pub ready_after : Office → ℤ → ℕ → Option ℕ

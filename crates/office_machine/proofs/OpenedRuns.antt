@@ -2,17 +2,17 @@
 use Rattle.std.proofs.Common.{◌≡◌, ◌+◌, ℕ, suc, List, [], ◌∷◌, length, None, ℤ, sym, ap, subst, ◌∙◌, arith}
 use Rattle.office_tree.specs.Conditions.{first_of}
 use Rattle.office_tree.proofs.Putting.{put_next}
-use Rattle.office_machine.specs.Acts.{IsChangeTo}
-use Rattle.office_machine.specs.Conditions.{refusals_of_open_run}
-use Rattle.office_machine.specs.Effects.{after_open_run, new_run}
-use Rattle.office_machine.specs.State.{with_contents, Office, with_office}
-use Rattle.office_machine.specs.Steps.{step_open_run}
-use Rattle.office_machine.specs.Writes.{all_writes, CanWrite}
-use Rattle.office_machine.specs.declared.answer.Answer.TheVariants.{Number}
-use Rattle.office_machine.specs.declared.change.Change.{Change}
-use Rattle.office_machine.specs.declared.rows.RowWrite.{RowWrite}
-use Rattle.office_machine.specs.declared.rows.RowWrite.TheVariants as row_write
-use Rattle.office_machine.specs.declared.run.Run.{Run}
+use Rattle.office_rules.specs.Acts.{IsChangeTo}
+use Rattle.office_rules.specs.Conditions.{refusals_of_open_run}
+use Rattle.office_rules.specs.Effects.{after_open_run, new_run}
+use Rattle.office_rules.specs.State.{with_contents, Office, with_office}
+use Rattle.office_rules.specs.Steps.{step_open_run}
+use Rattle.office_rules.specs.Writes.{all_writes, CanWrite}
+use Rattle.office_rules.specs.declared.answer.Answer.TheVariants.{Number}
+use Rattle.office_rules.specs.declared.change.Change.{Change}
+use Rattle.office_rules.specs.declared.rows.RowWrite.{RowWrite}
+use Rattle.office_rules.specs.declared.rows.RowWrite.TheVariants as row_write
+use Rattle.office_rules.specs.declared.run.Run.{Run}
 use Rattle.office_machine.proofs.Decisions.{accepted_change}
 
 -- the next run's row, and the day

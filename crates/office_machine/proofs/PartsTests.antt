@@ -23,10 +23,10 @@ use Rattle.office_holds.specs.Holds.{HoldMap}
 use Rattle.office_holds.specs.Sound.{NoHoldIsAfter}
 use Rattle.office_proof.specs.declared.entry.Entry.{Entry}
 use Rattle.office_proof.specs.declared.outcome.Outcome.TheVariants.{Transferred}
-use Rattle.office_machine.specs.Founding.{AreKeysOfLive, AreRunsBy}
-use Rattle.office_machine.specs.Sound.{ContentsStand, NoDayIsAfter, PapersStand}
-use Rattle.office_machine.specs.State.{ByteMap, EntryMap}
-use Rattle.office_machine.specs.declared.run.Run.{Run}
+use Rattle.office_rules.specs.Founding.{AreKeysOfLive, AreRunsBy}
+use Rattle.office_rules.specs.Sound.{ContentsStand, NoDayIsAfter, PapersStand}
+use Rattle.office_rules.specs.State.{ByteMap, EntryMap}
+use Rattle.office_rules.specs.declared.run.Run.{Run}
 
 -- ---- keys of contents
 

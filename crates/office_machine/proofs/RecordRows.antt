@@ -4,9 +4,9 @@ use Rattle.office_rows.specs.Rows.{numbered_rows}
 use Rattle.office_rows.proofs.Counted.{numbered_rows-push, next_number, value_of_row}
 use Rattle.office_tree.specs.declared.head.Record.{Record}
 use Rattle.office_tree.specs.declared.status.Status.{Status}
-use Rattle.office_machine.specs.Rows.{record_row, record_rows}
-use Rattle.office_machine.specs.declared.rows.RecordRow.{RecordRow}
-use Rattle.office_machine.proofs.NumberedRows.{length-record_rows}
+use Rattle.office_rules.specs.Rows.{record_row, record_rows}
+use Rattle.office_rules.specs.declared.rows.RecordRow.{RecordRow}
+use Rattle.office_rules.proofs.NumberedRows.{length-record_rows}
 
 record_rows-push : (heads : List Record) (statuses : List Status) (head : Record) (status : Status) → length statuses ≡ length heads
     → record_rows (heads ++ head ∷ []) (statuses ++ status ∷ []) ≡ record_rows heads statuses ++ record_row head status ∷ []

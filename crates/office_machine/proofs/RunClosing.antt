@@ -8,17 +8,17 @@ use Rattle.office_tree.specs.Conditions.{first_of}
 use Rattle.office_tree.specs.Lists.{numbered}
 use Rattle.office_tree.proofs.Places.{numbered_within}
 use Rattle.office_tree.proofs.Putting.{put-edited}
-use Rattle.office_machine.specs.Acts.{IsChangeTo}
-use Rattle.office_machine.specs.Conditions.{refusals_of_run_step}
-use Rattle.office_machine.specs.Runs.{certificate_of, closed, next_ready, open_run, run_step, step_at, step_of}
-use Rattle.office_machine.specs.State.{with_contents, Office, ByteMap}
-use Rattle.office_machine.specs.Steps.{answer_at, answer_in, step_run_step}
-use Rattle.office_machine.specs.Writes.{CanWrite, all_writes}
-use Rattle.office_machine.specs.declared.answer.Answer.TheVariants.{RunClosed}
-use Rattle.office_machine.specs.declared.change.Change.{Change}
-use Rattle.office_machine.specs.declared.rows.RowWrite.{RowWrite}
-use Rattle.office_machine.specs.declared.rows.RowWrite.TheVariants as row_write
-use Rattle.office_machine.specs.declared.run.Run.{Run}
+use Rattle.office_rules.specs.Acts.{IsChangeTo}
+use Rattle.office_rules.specs.Conditions.{refusals_of_run_step}
+use Rattle.office_rules.specs.Runs.{certificate_of, closed, next_ready, open_run, run_step, step_at, step_of}
+use Rattle.office_rules.specs.State.{with_contents, Office, ByteMap}
+use Rattle.office_rules.specs.Steps.{answer_at, answer_in, step_run_step}
+use Rattle.office_rules.specs.Writes.{CanWrite, all_writes}
+use Rattle.office_rules.specs.declared.answer.Answer.TheVariants.{RunClosed}
+use Rattle.office_rules.specs.declared.change.Change.{Change}
+use Rattle.office_rules.specs.declared.rows.RowWrite.{RowWrite}
+use Rattle.office_rules.specs.declared.rows.RowWrite.TheVariants as row_write
+use Rattle.office_rules.specs.declared.run.Run.{Run}
 use Rattle.office_machine.proofs.Decisions.{accepted_change}
 
 -- a run's row, closed

@@ -9,8 +9,8 @@ use Rattle.std.specs.List.{AllByRecursion}
 use Rattle.std.specs.List.Sorted.{IsStrictlySortedBy}
 use Rattle.std.specs.Map.{values_of}
 use Rattle.office_proof.specs.declared.entry.Entry.{Entry}
-use Rattle.office_machine.specs.State.{entry_cmp}
-use Rattle.office_machine.proofs.SoundMaps.{entry_total}
+use Rattle.office_rules.specs.State.{entry_cmp}
+use Rattle.office_rules.proofs.SoundMaps.{entry_total}
 
 no_length : {A : Type 0} (es : List A) → length es ≡ 0 → es ≡ []
 no_length [] e = refl

@@ -18,24 +18,24 @@ use Rattle.office_tree.proofs.Putting.{length-put, put-edited, put_same}
 use Rattle.office_proof.specs.declared.entry.Entry.{Entry}
 use Rattle.office_proof.specs.declared.outcome.Outcome.{Outcome}
 use Rattle.office_proof.specs.declared.outcome.Outcome.TheVariants as outcome
-use Rattle.office_machine.specs.Acts.{IsChangeTo}
-use Rattle.office_machine.specs.Disposing.{entry_of, outcome_of}
+use Rattle.office_rules.specs.Acts.{IsChangeTo}
+use Rattle.office_rules.specs.Disposing.{entry_of, outcome_of}
 use Rattle.office_machine.specs.RunWrites.{taking_writes}
-use Rattle.office_machine.specs.Runs.{open_run, next_ready, run_step, step_at, step_of, with_outcomes, with_cursor}
-use Rattle.office_machine.specs.Sound.{IsSoundOffice}
-use Rattle.office_machine.specs.State.{State, Office, ByteMap, with_contents}
-use Rattle.office_machine.specs.Steps.{stepped, step_run_step, answer_in, answer_at}
-use Rattle.office_machine.specs.Writes.{CanFollow, CanWrite, all_writes}
-use Rattle.office_machine.specs.declared.answer.Answer.{Answer}
-use Rattle.office_machine.specs.declared.answer.Answer.TheVariants.{Step}
-use Rattle.office_machine.specs.declared.change.Change.{Change}
-use Rattle.office_machine.specs.declared.rows.RowWrite.{RowWrite}
-use Rattle.office_machine.specs.declared.rows.RowWrite.TheVariants as row_write
-use Rattle.office_machine.specs.declared.run.Run.{Run}
-use Rattle.office_machine.proofs.Accepted.{tree_sound}
-use Rattle.office_machine.proofs.SoundRuns.{open_there}
-use Rattle.office_machine.proofs.SoundSteps.{with_outcome}
-use Rattle.office_machine.proofs.SoundTaken as sound_taken
+use Rattle.office_rules.specs.Runs.{open_run, next_ready, run_step, step_at, step_of, with_outcomes, with_cursor}
+use Rattle.office_rules.specs.Sound.{IsSoundOffice}
+use Rattle.office_rules.specs.State.{State, Office, ByteMap, with_contents}
+use Rattle.office_rules.specs.Steps.{stepped, step_run_step, answer_in, answer_at}
+use Rattle.office_rules.specs.Writes.{CanFollow, CanWrite, all_writes}
+use Rattle.office_rules.specs.declared.answer.Answer.{Answer}
+use Rattle.office_rules.specs.declared.answer.Answer.TheVariants.{Step}
+use Rattle.office_rules.specs.declared.change.Change.{Change}
+use Rattle.office_rules.specs.declared.rows.RowWrite.{RowWrite}
+use Rattle.office_rules.specs.declared.rows.RowWrite.TheVariants as row_write
+use Rattle.office_rules.specs.declared.run.Run.{Run}
+use Rattle.office_rules.proofs.Accepted.{tree_sound}
+use Rattle.office_rules.proofs.SoundRuns.{open_there}
+use Rattle.office_rules.proofs.SoundSteps.{with_outcome}
+use Rattle.office_rules.proofs.SoundTaken as sound_taken
 
 -- ---- what is so of a record that a step takes from a sound office
 

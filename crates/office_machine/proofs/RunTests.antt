@@ -18,9 +18,9 @@ use Rattle.office_tree.specs.declared.status.Status.TheVariants.{Here, Sent, Rec
 use Rattle.office_tree.proofs.Bridge.{from_numbers}
 use Rattle.office_tree.proofs.Places.{numbered_read, numbered_within}
 use Rattle.office_proof.specs.declared.entry.Entry.{Entry}
-use Rattle.office_machine.specs.State.{entry_cmp}
-use Rattle.office_machine.specs.declared.run.Run.{Run}
-use Rattle.office_machine.proofs.SoundMaps.{entry_cmp-IsAntisymmetric, entry_total, pushed_keeps, tied_same}
+use Rattle.office_rules.specs.State.{entry_cmp}
+use Rattle.office_rules.specs.declared.run.Run.{Run}
+use Rattle.office_rules.proofs.SoundMaps.{entry_cmp-IsAntisymmetric, entry_total, pushed_keeps, tied_same}
 use Rattle.office_machine.proofs.Stored.{get_is}
 
 true_or_false : (b : Bool) → (b ≡ true) ⊎ (b ≡ false)

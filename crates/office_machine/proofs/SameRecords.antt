@@ -3,7 +3,7 @@ use Rattle.std.proofs.Common.{◌≡◌, ℕ, zero, suc, ◌+◌, Bool, true, fa
 use Rattle.std.specs.Prelude.{slice_get}
 use Rattle.office_tree.specs.Lists.{numbered}
 use Rattle.office_tree.proofs.Places.{numbered_at}
-use Rattle.office_machine.specs.Conditions.{number_passing}
+use Rattle.office_rules.specs.Conditions.{number_passing}
 
 drop_there : {A : Type 0} (xs : List A) (i : ℕ) (x : A) → slice_get xs i ≡ Some x → drop i xs ≡ x ∷ drop (suc i) xs
 drop_there [] i x e = absurd cc

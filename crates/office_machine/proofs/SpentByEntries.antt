@@ -8,8 +8,8 @@ use Rattle.office_tree.specs.Lists.{numbers_after}
 use Rattle.office_tree.specs.Tree.{TreeState, has_record}
 use Rattle.office_proof.specs.Outcomes.{is_ending}
 use Rattle.office_proof.specs.declared.entry.Entry.{Entry}
-use Rattle.office_machine.specs.Runs.{ended_below, is_ended_in, spent_list}
-use Rattle.office_machine.proofs.Listing.{HasEndedBelow, any_is, is_any, ended_below_is, is_ended_below, is_spent_by}
+use Rattle.office_rules.specs.Runs.{ended_below, is_ended_in, spent_list}
+use Rattle.office_rules.proofs.Listing.{HasEndedBelow, any_is, is_any, ended_below_is, is_ended_below, is_spent_by}
 
 -- ---- a record below that one of the entries ended
 

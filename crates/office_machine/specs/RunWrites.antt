@@ -5,9 +5,9 @@ use Rattle.office_tree.specs.declared.status.Status.TheVariants as status
 use Rattle.office_proof.specs.declared.entry.Entry.{Entry}
 use Rattle.office_proof.specs.declared.outcome.Outcome.{Outcome}
 use Rattle.office_proof.specs.declared.outcome.Outcome.TheVariants as outcome
-use Rattle.office_machine.specs.declared.rows.RowWrite.{RowWrite}
-use Rattle.office_machine.specs.declared.rows.RowWrite.TheVariants as row_write
-use Rattle.office_machine.specs.declared.run.Run.{Run}
+use Rattle.office_rules.specs.declared.rows.RowWrite.{RowWrite}
+use Rattle.office_rules.specs.declared.rows.RowWrite.TheVariants as row_write
+use Rattle.office_rules.specs.declared.run.Run.{Run}
 
 -- the rows of a record that a run takes: a sent one changes its status, an ended one loses its content too
 abbrev pub outcome_writes : Outcome → ℕ → Record → List RowWrite

@@ -6,8 +6,8 @@ use Rattle.office_tree.specs.Tree.{TreeState}
 use Rattle.office_tree.specs.declared.aggregation.Aggregation.{Aggregation}
 use Rattle.office_tree.specs.declared.class.Class.{Class}
 use Rattle.office_tree.specs.declared.schedule.Schedule.{Schedule}
-use Rattle.office_machine.specs.Rows.{record_rows}
-use Rattle.office_machine.specs.declared.rows.RecordRow.{RecordRow}
+use Rattle.office_rules.specs.Rows.{record_rows}
+use Rattle.office_rules.specs.declared.rows.RecordRow.{RecordRow}
 
 -- the rows are exactly those of the tree's schedules, classes, aggregations and records, in the order of their keys
 pub record AreTreeRows (schedules : List (List ℕ × Schedule)) (classes : List (List ℕ × Class)) (aggregations : List (ℕ × Aggregation)) (records : List (ℕ × RecordRow)) (tree : TreeState) : Type 0 where

@@ -2,7 +2,7 @@ ghost use Rattle.std.specs.Prelude.{◌≡◌, ◌<◌, ◌≤◌, length, OnOk,
 ghost use Rattle.office_tree.specs.Rows.{put_record};
 ghost use Rattle.office_tree.specs.Lists.{put};
 ghost use Rattle.office_tree.specs.Sound.{IsSound};
-ghost use Rattle.office_machine.specs.Writes.{all_office_writes, write_office, CanFollow, CanPut, CanWrite};
+ghost use Rattle.office_rules.specs.Writes.{all_office_writes, write_office, CanFollow, CanPut, CanWrite};
 
 use crate::parts::Parts;
 use crate::storing::{put_certificate, put_entry};

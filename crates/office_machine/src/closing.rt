@@ -5,8 +5,8 @@ ghost use Rattle.std.specs.String.{string_bytes};
 ghost use Rattle.office_tree.specs.Disposal.{is_spent, records_below};
 ghost use Rattle.office_tree.specs.Lists.{numbered};
 ghost use Rattle.office_tree.specs.Tree.{has_aggregation};
-ghost use Rattle.office_machine.specs.Runs.{certificate_of, ended_below, is_ended_in, spent_list};
-ghost use Rattle.office_machine.specs.State.{entry_cmp};
+ghost use Rattle.office_rules.specs.Runs.{certificate_of, ended_below, is_ended_in, spent_list};
+ghost use Rattle.office_rules.specs.State.{entry_cmp};
 
 use crate::parts::Parts;
 use office_proof::{Entry, RunNo, certificate_text};

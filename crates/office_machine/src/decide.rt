@@ -1,6 +1,6 @@
 ghost use Rattle.std.specs.Prelude.{IfOk};
-ghost use Rattle.office_machine.specs.Acts.{IsDecidedFor, IsOnAggregations, IsOnHolds, IsOnRecords, IsOnRuns, IsOnSchedules};
-ghost use Rattle.office_machine.specs.Sound.{IsSoundOffice};
+ghost use Rattle.office_rules.specs.Acts.{IsDecidedFor, IsOnAggregations, IsOnHolds, IsOnRecords, IsOnRuns, IsOnSchedules};
+ghost use Rattle.office_rules.specs.Sound.{IsSoundOffice};
 
 use crate::parts::Parts;
 use crate::{Act, Decision};
@@ -34,7 +34,7 @@ impl Parts {
     }
 
     /// What is decided of an act on schedules and classes.
-    #[tactic(auto, unfolding(crate::specs::Acts::step))]
+    #[tactic(auto, unfolding(office_rules::specs::Acts::step))]
     fn decide_on_schedules(&self, alloc: Global, act: &Act) -> Result<Decision, Memory>
         requires { IsOnSchedules act.now }
         ensures { IfOk result (λ d. IsDecidedFor self.now act.now d) }
@@ -72,7 +72,7 @@ impl Parts {
     }
 
     /// What is decided of an act on aggregations, or of an own class of one or of a record.
-    #[tactic(auto, unfolding(crate::specs::Acts::step))]
+    #[tactic(auto, unfolding(office_rules::specs::Acts::step))]
     fn decide_on_aggregations(&self, alloc: Global, act: &Act) -> Result<Decision, Memory>
         requires { IsOnAggregations act.now }
         ensures { IfOk result (λ d. IsDecidedFor self.now act.now d) }
@@ -99,7 +99,7 @@ impl Parts {
 
     /// What is decided of a new record, or of a record's own schedule, confirmation, review or
     /// receipt.
-    #[tactic(auto, unfolding(crate::specs::Acts::step))]
+    #[tactic(auto, unfolding(office_rules::specs::Acts::step))]
     fn decide_on_records(&self, alloc: Global, act: &Act) -> Result<Decision, Memory>
         requires { IsOnRecords act.now }
         ensures { IfOk result (λ d. IsDecidedFor self.now act.now d) }
@@ -134,7 +134,7 @@ impl Parts {
     }
 
     /// What is decided of an act on holds.
-    #[tactic(auto, unfolding(crate::specs::Acts::step))]
+    #[tactic(auto, unfolding(office_rules::specs::Acts::step))]
     fn decide_on_holds(&self, alloc: Global, act: &Act) -> Result<Decision, Memory>
         requires { IsOnHolds act.now }
         ensures { IfOk result (λ d. IsDecidedFor self.now act.now d) }
@@ -154,7 +154,7 @@ impl Parts {
     }
 
     /// What is decided of an act on runs.
-    #[tactic(auto, unfolding(crate::specs::Acts::step))]
+    #[tactic(auto, unfolding(office_rules::specs::Acts::step))]
     fn decide_on_runs(&self, alloc: Global, act: &Act) -> Result<Decision, Memory>
         requires sound { IsSoundOffice self.now }
         requires kind { IsOnRuns act.now }

@@ -2,16 +2,16 @@ ghost use Rattle.std.specs.Prelude.{◌≡◌, List, [], ◌∷◌, ◌++◌, Bo
 ghost use Rattle.std.specs.Option.{option_copied};
 ghost use Rattle.office_days.specs.declared.refusal.Refusal.{Refusal};
 ghost use Rattle.office_tree.specs.Conditions.{first_of};
-ghost use Rattle.office_machine.specs.Acts.{IsDecidedTo, IsGoing};
-ghost use Rattle.office_machine.specs.Conditions.{dated};
-ghost use Rattle.office_machine.specs.State.{with_contents};
-ghost use Rattle.office_machine.specs.declared.rows.RowWrite.TheVariants as row_write;
-ghost use Rattle.office_machine.specs.Steps.{step_add_aggregation, step_add_class, step_add_schedule, step_close_aggregation, step_set_class_schedule};
+ghost use Rattle.office_rules.specs.Acts.{IsDecidedTo, IsGoing};
+ghost use Rattle.office_rules.specs.Conditions.{dated};
+ghost use Rattle.office_rules.specs.State.{with_contents};
+ghost use Rattle.office_rules.specs.declared.rows.RowWrite.TheVariants as row_write;
+ghost use Rattle.office_rules.specs.Steps.{step_add_aggregation, step_add_class, step_add_schedule, step_close_aggregation, step_set_class_schedule};
 
-use crate::copies::{copy_code, copy_codes, copy_texts};
 use crate::parts::Parts;
 use crate::{Answer, Change, Decision, RowWrite};
 use office_days::{Day, Refusal};
+use office_rules::{copy_code, copy_codes, copy_texts};
 use office_tree::{AggNo, Aggregation, Class, Code, Memory, Schedule, Text};
 use std::alloc::Global;
 

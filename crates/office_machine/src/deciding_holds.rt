@@ -1,17 +1,17 @@
 ghost use Rattle.std.specs.Prelude.{◌≡◌, IfOk};
 ghost use Rattle.office_tree.specs.Conditions.{first_of};
-ghost use Rattle.office_machine.specs.Acts.{IsDecidedTo};
-ghost use Rattle.office_machine.specs.Conditions.{conditions_of_target, lacks_target, target_status};
-ghost use Rattle.office_machine.specs.State.{with_contents};
-ghost use Rattle.office_machine.specs.Steps.{step_hold_off, step_hold_on, step_lift_hold, step_place_hold};
+ghost use Rattle.office_rules.specs.Acts.{IsDecidedTo};
+ghost use Rattle.office_rules.specs.Conditions.{conditions_of_target, lacks_target, target_status};
+ghost use Rattle.office_rules.specs.State.{with_contents};
+ghost use Rattle.office_rules.specs.Steps.{step_hold_off, step_hold_on, step_lift_hold, step_place_hold};
 
-use crate::copies::copy_texts;
 use crate::deciding::go;
 use crate::lesser::lesser;
 use crate::parts::Parts;
 use crate::{Answer, Decision, RowWrite};
 use office_days::{Day, Refusal};
 use office_holds::{HoldRow, Target};
+use office_rules::copy_texts;
 use office_tree::{Code, Memory, Status, Text, Tree};
 use std::alloc::Global;
 

@@ -2,18 +2,18 @@ ghost use Rattle.std.specs.Prelude.{◌≡◌, IfOk};
 ghost use Rattle.std.specs.Option.{option_copied, option_map};
 ghost use Rattle.sha2.specs.Sha256.{sha256};
 ghost use Rattle.office_tree.specs.Lists.{or_else};
-ghost use Rattle.office_machine.specs.Acts.{IsDecidedTo};
-ghost use Rattle.office_machine.specs.Conditions.{is_same_record, same_record};
-ghost use Rattle.office_machine.specs.Effects.{new_head};
-ghost use Rattle.office_machine.specs.State.{with_contents};
-ghost use Rattle.office_machine.specs.Steps.{step_add_record, step_confirm, step_receipt, step_review, step_set_record_schedule};
+ghost use Rattle.office_rules.specs.Acts.{IsDecidedTo};
+ghost use Rattle.office_rules.specs.Conditions.{is_same_record, same_record};
+ghost use Rattle.office_rules.specs.Effects.{new_head};
+ghost use Rattle.office_rules.specs.State.{with_contents};
+ghost use Rattle.office_rules.specs.Steps.{step_add_record, step_confirm, step_receipt, step_review, step_set_record_schedule};
 
-use crate::copies::{copy_code, copy_plan, copy_texts};
 use crate::deciding::{go, then, two};
 use crate::parts::Parts;
 use crate::{Answer, Change, Decision, NewRecord, RowWrite};
 use office_days::{Day, DueDay};
 use office_proof::digest_of;
+use office_rules::{copy_code, copy_plan, copy_texts};
 use office_tree::{
     Action, Code, Confirmation, Memory, Receipt, Record, RecordNo, Review, Status, Text,
 };

@@ -1,11 +1,11 @@
 ghost use Rattle.std.specs.Prelude.{◌≡◌, None, Some, IfOk};
 ghost use Rattle.office_tree.specs.Conditions.{first_of};
-ghost use Rattle.office_machine.specs.Acts.{IsDecidedTo};
-ghost use Rattle.office_machine.specs.Conditions.{conditions_of_open_run};
-ghost use Rattle.office_machine.specs.Runs.{next_ready, open_run};
-ghost use Rattle.office_machine.specs.Sound.{IsSoundOffice};
-ghost use Rattle.office_machine.specs.State.{with_contents};
-ghost use Rattle.office_machine.specs.Steps.{step_open_run, step_run_step};
+ghost use Rattle.office_rules.specs.Acts.{IsDecidedTo};
+ghost use Rattle.office_rules.specs.Conditions.{conditions_of_open_run};
+ghost use Rattle.office_rules.specs.Runs.{next_ready, open_run};
+ghost use Rattle.office_rules.specs.Sound.{IsSoundOffice};
+ghost use Rattle.office_rules.specs.State.{with_contents};
+ghost use Rattle.office_rules.specs.Steps.{step_open_run, step_run_step};
 
 use crate::deciding::{go, two};
 use crate::parts::Parts;

@@ -1,7 +1,7 @@
 //! What a disposal run does with one record, by how far its disposal has come.
 ghost use Rattle.std.specs.Prelude.{◌≡◌, Some, if◌then◌else◌};
 ghost use Rattle.office_proof.specs.declared.outcome.Outcome.TheVariants.{Skipped};
-ghost use Rattle.office_machine.specs.Disposing.{outcome_by, ready_by};
+ghost use Rattle.office_rules.specs.Disposing.{outcome_by, ready_by};
 
 use office_proof::Outcome;
 use office_tree::{Action, Status};

@@ -1,6 +1,6 @@
 ghost use Rattle.std.specs.Prelude.{◌≡◌, IfOk, IsTrue};
 ghost use Rattle.office_tree.specs.Tree.{has_record};
-ghost use Rattle.office_machine.specs.Readings.{AreDuePairs, IsDueList, due_here};
+ghost use Rattle.office_rules.specs.Readings.{AreDuePairs, IsDueList, due_here};
 
 use office_days::{Day, DueDay};
 use office_tree::{Memory, RecordNo, Status, Tree};

@@ -5,10 +5,10 @@ ghost use Rattle.std.specs.Ordering.{nat_cmp};
 ghost use Rattle.office_rows.specs.Rows.{OnDamaged};
 ghost use Rattle.office_tree.specs.Sound as sound_tree;
 ghost use Rattle.office_tree.specs.Tree.{TreeState};
-ghost use Rattle.office_machine.specs.Founding.{AreTablesOf, HaveKeys};
-ghost use Rattle.office_machine.specs.Sound.{IsSound};
-ghost use Rattle.office_machine.specs.State.{ByteMap, State};
-ghost use Rattle.office_machine.specs.Tables.{StandsFor};
+ghost use Rattle.office_rules.specs.Founding.{AreTablesOf, HaveKeys};
+ghost use Rattle.office_rules.specs.Sound.{IsSound};
+ghost use Rattle.office_rules.specs.State.{ByteMap, State};
+ghost use Rattle.office_rules.specs.Tables.{StandsFor};
 ghost use Rattle.office_machine.specs.TreeRows.{AreTreeRows};
 
 mod agreeing;

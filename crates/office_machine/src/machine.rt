@@ -2,12 +2,12 @@ ghost use Rattle.std.specs.Prelude.{◌≡◌, IfOk, OnErr, OnOk, false};
 ghost use Rattle.std.specs.FinMap.{get};
 ghost use Rattle.std.specs.Option.{option_map};
 ghost use Rattle.std.specs.String.{string_bytes};
-ghost use Rattle.office_machine.specs.Acts.{CanBeMade, IsDecidedFor, IsFeasible, KeepsHeld, may_release};
-ghost use Rattle.office_machine.specs.Readings.{IsDueList, all_entries_of, ending_entry, record_view};
-ghost use Rattle.office_machine.specs.Runs.{next_in_run};
-ghost use Rattle.office_machine.specs.Sound.{IsSoundOffice};
-ghost use Rattle.office_machine.specs.State.{empty_office};
-ghost use Rattle.office_machine.specs.Writes.{all_office_writes};
+ghost use Rattle.office_rules.specs.Acts.{CanBeMade, IsDecidedFor, IsFeasible, KeepsHeld, may_release};
+ghost use Rattle.office_rules.specs.Readings.{IsDueList, all_entries_of, ending_entry, record_view};
+ghost use Rattle.office_rules.specs.Runs.{next_in_run};
+ghost use Rattle.office_rules.specs.Sound.{IsSoundOffice};
+ghost use Rattle.office_rules.specs.State.{empty_office};
+ghost use Rattle.office_rules.specs.Writes.{all_office_writes};
 
 use crate::due_list::due_list;
 use crate::parts::Parts;
@@ -29,8 +29,8 @@ pub struct Machine {
 impl Model for Machine {
     ghost use Rattle.std.specs.Coded.{codes};
     ghost use Rattle.std.specs.FinMap as map;
-    ghost use Rattle.office_machine.specs.Sound.{IsSoundOffice};
-    ghost use Rattle.office_machine.specs.State.{Office};
+    ghost use Rattle.office_rules.specs.Sound.{IsSoundOffice};
+    ghost use Rattle.office_rules.specs.State.{Office};
 
     ghost Value = { Office };
 

@@ -1,5 +1,5 @@
 ghost use Rattle.std.specs.Prelude.{◌≡◌};
-ghost use Rattle.office_machine.specs.State.{empty_office};
+ghost use Rattle.office_rules.specs.State.{empty_office};
 
 use crate::Run;
 use crate::certificate::Certificate;
@@ -25,7 +25,7 @@ pub(crate) struct Parts {
 impl Model for Parts {
     ghost use Rattle.std.specs.Coded.{codes};
     ghost use Rattle.std.specs.FinMap as map;
-    ghost use Rattle.office_machine.specs.State.{Office};
+    ghost use Rattle.office_rules.specs.State.{Office};
 
     ghost Value = { Office };
 

@@ -5,35 +5,16 @@ ghost use Rattle.std.specs.Option.{option_copied, option_map};
 ghost use Rattle.std.specs.String.{string_bytes};
 ghost use Rattle.office_tree.specs.Tree.{has_record};
 ghost use Rattle.office_proof.specs.Outcomes.{is_ending};
-ghost use Rattle.office_machine.specs.Readings.{all_entries_of, ending_entry, record_view};
-ghost use Rattle.office_machine.specs.State.{entry_cmp};
+ghost use Rattle.office_rules.specs.Readings.{all_entries_of, ending_entry, record_view};
+ghost use Rattle.office_rules.specs.State.{entry_cmp};
 
 use crate::RecordView;
-use crate::copies::{copy_code, copy_codes, copy_texts};
 use crate::parts::Parts;
 use office_proof::{Entry, RunNo};
+use office_rules::{copy_code, copy_codes, copy_entry, copy_texts};
 use office_tree::{Confirmation, Memory, RecordNo};
 use std::alloc::Global;
 use std::collections::BTreeMap;
-
-/// A second entry that is equal to this one.
-pub(crate) fn copy_entry(alloc: Global, entry: &Entry) -> Result<Entry, Memory>
-    ensures { IfOk result (λ e. e ≡ entry.now) }
-{
-    let confirmed_by = entry.confirmed_by.copy(alloc)?;
-    let hold = copy_code(alloc, entry.hold.as_ref())?;
-    let (class, schedule) = copy_codes(alloc, &entry.class, &entry.schedule)?;
-    Ok(Entry {
-        run: entry.run,
-        record_no: entry.record_no,
-        outcome: entry.outcome,
-        class,
-        schedule,
-        due: entry.due,
-        confirmed_by,
-        hold,
-    })
-}
 
 /// A second confirmation that is equal to this one, if there is one.
 fn copy_confirmation(

@@ -2,17 +2,17 @@ ghost use Rattle.std.specs.Prelude.{◌≡◌, IfOk, None};
 ghost use Rattle.std.specs.Option.{option_copied};
 ghost use Rattle.office_tree.specs.Conditions.{first_of};
 ghost use Rattle.office_tree.specs.declared.classified.Classified.TheVariants as classified;
-ghost use Rattle.office_machine.specs.Acts.{IsDecidedTo};
-ghost use Rattle.office_machine.specs.Conditions.{refusals_of_reclassify};
-ghost use Rattle.office_machine.specs.State.{with_contents};
-ghost use Rattle.office_machine.specs.Steps.{step_reclassify};
+ghost use Rattle.office_rules.specs.Acts.{IsDecidedTo};
+ghost use Rattle.office_rules.specs.Conditions.{refusals_of_reclassify};
+ghost use Rattle.office_rules.specs.State.{with_contents};
+ghost use Rattle.office_rules.specs.Steps.{step_reclassify};
 
-use crate::copies::copy_code;
 use crate::deciding::go;
 use crate::lesser::lesser;
 use crate::parts::Parts;
 use crate::{Answer, Decision, RowWrite};
 use office_days::Day;
+use office_rules::copy_code;
 use office_tree::{AggNo, Classified, Code, Memory, RecordNo};
 use std::alloc::Global;
 

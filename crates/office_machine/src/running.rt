@@ -2,9 +2,9 @@ ghost use Rattle.std.specs.Prelude.{◌≡◌, length, IsSome, IsTrue, Some};
 ghost use Rattle.office_tree.specs.Disposal.{is_disposal};
 ghost use Rattle.office_tree.specs.Lists.{numbered};
 ghost use Rattle.office_tree.specs.Tree.{has_record};
-ghost use Rattle.office_machine.specs.Disposing.{is_ready, may_begin};
-ghost use Rattle.office_machine.specs.Runs.{next_in_run, next_ready, open_run};
-ghost use Rattle.office_machine.specs.Sound.{IsSoundOffice};
+ghost use Rattle.office_rules.specs.Disposing.{is_ready, may_begin};
+ghost use Rattle.office_rules.specs.Runs.{next_in_run, next_ready, open_run};
+ghost use Rattle.office_rules.specs.Sound.{IsSoundOffice};
 
 use crate::Run;
 use crate::disposing::ready_by;

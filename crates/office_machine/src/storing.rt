@@ -2,7 +2,7 @@ ghost use Rattle.std.specs.Prelude.{◌≡◌, OnErr, OnOk};
 ghost use Rattle.std.specs.FinMap.{from_entries, insert};
 ghost use Rattle.std.specs.Ordering.{nat_cmp};
 ghost use Rattle.std.specs.String.{string_bytes};
-ghost use Rattle.office_machine.specs.State.{entry_cmp};
+ghost use Rattle.office_rules.specs.State.{entry_cmp};
 
 use crate::certificate::Certificate;
 use office_proof::{Entry, RunNo};

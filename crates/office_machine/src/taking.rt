@@ -4,17 +4,17 @@ ghost use Rattle.office_tree.specs.Lists.{numbered};
 ghost use Rattle.office_tree.specs.Tree.{has_record};
 ghost use Rattle.office_tree.specs.declared.head.Record.{Record};
 ghost use Rattle.office_holds.specs.Holds.{least_covering};
-ghost use Rattle.office_machine.specs.Disposing.{entry_of, hold_by, outcome_of};
+ghost use Rattle.office_rules.specs.Disposing.{entry_of, hold_by, outcome_of};
 ghost use Rattle.office_machine.specs.RunWrites.{outcome_writes, taking_writes};
-ghost use Rattle.office_machine.specs.declared.rows.RowWrite.TheVariants as row_write;
-ghost use Rattle.office_machine.specs.declared.run.Run.{Run};
+ghost use Rattle.office_rules.specs.declared.rows.RowWrite.TheVariants as row_write;
+ghost use Rattle.office_rules.specs.declared.run.Run.{Run};
 
 use crate::RowWrite;
-use crate::copies::{copy_code, copy_codes};
 use crate::deciding::then;
 use crate::disposing::outcome_by;
 use crate::parts::Parts;
 use office_proof::{Entry, Outcome, RunNo};
+use office_rules::{copy_code, copy_codes};
 use office_tree::{Code, Memory, RecordNo, Status, Tree};
 use std::alloc::Global;
 

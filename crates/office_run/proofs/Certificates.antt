@@ -1,7 +1,7 @@
 -- How the telling of a certificate ends.
 use Rattle.std.proofs.Common.{◌≡◌, ◌⊎◌, inl, inr, ℕ, Bool, true, false, IsTrue, List, Option, Some, sym, subst}
 use Rattle.std.specs.Io.KnownBytes.{Appends}
-use Rattle.office_machine.specs.State.{State}
+use Rattle.office_rules.specs.State.{State}
 use Rattle.office_store.specs.declared.fault.Fault.{Fault}
 use Rattle.office_store.specs.declared.fault.Fault.TheVariants as fault
 use Rattle.sqlite.specs.Held.{Held, state}

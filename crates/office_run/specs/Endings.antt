@@ -5,8 +5,8 @@ use Rattle.std.specs.List.{list_any}
 use Rattle.office_days.specs.declared.refusal.Refusal.{Refusal}
 use Rattle.office_days.specs.Refusals.{refusal_number}
 use Rattle.office_plan.specs.declared.output.Io.{Io}
-use Rattle.office_machine.specs.declared.answer.Answer.{Answer}
-use Rattle.office_machine.specs.declared.answer.Answer.TheVariants as answer
+use Rattle.office_rules.specs.declared.answer.Answer.{Answer}
+use Rattle.office_rules.specs.declared.answer.Answer.TheVariants as answer
 use Rattle.office_store.specs.Faults.{fault_number}
 use Rattle.office_store.specs.declared.fault.Fault.{Fault as AnyFault}
 use Rattle.office_store.specs.declared.fault.Fault.TheVariants as fault

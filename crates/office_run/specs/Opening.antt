@@ -2,8 +2,8 @@
 use Rattle.std.specs.Prelude.{◌≡◌, ◌≢◌, ℕ, List, Option, false, true}
 use Rattle.sqlite.specs.Held.{state}
 use Rattle.sqlite.specs.State.{State as FileState, HasCleanDisk}
-use Rattle.office_machine.specs.Rows.{rows_of}
-use Rattle.office_machine.specs.State.{State, empty_state}
+use Rattle.office_rules.specs.Rows.{rows_of}
+use Rattle.office_rules.specs.State.{State, empty_state}
 use Rattle.office_sql.specs.Names.{has_other_table}
 use Rattle.office_sql.specs.Office.{IsAtRest, IsBlank}
 use Rattle.office_store.specs.Adopted.{IsOtherVersion, LeavesLess}

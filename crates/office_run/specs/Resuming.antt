@@ -5,9 +5,9 @@ use Rattle.std.specs.Io.KnownBytes.{Appends}
 use Rattle.sqlite.specs.Held.{state}
 use Rattle.sqlite.specs.State.{State as FileState}
 use Rattle.office_days.specs.declared.refusal.Refusal.TheVariants as refused
-use Rattle.office_machine.specs.Rows.{rows_of}
-use Rattle.office_machine.specs.Runs.{IsMidway, after_steps, open_run, whole}
-use Rattle.office_machine.specs.State.{State}
+use Rattle.office_rules.specs.Rows.{rows_of}
+use Rattle.office_rules.specs.Runs.{IsMidway, after_steps, open_run, whole}
+use Rattle.office_rules.specs.State.{State}
 use Rattle.office_store.specs.Stands.{HoldsRows}
 use Rattle.office_store.specs.declared.fault.Fault.{Fault}
 use Rattle.office_desk.specs.Fates.{LeavesStepFates}

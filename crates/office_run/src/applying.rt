@@ -2,7 +2,7 @@
 ghost use Rattle.std.specs.Prelude.{◌≡◌, ◌⊎◌, ℕ, IfSome, List, Ok, Option, false};
 ghost use Rattle.sqlite.specs.Held.{state};
 ghost use Rattle.sqlite.specs.State.{HasCleanDisk};
-ghost use Rattle.office_machine.specs.State.{State};
+ghost use Rattle.office_rules.specs.State.{State};
 ghost use Rattle.office_desk.specs.Leaving.{StandsAt};
 ghost use Rattle.office_run.specs.Applying.{Applies, ApplyEnds, Performs, TextEnds};
 ghost use Rattle.office_run.specs.Endings.{ending_of_acts};
@@ -10,8 +10,8 @@ ghost use Rattle.office_run.specs.Endings.{ending_of_acts};
 use crate::ending::Ending;
 use office_desk::Desk;
 use office_json::{ListFault, read_acts, write_answers};
-use office_machine::Act;
 use office_plan::{PlanStop, read_whole};
+use office_rules::Act;
 use office_store::Fault;
 use sqlite::{Alter, Connection};
 use std::alloc::Global;

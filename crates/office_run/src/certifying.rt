@@ -2,7 +2,7 @@
 ghost use Rattle.std.specs.Prelude.{◌≡◌, ◌⊎◌, false};
 ghost use Rattle.std.specs.Io.KnownBytes.{Appends};
 ghost use Rattle.sqlite.specs.Held.{state};
-ghost use Rattle.office_machine.specs.State.{State};
+ghost use Rattle.office_rules.specs.State.{State};
 ghost use Rattle.office_run.specs.Certifying.{CertificateEnds, Certifies};
 
 use crate::ending::Ending;

@@ -3,8 +3,8 @@ ghost use Rattle.std.specs.Prelude.{◌≡◌};
 ghost use Rattle.office_run.specs.Endings.{is_refusal};
 
 use office_days::Refusal;
-use office_machine::Answer;
 use office_plan::{Io, PlanStop};
+use office_rules::Answer;
 use office_store::Fault;
 use std::fmt;
 

@@ -10,8 +10,6 @@ mod certifying;
 mod ending;
 mod resuming;
 mod running;
-#[cfg(test)]
-mod tests;
 
 pub use ending::Ending;
 pub use running::{run_on, tell, tell_listening};

@@ -17,7 +17,7 @@ use Rattle.sqlite_rules.specs.Edit.{id_in}
 use Rattle.sqlite_rules.proofs.ListLemmas.{all_from, all_has}
 use Rattle.sqlite_rules.proofs.TableLemmas.{int_is}
 use Rattle.sqlite.specs.Effect.{Database, IsDatabase}
-use Rattle.office_machine.specs.Rows.{TableRows}
+use Rattle.office_rules.specs.Rows.{TableRows}
 use Rattle.office_sql.specs.Bags.{shown}
 use Rattle.office_sql.specs.Office.{IsOffice}
 use Rattle.office_sql.specs.Schema.{at, contents, office_schema}

@@ -9,9 +9,9 @@ use Rattle.sqlite_value.specs.declared.value.Value.TheVariants.{Blob, Int}
 use Rattle.sqlite_value.specs.Order.{Row, column}
 use Rattle.sqlite_trees.specs.Tree.{Trees}
 use Rattle.sqlite_trees.proofs.ListLemmas.{map-map, pull_back}
-use Rattle.office_machine.specs.Founding.{HaveKeys}
-use Rattle.office_machine.specs.State.{ByteMap}
-use Rattle.office_machine.specs.declared.tables.Tables.{Tables}
+use Rattle.office_rules.specs.Founding.{HaveKeys}
+use Rattle.office_rules.specs.State.{ByteMap}
+use Rattle.office_rules.specs.declared.tables.Tables.{Tables}
 use Rattle.office_sql.specs.Bags.{rows_of}
 use Rattle.office_sql.specs.Schema.{at, contents}
 use Rattle.office_sql.specs.Shown.{content_row}

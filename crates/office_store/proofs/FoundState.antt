@@ -8,10 +8,10 @@ use Rattle.sqlite_value.specs.Order.{Row}
 use Rattle.sqlite_trees.specs.Tree.{Trees}
 use Rattle.sqlite_trees.proofs.ListLemmas.{map-map}
 use Rattle.office_proof.specs.declared.entry.Entry.{Entry}
-use Rattle.office_machine.specs.Rows.{TableRows, rows_of}
-use Rattle.office_machine.specs.State.{State}
-use Rattle.office_machine.specs.Tables.{StandsFor}
-use Rattle.office_machine.specs.declared.tables.Tables.{Tables}
+use Rattle.office_rules.specs.Rows.{TableRows, rows_of}
+use Rattle.office_rules.specs.State.{State}
+use Rattle.office_rules.specs.Tables.{StandsFor}
+use Rattle.office_rules.specs.declared.tables.Tables.{Tables}
 use Rattle.office_sql.specs.Bags as bags
 use Rattle.office_sql.specs.Reads.{IsByKey}
 use Rattle.office_sql.specs.Schema.{at, aggregations, certificates, classes, contents, entries as entries_table, holds, office, records, runs, schedules, targets}

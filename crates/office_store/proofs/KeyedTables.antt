@@ -13,9 +13,9 @@ use Rattle.sqlite_value.specs.Order.{Row}
 use Rattle.sqlite_rules.specs.Lists.{Has as IsIn}
 use Rattle.office_tree.specs.Tree.{code_cmp}
 use Rattle.office_proof.specs.declared.entry.Entry.{Entry}
-use Rattle.office_machine.specs.State.{entry_cmp}
-use Rattle.office_machine.proofs.HoldRows.{codes_apart}
-use Rattle.office_machine.proofs.SoundMaps.{entry_cmp-IsAntisymmetric, entry_total}
+use Rattle.office_rules.specs.State.{entry_cmp}
+use Rattle.office_rules.proofs.HoldRows.{codes_apart}
+use Rattle.office_rules.proofs.SoundMaps.{entry_cmp-IsAntisymmetric, entry_total}
 use Rattle.office_sql.specs.Bags.{share, IsPut}
 use Rattle.office_sql.proofs.TypedLemmas.{same_text}
 use Rattle.office_store.specs.Encoded.{entry_shown}

@@ -10,8 +10,8 @@ use Rattle.sqlite.specs.Effect.{Database}
 use Rattle.office_tree.specs.Lists.{holds_of}
 use Rattle.office_tree.specs.Tree.{code_cmp}
 use Rattle.office_holds.specs.Holds.{has_target}
-use Rattle.office_machine.specs.Rows.{rows_of}
-use Rattle.office_machine.specs.State.{empty_state}
+use Rattle.office_rules.specs.Rows.{rows_of}
+use Rattle.office_rules.specs.State.{empty_state}
 use Rattle.office_sql.specs.Bags as bags
 use Rattle.office_sql.specs.Office.{IsNewOffice}
 use Rattle.office_sql.specs.Schema.{at, aggregations, certificates, classes, contents, holds, office, records, runs, schedules, targets}

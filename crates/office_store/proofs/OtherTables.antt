@@ -5,7 +5,7 @@ use Rattle.std.proofs.lemmas.Bool.{eqb-false}
 use Rattle.sqlite_value.specs.Order.{Row}
 use Rattle.sqlite_trees.specs.Tree.{Trees}
 use Rattle.sqlite_schema.specs.declared.schema.Table.{Table}
-use Rattle.office_machine.specs.Rows.{TableRows}
+use Rattle.office_rules.specs.Rows.{TableRows}
 use Rattle.office_sql.specs.Bags.{shown}
 use Rattle.office_sql.specs.Schema as schema
 use Rattle.office_sql.specs.Schema.{at, office_schema}

@@ -11,7 +11,7 @@ use Rattle.office_tree.specs.declared.schedule.Schedule.{Schedule}
 use Rattle.office_holds.specs.declared.row.HoldRow.{HoldRow}
 use Rattle.office_proof.specs.Outcomes.{outcome_word}
 use Rattle.office_proof.specs.declared.entry.Entry.{Entry}
-use Rattle.office_machine.specs.declared.run.Run.{Run}
+use Rattle.office_rules.specs.declared.run.Run.{Run}
 use Rattle.office_sql.specs.Shown.{certificate_row}
 use Rattle.office_store.specs.Encoded.{entry_shown}
 use Rattle.office_store.specs.Stored.{aggregation_pair, class_pair, hold_pair, number_row, run_pair, schedule_pair}

@@ -1,10 +1,10 @@
 -- Tables that are read stand for the state for whose rows the database's tables stand.
 use Rattle.sqlite_trees.specs.Tree.{Trees}
-use Rattle.office_machine.specs.Rows.{TableRows, rows_of}
-use Rattle.office_machine.specs.Sound.{IsSound}
-use Rattle.office_machine.specs.State.{State}
-use Rattle.office_machine.specs.Tables.{StandsFor}
-use Rattle.office_machine.specs.declared.tables.Tables.{Tables}
+use Rattle.office_rules.specs.Rows.{TableRows, rows_of}
+use Rattle.office_rules.specs.Sound.{IsSound}
+use Rattle.office_rules.specs.State.{State}
+use Rattle.office_rules.specs.Tables.{StandsFor}
+use Rattle.office_rules.specs.declared.tables.Tables.{Tables}
 use Rattle.office_store.specs.Adopted.{IsRead}
 use Rattle.office_store.specs.Stands.{Stands}
 use Rattle.office_store.proofs.FormedRows.{formed_records, own_entries, short_in_rows}

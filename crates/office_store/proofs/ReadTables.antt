@@ -10,9 +10,9 @@ use Rattle.sqlite_trees.specs.Tree.{IsAscending, Trees}
 use Rattle.sqlite_trees.proofs.ListLemmas.{map-map}
 use Rattle.office_tree.specs.Forms.{IsDigest}
 use Rattle.office_proof.specs.declared.entry.Entry.{Entry}
-use Rattle.office_machine.specs.Rows.{TableRows}
-use Rattle.office_machine.specs.declared.rows.RecordRow.{RecordRow}
-use Rattle.office_machine.specs.declared.tables.Tables.{Tables}
+use Rattle.office_rules.specs.Rows.{TableRows}
+use Rattle.office_rules.specs.declared.rows.RecordRow.{RecordRow}
+use Rattle.office_rules.specs.declared.tables.Tables.{Tables}
 use Rattle.office_sql.specs.Bags as bags
 use Rattle.office_sql.specs.Reads.{IsByKey}
 use Rattle.office_sql.specs.Schema.{at, aggregations, certificates, classes, contents, entries, holds, records, runs, schedules}

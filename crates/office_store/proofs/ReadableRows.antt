@@ -9,9 +9,9 @@ use Rattle.sqlite_rules.specs.Lists.{Has as IsIn}
 use Rattle.sqlite_rules.proofs.ListLemmas.{all_from}
 use Rattle.sqlite_trees.specs.Tree.{Trees}
 use Rattle.sqlite_trees.proofs.ListLemmas.{map-map}
-use Rattle.office_machine.specs.Rows.{TableRows, rows_of}
-use Rattle.office_machine.specs.Sound.{IsSound}
-use Rattle.office_machine.specs.State.{State}
+use Rattle.office_rules.specs.Rows.{TableRows, rows_of}
+use Rattle.office_rules.specs.Sound.{IsSound}
+use Rattle.office_rules.specs.State.{State}
 use Rattle.office_sql.specs.Bags as bags
 use Rattle.office_sql.specs.Schema.{at, aggregations, certificates, classes, contents, entries, holds, records, runs, schedules, targets}
 use Rattle.office_sql.specs.Shown.{certificate_row, content_row}

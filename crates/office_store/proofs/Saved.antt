@@ -4,13 +4,13 @@ use Rattle.std.proofs.lemmas.Result.{on_err_weaker, on_ok_weaker}
 use Rattle.sqlite_trees.specs.Tree.{Trees}
 use Rattle.sqlite.specs.Effect.{Database}
 use Rattle.sqlite.specs.State.{HasCleanDisk, State as Held}
-use Rattle.office_machine.specs.Acts.{CanBeMade}
-use Rattle.office_machine.specs.Rows.{TableRows, rows_of}
-use Rattle.office_machine.specs.Sound.{IsSound}
-use Rattle.office_machine.specs.State.{State}
-use Rattle.office_machine.specs.Writes.{all_writes}
-use Rattle.office_machine.specs.declared.change.Change.{Change}
-use Rattle.office_machine.specs.declared.rows.RowWrite.{RowWrite}
+use Rattle.office_rules.specs.Acts.{CanBeMade}
+use Rattle.office_rules.specs.Rows.{TableRows, rows_of}
+use Rattle.office_rules.specs.Sound.{IsSound}
+use Rattle.office_rules.specs.State.{State}
+use Rattle.office_rules.specs.Writes.{all_writes}
+use Rattle.office_rules.specs.declared.change.Change.{Change}
+use Rattle.office_rules.specs.declared.rows.RowWrite.{RowWrite}
 use Rattle.office_store.specs.Stands.{HoldsRows, LeavesWithin, Stands}
 use Rattle.office_store.specs.Written.{AreWritten, Saves}
 use Rattle.office_store.proofs.StandsWritten.{saved_rows}

@@ -11,18 +11,18 @@ use Rattle.office_holds.specs.Sound.{TargetsAreThere}
 use Rattle.office_holds.specs.declared.target.Target.{Target}
 use Rattle.office_holds.specs.declared.target.Target.TheVariants as target
 use Rattle.office_proof.specs.declared.entry.Entry.{Entry}
-use Rattle.office_machine.specs.Acts.{CanBeMade}
-use Rattle.office_machine.specs.Rows.{record_row, record_rows, rows_of, targets_of}
-use Rattle.office_machine.specs.Sound.{IsSound}
-use Rattle.office_machine.specs.State.{EntryMap, Office, State}
-use Rattle.office_machine.specs.Writes.{AllFollow, CanFollow, CanWrite, HasPlace, RefIsFree, RefsAreFree, all_writes, write}
-use Rattle.office_machine.specs.declared.change.Change.{Change}
-use Rattle.office_machine.specs.declared.rows.RecordRow.{RecordRow}
-use Rattle.office_machine.specs.declared.rows.RowWrite.{RowWrite}
-use Rattle.office_machine.specs.declared.rows.RowWrite.TheVariants as row_write
-use Rattle.office_machine.proofs.FreeRefs.{refs_free}
-use Rattle.office_machine.proofs.RowWrites.{EachHasStatus, follow_has_place, follow_has_status, put_has_place, put_has_status, written}
-use Rattle.office_machine.proofs.SoundMaps.{entry_total}
+use Rattle.office_rules.specs.Acts.{CanBeMade}
+use Rattle.office_rules.specs.Rows.{record_row, record_rows, rows_of, targets_of}
+use Rattle.office_rules.specs.Sound.{IsSound}
+use Rattle.office_rules.specs.State.{EntryMap, Office, State}
+use Rattle.office_rules.specs.Writes.{AllFollow, CanFollow, CanWrite, HasPlace, RefIsFree, RefsAreFree, all_writes, write}
+use Rattle.office_rules.specs.declared.change.Change.{Change}
+use Rattle.office_rules.specs.declared.rows.RecordRow.{RecordRow}
+use Rattle.office_rules.specs.declared.rows.RowWrite.{RowWrite}
+use Rattle.office_rules.specs.declared.rows.RowWrite.TheVariants as row_write
+use Rattle.office_rules.proofs.FreeRefs.{refs_free}
+use Rattle.office_rules.proofs.RowWrites.{EachHasStatus, follow_has_place, follow_has_status, put_has_place, put_has_status, written}
+use Rattle.office_rules.proofs.SoundMaps.{entry_total}
 use Rattle.office_store.specs.Stands.{Stands}
 use Rattle.office_store.specs.Written.{AreWritten, IsWritten}
 use Rattle.office_store.proofs.RowsInOrder.{in_entries, in_numbered, rows_in_order}

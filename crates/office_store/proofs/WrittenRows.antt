@@ -8,10 +8,10 @@ use Rattle.sqlite_rules.specs.Lists.{Has as IsIn}
 use Rattle.office_holds.specs.declared.target.Target.{Target}
 use Rattle.office_tree.specs.declared.aggregation.Aggregation.{Aggregation}
 use Rattle.office_proof.specs.declared.entry.Entry.{Entry}
-use Rattle.office_machine.specs.Rows.{TableRows, record_row, write_rows}
-use Rattle.office_machine.specs.declared.rows.RecordRow.{RecordRow}
-use Rattle.office_machine.specs.declared.rows.RowWrite.{RowWrite}
-use Rattle.office_machine.specs.declared.rows.RowWrite.TheVariants as row_write
+use Rattle.office_rules.specs.Rows.{TableRows, record_row, write_rows}
+use Rattle.office_rules.specs.declared.rows.RecordRow.{RecordRow}
+use Rattle.office_rules.specs.declared.rows.RowWrite.{RowWrite}
+use Rattle.office_rules.specs.declared.rows.RowWrite.TheVariants as row_write
 use Rattle.office_sql.specs.Bags.{IsPut}
 use Rattle.office_sql.specs.Shown.{certificate_row, content_row, office_row}
 use Rattle.office_store.specs.Encoded.{aggregation_shown, class_shown, hold_shown, record_shown, run_shown, schedule_shown}

@@ -4,7 +4,7 @@ use Rattle.sqlite_value.specs.declared.value.Value.TheVariants.{Int, Blob}
 use Rattle.sqlite_value.specs.Order.{Row}
 use Rattle.sqlite_trees.specs.Tree.{Trees}
 use Rattle.sqlite.specs.State.{State, HasCleanDisk}
-use Rattle.office_machine.specs.declared.tables.Tables.{Tables}
+use Rattle.office_rules.specs.declared.tables.Tables.{Tables}
 use Rattle.office_sql.specs.Bags.{rows_of}
 use Rattle.office_sql.specs.Office.{IsAtRest}
 use Rattle.office_sql.specs.Reads.{IsByKey}

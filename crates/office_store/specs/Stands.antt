@@ -8,8 +8,8 @@ use Rattle.sqlite_schema.specs.declared.schema.Table.{Table}
 use Rattle.sqlite.specs.State.{State}
 use Rattle.office_holds.specs.Founding.{is_pair}
 use Rattle.office_holds.specs.declared.target.Target.{Target}
-use Rattle.office_machine.specs.Rows.{TableRows, rows_of}
-use Rattle.office_machine.specs.State.{ByteMap, empty_state}
+use Rattle.office_rules.specs.Rows.{TableRows, rows_of}
+use Rattle.office_rules.specs.State.{ByteMap, empty_state}
 use Rattle.office_sql.specs.Bags as bags
 use Rattle.office_sql.specs.Office.{IsAtRest}
 use Rattle.office_sql.specs.Schema.{at, aggregations, certificates, classes, contents, entries, holds, office, records, runs, schedules, targets}

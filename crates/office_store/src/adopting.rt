@@ -19,8 +19,8 @@ use crate::tables::{
 };
 use office_days::Day;
 use office_holds::{HoldRow, Target};
-use office_machine::{RecordRow, Run, Tables};
 use office_proof::{Entry, RunNo};
+use office_rules::{RecordRow, Run, Tables};
 use office_sql::{all_office, number};
 use office_tree::{AggNo, Aggregation, Class, Code, RecordNo, Schedule};
 use sqlite::types::ValueRef;

@@ -6,7 +6,7 @@ ghost use Rattle.sqlite.specs.State.{HasCleanDisk};
 ghost use Rattle.office_store.specs.Written.{Saves, needed_text};
 
 use crate::writing::write_all;
-use office_machine::RowWrite;
+use office_rules::RowWrite;
 use sqlite::{Alter, Connection, Error};
 
 /// Does the writes, whose texts are made, in one transaction: all of them or, where it fails and the

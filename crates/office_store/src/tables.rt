@@ -11,8 +11,8 @@ ghost use Rattle.office_store.specs.Stored.{aggregation_pair, certificate_pair, 
 use crate::Fault;
 use crate::stored::{Stored, all};
 use office_holds::{HoldRow, Target};
-use office_machine::{RecordRow, Run};
 use office_proof::{Entry, RunNo};
+use office_rules::{RecordRow, Run};
 use office_sql::{
     BadValue, all_aggregations, all_certificates, all_classes, all_contents, all_entries,
     all_holds, all_records, all_runs, all_schedules, all_targets,

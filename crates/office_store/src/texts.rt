@@ -5,7 +5,7 @@ ghost use Rattle.office_store.specs.Encoded.{target_kind, target_text};
 ghost use Rattle.office_store.specs.Written.{needed_text};
 
 use office_holds::Target;
-use office_machine::RowWrite;
+use office_rules::RowWrite;
 use office_tree::Memory;
 use std::alloc::Global;
 

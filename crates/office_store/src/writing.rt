@@ -5,13 +5,13 @@ ghost use Rattle.std.specs.String.{string_bytes};
 ghost use Rattle.sqlite.specs.Held.{state};
 ghost use Rattle.office_sql.specs.Office.{GoesInside};
 ghost use Rattle.office_tree.specs.Words.{action_word, status_word};
-ghost use Rattle.office_machine.specs.declared.rows.RowWrite.TheVariants as row_write;
+ghost use Rattle.office_rules.specs.declared.rows.RowWrite.TheVariants as row_write;
 ghost use Rattle.office_store.specs.Written.{AreWritten, IsWritten, needed_text};
 
 use crate::texts::target_kind;
 use office_holds::HoldRow;
-use office_machine::{RowWrite, Run};
 use office_proof::Entry;
+use office_rules::{RowWrite, Run};
 use office_sql::{
     FixedColumns, OptionalColumns, put_aggregations, put_certificates, put_classes, put_contents,
     put_entries, put_holds, put_office, put_records, put_runs, put_schedules, put_targets,

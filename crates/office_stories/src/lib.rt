@@ -1,30 +1,96 @@
-//! Stories of an office, worked out by hand: acts line by line, each with the answer that must come,
-//! and what is read of the office between them.
+//! Stories of an office, worked out by hand and written in rows that a records manager can read.
 //!
-//! A line is a day, the act's word, its words, `=` and the answer, as `2025-01-02 confirm 1 destroy =
-//! refused 15`. A title is the ref or the code, a reason is `court`, it is always the registrar who
-//! acts, and a class or schedule written `-` is none.
+//! A **story** begins with its title, `# A held class is not left`, and each begins with no office at all.
+//! Its **parts** begin with the place at which they are told, and their rows follow, one a line. After each
+//! part the machine crashes, and the next part opens the office anew from what is left of its two files.
+//!
+//! | Place | A row of it |
+//! |---|---|
+//! | `## at the desk` | an act with its answer, or what is read |
+//! | `## at the desk of the base office` | the same, after the acts of the base office (`office`) |
+//! | `## clients in pieces of 7` | a request of HTTP, which comes in pieces of 7 bytes, with its whole answer |
+//! | `## by the program` | words of the program, and `STATUS;OUTPUT;LINE ON STANDARD ERROR` |
+//! | `## in the tables` | statements of SQL that change the tables |
+//! | `## tried on the tables` | `opened after` or `fault 33 after` statements, each on the office as it is |
+//! | `## counts of the tables` | how many rows the ten tables have |
+//! | `## closed` | none: the database is closed, and its log goes back into its file |
+//! | `## resumed while the disks stop` | which disk stops, `log then db`, and how many stops there are |
+//! | `## done while the disks stop` | an act |
+//!
+//! An act is a day, its word, its words, ` = ` and the answer, as `2025-01-02 confirm 1 destroy = refused 15`;
+//! `phrases` has them all. A title is the ref or the code, a reason is `court`, it is always the registrar
+//! who acts, a record is originated on 2024-01-02, and a class, a schedule or a content written `-` is none.
+//! An act may be written in JSON too. `resume` takes up the open run.
+//!
+//! What is read is told by `is` (the whole text), `has` (a part of it) or `bytes` (its length): `record 1 has
+//! "held":"H-2"`, `content 1 is "abc"`, `content 1 is none`, `certificate 1 bytes 501`, `due-list 2025-01-02
+//! is [3, 1, 2]`, `entries is run 1 record 1 destroyed;`.
+//!
+//! A request is `GET /records/1`, or with its length and body `POST /acts 20 [{"act":"run-step"}]`; one that
+//! begins with `bytes` is sent as it is. An answer is its status, type, length and body, `404 Not Found,
+//! application/json, 16: {"error":"path"}`, of `in all` so many bytes. `nothing` is no byte. A client that is
+//! `lost` has no answer, and one that is `lost after` so many bytes hears only these. `\n`, `\r` and `\t` are
+//! written for the bytes that they name.
+//!
+//! ` for each <n> of 1 2 7` or ` for each <n> of 1 to 1000` after a row or a title repeats it. A row that is
+//! not so is named by the failure.
 #![tactic(auto)]
 
 #[cfg(test)]
 mod acts;
 #[cfg(test)]
-mod base;
+mod clients;
 #[cfg(test)]
-mod content_tests;
+mod content_stories;
 #[cfg(test)]
-mod filing_tests;
+mod disks;
 #[cfg(test)]
-mod hold_tests;
+mod endings;
 #[cfg(test)]
-mod keeping;
+mod errands;
 #[cfg(test)]
-mod keeping_tests;
+mod failures;
 #[cfg(test)]
-mod limit_tests;
+mod filing_stories;
 #[cfg(test)]
-mod reading_tests;
+mod hold_stories;
 #[cfg(test)]
-mod run_tests;
+mod limit_stories;
+#[cfg(test)]
+mod office;
+#[cfg(test)]
+mod peer;
+#[cfg(test)]
+mod phrases;
+#[cfg(test)]
+mod program;
+#[cfg(test)]
+mod program_stories;
+#[cfg(test)]
+mod readings;
+#[cfg(test)]
+mod repeating;
+#[cfg(test)]
+mod request_stories;
+#[cfg(test)]
+mod requests;
+#[cfg(test)]
+mod rows;
+#[cfg(test)]
+mod run_stories;
+#[cfg(test)]
+mod socket_stories;
+#[cfg(test)]
+mod sockets;
+#[cfg(test)]
+mod stop_stories;
+#[cfg(test)]
+mod stops;
+#[cfg(test)]
+mod table_stories;
+#[cfg(test)]
+mod tables;
 #[cfg(test)]
 mod telling;
+#[cfg(test)]
+mod tests;

@@ -1,69 +1,98 @@
-//! A story is told to an office, line by line.
-ghost use Rattle.office_machine.specs.Acts.{CanBeMade};
-
-use crate::acts::act_of;
-use office_machine::{Act, Answer, Change, Decision, Machine};
-use office_tree::Memory;
+//! Stories are told, part by part.
+use crate::disks::Image;
+use crate::errands::{Errand, close, do_all};
+use crate::failures::failure;
+use crate::office::BASE;
+use crate::repeating::{FOR_EACH, copies, number};
+use crate::rows::Way;
+use crate::stops::{tell_stopped_act, tell_stops};
+use crate::tables::{tell_counts, tell_opening};
 use std::alloc::Global;
 use std::test::Fail;
 
-/// Makes a change, and gives its answer.
-fn made(office: &mut Machine, change: Change) -> Result<Answer, Memory>
-    requires { CanBeMade office.old change }
-{
-    let answer = change.answer;
-    office.apply(change)?;
-    Ok(answer)
-}
-
-/// What the office answers to an act, which is done where it is accepted.
-fn answered(alloc: Global, office: &mut Machine, act: &Act) -> Result<Answer, Memory> {
-    match office.decide(alloc, act)? {
-        Decision::Stay(answer) => Ok(answer),
-        Decision::Go(change) => made(office, change),
+/// A row at no open desk.
+fn tell_apart(alloc: Global, image: &mut Image, place: &str, row: &str) -> Result<(), Fail> {
+    match place {
+        "by the program" => do_all(alloc, image, Errand::Program(row)),
+        "in the tables" => do_all(alloc, image, Errand::Statements(row)),
+        "tried on the tables" => tell_opening(alloc, image, row),
+        "counts of the tables" => tell_counts(alloc, image, row),
+        "resumed while the disks stop" => tell_stops(alloc, image, row),
+        "done while the disks stop" => tell_stopped_act(alloc, image, row),
+        _ => Err(failure("no such place", place)),
     }
 }
 
-/// What the office answers to what the words ask for.
-fn asked(alloc: Global, office: &mut Machine, words: &[&str]) -> Result<Answer, Fail> {
-    let act = act_of(alloc, words)?;
-    Ok(answered(alloc, office, &act)?)
+/// All rows at no open desk.
+fn tell_all_apart(alloc: Global, image: &mut Image, place: &str, rows: &str) -> Result<(), Fail> {
+    for row in rows.lines() {
+        if !row.is_empty() {
+            tell_apart(alloc, image, place, row)?;
+        }
+    }
+    Ok(())
 }
 
-/// The words of an answer.
-fn answer_text(alloc: Global, answer: Answer) -> Result<String, Fail> {
-    Ok(match answer {
-        Answer::Done => String::from_str(alloc, "done")?,
-        Answer::Number(number) => format!(in alloc; "number {number}")?,
-        Answer::Same(number) => format!(in alloc; "same {number}")?,
-        Answer::Step(number, outcome) => format!(in alloc; "step {number} {}", outcome.text())?,
-        Answer::RunClosed(number) => format!(in alloc; "closed {number}")?,
-        Answer::Refused(refusal) => format!(in alloc; "refused {}", refusal.number())?,
-    })
+/// How rows are told at that place; none where it is not at an open desk.
+fn way_of(place: &str) -> Result<Option<Way>, Fail> {
+    if let Some((_, most)) = place.split_once("clients in pieces of ") {
+        return Ok(Some(Way::Pieces(number(most)?)));
+    }
+    if place.starts_with("at the desk") {
+        return Ok(Some(Way::Rows));
+    }
+    Ok(None)
 }
 
-/// The answer must have these words.
-pub(crate) fn must_be(alloc: Global, given: Answer, answer: &str) -> Result<(), Fail> {
-    if answer_text(alloc, given)?.as_str() == answer {
-        Ok(())
-    } else {
-        Err(Fail::new("another answer"))
+/// A part of a story: its place and its rows.
+fn tell_part(alloc: Global, image: &mut Image, part: &str) -> Result<(), Fail> {
+    let (place, rows) = part.split_once('\n').ok_or("no rows")?;
+    if place == "closed" {
+        return close(alloc, image);
+    }
+    if place.ends_with(" of the base office") {
+        do_all(alloc, image, Errand::Rows(Way::Rows, BASE))?;
+    }
+    match way_of(place)? {
+        Some(way) => do_all(alloc, image, Errand::Rows(way, rows)),
+        None => tell_all_apart(alloc, image, place, rows),
     }
 }
 
-/// What a line asks for is asked, and must be answered as the line says.
-fn tell(alloc: Global, office: &mut Machine, line: &str) -> Result<(), Fail> {
-    let (asks, answer) = line.split_once('=').ok_or("no answer")?;
-    let words: Vec<&str> = asks.trim().split(' ').collect(alloc)?;
-    let given = asked(alloc, office, &words)?;
-    must_be(alloc, given, answer.trim())
+/// The parts of a story, from no office on. Gives the office to which they come.
+pub(crate) fn tell_parts(alloc: Global, parts: &str) -> Result<Image, Fail> {
+    let mut image = Image::new(alloc);
+    for part in parts.split("## ") {
+        if !part.trim().is_empty() {
+            tell_part(alloc, &mut image, part)?;
+        }
+    }
+    Ok(image)
 }
 
-/// A story is told to the office: each line that is not empty.
-pub(crate) fn told(rt: &HostRuntime, office: &mut Machine, story: &str) -> Result<(), Fail> {
-    for line in story.lines() {
-        if !line.trim().is_empty() {
-            tell(rt.alloc(), office, line)?;
+/// A story that is told once.
+fn tell_once(alloc: Global, parts: &str) -> Result<(), Fail> {
+    tell_parts(alloc, parts)?;
+    Ok(())
+}
+
+/// A story, which may be told for each of several numbers.
+fn tell_story(alloc: Global, story: &str) -> Result<(), Fail> {
+    let (title, parts) = story.split_once('\n').ok_or("no story")?;
+    let Some((_, list)) = title.split_once(FOR_EACH) else {
+        return tell_once(alloc, parts);
+    };
+    for copy in copies(alloc, parts, list)? {
+        tell_once(alloc, copy.as_str())?;
+    }
+    Ok(())
+}
+
+/// Stories are told: each must be as it says.
+pub(crate) fn tell(alloc: Global, stories: &str) -> Result<(), Fail> {
+    for story in stories.split("\n# ") {
+        if !story.trim().is_empty() {
+            tell_story(alloc, story)?;
         }
     }
     Ok(())

@@ -1,8 +1,8 @@
 -- What is served with one answer is served, whatever the answer.
 use Rattle.std.proofs.Common.{◌≡◌, inl, inr, ℕ, ℤ, List, Option, Some, None, Result, Ok, Err}
 use Rattle.sqlite_trees.specs.declared.store.Store.{Ghosts}
-use Rattle.office_machine.specs.State.{State}
-use Rattle.office_machine.specs.declared.act.Act.{Act}
+use Rattle.office_rules.specs.State.{State}
+use Rattle.office_rules.specs.declared.act.Act.{Act}
 use Rattle.office_desk.specs.Desk.{DeskState}
 use Rattle.office_json.specs.Acts.{Asked}
 use Rattle.office_json.specs.Lists.{NoActs, not_json, bad_act}

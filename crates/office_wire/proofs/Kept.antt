@@ -4,11 +4,11 @@ use Rattle.std.specs.Prelude.{IfErr, OnOk}
 use Rattle.sqlite.specs.Held.{state}
 use Rattle.sqlite.specs.State.{HasCleanDisk}
 use Rattle.sqlite_trees.specs.declared.store.Store.{Ghosts}
-use Rattle.office_machine.specs.Acts.{after}
-use Rattle.office_machine.specs.Rows.{rows_of}
-use Rattle.office_machine.specs.State.{State}
-use Rattle.office_machine.specs.declared.act.Act.{Act}
-use Rattle.office_machine.specs.declared.answer.Answer.{Answer}
+use Rattle.office_rules.specs.Acts.{after}
+use Rattle.office_rules.specs.Rows.{rows_of}
+use Rattle.office_rules.specs.State.{State}
+use Rattle.office_rules.specs.declared.act.Act.{Act}
+use Rattle.office_rules.specs.declared.answer.Answer.{Answer}
 use Rattle.office_store.specs.Stands.{HoldsRows}
 use Rattle.office_store.specs.declared.fault.Fault.{Fault}
 use Rattle.office_store.specs.declared.fault.Fault.TheVariants as fault

@@ -3,10 +3,10 @@ use Rattle.std.proofs.Common.{◌≡◌, ◌∙◌, ap, sym, subst, inr, ◌+◌
 use Rattle.sqlite.specs.Held.{state}
 use Rattle.sqlite.specs.State.{HasCleanDisk}
 use Rattle.sqlite_trees.specs.declared.store.Store.{Ghosts}
-use Rattle.office_machine.specs.Acts.{after, answers}
-use Rattle.office_machine.specs.State.{State}
-use Rattle.office_machine.specs.declared.act.Act.{Act}
-use Rattle.office_machine.specs.declared.answer.Answer.{Answer}
+use Rattle.office_rules.specs.Acts.{after, answers}
+use Rattle.office_rules.specs.State.{State}
+use Rattle.office_rules.specs.declared.act.Act.{Act}
+use Rattle.office_rules.specs.declared.answer.Answer.{Answer}
 use Rattle.office_store.specs.declared.fault.Fault.{Fault}
 use Rattle.office_desk.specs.Desk.{DeskState}
 use Rattle.office_desk.specs.Fates.{LeavesFates}

@@ -3,9 +3,9 @@ use Rattle.std.proofs.Common.{◌≡◌, subst, inl, inr, ℕ, suc, Option, Some
 use Rattle.sqlite.specs.Held.{state}
 use Rattle.sqlite.specs.State.{HasCleanDisk}
 use Rattle.sqlite_trees.specs.declared.store.Store.{Ghosts}
-use Rattle.office_machine.specs.Runs.{IsMidway, after_steps, open_run, whole}
-use Rattle.office_machine.specs.State.{State}
-use Rattle.office_machine.specs.declared.answer.Answer.{Answer}
+use Rattle.office_rules.specs.Runs.{IsMidway, after_steps, open_run, whole}
+use Rattle.office_rules.specs.State.{State}
+use Rattle.office_rules.specs.declared.answer.Answer.{Answer}
 use Rattle.office_store.specs.declared.fault.Fault.{Fault}
 use Rattle.office_desk.specs.Desk.{DeskState}
 use Rattle.office_desk.specs.Fates.{LeavesStepFates}

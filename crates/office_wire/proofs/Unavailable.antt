@@ -3,7 +3,7 @@ use Rattle.std.proofs.Common.{◌≡◌, refl, subst, sym, List, Result, Ok, Err
 use Rattle.std.specs.Prelude.{IfOk}
 use Rattle.office_http.specs.Replies.{Response, failure_response}
 use Rattle.office_http.specs.declared.failure.Failure.TheVariants as failure
-use Rattle.office_machine.specs.declared.answer.Answer.{Answer}
+use Rattle.office_rules.specs.declared.answer.Answer.{Answer}
 use Rattle.office_store.specs.declared.fault.Fault.{Fault}
 use Rattle.office_wire.specs.Answering.{IsUnavailable}
 use Rattle.office_wire.specs.Replies.{fault_response, json_response, stopped_response}

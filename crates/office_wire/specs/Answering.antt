@@ -4,13 +4,13 @@ use Rattle.std.specs.Prelude.{◌≡◌, ◌≢◌, ◌⊎◌, ◌+◌, ◌<◌,
 use Rattle.sqlite.specs.Held.{state}
 use Rattle.sqlite_trees.specs.declared.store.Store.{Ghosts}
 use Rattle.office_days.specs.declared.refusal.Refusal.TheVariants as refusal
-use Rattle.office_machine.specs.Acts.{after, answers}
-use Rattle.office_machine.specs.Readings.{IsDueList, ending_entry, record_view}
-use Rattle.office_machine.specs.Runs.{IsMidway, after_steps, open_run, whole}
-use Rattle.office_machine.specs.State.{Office, State}
-use Rattle.office_machine.specs.declared.act.Act.{Act}
-use Rattle.office_machine.specs.declared.answer.Answer.TheVariants.{Refused, RunClosed}
-use Rattle.office_machine.specs.declared.record_view.RecordView.{RecordView}
+use Rattle.office_rules.specs.Acts.{after, answers}
+use Rattle.office_rules.specs.Readings.{IsDueList, ending_entry, record_view}
+use Rattle.office_rules.specs.Runs.{IsMidway, after_steps, open_run, whole}
+use Rattle.office_rules.specs.State.{Office, State}
+use Rattle.office_rules.specs.declared.act.Act.{Act}
+use Rattle.office_rules.specs.declared.answer.Answer.TheVariants.{Refused, RunClosed}
+use Rattle.office_rules.specs.declared.record_view.RecordView.{RecordView}
 use Rattle.office_store.specs.declared.fault.Fault.{Fault}
 use Rattle.office_store.specs.declared.fault.Fault.TheVariants as fault
 use Rattle.office_desk.specs.Desk.{DeskState}

@@ -5,9 +5,9 @@ use Rattle.serde_json.specs.Data.{Data}
 use Rattle.serde_json.specs.Written.{compact_text}
 use Rattle.office_days.specs.declared.refusal.Refusal.{Refusal}
 use Rattle.office_proof.specs.declared.entry.Entry.{Entry}
-use Rattle.office_machine.specs.declared.answer.Answer.{Answer}
-use Rattle.office_machine.specs.declared.answer.Answer.TheVariants as answer
-use Rattle.office_machine.specs.declared.record_view.RecordView.{RecordView}
+use Rattle.office_rules.specs.declared.answer.Answer.{Answer}
+use Rattle.office_rules.specs.declared.answer.Answer.TheVariants as answer
+use Rattle.office_rules.specs.declared.record_view.RecordView.{RecordView}
 use Rattle.office_store.specs.Faults.{fault_number}
 use Rattle.office_store.specs.declared.fault.Fault.{Fault}
 use Rattle.office_json.specs.Answers.{answer_data}

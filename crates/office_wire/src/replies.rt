@@ -13,8 +13,8 @@ use office_json::{
     answer_value, answers_value, bad_act_value, due_value, fault_value, record_value,
     stopped_value, text_of,
 };
-use office_machine::{Answer, RecordView};
 use office_proof::Entry;
+use office_rules::{Answer, RecordView};
 use office_store::Fault;
 use office_tree::Memory;
 use serde_json::Value;

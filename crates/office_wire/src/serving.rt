@@ -2,7 +2,7 @@
 ghost use Rattle.std.specs.Prelude.{◌≡◌, ◌⊎◌, IfOk, IfSome, IsSome, IsTrue, OnErr, false};
 ghost use Rattle.sqlite.specs.Held.{state};
 ghost use Rattle.sqlite.specs.State.{HasCleanDisk};
-ghost use Rattle.office_machine.specs.State.{State};
+ghost use Rattle.office_rules.specs.State.{State};
 ghost use Rattle.office_desk.specs.Leaving.{StandsAt};
 ghost use Rattle.office_http.specs.Replies.{response};
 ghost use Rattle.office_wire.specs.Receiving.{asked_for};

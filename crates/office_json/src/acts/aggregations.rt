@@ -9,7 +9,7 @@ use crate::parts::{
 };
 use crate::targets::classified_at;
 use office_days::Refusal;
-use office_machine::Act;
+use office_rules::Act;
 use serde_json::Value;
 use std::alloc::Global;
 

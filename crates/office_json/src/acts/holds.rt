@@ -7,7 +7,7 @@ use crate::members::has_only;
 use crate::parts::{both, code_at, day_at, words_at};
 use crate::targets::target_at;
 use office_days::Refusal;
-use office_machine::Act;
+use office_rules::Act;
 use serde_json::Value;
 use std::alloc::Global;
 

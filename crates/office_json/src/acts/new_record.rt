@@ -9,7 +9,7 @@ use crate::content::{Content, content_at};
 use crate::members::has_only;
 use crate::parts::{both, day_at, number_at, optional_code_at, words_at};
 use office_days::{Day, Refusal};
-use office_machine::{Act, NewRecord};
+use office_rules::{Act, NewRecord};
 use office_tree::{AggNo, Code, Text};
 use serde_json::Value;
 use std::alloc::Global;

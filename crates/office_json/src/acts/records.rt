@@ -7,7 +7,7 @@ use crate::ReadFault;
 use crate::members::has_only;
 use crate::parts::{action_at, both, day_at, digest_at, number_at, optional_code_at, words_at};
 use office_days::{Day, Refusal};
-use office_machine::Act;
+use office_rules::Act;
 use office_tree::{RecordNo, Text};
 use serde_json::Value;
 use std::alloc::Global;

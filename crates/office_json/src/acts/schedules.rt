@@ -6,7 +6,7 @@ use crate::ReadFault;
 use crate::members::has_only;
 use crate::parts::{action_at, both, code_at, day_at, offset_at, period_at, trigger_at, words_at};
 use office_days::Refusal;
-use office_machine::Act;
+use office_rules::Act;
 use serde_json::Value;
 use std::alloc::Global;
 

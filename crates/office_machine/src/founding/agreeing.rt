@@ -4,9 +4,9 @@ ghost use Rattle.std.specs.BTreeMap.{IsOrdered};
 ghost use Rattle.std.specs.FinMap.{from_entries};
 ghost use Rattle.std.specs.Ordering.{nat_cmp};
 ghost use Rattle.office_tree.specs.Examined.{AreContentsShort};
-ghost use Rattle.office_machine.specs.Founding.{AreEntriesKeyed, DoPartsAgree, DoPartsStand, HaveKeys, IsFormedOffice, IsOfficeBy};
-ghost use Rattle.office_machine.specs.Sound.{IsSound};
-ghost use Rattle.office_machine.specs.State.{ByteMap, with_contents};
+ghost use Rattle.office_rules.specs.Founding.{AreEntriesKeyed, DoPartsAgree, DoPartsStand, HaveKeys, IsFormedOffice, IsOfficeBy};
+ghost use Rattle.office_rules.specs.Sound.{IsSound};
+ghost use Rattle.office_rules.specs.State.{ByteMap, with_contents};
 
 use crate::parts::Parts;
 use office_tree::{Memory, RecordNo};

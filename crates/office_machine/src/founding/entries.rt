@@ -10,8 +10,8 @@ ghost use Rattle.office_tree.specs.Lists.{holds_of, numbered};
 ghost use Rattle.office_tree.specs.Tree.{has_record, status_of};
 ghost use Rattle.office_tree.specs.declared.status.Status.TheVariants.{Ended};
 ghost use Rattle.office_proof.specs.Outcomes.{is_ending, is_skipping, is_transferring};
-ghost use Rattle.office_machine.specs.Founding.{AreEndings, EachHasOneEnding, TwoRunsEndOne, is_entry_right};
-ghost use Rattle.office_machine.specs.State.{entry_cmp};
+ghost use Rattle.office_rules.specs.Founding.{AreEndings, EachHasOneEnding, TwoRunsEndOne, is_entry_right};
+ghost use Rattle.office_rules.specs.State.{entry_cmp};
 
 use crate::parts::Parts;
 use office_proof::{Entry, Outcome, RunNo};

@@ -6,8 +6,8 @@ ghost use Rattle.std.specs.Map.{keys_of};
 ghost use Rattle.std.specs.Ordering.{nat_cmp};
 ghost use Rattle.std.specs.String.{string_bytes};
 ghost use Rattle.office_rows.specs.Rows.{OnDamaged};
-ghost use Rattle.office_machine.specs.Founding.{entry_rows};
-ghost use Rattle.office_machine.specs.State.{entry_cmp};
+ghost use Rattle.office_rules.specs.Founding.{entry_rows};
+ghost use Rattle.office_rules.specs.State.{entry_cmp};
 
 use crate::certificate::Certificate;
 use office_proof::{Entry, RunNo};

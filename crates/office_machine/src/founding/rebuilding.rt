@@ -1,10 +1,10 @@
 //! The office for which tables stand.
 ghost use Rattle.std.specs.Prelude.{◌≡◌, IfOk};
 ghost use Rattle.office_rows.specs.Rows.{OnDamaged};
-ghost use Rattle.office_machine.specs.Founding.{AreTablesOf, HaveKeys};
-ghost use Rattle.office_machine.specs.Sound.{IsSound};
-ghost use Rattle.office_machine.specs.State.{ByteMap, State, with_contents};
-ghost use Rattle.office_machine.specs.Tables.{StandsFor};
+ghost use Rattle.office_rules.specs.Founding.{AreTablesOf, HaveKeys};
+ghost use Rattle.office_rules.specs.Sound.{IsSound};
+ghost use Rattle.office_rules.specs.State.{ByteMap, State, with_contents};
+ghost use Rattle.office_rules.specs.Tables.{StandsFor};
 
 use crate::parts::Parts;
 use crate::{Machine, Tables};

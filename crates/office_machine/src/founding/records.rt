@@ -7,7 +7,7 @@ ghost use Rattle.office_tree.specs.declared.head.Receipt.{Receipt};
 ghost use Rattle.office_tree.specs.declared.head.Record.{Record};
 ghost use Rattle.office_tree.specs.declared.head.Review.{Review};
 ghost use Rattle.office_tree.specs.declared.status.Status.{Status};
-ghost use Rattle.office_machine.specs.Rows.{record_row, record_rows};
+ghost use Rattle.office_rules.specs.Rows.{record_row, record_rows};
 
 use crate::RecordRow;
 use office_days::{Day, DueDay};

@@ -8,9 +8,9 @@ ghost use Rattle.office_days.specs.Limits.{IsDayNumber};
 ghost use Rattle.office_tree.specs.Disposal.{is_ended};
 ghost use Rattle.office_tree.specs.Lists.{holds_of, numbered};
 ghost use Rattle.office_tree.specs.declared.status.Status.{Status};
-ghost use Rattle.office_machine.specs.Founding.{AreKeysOfLive, AreRunsBy};
-ghost use Rattle.office_machine.specs.Sound.{IsFormedRun, RunsStand};
-ghost use Rattle.office_machine.specs.declared.run.Run.{Run};
+ghost use Rattle.office_rules.specs.Founding.{AreKeysOfLive, AreRunsBy};
+ghost use Rattle.office_rules.specs.Sound.{IsFormedRun, RunsStand};
+ghost use Rattle.office_rules.specs.declared.run.Run.{Run};
 ghost use Rattle.office_proof.specs.Forms.{IsFormedEntry};
 ghost use Rattle.office_proof.specs.declared.entry.Entry.{Entry};
 

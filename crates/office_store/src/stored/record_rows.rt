@@ -13,7 +13,7 @@ use crate::columns::{
 };
 use crate::stored::Stored;
 use office_days::{Day, DueDay};
-use office_machine::RecordRow;
+use office_rules::RecordRow;
 use office_sql::{BadValue, number};
 use office_tree::{Action, AggNo, Code, RecordNo, Status, Text};
 use sqlite::Row;

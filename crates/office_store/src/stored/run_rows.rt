@@ -4,8 +4,8 @@ ghost use Rattle.office_store.specs.Stored.{IsCertificateRow, IsEntryOfForm, IsR
 
 use crate::columns::{code, day, due_day, has_columns, optional_code, outcome, words};
 use crate::stored::Stored;
-use office_machine::Run;
 use office_proof::{Entry, RunNo};
+use office_rules::Run;
 use office_sql::{BadValue, flag, number, text};
 use sqlite::Row;
 use std::alloc::Global;

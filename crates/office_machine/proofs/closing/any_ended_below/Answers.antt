@@ -2,7 +2,7 @@ use Rattle.std.proofs.Common.{rules, ◌≡◌, refl, ap, ◌∙◌, Bool, ◌||
 use Rattle.std.specs.List.{list_any}
 use Rattle.std.proofs.lemmas.Iterator.{YieldsList-from_slice}
 use Rattle.std.proofs.lemmas.Iterator.Search.{any_from_yields_List}
-use Rattle.office_machine.specs.Runs.{ended_below}
+use Rattle.office_rules.specs.Runs.{ended_below}
 use Rattle.office_machine.proofs.closing.any_ended_below.Goals as goal
 
 -- a test of what is read from each thing

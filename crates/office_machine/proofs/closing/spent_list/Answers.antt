@@ -1,5 +1,5 @@
 use Rattle.std.proofs.Common.{◌≡◌, ◌+◌, ◌++◌, ◌<◌, length, map, ap, ◌∙◌, sym, add-one, arith}
-use Rattle.office_machine.specs.Runs.{spent_list}
+use Rattle.office_rules.specs.Runs.{spent_list}
 use Rattle.office_machine.proofs.SpentByEntries.{spent_after, spent_at_first, spent_next, unspent_next, spent_at_last}
 use Rattle.office_machine.proofs.closing.spent_list.Goals as goal
 use Rattle.office_machine.proofs.closing.spent_list.Goals.{then-is_spent_by+in_ok-push, else-is_spent_by}

@@ -1,5 +1,5 @@
 use Rattle.std.proofs.Common.{◌≡◌, ◌++◌, map}
-use Rattle.office_machine.specs.Runs.{spent_list}
+use Rattle.office_rules.specs.Runs.{spent_list}
 use Rattle.office_machine.proofs.SpentByEntries.{spent_after}
 use Rattle.office_machine.proofs.closing.spent_list.Given as goal
 

@@ -1,6 +1,6 @@
 use Rattle.std.proofs.Common.{◌≡◌, ◌++◌, [], ◌∙◌, ap, sym, subst, append-nil}
 use Rattle.std.specs.Map.{values_of}
-use Rattle.office_machine.specs.Readings.{IsDueList}
+use Rattle.office_rules.specs.Readings.{IsDueList}
 use Rattle.office_machine.proofs.DueLists.{numbers_of_pairs}
 use Rattle.office_machine.proofs.due_list.due_list.Goals as goal
 

@@ -1,6 +1,6 @@
 use Rattle.std.proofs.Common.{◌≡◌, ◌+◌, sym, subst, refl, length, arith}
 use Rattle.std.specs.BTreeSet.{contains}
-use Rattle.office_machine.specs.Readings.{due_here}
+use Rattle.office_rules.specs.Readings.{due_here}
 use Rattle.office_machine.proofs.DueLists.{AreFound, pair_cmp, found_none, found_more, found_all}
 use Rattle.office_machine.proofs.due_list.due_pairs.Goals as goal
 use Rattle.office_machine.proofs.due_list.due_pairs.Goals.{in-Some+in_ok-insert, in_default}

@@ -1,5 +1,5 @@
 use Rattle.std.specs.BTreeSet.{contains}
-use Rattle.office_machine.specs.Readings.{due_here}
+use Rattle.office_rules.specs.Readings.{due_here}
 use Rattle.office_machine.proofs.DueLists.{AreFound, pair_cmp}
 use Rattle.office_machine.proofs.due_list.due_pairs.Given as goal
 

@@ -1,4 +1,4 @@
-use Rattle.office_machine.proofs.SoundMaps.{entry_cmp-IsAntisymmetric, entry_total}
+use Rattle.office_rules.proofs.SoundMaps.{entry_cmp-IsAntisymmetric, entry_total}
 use Rattle.office_machine.proofs.Stored.{inserted}
 use Rattle.office_machine.proofs.storing.put_entry.Goals as goal
 

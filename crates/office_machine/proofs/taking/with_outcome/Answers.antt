@@ -4,7 +4,7 @@ use Rattle.office_tree.specs.declared.status.Status.TheVariants as status
 use Rattle.office_proof.specs.declared.outcome.Outcome.{Outcome}
 use Rattle.office_proof.specs.declared.outcome.Outcome.TheVariants as outcome
 use Rattle.office_machine.specs.RunWrites.{outcome_writes}
-use Rattle.office_machine.specs.declared.rows.RowWrite.TheVariants as row_write
+use Rattle.office_rules.specs.declared.rows.RowWrite.TheVariants as row_write
 use Rattle.office_machine.proofs.taking.with_outcome.Goals as goal
 
 ended : (o : Outcome) (r : ℕ) (head : Record) → (o ≡ outcome.Destroyed) ⊎ (o ≡ outcome.Transferred) → outcome_writes o r head ≡ row_write.Record r head status.Ended ∷ row_write.ContentGone r ∷ []

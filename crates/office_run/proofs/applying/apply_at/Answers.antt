@@ -1,6 +1,6 @@
 use Rattle.sqlite.specs.Held.{state}
 use Rattle.sqlite.specs.State.{HasCleanDisk}
-use Rattle.office_machine.specs.State.{State}
+use Rattle.office_rules.specs.State.{State}
 use Rattle.office_desk.specs.Leaving.{StandsAt}
 use Rattle.office_run.proofs.Applications.{performs_applies}
 use Rattle.office_run.proofs.applying.apply_at.Goals as goal

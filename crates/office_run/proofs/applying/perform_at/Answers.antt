@@ -1,7 +1,7 @@
 use Rattle.std.proofs.Common.{sym}
 use Rattle.sqlite.specs.Held.{state}
 use Rattle.sqlite.specs.State.{HasCleanDisk}
-use Rattle.office_machine.specs.State.{State}
+use Rattle.office_rules.specs.State.{State}
 use Rattle.office_desk.specs.Leaving.{StandsAt}
 use Rattle.office_run.proofs.Applications.{told_performs, untold_performs}
 use Rattle.office_run.proofs.DeskActs.{done_at, stopped_at}

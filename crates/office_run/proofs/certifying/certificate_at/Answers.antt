@@ -2,7 +2,7 @@ use Rattle.std.proofs.Common.{◌≡◌, ◌∙◌, Some, refl, sym, ap}
 use Rattle.std.specs.FinMap.{get}
 use Rattle.std.specs.Option.{option_map}
 use Rattle.std.specs.String.{string_bytes}
-use Rattle.office_machine.specs.State.{Office, State}
+use Rattle.office_rules.specs.State.{Office, State}
 use Rattle.office_run.proofs.Certificates.{memory_alone, text_certifies}
 use Rattle.office_run.proofs.certifying.certificate_at.Goals as goal
 

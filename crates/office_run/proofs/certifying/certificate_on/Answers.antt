@@ -1,6 +1,6 @@
 use Rattle.std.proofs.Common.{◌≡◌, inl, refl, sym, rules}
 use Rattle.sqlite.specs.Held.{state}
-use Rattle.office_machine.specs.State.{State, empty_state}
+use Rattle.office_rules.specs.State.{State, empty_state}
 use Rattle.office_run.specs.Opening.{IsOfOpened, IsOpened}
 use Rattle.office_run.proofs.Certificates.{certifies_of, closed_certifies}
 use Rattle.office_run.proofs.certifying.certificate_on.Goals as goal

@@ -1,8 +1,8 @@
 use Rattle.std.proofs.Common.{◌≡◌, ◌∙◌, Some, refl, sym, ap}
 use Rattle.sqlite.specs.Held.{state}
 use Rattle.sqlite.specs.State.{HasCleanDisk}
-use Rattle.office_machine.specs.Runs.{open_run}
-use Rattle.office_machine.specs.State.{State}
+use Rattle.office_rules.specs.Runs.{open_run}
+use Rattle.office_rules.specs.State.{State}
 use Rattle.office_desk.specs.Leaving.{StandsAt}
 use Rattle.office_run.proofs.Resumptions.{told_resumes}
 use Rattle.office_run.proofs.resuming.resume_at.Goals as goal

@@ -1,7 +1,7 @@
 use Rattle.std.proofs.Common.{inl, refl, rules}
 use Rattle.sqlite.specs.Held.{state}
 use Rattle.sqlite.specs.State.{HasCleanDisk}
-use Rattle.office_machine.specs.State.{State, empty_state}
+use Rattle.office_rules.specs.State.{State, empty_state}
 use Rattle.office_desk.specs.Leaving.{StandsAt}
 use Rattle.office_run.specs.Opening.{IsOfOpened}
 use Rattle.office_run.proofs.Resumptions.{closed_resumes, resumes_of}

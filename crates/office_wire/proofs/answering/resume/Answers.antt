@@ -1,8 +1,8 @@
 use Rattle.std.proofs.Common.{◌∙◌, refl, sym, ap, inr}
 use Rattle.sqlite.specs.Held.{state}
 use Rattle.sqlite.specs.State.{HasCleanDisk}
-use Rattle.office_machine.specs.Runs.{open_run}
-use Rattle.office_machine.specs.State.{State}
+use Rattle.office_rules.specs.Runs.{open_run}
+use Rattle.office_rules.specs.State.{State}
 use Rattle.office_desk.specs.Leaving.{StandsAt}
 use Rattle.office_http.specs.Replies.{Response}
 use Rattle.office_wire.specs.Answering.{Resumes}

@@ -1,7 +1,7 @@
 use Rattle.sqlite.specs.Held.{state}
 use Rattle.sqlite.specs.State.{HasCleanDisk}
 use Rattle.std.specs.Prelude.{Some}
-use Rattle.office_machine.specs.State.{State}
+use Rattle.office_rules.specs.State.{State}
 use Rattle.office_desk.specs.Leaving.{StandsAt}
 use Rattle.office_http.specs.Replies.{Response}
 use Rattle.office_wire.specs.Answering.{TellsContent}

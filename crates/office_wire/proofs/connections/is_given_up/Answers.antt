@@ -1,5 +1,5 @@
 use Rattle.std.proofs.Common.{refl, sym}
-use Rattle.office_machine.specs.State.{State, empty_state}
+use Rattle.office_rules.specs.State.{State, empty_state}
 use Rattle.office_wire.proofs.Kept.{stands_kept, told_gone}
 use Rattle.office_wire.proofs.connections.is_given_up.Goals as goal
 

@@ -1,8 +1,8 @@
 use Rattle.std.proofs.Common.{◌∙◌, refl, sym, ap, subst}
 use Rattle.std.specs.FinMap.{empty}
 use Rattle.std.proofs.lemmas.Result.{IfErr-weaker, on_ok_weaker}
-use Rattle.office_machine.specs.Runs.{after_steps}
-use Rattle.office_machine.specs.State.{State, with_contents}
+use Rattle.office_rules.specs.Runs.{after_steps}
+use Rattle.office_rules.specs.State.{State, with_contents}
 use Rattle.office_desk.specs.Leaving.{StandsAt}
 use Rattle.office_desk.proofs.RunSteps.{midway_resumed, midway_steps, none_resumed, steps_none}
 use Rattle.office_desk.proofs.StepFates.{fates_resumed}

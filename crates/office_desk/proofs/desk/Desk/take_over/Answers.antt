@@ -2,8 +2,8 @@ use Rattle.std.proofs.Common.{refl, sym, subst}
 use Rattle.std.proofs.lemmas.Result.{err_from_is_err_and}
 use Rattle.sqlite.specs.Effect.{Database}
 use Rattle.sqlite.specs.Held.{state}
-use Rattle.office_machine.specs.Rows.{rows_of}
-use Rattle.office_machine.specs.State.{with_contents}
+use Rattle.office_rules.specs.Rows.{rows_of}
+use Rattle.office_rules.specs.State.{with_contents}
 use Rattle.office_store.proofs.OfficeRow.{this_version}
 use Rattle.office_store.specs.Stands.{Stands}
 use Rattle.office_desk.proofs.Opened.{stand_found}

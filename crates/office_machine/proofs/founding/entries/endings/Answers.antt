@@ -1,7 +1,7 @@
 use Rattle.std.proofs.Common.{◌∙◌, Ok, ap}
 use Rattle.std.specs.FinMap.{from_entries, values}
 use Rattle.std.specs.Ordering.{nat_cmp}
-use Rattle.office_machine.specs.State.{entry_cmp}
+use Rattle.office_rules.specs.State.{entry_cmp}
 use Rattle.office_machine.proofs.Endings.{all_noted, none_noted, noted_next, other_noted}
 use Rattle.office_machine.proofs.RunEntries.{values_ordered}
 use Rattle.office_machine.proofs.founding.entries.endings.Goals as goal

@@ -1,6 +1,6 @@
 use Rattle.std.specs.FinMap.{from_entries, values}
 use Rattle.std.specs.Ordering.{nat_cmp}
-use Rattle.office_machine.specs.State.{entry_cmp}
+use Rattle.office_rules.specs.State.{entry_cmp}
 use Rattle.office_machine.proofs.Endings.{AreNoted}
 use Rattle.office_machine.proofs.founding.entries.endings.Given as goal
 

@@ -5,7 +5,7 @@ use Rattle.std.specs.FinMap.{from_entries, get, nat_cmp-IsAntisymmetric}
 use Rattle.std.specs.Ordering.{nat_cmp}
 use Rattle.std.proofs.lemmas.Bool.{eqb-true, eq-eqb, both_ways}
 use Rattle.office_machine.proofs.Stored.{get_is, inserted}
-use Rattle.office_machine.proofs.SoundMaps.{one_there}
+use Rattle.office_rules.proofs.SoundMaps.{one_there}
 use Rattle.office_machine.proofs.founding.entries.note_ending.Goals as goal
 
 pub returns-in-Some-clause-ending : goal.returns-in-Some-clause-ending

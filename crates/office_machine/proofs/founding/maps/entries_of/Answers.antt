@@ -4,8 +4,8 @@ use Rattle.std.specs.List.Sorted.{IsStrictlySortedBy}
 use Rattle.std.specs.Map.{keys_of}
 use Rattle.std.specs.declared.cmp.Ordering.TheVariants.{Less}
 use Rattle.office_rows.proofs.Exits.{damaged_exit}
-use Rattle.office_machine.specs.Founding.{entry_rows}
-use Rattle.office_machine.specs.State.{entry_cmp}
+use Rattle.office_rules.specs.Founding.{entry_rows}
+use Rattle.office_rules.specs.State.{entry_cmp}
 use Rattle.office_machine.proofs.MapRows.{next_entry}
 use Rattle.office_machine.proofs.founding.maps.entries_of.Goals as goal
 

@@ -1,7 +1,7 @@
 use Rattle.std.proofs.Common.{◌≡◌, ◌++◌}
 use Rattle.std.specs.BTreeMap.{IsOrdered}
-use Rattle.office_machine.specs.Founding.{entry_rows}
-use Rattle.office_machine.specs.State.{entry_cmp}
+use Rattle.office_rules.specs.Founding.{entry_rows}
+use Rattle.office_rules.specs.State.{entry_cmp}
 use Rattle.office_machine.proofs.founding.maps.entries_of.Given as goal
 
 abbrev pub invariant-loop-entry : goal.invariant-loop-entry

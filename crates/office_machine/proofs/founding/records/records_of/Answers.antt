@@ -3,7 +3,7 @@ use Rattle.std.specs.Result.{is_ok}
 use Rattle.std.proofs.lemmas.List.{length_push}
 use Rattle.office_rows.specs.Rows.{numbered_rows}
 use Rattle.office_rows.proofs.Exits.{damaged_exit}
-use Rattle.office_machine.specs.Rows.{record_rows}
+use Rattle.office_rules.specs.Rows.{record_rows}
 use Rattle.office_machine.proofs.RecordRows.{next_record, no_record, records-push, row_among}
 use Rattle.office_machine.proofs.founding.records.records_of.Goals as goal
 

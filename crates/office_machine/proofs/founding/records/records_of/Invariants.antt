@@ -1,6 +1,6 @@
 use Rattle.std.proofs.Common.{◌≡◌, ◌++◌, length}
 use Rattle.office_rows.specs.Rows.{numbered_rows}
-use Rattle.office_machine.specs.Rows.{record_rows}
+use Rattle.office_rules.specs.Rows.{record_rows}
 use Rattle.office_machine.proofs.founding.records.records_of.Given as goal
 
 abbrev pub invariant-loop-number : goal.invariant-loop-number

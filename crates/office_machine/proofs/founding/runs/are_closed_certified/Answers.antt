@@ -1,7 +1,7 @@
 use Rattle.std.proofs.Common.{◌≡◌, ◌+◌, ◌∙◌, ℕ, true, ap, sym}
 use Rattle.std.specs.FinMap.{contains_key, from_entries}
 use Rattle.std.specs.Ordering.{nat_cmp}
-use Rattle.office_machine.specs.declared.run.Run.{Run}
+use Rattle.office_rules.specs.declared.run.Run.{Run}
 use Rattle.office_machine.proofs.RunTests.{numbers_all, numbers_more, read_at}
 use Rattle.office_machine.proofs.founding.runs.are_closed_certified.Goals as goal
 use Rattle.office_machine.proofs.founding.runs.are_closed_certified.Goals.{else-runs-i-via-then-runs-i+else-not-is_certified, else-runs-i-via-else-runs-i}

@@ -1,4 +1,4 @@
-use Rattle.office_machine.specs.Sound.{IsFormedRun}
+use Rattle.office_rules.specs.Sound.{IsFormedRun}
 use Rattle.office_machine.proofs.RunTests.{numbers_more, numbers_all, numbers_none, read_at}
 use Rattle.office_machine.proofs.founding.runs.formed_runs.Goals as goal
 

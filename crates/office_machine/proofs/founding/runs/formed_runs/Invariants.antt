@@ -1,7 +1,7 @@
 use Rattle.std.proofs.Common.{◌≡◌, ◌≤◌, ℕ, Some}
 use Rattle.office_tree.specs.Lists.{numbered}
-use Rattle.office_machine.specs.Sound.{IsFormedRun}
-use Rattle.office_machine.specs.declared.run.Run.{Run}
+use Rattle.office_rules.specs.Sound.{IsFormedRun}
+use Rattle.office_rules.specs.declared.run.Run.{Run}
 use Rattle.office_machine.proofs.founding.runs.formed_runs.Given as goal
 
 -- so it is of those so far

@@ -1,9 +1,9 @@
 use Rattle.std.proofs.Common.{Result, Ok, Err, sym, ap, ◌∙◌, subst, OnOk, OnErr}
 use Rattle.std.proofs.lemmas.Result.{on_ok_weaker, on_err_weaker}
-use Rattle.office_machine.specs.Acts.{CanBeMade}
-use Rattle.office_machine.specs.Sound.{IsSoundOffice}
-use Rattle.office_machine.specs.State.{Office}
-use Rattle.office_machine.specs.Writes.{CanWrite, all_office_writes}
+use Rattle.office_rules.specs.Acts.{CanBeMade}
+use Rattle.office_rules.specs.Sound.{IsSoundOffice}
+use Rattle.office_rules.specs.State.{Office}
+use Rattle.office_rules.specs.Writes.{CanWrite, all_office_writes}
 use Rattle.office_machine.proofs.machine.Machine.apply.Goals as goal
 
 either : {T E : Type 0} (P : Type 0) (r : Result T E) → OnOk r P → OnErr r P → P

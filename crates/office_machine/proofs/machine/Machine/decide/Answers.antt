@@ -1,8 +1,8 @@
 use Rattle.std.proofs.Common.{IfOk, subst}
 use Rattle.std.proofs.lemmas.Result.{IfOk-weaker}
-use Rattle.office_machine.specs.Acts.{IsDecidedFor}
-use Rattle.office_machine.specs.State.{Office}
-use Rattle.office_machine.proofs.Feasible.{feasible, keeps}
+use Rattle.office_rules.specs.Acts.{IsDecidedFor}
+use Rattle.office_rules.specs.State.{Office}
+use Rattle.office_rules.proofs.Feasible.{feasible, keeps}
 use Rattle.office_machine.proofs.machine.Machine.decide.Goals.{After-decide}
 use Rattle.office_machine.proofs.machine.Machine.decide.Goals as goal
 

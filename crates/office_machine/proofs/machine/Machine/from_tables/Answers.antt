@@ -1,6 +1,6 @@
 use Rattle.std.proofs.Common.{IfOk, List, subst, ℕ}
-use Rattle.office_machine.specs.Founding.{HaveKeys}
-use Rattle.office_machine.specs.State.{ByteMap}
+use Rattle.office_rules.specs.Founding.{HaveKeys}
+use Rattle.office_rules.specs.State.{ByteMap}
 use Rattle.office_machine.proofs.machine.Machine.from_tables.Goals as goal
 
 pub returns-in-Ok-clause-keys : goal.returns-in-Ok-clause-keys

@@ -1,6 +1,6 @@
 use Rattle.std.proofs.Common.{◌≡◌, ◌∙◌, Ok, true, false, length, subst, sym}
-use Rattle.office_machine.specs.Sound.{IsSoundOffice}
-use Rattle.office_machine.specs.State.{Office}
+use Rattle.office_rules.specs.Sound.{IsSoundOffice}
+use Rattle.office_rules.specs.State.{Office}
 use Rattle.office_machine.proofs.FoundSound.{entries_keyed, found_state}
 use Rattle.office_machine.proofs.machine.Machine.of_tables.Goals as goal
 

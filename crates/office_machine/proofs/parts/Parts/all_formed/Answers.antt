@@ -2,7 +2,7 @@ use Rattle.std.proofs.Common.{subst}
 use Rattle.office_tree.specs.Forms.{IsFormedTree}
 use Rattle.office_tree.specs.Sound as tree
 use Rattle.office_holds.specs.Forms.{AreFormedHolds, FitsHoldLimits}
-use Rattle.office_machine.specs.State.{Office}
+use Rattle.office_rules.specs.State.{Office}
 use Rattle.office_machine.proofs.parts.Parts.all_formed.Goals as goal
 
 pub returns : goal.returns

@@ -1,5 +1,5 @@
 use Rattle.std.proofs.Common.{◌≡◌}
-use Rattle.office_machine.specs.Writes.{all_office_writes, AllFollow}
+use Rattle.office_rules.specs.Writes.{all_office_writes, AllFollow}
 use Rattle.office_machine.proofs.parts.Parts.apply.Given as goal
 
 -- what is left needs no memory, and leads to where all the writes lead

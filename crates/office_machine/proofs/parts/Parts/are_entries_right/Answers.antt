@@ -2,8 +2,8 @@ use Rattle.std.proofs.Common.{◌≡◌, ◌∙◌, true, refl, sym, ap}
 use Rattle.std.specs.FinMap.{values}
 use Rattle.std.proofs.lemmas.Bool.{both_ways}
 use Rattle.office_proof.specs.declared.entry.Entry.{Entry}
-use Rattle.office_machine.specs.Founding.{is_entry_right}
-use Rattle.office_machine.specs.State.{Office}
+use Rattle.office_rules.specs.Founding.{is_entry_right}
+use Rattle.office_rules.specs.State.{Office}
 use Rattle.office_machine.proofs.Passing.{all_passed, next_passes, none_passed, passed_next}
 use Rattle.office_machine.proofs.RunEntries.{values_ordered}
 use Rattle.office_machine.proofs.parts.Parts.are_entries_right.Goals as goal

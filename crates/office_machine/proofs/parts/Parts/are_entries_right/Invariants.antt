@@ -1,6 +1,6 @@
 use Rattle.std.proofs.Common.{◌≡◌, true}
 use Rattle.std.specs.FinMap.{values}
-use Rattle.office_machine.specs.Founding.{is_entry_right}
+use Rattle.office_rules.specs.Founding.{is_entry_right}
 use Rattle.office_machine.proofs.Passing.{HavePassed}
 use Rattle.office_machine.proofs.parts.Parts.are_entries_right.Given as goal
 

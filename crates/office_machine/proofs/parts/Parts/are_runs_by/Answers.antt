@@ -1,8 +1,8 @@
 use Rattle.std.proofs.Common.{◌≤ℤ◌, ◌∙◌, ap, sym, subst}
 use Rattle.office_tree.specs.Lists.{numbered}
 use Rattle.office_tree.proofs.Bridge.{from_numbers}
-use Rattle.office_machine.specs.Founding.{AreRunsBy}
-use Rattle.office_machine.specs.State.{Office}
+use Rattle.office_rules.specs.Founding.{AreRunsBy}
+use Rattle.office_rules.specs.State.{Office}
 use Rattle.office_machine.proofs.parts.Parts.are_runs_by.Goals as goal
 
 pub returns-clause-no : goal.returns-clause-no

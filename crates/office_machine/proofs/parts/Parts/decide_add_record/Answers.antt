@@ -1,8 +1,8 @@
 use Rattle.std.proofs.Common.{◌∙◌, ◌+◌, ◌∷◌, [], ◌++◌, List, sym, ap, refl}
 use Rattle.std.specs.Option.{option_copied}
 use Rattle.office_tree.specs.Conditions.{conditions_of_add_record}
-use Rattle.office_machine.specs.declared.rows.RowWrite.{RowWrite}
-use Rattle.office_machine.specs.declared.rows.RowWrite.TheVariants as row_write
+use Rattle.office_rules.specs.declared.rows.RowWrite.{RowWrite}
+use Rattle.office_rules.specs.declared.rows.RowWrite.TheVariants as row_write
 use Rattle.office_machine.proofs.DecidedAdditions.{addition_refused, record_added, same_addition}
 use Rattle.office_machine.proofs.parts.Parts.decide_add_record.Goals as goal
 

@@ -4,9 +4,9 @@ use Rattle.office_tree.specs.Lists.{numbered}
 use Rattle.office_tree.specs.Sound.{IsSound}
 use Rattle.office_tree.specs.Tree.{TreeState}
 use Rattle.office_tree.specs.declared.classified.Classified.TheVariants as classified
-use Rattle.office_machine.specs.State.{ByteMap, with_contents}
-use Rattle.office_machine.specs.Steps.{step_reclassify}
-use Rattle.office_machine.specs.declared.answer.Answer.TheVariants.{Done}
+use Rattle.office_rules.specs.State.{ByteMap, with_contents}
+use Rattle.office_rules.specs.Steps.{step_reclassify}
+use Rattle.office_rules.specs.declared.answer.Answer.TheVariants.{Done}
 use Rattle.office_machine.proofs.DecidedClasses.{record_reclassified}
 use Rattle.office_machine.proofs.Decisions.{going}
 use Rattle.office_machine.proofs.parts.Parts.decide_class_of_record.Goals as goal

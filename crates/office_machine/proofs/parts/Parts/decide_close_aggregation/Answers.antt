@@ -5,12 +5,12 @@ use Rattle.office_tree.specs.Sound.{IsSound}
 use Rattle.office_tree.specs.Tree.{TreeState, has_aggregation}
 use Rattle.office_tree.proofs.Accepting.{none_holds, not_false}
 use Rattle.office_tree.proofs.Keeping.{as_closed}
-use Rattle.office_machine.specs.Conditions.{refusals_of_close_aggregation}
-use Rattle.office_machine.specs.Effects.{after_close_aggregation}
-use Rattle.office_machine.specs.State.{ByteMap, with_contents, with_office}
-use Rattle.office_machine.specs.Steps.{step_close_aggregation}
-use Rattle.office_machine.specs.declared.answer.Answer.TheVariants.{Done}
-use Rattle.office_machine.specs.declared.rows.RowWrite.TheVariants as row_write
+use Rattle.office_rules.specs.Conditions.{refusals_of_close_aggregation}
+use Rattle.office_rules.specs.Effects.{after_close_aggregation}
+use Rattle.office_rules.specs.State.{ByteMap, with_contents, with_office}
+use Rattle.office_rules.specs.Steps.{step_close_aggregation}
+use Rattle.office_rules.specs.declared.answer.Answer.TheVariants.{Done}
+use Rattle.office_rules.specs.declared.rows.RowWrite.TheVariants as row_write
 use Rattle.office_machine.proofs.DecidedTree.{none_of, closing_change}
 use Rattle.office_machine.proofs.Decisions.{going, refused_step}
 use Rattle.office_machine.proofs.parts.Parts.decide_close_aggregation.Goals.{After-dated}

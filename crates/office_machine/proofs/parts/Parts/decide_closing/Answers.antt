@@ -1,5 +1,5 @@
 use Rattle.std.proofs.Common.{◌∙◌, ap, refl}
-use Rattle.office_machine.specs.declared.answer.Answer.TheVariants.{RunClosed}
+use Rattle.office_rules.specs.declared.answer.Answer.TheVariants.{RunClosed}
 use Rattle.office_machine.proofs.RunClosing.{closing, closing_writes}
 use Rattle.office_machine.proofs.parts.Parts.decide_closing.Goals as goal
 

@@ -2,12 +2,12 @@ use Rattle.std.proofs.Common.{◌≡◌, ◌∙◌, [], ◌∷◌, sym, ap}
 use Rattle.office_tree.specs.Conditions.{first_of}
 use Rattle.office_holds.specs.Conditions.{conditions_of_hold_off}
 use Rattle.office_holds.specs.Holds.{HoldMap}
-use Rattle.office_machine.specs.Conditions.{refusals_of_hold_off}
-use Rattle.office_machine.specs.Effects.{after_hold_off}
-use Rattle.office_machine.specs.State.{ByteMap, with_contents, with_office}
-use Rattle.office_machine.specs.Steps.{step_hold_off}
-use Rattle.office_machine.specs.declared.answer.Answer.TheVariants.{Done}
-use Rattle.office_machine.specs.declared.rows.RowWrite.TheVariants as row_write
+use Rattle.office_rules.specs.Conditions.{refusals_of_hold_off}
+use Rattle.office_rules.specs.Effects.{after_hold_off}
+use Rattle.office_rules.specs.State.{ByteMap, with_contents, with_office}
+use Rattle.office_rules.specs.Steps.{step_hold_off}
+use Rattle.office_rules.specs.declared.answer.Answer.TheVariants.{Done}
+use Rattle.office_rules.specs.declared.rows.RowWrite.TheVariants as row_write
 use Rattle.office_machine.proofs.DecidedHolds.{uncovering_change}
 use Rattle.office_machine.proofs.Decisions.{going, refused_step}
 use Rattle.office_machine.proofs.parts.Parts.decide_hold_off.Goals.{After-dated}

@@ -2,13 +2,13 @@ use Rattle.std.proofs.Common.{◌≡◌, ◌∙◌, [], ◌∷◌, sym, ap, subs
 use Rattle.office_tree.specs.Conditions.{first_of}
 use Rattle.office_holds.specs.Conditions.{conditions_of_hold_on}
 use Rattle.office_holds.specs.Forms.{FitsHoldLimits}
-use Rattle.office_machine.specs.Conditions.{conditions_of_covering, conditions_of_target, refusals_of_hold_on}
-use Rattle.office_machine.specs.Effects.{after_hold_on}
+use Rattle.office_rules.specs.Conditions.{conditions_of_covering, conditions_of_target, refusals_of_hold_on}
+use Rattle.office_rules.specs.Effects.{after_hold_on}
 use Rattle.office_machine.specs.Lesser.{lesser}
-use Rattle.office_machine.specs.State.{ByteMap, Office, with_contents, with_office}
-use Rattle.office_machine.specs.Steps.{step_hold_on}
-use Rattle.office_machine.specs.declared.answer.Answer.TheVariants.{Done}
-use Rattle.office_machine.specs.declared.rows.RowWrite.TheVariants as row_write
+use Rattle.office_rules.specs.State.{ByteMap, Office, with_contents, with_office}
+use Rattle.office_rules.specs.Steps.{step_hold_on}
+use Rattle.office_rules.specs.declared.answer.Answer.TheVariants.{Done}
+use Rattle.office_rules.specs.declared.rows.RowWrite.TheVariants as row_write
 use Rattle.office_machine.proofs.DecidedHolds.{covering_change}
 use Rattle.office_machine.proofs.Decisions.{going, refused_step}
 use Rattle.office_machine.proofs.LesserRefusals.{lesser_of_covering}

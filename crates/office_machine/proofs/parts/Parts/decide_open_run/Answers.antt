@@ -1,11 +1,11 @@
 use Rattle.std.proofs.Common.{◌≡◌, ◌∙◌, [], ◌∷◌, suc, ◌+◌, length, sym, ap, arith}
 use Rattle.office_tree.specs.Conditions.{first_of}
-use Rattle.office_machine.specs.Conditions.{conditions_of_open_run, refusals_of_open_run}
-use Rattle.office_machine.specs.Effects.{after_open_run, new_run}
-use Rattle.office_machine.specs.State.{ByteMap, with_contents, with_office}
-use Rattle.office_machine.specs.Steps.{step_open_run}
-use Rattle.office_machine.specs.declared.answer.Answer.TheVariants.{Number}
-use Rattle.office_machine.specs.declared.rows.RowWrite.TheVariants as row_write
+use Rattle.office_rules.specs.Conditions.{conditions_of_open_run, refusals_of_open_run}
+use Rattle.office_rules.specs.Effects.{after_open_run, new_run}
+use Rattle.office_rules.specs.State.{ByteMap, with_contents, with_office}
+use Rattle.office_rules.specs.Steps.{step_open_run}
+use Rattle.office_rules.specs.declared.answer.Answer.TheVariants.{Number}
+use Rattle.office_rules.specs.declared.rows.RowWrite.TheVariants as row_write
 use Rattle.office_machine.proofs.DecidedTree.{none_of}
 use Rattle.office_machine.proofs.Decisions.{going, refused_step}
 use Rattle.office_machine.proofs.OfficeSound.{few_runs}

@@ -3,11 +3,11 @@ use Rattle.std.specs.Option.{option_copied}
 use Rattle.office_tree.specs.Conditions.{conditions_of_reclassify, first_of}
 use Rattle.office_tree.specs.declared.classified.Classified.{Classified}
 use Rattle.office_holds.specs.Conditions.{conditions_of_leaving_class}
-use Rattle.office_machine.specs.Conditions.{conditions_of_reclassifying, refusals_of_reclassify}
-use Rattle.office_machine.specs.Effects.{after_reclassify}
+use Rattle.office_rules.specs.Conditions.{conditions_of_reclassifying, refusals_of_reclassify}
+use Rattle.office_rules.specs.Effects.{after_reclassify}
 use Rattle.office_machine.specs.Lesser.{lesser}
-use Rattle.office_machine.specs.State.{Office, with_contents, with_office}
-use Rattle.office_machine.specs.declared.answer.Answer.TheVariants.{Done}
+use Rattle.office_rules.specs.State.{Office, with_contents, with_office}
+use Rattle.office_rules.specs.declared.answer.Answer.TheVariants.{Done}
 use Rattle.office_machine.proofs.Decisions.{refused_step}
 use Rattle.office_machine.proofs.LesserRefusals.{lesser_of_reclassifying}
 use Rattle.office_machine.proofs.parts.Parts.decide_reclassify.Goals.{After-dated}

@@ -3,13 +3,13 @@ use Rattle.std.specs.FinMap.{get}
 use Rattle.office_tree.specs.Conditions.{first_of, conditions_of_set_class_schedule}
 use Rattle.office_tree.specs.Sound.{IsSound}
 use Rattle.office_tree.specs.Tree.{TreeState}
-use Rattle.office_machine.specs.Conditions.{refusals_of_set_class_schedule}
-use Rattle.office_machine.specs.Effects.{after_set_class_schedule}
-use Rattle.office_machine.specs.State.{ByteMap, with_contents, with_office}
-use Rattle.office_machine.specs.Steps.{step_set_class_schedule}
-use Rattle.office_machine.specs.declared.answer.Answer.TheVariants.{Done}
-use Rattle.office_machine.specs.declared.rows.RowWrite.TheVariants as row_write
-use Rattle.office_machine.proofs.Accepted.{dated_accepted}
+use Rattle.office_rules.specs.Conditions.{refusals_of_set_class_schedule}
+use Rattle.office_rules.specs.Effects.{after_set_class_schedule}
+use Rattle.office_rules.specs.State.{ByteMap, with_contents, with_office}
+use Rattle.office_rules.specs.Steps.{step_set_class_schedule}
+use Rattle.office_rules.specs.declared.answer.Answer.TheVariants.{Done}
+use Rattle.office_rules.specs.declared.rows.RowWrite.TheVariants as row_write
+use Rattle.office_rules.proofs.Accepted.{dated_accepted}
 use Rattle.office_machine.proofs.DecidedTree.{none_of, class_there, class_schedule_change}
 use Rattle.office_machine.proofs.Decisions.{going, refused_step}
 use Rattle.office_machine.proofs.parts.Parts.decide_set_class_schedule.Goals.{After-dated}

@@ -2,11 +2,11 @@ use Rattle.std.proofs.Common.{◌∙◌, sym, ap}
 use Rattle.std.specs.Option.{option_copied}
 use Rattle.office_tree.specs.Conditions.{first_of, conditions_of_set_record_schedule}
 use Rattle.office_tree.specs.Tree.{TreeState}
-use Rattle.office_machine.specs.Conditions.{refusals_of_set_record_schedule}
-use Rattle.office_machine.specs.Effects.{after_set_record_schedule}
-use Rattle.office_machine.specs.State.{ByteMap, with_contents, with_office}
-use Rattle.office_machine.specs.Steps.{step_set_record_schedule}
-use Rattle.office_machine.specs.declared.answer.Answer.TheVariants.{Done}
+use Rattle.office_rules.specs.Conditions.{refusals_of_set_record_schedule}
+use Rattle.office_rules.specs.Effects.{after_set_record_schedule}
+use Rattle.office_rules.specs.State.{ByteMap, with_contents, with_office}
+use Rattle.office_rules.specs.Steps.{step_set_record_schedule}
+use Rattle.office_rules.specs.declared.answer.Answer.TheVariants.{Done}
 use Rattle.office_machine.proofs.DecidedRecords.{IsRead, accepted_in, record_to_schedule, scheduled}
 use Rattle.office_machine.proofs.Decisions.{going, refused_step}
 use Rattle.office_machine.proofs.parts.Parts.decide_set_record_schedule.Goals as goal

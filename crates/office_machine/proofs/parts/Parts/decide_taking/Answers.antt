@@ -1,7 +1,7 @@
 use Rattle.std.proofs.Common.{◌∙◌, sym, refl}
-use Rattle.office_machine.specs.Disposing.{outcome_of}
+use Rattle.office_rules.specs.Disposing.{outcome_of}
 use Rattle.office_machine.proofs.RunTaken.{taken_there, taken_confirmed, taken_comes, taken_change}
-use Rattle.office_machine.proofs.SoundMaps.{some_is}
+use Rattle.office_rules.proofs.SoundMaps.{some_is}
 use Rattle.office_machine.proofs.parts.Parts.decide_taking.Goals as goal
 
 pub outcome_of-requires : goal.outcome_of-requires

@@ -1,6 +1,6 @@
 use Rattle.std.proofs.Common.{length, subst, sym}
 use Rattle.office_holds.specs.Sound.{TargetsStand}
-use Rattle.office_machine.specs.State.{Office}
+use Rattle.office_rules.specs.State.{Office}
 use Rattle.office_machine.proofs.parts.Parts.do_parts_stand.Goals as goal
 
 pub returns-then-not-do_targets_stand-clause-no : goal.returns-then-not-do_targets_stand-clause-no

@@ -3,9 +3,9 @@ use Rattle.std.specs.FinMap.{get}
 use Rattle.office_tree.specs.Lists.{numbered}
 use Rattle.office_proof.specs.Forms.{IsFormedEntry}
 use Rattle.office_proof.specs.declared.entry.Entry.{Entry}
-use Rattle.office_machine.specs.Sound.{IsFormedRun}
-use Rattle.office_machine.specs.State.{Office}
-use Rattle.office_machine.specs.declared.run.Run.{Run}
+use Rattle.office_rules.specs.Sound.{IsFormedRun}
+use Rattle.office_rules.specs.State.{Office}
+use Rattle.office_rules.specs.declared.run.Run.{Run}
 use Rattle.office_machine.proofs.RunTests.{at_entries}
 use Rattle.office_machine.proofs.parts.Parts.formed.Goals as goal
 

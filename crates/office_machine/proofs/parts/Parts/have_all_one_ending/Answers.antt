@@ -1,8 +1,8 @@
 use Rattle.std.proofs.Common.{◌≡◌, true, false, subst}
 use Rattle.std.specs.FinMap.{from_entries, values}
 use Rattle.std.specs.Ordering.{nat_cmp}
-use Rattle.office_machine.specs.Founding.{AreEndings}
-use Rattle.office_machine.specs.State.{Office}
+use Rattle.office_rules.specs.Founding.{AreEndings}
+use Rattle.office_rules.specs.State.{Office}
 use Rattle.office_machine.proofs.Endings.{no_ending, one_ending}
 use Rattle.office_machine.proofs.parts.Parts.have_all_one_ending.Goals.{After-drop-ends}
 use Rattle.office_machine.proofs.parts.Parts.have_all_one_ending.Goals as goal

@@ -1,7 +1,7 @@
 use Rattle.std.proofs.Common.{subst, sym}
 use Rattle.office_tree.specs.Examined.{IsTreeBy}
 use Rattle.office_holds.specs.Sound.{NoHoldIsAfter}
-use Rattle.office_machine.specs.State.{Office}
+use Rattle.office_rules.specs.State.{Office}
 use Rattle.office_machine.proofs.parts.Parts.is_by.Goals as goal
 
 pub returns-then-not-are_by-clause-no : goal.returns-then-not-are_by-clause-no

@@ -4,7 +4,7 @@ use Rattle.std.specs.FinMap.{entries, from_entries}
 use Rattle.std.specs.Ordering.{nat_cmp}
 use Rattle.office_rows.proofs.Maps.{entries_of_ordered}
 use Rattle.office_tree.specs.Sound.{RefsDiffer}
-use Rattle.office_machine.specs.State.{Office}
+use Rattle.office_rules.specs.State.{Office}
 use Rattle.office_machine.proofs.FoundSound.{found_sound, sound_endings, sound_parts}
 use Rattle.office_machine.proofs.parts.Parts.is_sound.Goals as goal
 

@@ -1,5 +1,5 @@
 use Rattle.std.proofs.Common.{◌<◌, ◌∙◌, length, sym, ap, arith}
-use Rattle.office_machine.specs.State.{Office}
+use Rattle.office_rules.specs.State.{Office}
 use Rattle.office_machine.proofs.NextReady.{next_by_row, ready_here, ready_later}
 use Rattle.office_machine.proofs.parts.Parts.next_ready.Goals as goal
 

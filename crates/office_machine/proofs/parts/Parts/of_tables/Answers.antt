@@ -4,10 +4,10 @@ use Rattle.std.specs.List.Sorted.{IsStrictlySortedBy}
 use Rattle.std.specs.Ordering.{nat_cmp}
 use Rattle.office_rows.proofs.Exits.{damaged_exit}
 use Rattle.office_rows.proofs.Maps.{entries_of_ordered}
-use Rattle.office_machine.specs.State.{entry_cmp}
-use Rattle.office_machine.proofs.Accepted.{tree_sound}
+use Rattle.office_rules.specs.State.{entry_cmp}
+use Rattle.office_rules.proofs.Accepted.{tree_sound}
 use Rattle.office_machine.proofs.FoundTables.{certificates_ascend, contents_ascend, entries_ascend, hold_rows_stand, run_rows, some_contents, tables_of, tree_rows}
-use Rattle.office_machine.proofs.SoundMaps.{entry_total}
+use Rattle.office_rules.proofs.SoundMaps.{entry_total}
 use Rattle.office_machine.proofs.parts.Parts.of_tables.Goals as goal
 
 pub returns-in_err-tree-clause-damaged : goal.returns-in_err-tree-clause-damaged

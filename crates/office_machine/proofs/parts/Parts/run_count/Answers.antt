@@ -1,5 +1,5 @@
 use Rattle.std.proofs.Common.{ap, arith, length}
-use Rattle.office_machine.specs.State.{Office}
+use Rattle.office_rules.specs.State.{Office}
 use Rattle.office_machine.proofs.OfficeSound.{few_runs}
 use Rattle.office_machine.proofs.parts.Parts.run_count.Goals as goal
 

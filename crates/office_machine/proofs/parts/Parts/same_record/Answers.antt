@@ -1,7 +1,7 @@
 use Rattle.std.proofs.Common.{◌∙◌, ◌+◌, sym, ap, refl}
 use Rattle.office_tree.specs.Lists.{numbered}
 use Rattle.office_tree.specs.Tree.{TreeState}
-use Rattle.office_machine.specs.Conditions.{is_same_record}
+use Rattle.office_rules.specs.Conditions.{is_same_record}
 use Rattle.office_machine.proofs.SameRecords.{first_passes, first_later}
 use Rattle.office_machine.proofs.parts.Parts.same_record.Goals as goal
 

@@ -1,5 +1,5 @@
 use Rattle.std.proofs.Common.{◌≡◌, ◌+◌, drop}
-use Rattle.office_machine.specs.Conditions.{is_same_record, number_passing}
+use Rattle.office_rules.specs.Conditions.{is_same_record, number_passing}
 use Rattle.office_machine.proofs.parts.Parts.same_record.Given as goal
 
 -- none of the records so far is the same

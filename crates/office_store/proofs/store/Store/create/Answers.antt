@@ -1,6 +1,6 @@
 use Rattle.std.proofs.Common.{inl, inr, sym, subst}
-use Rattle.office_machine.specs.Rows.{rows_of}
-use Rattle.office_machine.specs.State.{empty_state}
+use Rattle.office_rules.specs.Rows.{rows_of}
+use Rattle.office_rules.specs.State.{empty_state}
 use Rattle.office_store.specs.Stands.{Stands}
 use Rattle.office_store.proofs.NewOffice.{new_stands}
 use Rattle.office_store.proofs.store.Store.create.Goals as goal

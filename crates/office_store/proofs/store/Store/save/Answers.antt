@@ -1,7 +1,7 @@
 use Rattle.std.proofs.Common.{rules, OnOk, OnErr, subst}
 use Rattle.sqlite.specs.Held.{state}
-use Rattle.office_machine.specs.Rows.{rows_of}
-use Rattle.office_machine.specs.Writes.{all_writes}
+use Rattle.office_rules.specs.Rows.{rows_of}
+use Rattle.office_rules.specs.Writes.{all_writes}
 use Rattle.office_store.specs.Stands.{HoldsRows, LeavesWithin}
 use Rattle.office_store.specs.Written.{Saves}
 use Rattle.office_store.proofs.Saved.{holds_next, leaves_within}

@@ -1,5 +1,0 @@
-use Rattle.office_machine.proofs.Contents.{step_contents, content_added, content_stays}
-use Rattle.office_machine.proofs.laws.contents.law_of_contents.Goals as goal
-
-pub returns : goal.returns
-returns c = record { step = step_contents; added = content_added; others = content_stays }

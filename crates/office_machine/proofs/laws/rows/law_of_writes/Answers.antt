@@ -1,5 +1,0 @@
-use Rattle.office_machine.proofs.RowWrites.{all_written, written}
-use Rattle.office_machine.proofs.laws.rows.law_of_writes.Goals as goal
-
-pub returns : goal.returns
-returns c = record { each = written; all = all_written }

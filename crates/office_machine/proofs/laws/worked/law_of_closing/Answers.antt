@@ -1,5 +1,0 @@
-use Rattle.office_machine.proofs.WorkedClosing.{child_open, child_is_closed, both_spent, child_spent}
-use Rattle.office_machine.proofs.laws.worked.law_of_closing.Goals as goal
-
-pub returns : goal.returns
-returns c = record { child_open = child_open; child_closed = child_is_closed; both = both_spent; child = child_spent }

@@ -1,0 +1,81 @@
+-- An act on the holds keeps a state sound.
+use Rattle.std.proofs.Common.{◌≡◌, ℕ, ℤ, List, length, Some, None, false}
+use Rattle.std.specs.Option.{is_none}
+use Rattle.std.specs.FinMap.{get, contains_key}
+use Rattle.office_days.specs.Limits.{IsDayNumber}
+use Rattle.office_tree.specs.Conditions.{first_of}
+use Rattle.office_tree.specs.Forms.{IsCode, IsText}
+use Rattle.office_tree.specs.Tree.{TreeState, has_aggregation, has_record}
+use Rattle.office_tree.proofs.Accepting.{none_holds, not_false, neither}
+use Rattle.office_tree.proofs.Inserting.{insert_keeps, amended_keeps}
+use Rattle.office_tree.proofs.Reading.{aggregation_within, record_within}
+use Rattle.office_holds.specs.Conditions.{conditions_of_place_hold, conditions_of_hold_on, conditions_of_hold_off, conditions_of_lift_hold}
+use Rattle.office_holds.specs.Effects.{new_hold, placed_hold, with_target, without_target, held_on, held_off, lifted_hold}
+use Rattle.office_holds.specs.Forms.{IsFormedTarget}
+use Rattle.office_holds.specs.declared.target.Target.{Target}
+use Rattle.office_holds.specs.declared.target.Target.TheVariants as target
+use Rattle.office_holds.proofs.Keeping.{TargetIsThere, TargetsStand-placed_hold, TargetsStand-held_on, TargetsStand-held_off, TargetsStand-lifted_hold, AreFormedHolds-placed_hold, AreFormedHolds-held_on, AreFormedHolds-held_off, AreFormedHolds-lifted_hold, FitsHoldLimits-placed_hold, FitsHoldLimits-held_on, FitsHoldLimits-held_off, FitsHoldLimits-lifted_hold, NoHoldIsAfter-placed_hold, NoHoldIsAfter-held_on, NoHoldIsAfter-held_off, NoHoldIsAfter-lifted_hold}
+use Rattle.office_rules.specs.Conditions.{refusals_of_place_hold, refusals_of_hold_on, refusals_of_hold_off, refusals_of_lift_hold, lacks_target}
+use Rattle.office_rules.specs.Effects.{after_place_hold, after_hold_on, after_hold_off, after_lift_hold}
+use Rattle.office_rules.specs.Meanings.{IsAccepted}
+use Rattle.office_rules.specs.Sound.{IsSound}
+use Rattle.office_rules.specs.State.{State, with_office}
+use Rattle.office_rules.proofs.Accepted.{not_back, dated_accepted, accepted_of}
+use Rattle.office_rules.proofs.SoundParts.{sound_holding}
+
+pub sound_place_hold : (s : State) (day : ℤ) (code reason by : List ℕ) → IsSound s → IsDayNumber day → IsCode code → IsText reason → IsText by → IsAccepted (refusals_of_place_hold s.office day code) → IsSound (with_office s (after_place_hold s.office day code reason by))
+sound_place_hold s day code reason by sound day_formed code_formed reason_formed by_formed accepted =
+    let t = s.office.tree in
+    let holds = s.office.holds in
+    let no = dated_accepted s.office day (conditions_of_place_hold holds code) accepted in
+    sound_holding s day (placed_hold holds day code reason by) sound day_formed no.0
+    (FitsHoldLimits-placed_hold holds sound.limits.holds_few day code reason by no.1)
+    (AreFormedHolds-placed_hold holds sound.limits.hold_forms day code reason by code_formed reason_formed by_formed day_formed)
+    (TargetsStand-placed_hold holds t.classes (length t.aggregations) (length t.records) sound.names.of_holds day code reason by)
+    (NoHoldIsAfter-placed_hold holds s.office.day day sound.days.held no.0 code reason by)
+    (insert_keeps holds code (new_hold day reason by))
+
+-- a target that is not lacked is there
+target_there : (t : TreeState) (target : Target) → lacks_target t target ≡ false → TargetIsThere t.classes (length t.aggregations) (length t.records) target
+target_there t (target.Class code) e = not_false (contains_key t.classes code) e
+target_there t (target.Aggregation a) e = aggregation_within t a (not_false (has_aggregation t a) e)
+target_there t (target.Record r) e = record_within t r (not_false (has_record t r) e)
+
+pub sound_hold_on : (s : State) (day : ℤ) (code : List ℕ) (target : Target) → IsSound s → IsDayNumber day → IsFormedTarget target → IsAccepted (refusals_of_hold_on s.office day code target) → IsSound (with_office s (after_hold_on s.office day code target))
+sound_hold_on s day code target sound day_formed target_formed accepted =
+    let t = s.office.tree in
+    let holds = s.office.holds in
+    let no = none_holds (refusals_of_hold_on s.office day code target) accepted in
+    let up = not_back day s.office.day no.0 in
+    let lacks = neither (is_none (get holds code)) (lacks_target t target) no.1.1.0 in
+    let below : first_of (conditions_of_hold_on holds code target) ≡ None = accepted_of (conditions_of_hold_on holds code target) (no.1.0, (lacks.0, (no.1.1.1.0, (no.1.1.1.1.0, tt)))) in
+    sound_holding s day (held_on holds code target) sound day_formed up
+    (FitsHoldLimits-held_on holds sound.limits.holds_few code target below)
+    (AreFormedHolds-held_on holds sound.limits.hold_forms code target target_formed)
+    (TargetsStand-held_on holds t.classes (length t.aggregations) (length t.records) sound.names.of_holds code target (target_there t target lacks.1))
+    (NoHoldIsAfter-held_on holds s.office.day day sound.days.held up code target)
+    (amended_keeps holds code (with_target target))
+
+pub sound_hold_off : (s : State) (day : ℤ) (code : List ℕ) (target : Target) → IsSound s → IsDayNumber day → IsAccepted (refusals_of_hold_off s.office day code target) → IsSound (with_office s (after_hold_off s.office day code target))
+sound_hold_off s day code target sound day_formed accepted =
+    let t = s.office.tree in
+    let holds = s.office.holds in
+    let up = (dated_accepted s.office day (conditions_of_hold_off holds code target) accepted).0 in
+    sound_holding s day (held_off holds code target) sound day_formed up
+    (FitsHoldLimits-held_off holds sound.limits.holds_few code target)
+    (AreFormedHolds-held_off holds sound.limits.hold_forms code target)
+    (TargetsStand-held_off holds t.classes (length t.aggregations) (length t.records) sound.names.of_holds code target)
+    (NoHoldIsAfter-held_off holds s.office.day day sound.days.held up code target)
+    (amended_keeps holds code (without_target target))
+
+pub sound_lift_hold : (s : State) (day : ℤ) (code : List ℕ) → IsSound s → IsDayNumber day → IsAccepted (refusals_of_lift_hold s.office day code) → IsSound (with_office s (after_lift_hold s.office day code))
+sound_lift_hold s day code sound day_formed accepted =
+    let t = s.office.tree in
+    let holds = s.office.holds in
+    let up = (dated_accepted s.office day (conditions_of_lift_hold holds code) accepted).0 in
+    sound_holding s day (lifted_hold holds day code) sound day_formed up
+    (FitsHoldLimits-lifted_hold holds sound.limits.holds_few day code)
+    (AreFormedHolds-lifted_hold holds sound.limits.hold_forms day code day_formed)
+    (TargetsStand-lifted_hold holds t.classes (length t.aggregations) (length t.records) sound.names.of_holds day code)
+    (NoHoldIsAfter-lifted_hold holds s.office.day day sound.days.held up code)
+    (amended_keeps holds code (λ hold. record hold { lifted = Some day }))

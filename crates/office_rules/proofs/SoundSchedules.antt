@@ -1,0 +1,46 @@
+-- An act on schedules and classes keeps a state sound.
+use Rattle.std.proofs.Common.{ℕ, ℤ, List, length}
+use Rattle.office_days.specs.Limits.{IsDayNumber}
+use Rattle.office_tree.specs.Conditions.{conditions_of_add_schedule, conditions_of_add_class, conditions_of_set_class_schedule}
+use Rattle.office_tree.specs.Effects.{added_schedule, added_class, with_class_schedule}
+use Rattle.office_tree.specs.Forms.{IsCode, IsFormedSchedule, IsFormedClass}
+use Rattle.office_tree.specs.declared.class.Class.{Class}
+use Rattle.office_tree.specs.declared.schedule.Schedule.{Schedule}
+use Rattle.office_tree.proofs.Amending.{IsSound-set_class_schedule}
+use Rattle.office_tree.proofs.Forming.{IsFormed-add_schedule, IsFormed-add_class, IsFormed-set_class_schedule}
+use Rattle.office_tree.proofs.Inserting.{insert_keeps, amended_keeps}
+use Rattle.office_tree.proofs.Keeping.{IsSound-add_schedule, IsSound-add_class}
+use Rattle.office_rules.specs.Conditions.{refusals_of_add_schedule, refusals_of_add_class, refusals_of_set_class_schedule}
+use Rattle.office_rules.specs.Effects.{after_add_schedule, after_add_class, after_set_class_schedule}
+use Rattle.office_rules.specs.Meanings.{IsAccepted}
+use Rattle.office_rules.specs.Sound.{IsSound}
+use Rattle.office_rules.specs.State.{State, with_office}
+use Rattle.office_rules.proofs.Accepted.{tree_sound, dated_accepted}
+use Rattle.office_rules.proofs.SoundParts.{closed_by, heads_by, as_many, sound_after}
+
+pub sound_add_schedule : (s : State) (day : ℤ) (code : List ℕ) (schedule : Schedule) → IsSound s → IsDayNumber day → IsCode code → IsFormedSchedule schedule → IsAccepted (refusals_of_add_schedule s.office day code) → IsSound (with_office s (after_add_schedule s.office day code schedule))
+sound_add_schedule s day code schedule sound day_formed code_formed schedule_formed accepted =
+    let t = s.office.tree in
+    let no = dated_accepted s.office day (conditions_of_add_schedule t code) accepted in
+    sound_after s day (added_schedule t code schedule) s.contents sound day_formed no.0
+    (IsSound-add_schedule t code schedule (tree_sound s sound) no.1) (IsFormed-add_schedule t code schedule sound.limits.tree_forms code_formed schedule_formed)
+    (record { schedules = insert_keeps t.schedules code schedule; classes = λ c there. there; aggregations = as_many (length t.aggregations); records = as_many (length t.records) })
+    (closed_by s day sound no.0) (heads_by s day sound no.0) sound.contents sound.papers sound.entries sound.refs
+
+pub sound_add_class : (s : State) (day : ℤ) (code : List ℕ) (class : Class) → IsSound s → IsDayNumber day → IsCode code → IsFormedClass class → IsAccepted (refusals_of_add_class s.office day code class) → IsSound (with_office s (after_add_class s.office day code class))
+sound_add_class s day code class sound day_formed code_formed class_formed accepted =
+    let t = s.office.tree in
+    let no = dated_accepted s.office day (conditions_of_add_class t code class.schedule) accepted in
+    sound_after s day (added_class t code class) s.contents sound day_formed no.0
+    (IsSound-add_class t code class (tree_sound s sound) no.1) (IsFormed-add_class t code class sound.limits.tree_forms code_formed class_formed)
+    (record { schedules = λ c there. there; classes = insert_keeps t.classes code class; aggregations = as_many (length t.aggregations); records = as_many (length t.records) })
+    (closed_by s day sound no.0) (heads_by s day sound no.0) sound.contents sound.papers sound.entries sound.refs
+
+pub sound_set_class_schedule : (s : State) (day : ℤ) (class schedule : List ℕ) → IsSound s → IsDayNumber day → IsCode schedule → IsAccepted (refusals_of_set_class_schedule s.office day class schedule) → IsSound (with_office s (after_set_class_schedule s.office day class schedule))
+sound_set_class_schedule s day class schedule sound day_formed schedule_formed accepted =
+    let t = s.office.tree in
+    let no = dated_accepted s.office day (conditions_of_set_class_schedule t class schedule) accepted in
+    sound_after s day (with_class_schedule t class schedule) s.contents sound day_formed no.0
+    (IsSound-set_class_schedule t class schedule (tree_sound s sound) no.1) (IsFormed-set_class_schedule t class schedule sound.limits.tree_forms schedule_formed)
+    (record { schedules = λ c there. there; classes = amended_keeps t.classes class (λ it. record it { schedule = schedule }); aggregations = as_many (length t.aggregations); records = as_many (length t.records) })
+    (closed_by s day sound no.0) (heads_by s day sound no.0) sound.contents sound.papers sound.entries sound.refs

@@ -1,0 +1,17 @@
+pub mod Acts
+pub mod Conditions
+pub mod Copies
+pub mod Disposing
+pub mod Effects
+pub mod Forms
+pub mod Founding
+pub mod Meanings
+pub mod Readings
+pub mod Rows
+pub mod Runs
+pub mod Sound
+pub mod State
+pub mod Steps
+pub mod Tables
+pub mod Worked
+pub mod Writes

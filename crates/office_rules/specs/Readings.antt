@@ -1,0 +1,80 @@
+-- What is read of the office. Source: own; what is told of a record is MoReq2010's, its record, disposal scheduling and
+-- disposal holding services.
+use Rattle.std.specs.Prelude.{◌≡◌, ◌↔◌, IsTrue, ℕ, ◌==◌, Bool, true, false, ◌&&◌, List, [], Option, Some, None, ℤ, pos, int_le, if◌then◌else◌}
+use Rattle.std.specs.List.{find, Contains}
+use Rattle.std.specs.List.Sorted.{IsStrictlySortedBy}
+use Rattle.std.specs.Option.{unwrap_or}
+use Rattle.std.specs.Ordering.{int_cmp, nat_cmp, ordering_then}
+use Rattle.std.specs.declared.cmp.Ordering.{Ordering}
+use Rattle.std.specs.FinMap.{values}
+use Rattle.office_tree.specs.Disposal.{counts, is_here}
+use Rattle.office_tree.specs.Lists.{holds_of, numbered}
+use Rattle.office_tree.specs.Tree.{TreeState, action_of, class_of, due_of, plan_of, status_of}
+use Rattle.office_tree.specs.declared.action.Action.TheVariants.{Keep}
+use Rattle.office_tree.specs.declared.head.Record.{Record}
+use Rattle.office_tree.specs.declared.status.Status.{Status}
+use Rattle.office_holds.specs.Holds.{least_covering}
+use Rattle.office_proof.specs.Outcomes.{is_ending}
+use Rattle.office_proof.specs.declared.entry.Entry.{Entry}
+use Rattle.office_rules.specs.State.{Office}
+use Rattle.office_rules.specs.declared.record_view.RecordView.{RecordView}
+
+-- the entry that ended a record; there is at most one
+abbrev pub ending_entry : Office → ℕ → Option Entry
+ending_entry s r = find (λ e. e.record_no == r && is_ending e.outcome) (values s.entries)
+
+-- all entries, by run, then record
+abbrev pub all_entries_of : Office → List Entry
+all_entries_of s = values s.entries
+
+-- what is told of a record: its head and status, and of its class, plan, due day, hold and confirmation what the office says now
+abbrev pub view_of : Office → ℕ → Record → Status → RecordView
+view_of s r head status = record {
+  number = r;
+  ref_text = head.ref_text;
+  title = head.title;
+  originated = head.originated;
+  added = head.added;
+  aggregation = head.aggregation;
+  length = head.length;
+  digest = head.digest;
+  status = status;
+  class = unwrap_or (class_of s.tree r) [];
+  schedule = unwrap_or (plan_of s.tree r) [];
+  action = unwrap_or (action_of s.tree r) Keep;
+  due = due_of s.tree r;
+  held = least_covering s.holds s.tree r;
+  confirmed = head.confirmation;
+  counts = counts s.tree r;
+}
+
+abbrev pub view_by : Office → ℕ → Option Record → Option Status → Option RecordView
+view_by s r (Some head) (Some status) = Some (view_of s r head status)
+view_by s r _ _ = None
+
+-- and none where there is no such record
+abbrev pub record_view : Office → ℕ → Option RecordView
+record_view s r = view_by s r (numbered s.tree.records r) (status_of s.tree r)
+
+-- ---- what is due
+
+-- the record is here, and due on that day or before it
+abbrev pub is_due_here : TreeState → ℤ → ℕ → Bool
+is_due_here tree day r = holds_of (status_of tree r) is_here && holds_of (due_of tree r) (λ due. int_le due day)
+
+-- its due day, where that is so
+abbrev pub due_here : TreeState → ℤ → ℕ → Option ℤ
+due_here tree day r = if is_due_here tree day r then due_of tree r else None
+
+-- the pairs are of the records that are here and due on that day or before it: the due day and the number
+abbrev pub AreDuePairs : TreeState → ℤ → List (ℤ × ℕ) → Type 0
+AreDuePairs tree day pairs = (due : ℤ) (r : ℕ) → (Contains pairs (due, r) ↔ (due_here tree day r ≡ Some due))
+
+-- by due day, then number
+abbrev pub due_cmp : TreeState → ℕ → ℕ → Ordering
+due_cmp tree r q = ordering_then (int_cmp (unwrap_or (due_of tree r) (pos 0)) (unwrap_or (due_of tree q) (pos 0))) (nat_cmp r q)
+
+-- the due list of a day: the records that are here and due then, by due day, then number (MoReq2010, disposal scheduling service)
+pub record IsDueList (tree : TreeState) (day : ℤ) (list : List ℕ) : Type 0 where
+  pub these : (r : ℕ) → (Contains list r ↔ IsTrue (is_due_here tree day r))
+  pub in_order : IsStrictlySortedBy (due_cmp tree) list

@@ -1,0 +1,242 @@
+//! Functions that tell in proofs that what is asked for is of its form. Their calls do nothing: it is
+//! the types that see to it.
+ghost use Rattle.std.specs.Prelude.{◌≤◌, IfSome};
+ghost use Rattle.office_days.specs.Limits.{IsDayNumber, longest};
+ghost use Rattle.office_tree.specs.Forms.{IsCode, IsText};
+ghost use Rattle.office_holds.specs.Forms.{IsFormedTarget};
+ghost use Rattle.office_rules.specs.Acts.{IsOnAggregations, IsOnHolds, IsOnRecords, IsOnRuns, IsOnSchedules};
+ghost use Rattle.office_rules.specs.Forms.{IsFormedAct};
+ghost use Rattle.office_rules.specs.Meanings.{IsFormedNewRecord};
+
+use crate::{Act, NewRecord};
+use office_days::{Day, Period};
+use office_holds::Target;
+use office_tree::{Code, Text};
+
+/// A code is of its form.
+fn formed_code(code: &Code)
+    ensures { IsCode code.now }
+{
+    let _ = code.text();
+}
+
+/// And so is one where there may be none.
+fn formed_code_or_none(code: &Option<Code>)
+    ensures { IfSome code.now IsCode }
+{
+    if let Some(code) = code {
+        formed_code(code);
+    }
+}
+
+/// A text is of its form.
+fn formed_text(text: &Text)
+    ensures { IsText text.now }
+{
+    let _ = text.text();
+}
+
+/// A day is one that may be handed in.
+fn formed_day(day: Day)
+    ensures { IsDayNumber day }
+{
+    let _ = day.number();
+}
+
+/// A period is within the limit of its unit.
+fn formed_period(period: Period)
+    ensures { period.count ≤ longest period.unit }
+{
+    let _ = period.count();
+}
+
+/// A target's code is of its form.
+fn formed_target(target: &Target)
+    ensures { IsFormedTarget target.now }
+{
+    match target {
+        Target::Class(code) => formed_code(code),
+        Target::Aggregation(_) | Target::Record(_) => {}
+    }
+}
+
+/// The members of a new record are of their forms, and its content is not too long.
+fn formed_new_record(new: &NewRecord)
+    ensures { IsFormedNewRecord new.now }
+{
+    formed_text(&new.ref_text);
+    formed_text(&new.title);
+    formed_day(new.originated);
+    formed_code_or_none(&new.class);
+    formed_code_or_none(&new.schedule);
+}
+
+impl Act {
+    /// Tells in proofs that what an act asks for is of its form; a call does nothing.
+    pub fn formed(&self)
+        ensures { IsFormedAct self.now }
+    {
+        match self {
+            Act::AddSchedule { .. } | Act::AddClass { .. } | Act::SetClassSchedule { .. } => {
+                self.formed_on_schedules()
+            }
+            Act::AddAggregation { .. } | Act::CloseAggregation { .. } | Act::Reclassify { .. } => {
+                self.formed_on_aggregations()
+            }
+            Act::AddRecord { .. }
+            | Act::SetRecordSchedule { .. }
+            | Act::Confirm { .. }
+            | Act::Review { .. }
+            | Act::Receipt { .. } => self.formed_on_records(),
+            Act::PlaceHold { .. }
+            | Act::HoldOn { .. }
+            | Act::HoldOff { .. }
+            | Act::LiftHold { .. } => self.formed_on_holds(),
+            Act::OpenRun { .. } | Act::RunStep => self.formed_on_runs(),
+        }
+    }
+
+    /// An act on schedules and classes is of its form.
+    fn formed_on_schedules(&self)
+        requires { IsOnSchedules self.now }
+        ensures { IsFormedAct self.now }
+    {
+        match self {
+            Act::AddSchedule {
+                day,
+                code,
+                period,
+                ..
+            } => {
+                formed_day(*day);
+                formed_code(code);
+                formed_period(*period);
+            }
+            Act::AddClass {
+                day,
+                code,
+                title,
+                schedule,
+            } => {
+                formed_day(*day);
+                formed_code(code);
+                formed_text(title);
+                formed_code(schedule);
+            }
+            Act::SetClassSchedule {
+                day,
+                class,
+                schedule,
+            } => {
+                formed_day(*day);
+                formed_code(class);
+                formed_code(schedule);
+            }
+            _ => unreachable!(),
+        }
+    }
+
+    /// An act on aggregations, or on an own class, is of its form.
+    fn formed_on_aggregations(&self)
+        requires { IsOnAggregations self.now }
+        ensures { IsFormedAct self.now }
+    {
+        match self {
+            Act::AddAggregation {
+                day,
+                ref_text,
+                title,
+                class,
+                ..
+            } => {
+                formed_day(*day);
+                formed_text(ref_text);
+                formed_text(title);
+                formed_code_or_none(class);
+            }
+            Act::CloseAggregation { day, .. } => formed_day(*day),
+            Act::Reclassify { day, class, .. } => {
+                formed_day(*day);
+                formed_code_or_none(class);
+            }
+            _ => unreachable!(),
+        }
+    }
+
+    /// A new record, or an act on a record, is of its form.
+    fn formed_on_records(&self)
+        requires { IsOnRecords self.now }
+        ensures { IsFormedAct self.now }
+    {
+        match self {
+            Act::AddRecord { day, record } => {
+                formed_day(*day);
+                formed_new_record(record);
+            }
+            Act::SetRecordSchedule { day, schedule, .. } => {
+                formed_day(*day);
+                formed_code_or_none(schedule);
+            }
+            Act::Confirm { day, by, .. } | Act::Receipt { day, by, .. } => {
+                formed_day(*day);
+                formed_text(by);
+            }
+            Act::Review {
+                day,
+                schedule,
+                by,
+                ..
+            } => {
+                formed_day(*day);
+                formed_code_or_none(schedule);
+                formed_text(by);
+            }
+            _ => unreachable!(),
+        }
+    }
+
+    /// An act on holds is of its form.
+    fn formed_on_holds(&self)
+        requires { IsOnHolds self.now }
+        ensures { IsFormedAct self.now }
+    {
+        match self {
+            Act::PlaceHold {
+                day,
+                code,
+                reason,
+                by,
+            } => {
+                formed_day(*day);
+                formed_code(code);
+                formed_text(reason);
+                formed_text(by);
+            }
+            Act::HoldOn { day, code, target } => {
+                formed_day(*day);
+                formed_code(code);
+                formed_target(target);
+            }
+            Act::HoldOff { day, code, .. } | Act::LiftHold { day, code } => {
+                formed_day(*day);
+                formed_code(code);
+            }
+            _ => unreachable!(),
+        }
+    }
+
+    /// An act on runs is of its form.
+    fn formed_on_runs(&self)
+        requires { IsOnRuns self.now }
+        ensures { IsFormedAct self.now }
+    {
+        match self {
+            Act::OpenRun { day, by } => {
+                formed_day(*day);
+                formed_text(by);
+            }
+            Act::RunStep => {}
+            _ => unreachable!(),
+        }
+    }
+}

@@ -1,0 +1,34 @@
+//! The rules of the office: what it keeps, what each act asks for and does, and the disposal run.
+//!
+//! The office keeps the tree with its records, the holds, the runs, the entries, the certificates and
+//! its day; the contents of records stand beside it. Each of the seventeen **acts** has a table of the
+//! conditions for which it is refused, of which the least is answered, and an effect. A **disposal run**
+//! goes through the ready records by number, one a step, and closes with its certificate. A run that
+//! is stopped and resumed ends as one that never stopped: that is a law of the definitions here.
+//!
+//! The definitions stand in `specs/`, what they promise in [`laws`]. The types are those that acts,
+//! answers and rows have; nothing here decides or keeps anything.
+#![tactic(auto)]
+
+mod act;
+mod answer;
+mod change;
+mod copies;
+mod copying;
+mod forming;
+pub mod laws;
+mod new_record;
+mod record_view;
+mod rows;
+mod run;
+mod tables;
+
+pub use act::Act;
+pub use answer::Answer;
+pub use change::{Change, Decision};
+pub use copies::{copy_code, copy_codes, copy_entry, copy_plan, copy_text, copy_texts};
+pub use new_record::NewRecord;
+pub use record_view::RecordView;
+pub use rows::{RecordRow, RowWrite};
+pub use run::Run;
+pub use tables::Tables;

@@ -1,0 +1,55 @@
+//! Clients that are served one after another at a desk.
+use crate::failures::failure;
+use crate::peer::{Paper, Pieces};
+use crate::requests::{Exchange, exchange_of};
+use office_desk::Desk;
+use office_wire::{Io, serve_one};
+use sqlite::Alter;
+use std::alloc::Global;
+use std::test::Fail;
+
+/// The status that an answer has in its first line, or 0 where nothing is written.
+fn status_of(answer: &str) -> u16 {
+    match answer.get(9..12) {
+        Some(digits) => digits.parse().unwrap_or(0),
+        None => 0,
+    }
+}
+
+/// What serving a client must come to.
+fn ending_of(it: &Exchange) -> Result<u16, Io> {
+    if it.is_lost || it.room < it.answer.len() {
+        return Err(Io);
+    }
+    Ok(status_of(it.answer.as_str()))
+}
+
+/// Whether a client is answered so, as far as it takes the answer; its bytes come in pieces of at most so many.
+fn is_answered<S: Alter>(alloc: Global, desk: &mut Desk<S>, it: &Exchange, most: usize) -> bool {
+    let mut reader = Pieces {
+        bytes: it.sent.as_bytes(),
+        most,
+        fails: it.is_lost,
+    };
+    let mut paper = Paper {
+        awaited: it.answer.as_bytes(),
+        room: it.room,
+        differs: false,
+    };
+    let status = serve_one(alloc, desk, &mut reader, &mut paper);
+    status == ending_of(it) && !paper.differs && (paper.room == 0 || paper.awaited.is_empty())
+}
+
+/// A client must be answered as the row says, whose bytes come in pieces of at most so many.
+pub(crate) fn tell_client<S: Alter>(
+    alloc: Global,
+    desk: &mut Desk<S>,
+    row: &str,
+    most: usize,
+) -> Result<(), Fail> {
+    let it = exchange_of(alloc, row)?;
+    if is_answered(alloc, desk, &it, most) {
+        return Ok(());
+    }
+    Err(failure("not answered so", row))
+}

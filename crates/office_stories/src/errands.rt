@@ -1,0 +1,184 @@
+//! What is done at an office while its two files are open.
+use crate::acts::{answered, is_act};
+use crate::disks::{Image, Stop};
+use crate::failures::failure;
+use crate::program::tell_program;
+use crate::readings::{fault_text, told};
+use crate::rows::{Way, tell_rows};
+use crate::sockets::{Meeting, serve};
+use crate::tables::{change, counts_text};
+use office_desk::Desk;
+use office_store::Fault;
+use sqlite::{Alter, Connection, FileStore, Files, Options};
+use sqlite_disk::{Crash, Disk};
+use std::alloc::Global;
+use std::net::TcpListener;
+use std::test::Fail;
+
+/// What is done while an office is open.
+#[derive(Clone, Copy)]
+pub(crate) enum Errand<'a> {
+    /// Rows are told at the desk.
+    Rows(Way, &'a str),
+    /// Acts and readings are asked at the desk; what is told is a line for each.
+    Asks(&'a [&'a str]),
+    /// Clients are served who wait at a socket.
+    Meeting(&'a TcpListener, &'a Meeting<'a>),
+    /// A row of the program's words.
+    Program(&'a str),
+    /// Statements change the tables.
+    Statements(&'a str),
+    /// The rows of the tables are counted.
+    Counts,
+}
+
+/// What is told of acts and readings, a line for each.
+fn told_of<S: Alter>(alloc: Global, desk: &mut Desk<S>, asks: &[&str]) -> Result<String, Fail> {
+    let mut text = String::new(alloc);
+    for words in asks {
+        let line = if is_act(words) {
+            answered(alloc, desk, words)?
+        } else {
+            told(alloc, desk, words)?
+        };
+        text.push_str(line.as_str())?;
+        text.push('\n')?;
+    }
+    Ok(text)
+}
+
+/// An errand at an open desk.
+fn done_at<S: Alter>(
+    alloc: Global,
+    desk: &mut Desk<S>,
+    errand: Errand<'_>,
+) -> Result<String, Fail> {
+    match errand {
+        Errand::Rows(way, rows) => tell_rows(alloc, desk, way, rows)?,
+        Errand::Asks(asks) => return told_of(alloc, desk, asks),
+        Errand::Meeting(listener, meeting) => serve(alloc, listener, desk, meeting)?,
+        Errand::Program(_) | Errand::Statements(_) | Errand::Counts => {}
+    }
+    Ok(String::new(alloc))
+}
+
+/// An errand at a desk over a connection, which is closed again; the fault where it is not opened.
+fn done_at_desk<S: Alter>(
+    alloc: Global,
+    conn: Connection<S>,
+    errand: Errand<'_>,
+) -> (Result<String, Fail>, Connection<S>) {
+    if !conn.is_autocommit() {
+        return (Err(Fail::new("a transaction is under way")), conn);
+    }
+    match Desk::open(alloc, conn) {
+        Ok(mut desk) => {
+            let told = done_at(alloc, &mut desk, errand);
+            (told, desk.close())
+        }
+        Err((fault, conn)) => (fault_text(alloc, fault), conn),
+    }
+}
+
+/// An errand over a connection.
+fn done_over<S: Alter + Drop>(
+    alloc: Global,
+    conn: Connection<S>,
+    errand: Errand<'_>,
+) -> (Result<String, Fail>, Connection<S>) {
+    match errand {
+        Errand::Program(row) => tell_program(alloc, conn, row),
+        Errand::Statements(statements) => change(alloc, conn, statements),
+        Errand::Counts => counts_text(alloc, conn),
+        _ => done_at_desk(alloc, conn, errand),
+    }
+}
+
+/// A connection to the files, or these where the disk stops.
+fn connected<D: Disk + Drop>(
+    alloc: Global,
+    files: Files<D>,
+) -> Result<Connection<FileStore<D>>, Files<D>> {
+    if !files.may_be_used() {
+        return Err(files);
+    }
+    match Connection::open_files(alloc, files, Options::new(1)) {
+        Ok(conn) => Ok(conn),
+        Err((_, left)) => Err(left.into_files()),
+    }
+}
+
+/// The store of a connection that is left as it stands.
+fn store_behind<S: Alter + Drop>(conn: Connection<S>) -> S {
+    conn.into_store()
+}
+
+/// The files of a store.
+fn files_behind<D: Disk + Drop>(store: FileStore<D>) -> Files<D> {
+    store.close()
+}
+
+/// An errand over files, which are left as they stand.
+fn done_in<D: Disk + Drop>(
+    alloc: Global,
+    files: Files<D>,
+    errand: Errand<'_>,
+) -> (Result<String, Fail>, Files<D>) {
+    match connected(alloc, files) {
+        Ok(conn) => {
+            let (told, conn) = done_over(alloc, conn, errand);
+            (told, files_behind(store_behind(conn)))
+        }
+        Err(files) => (fault_text(alloc, Fault::Store), files),
+    }
+}
+
+/// The files of a connection that is closed, the log empty.
+fn closed<D: Disk + Drop>(conn: Connection<FileStore<D>>) -> Result<Files<D>, Fail> {
+    match conn.close_files() {
+        Ok(files) => Ok(files),
+        Err((_, store)) => {
+            drop(files_behind(store));
+            Err(Fail::new("not closed"))
+        }
+    }
+}
+
+/// The database of an office is closed: its log goes back into its file.
+pub(crate) fn close(alloc: Global, image: &mut Image) -> Result<(), Fail> {
+    let Ok(conn) = connected(alloc, image.files(alloc, Stop::never())?) else {
+        return Err(Fail::new("not opened"));
+    };
+    *image = Image::of(alloc, &closed(conn)?)?;
+    Ok(())
+}
+
+/// The machine crashes.
+fn crash<D: Crash>(files: &mut Files<D>) {
+    files.log.crash();
+    files.db.crash();
+}
+
+/// An errand at an office whose disks stop so, of which a crash leaves what it may. Gives what is told, which is
+/// a fault where the office is not opened.
+pub(crate) fn done(
+    alloc: Global,
+    image: &mut Image,
+    stop: Stop,
+    errand: Errand<'_>,
+) -> Result<String, Fail> {
+    let (told, mut files) = done_in(alloc, image.files(alloc, stop)?, errand);
+    crash(&mut files);
+    let told = told?;
+    *image = Image::of(alloc, &files)?;
+    Ok(told)
+}
+
+/// An errand at an office that tells nothing.
+pub(crate) fn do_all(alloc: Global, image: &mut Image, errand: Errand<'_>) -> Result<(), Fail> {
+    let told = done(alloc, image, Stop::never(), errand)?;
+    if told.is_empty() {
+        return Ok(());
+    }
+    Err(failure("not opened", told.as_str()))
+}

@@ -1,0 +1,168 @@
+//! What is read at a desk, as text.
+use crate::failures::{failure, must};
+use crate::repeating::{number, unescaped};
+use office_days::Day;
+use office_desk::Desk;
+use office_json::{record_value, text_of};
+use office_proof::Entry;
+use office_rules::RecordView;
+use office_store::Fault;
+use sqlite::Alter;
+use std::alloc::{AllocError, Global};
+use std::fmt::Write;
+use std::test::Fail;
+
+/// What is told of a record, with the entry that ended it.
+fn view_text<S: Alter>(alloc: Global, desk: &Desk<S>, view: &RecordView) -> Result<String, Fault> {
+    let ending = desk.entry_of(view.number)?;
+    match record_value(alloc, view, ending.as_ref()) {
+        Ok(value) => text_of(alloc, &value).or(Err(Fault::Memory)),
+        Err(_) => Err(Fault::Memory),
+    }
+}
+
+/// What is told where there is nothing.
+fn none(alloc: Global) -> Result<String, Fault> {
+    String::from_str(alloc, "none").or(Err(Fault::Memory))
+}
+
+/// What is told of the record.
+fn record_text<S: Alter>(alloc: Global, desk: &Desk<S>, record_no: u32) -> Result<String, Fault> {
+    match desk.record(record_no)? {
+        Some(view) => view_text(alloc, desk, &view),
+        None => none(alloc),
+    }
+}
+
+/// A text in quotes.
+fn quoted(alloc: Global, bytes: &[u8]) -> Result<String, Fault> {
+    match str::from_utf8(bytes) {
+        Ok(text) => format!(in alloc; "\"{text}\"").or(Err(Fault::Memory)),
+        Err(_) => Err(Fault::Damaged),
+    }
+}
+
+/// The content of the record.
+fn content_text<S: Alter>(
+    alloc: Global,
+    desk: &mut Desk<S>,
+    record_no: u32,
+) -> Result<String, Fault> {
+    match desk.content(record_no)? {
+        Some(bytes) => quoted(alloc, bytes.as_slice()),
+        None => none(alloc),
+    }
+}
+
+/// The certificate of the run.
+fn certificate_text<S: Alter>(alloc: Global, desk: &Desk<S>, run: u32) -> Result<String, Fault> {
+    match desk.certificate(run)? {
+        Some(text) => Ok(text),
+        None => none(alloc),
+    }
+}
+
+/// The records that are due on the day.
+fn due_text<S: Alter>(alloc: Global, desk: &Desk<S>, day: Day) -> Result<String, Fault> {
+    let list = desk.due_list(day)?;
+    format!(in alloc; "{list:?}").or(Err(Fault::Memory))
+}
+
+/// Tells the run, the record and the outcome of an entry.
+fn push_entry(text: &mut String, entry: &Entry) -> Result<(), Fault> {
+    let outcome = entry.outcome.text();
+    write!(
+        text,
+        " run {} record {} {outcome};",
+        entry.run, entry.record_no
+    )
+    .or(Err(Fault::Memory))
+}
+
+/// All entries.
+fn entries_text<S: Alter>(alloc: Global, desk: &Desk<S>) -> Result<String, Fault> {
+    let entries = desk.entries()?;
+    let mut text = String::new(alloc);
+    for entry in entries.iter() {
+        push_entry(&mut text, entry)?;
+    }
+    Ok(text)
+}
+
+/// What is read at the desk.
+fn read<S: Alter>(
+    alloc: Global,
+    desk: &mut Desk<S>,
+    reading: &str,
+) -> Result<Result<String, Fault>, Fail> {
+    match reading.split_once(' ') {
+        Some(("record", record_no)) => Ok(record_text(alloc, desk, number(record_no)?)),
+        Some(("content", record_no)) => Ok(content_text(alloc, desk, number(record_no)?)),
+        Some(("certificate", run)) => Ok(certificate_text(alloc, desk, number(run)?)),
+        Some(("due-list", on)) => Ok(due_text(alloc, desk, Day::read(on).ok_or("no day")?)),
+        _ if reading == "entries" => Ok(entries_text(alloc, desk)),
+        _ => Err(failure("no such reading", reading)),
+    }
+}
+
+/// A fault as text.
+pub(crate) fn fault_text(alloc: Global, fault: Fault) -> Result<String, Fail> {
+    Ok(format!(in alloc; "fault {}", fault.number())?)
+}
+
+/// What is read at the desk, or the fault.
+pub(crate) fn told<S: Alter>(
+    alloc: Global,
+    desk: &mut Desk<S>,
+    reading: &str,
+) -> Result<String, Fail> {
+    match read(alloc, desk, reading)? {
+        Ok(text) => Ok(text),
+        Err(fault) => fault_text(alloc, fault),
+    }
+}
+
+/// How a reading is compared.
+#[derive(Clone, Copy)]
+enum Comparison {
+    Is,
+    Has,
+    Bytes,
+}
+
+/// The parts of a row that tells what is read: the reading, how it is compared, and with what.
+fn parts(row: &str) -> Option<(&str, Comparison, &str)> {
+    if let Some((reading, part)) = row.split_once(" has ") {
+        return Some((reading, Comparison::Has, part));
+    }
+    if let Some((reading, length)) = row.split_once(" bytes ") {
+        return Some((reading, Comparison::Bytes, length));
+    }
+    match row.split_once(" is ") {
+        Some((reading, text)) => Some((reading, Comparison::Is, text)),
+        None => None,
+    }
+}
+
+/// Whether what is told is as a row says.
+fn agrees(alloc: Global, told: &str, how: Comparison, with: &str) -> Result<bool, AllocError> {
+    let wanted = unescaped(alloc, with)?;
+    match how {
+        Comparison::Is => Ok(told.trim() == wanted.as_str().trim()),
+        Comparison::Has => Ok(told.contains(wanted.as_str())),
+        Comparison::Bytes => Ok(with.parse() == Ok(told.len())),
+    }
+}
+
+/// What is read at the desk must be as the row says.
+pub(crate) fn tell_reading<S: Alter>(
+    alloc: Global,
+    desk: &mut Desk<S>,
+    row: &str,
+) -> Result<(), Fail> {
+    let Some((reading, how, with)) = parts(row) else {
+        return Err(failure("no such row", row));
+    };
+    let told = told(alloc, desk, reading)?;
+    must(agrees(alloc, told.as_str(), how, with)?, row, told.as_str())
+}

@@ -1,0 +1,54 @@
+//! Rows and stories that are told for each of several numbers, and the bytes that are written by escapes.
+use crate::failures::failure;
+use std::alloc::{AllocError, Global};
+use std::test::Fail;
+
+/// What stands between a text and the numbers for which it is told.
+pub(crate) const FOR_EACH: &str = " for each <n> of ";
+
+/// The number of that text.
+pub(crate) fn number(text: &str) -> Result<u32, Fail> {
+    match text.parse::<u32>() {
+        Ok(number) => Ok(number),
+        Err(_) => Err(failure("no number", text)),
+    }
+}
+
+/// The text for that number.
+fn copy(alloc: Global, text: &str, number: u32) -> Result<String, AllocError> {
+    let digits = format!(in alloc; "{number}")?;
+    text.replace(alloc, "<n>", digits.as_str())
+}
+
+/// The text for each number from the first to the last.
+fn copies_between(alloc: Global, text: &str, first: u32, last: u32) -> Result<Vec<String>, Fail> {
+    let mut copies = Vec::new(alloc);
+    for number in first..=last {
+        copies.push(copy(alloc, text, number)?)?;
+    }
+    Ok(copies)
+}
+
+/// The text for each word of a list.
+fn copies_at(alloc: Global, text: &str, list: &str) -> Result<Vec<String>, Fail> {
+    let mut copies = Vec::new(alloc);
+    for word in list.split(' ') {
+        copies.push(text.replace(alloc, "<n>", word)?)?;
+    }
+    Ok(copies)
+}
+
+/// The text for each number of a list, as `1 2 7` or `1 to 1000`.
+pub(crate) fn copies(alloc: Global, text: &str, list: &str) -> Result<Vec<String>, Fail> {
+    match list.split_once(" to ") {
+        Some((first, last)) => copies_between(alloc, text, number(first)?, number(last)?),
+        None => copies_at(alloc, text, list),
+    }
+}
+
+/// The text with the bytes that its escapes name.
+pub(crate) fn unescaped(alloc: Global, text: &str) -> Result<String, AllocError> {
+    let text = text.replace(alloc, "\\n", "\n")?;
+    let text = text.as_str().replace(alloc, "\\r", "\r")?;
+    text.as_str().replace(alloc, "\\t", "\t")
+}

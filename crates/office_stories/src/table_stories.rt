@@ -1,0 +1,54 @@
+//! What is saved is found again, and tables that stand for no office are told.
+
+pub(crate) const TABLES: &str = r#"
+# Each kind of change is saved and found
+## at the desk of the base office
+2024-01-03 add-schedule D2 origin years 2 transfer = done
+2024-01-03 add-schedule R1 added days 1 review = done
+2024-01-03 set-class-schedule LEG D2 = done
+2024-01-03 add-child C 1 - = number 3
+2024-01-03 add-record r4 3 abcd = number 4
+2024-01-03 close-aggregation 3 = done
+2024-01-03 set-record-schedule 3 D1 = done
+2024-01-03 set-record-schedule 2 R1 = done
+2024-01-03 review 2 D1 = done
+2024-01-03 reclassify aggregation 2 FIN = done
+2024-01-03 reclassify record 2 FIN = done
+2024-01-03 place-hold H = done
+2024-01-03 hold-on H record 3 = done
+2024-01-03 hold-on H class LEG = done
+2024-01-03 hold-off H class LEG = done
+2025-01-03 confirm 1 destroy = done
+2025-01-03 confirm 3 destroy = done
+2025-01-03 open-run = number 1
+2025-01-03 run-step = step 1 destroyed
+2025-01-03 run-step = step 3 skipped
+2025-01-03 run-step = closed 1
+2025-01-03 lift-hold H = done
+## counts of the tables
+[3, 2, 3, 4, 3, 1, 1, 1, 2, 1]
+
+# Tables of another version, of no form, or that stand for no office are told
+## at the desk of the base office
+## tried on the tables
+opened after UPDATE office SET day = 20000
+fault 34 after UPDATE office SET version = 9
+fault 33 after INSERT INTO office VALUES (2, 1, 20000)
+fault 33 after UPDATE records SET status = 'gone' WHERE num = 1
+fault 33 after UPDATE classes SET title = ''
+fault 33 after UPDATE aggregations SET closed = 400000
+fault 33 after DELETE FROM contents WHERE record = 2
+fault 33 after DELETE FROM classes WHERE code = 'LEG'
+fault 33 after UPDATE office SET day = 0
+
+# An open run stays open and goes on, and an ended record has no content
+## at the desk of the base office
+2025-01-02 confirm 1 destroy = done
+2025-01-02 open-run = number 1
+2025-01-02 run-step = step 1 destroyed
+## tried on the tables
+fault 33 after INSERT INTO contents VALUES (1, x'616263')
+## at the desk
+2025-01-02 open-run = refused 17
+2025-01-02 run-step = closed 1
+"#;

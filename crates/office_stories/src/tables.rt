@@ -1,0 +1,83 @@
+//! The tables of an office, as statements change them and as they are found.
+use crate::disks::{Image, Stop};
+use crate::errands::{Errand, do_all, done};
+use crate::failures::{failure, must};
+use crate::readings::fault_text;
+use office_rules::Tables;
+use office_store::Store;
+use sqlite::{Alter, Connection};
+use std::alloc::Global;
+use std::test::Fail;
+
+/// Changes the tables by statements; nothing is told of it.
+pub(crate) fn change<S: Alter>(
+    alloc: Global,
+    mut conn: Connection<S>,
+    statements: &str,
+) -> (Result<String, Fail>, Connection<S>) {
+    match conn.execute_batch(statements) {
+        Ok(()) => (Ok(String::new(alloc)), conn),
+        Err(_) => (Err(failure("not done", statements)), conn),
+    }
+}
+
+/// How many rows the tables have.
+fn counts(tables: &Tables) -> [usize; 10] {
+    [
+        tables.schedules.len(),
+        tables.classes.len(),
+        tables.aggregations.len(),
+        tables.records.len(),
+        tables.contents.len(),
+        tables.holds.len(),
+        tables.targets.len(),
+        tables.runs.len(),
+        tables.entries.len(),
+        tables.certificates.len(),
+    ]
+}
+
+/// The numbers as a list.
+fn list(alloc: Global, counts: &[usize]) -> Result<String, Fail> {
+    Ok(format!(in alloc; "{counts:?}")?)
+}
+
+/// How many rows the tables have that are adopted behind a connection, or the fault.
+pub(crate) fn counts_text<S: Alter>(
+    alloc: Global,
+    conn: Connection<S>,
+) -> (Result<String, Fail>, Connection<S>) {
+    if !conn.is_autocommit() {
+        return (Err(Fail::new("a transaction is under way")), conn);
+    }
+    match Store::adopt(alloc, conn) {
+        Ok((store, tables)) => (list(alloc, &counts(&tables)), store.release()),
+        Err((fault, conn)) => (fault_text(alloc, fault), conn),
+    }
+}
+
+/// The tables must have as many rows as the row says.
+pub(crate) fn tell_counts(alloc: Global, image: &mut Image, row: &str) -> Result<(), Fail> {
+    let told = done(alloc, image, Stop::never(), Errand::Counts)?;
+    must(told.as_str() == row, row, told.as_str())
+}
+
+/// How an office is opened after statements on a copy of it: nothing, or the fault.
+fn opening_after(alloc: Global, image: &Image, statements: &str) -> Result<String, Fail> {
+    let mut copy = image.copy(alloc)?;
+    do_all(alloc, &mut copy, Errand::Statements(statements))?;
+    done(alloc, &mut copy, Stop::never(), Errand::Asks(&[]))
+}
+
+/// An office must be opened after statements, or not, as the row says.
+pub(crate) fn tell_opening(alloc: Global, image: &Image, row: &str) -> Result<(), Fail> {
+    let Some((wanted, statements)) = row.split_once(" after ") else {
+        return Err(failure("no statements", row));
+    };
+    let told = opening_after(alloc, image, statements)?;
+    must(
+        told.as_str() == wanted || told.is_empty() && wanted == "opened",
+        row,
+        told.as_str(),
+    )
+}

@@ -1,0 +1,57 @@
+//! Every story is told.
+use crate::content_stories::CONTENTS;
+use crate::endings::tell_endings;
+use crate::filing_stories::FILING;
+use crate::hold_stories::HOLDS;
+use crate::limit_stories::LIMITS;
+use crate::program_stories::PROGRAM;
+use crate::request_stories::REQUESTS;
+use crate::run_stories::RUNS;
+use crate::socket_stories::{FAILED, GIVEN_UP, IN_TURN};
+use crate::sockets::meet;
+use crate::stop_stories::{LONG_STOPS, SHORT_STOPS};
+use crate::table_stories::TABLES;
+use crate::telling::tell;
+use std::test::Fail;
+
+#[test]
+fn an_office_is_as_its_stories_tell(rt: HostRuntime) -> Result<(), Fail> {
+    for stories in [FILING, HOLDS, RUNS, CONTENTS, TABLES] {
+        tell(rt.alloc(), stories)?;
+    }
+    Ok(())
+}
+
+#[test]
+fn an_office_has_limits(rt: HostRuntime) -> Result<(), Fail> {
+    tell(rt.alloc(), LIMITS)
+}
+
+#[test]
+fn requests_are_answered(rt: HostRuntime) -> Result<(), Fail> {
+    tell(rt.alloc(), REQUESTS)
+}
+
+#[test]
+fn the_program_tells_what_it_did(rt: HostRuntime) -> Result<(), Fail> {
+    tell(rt.alloc(), PROGRAM)?;
+    tell_endings(rt.alloc())
+}
+
+#[test]
+fn short_runs_are_stopped(rt: HostRuntime) -> Result<(), Fail> {
+    tell(rt.alloc(), SHORT_STOPS)
+}
+
+#[test]
+fn long_runs_are_stopped(rt: HostRuntime) -> Result<(), Fail> {
+    tell(rt.alloc(), LONG_STOPS)
+}
+
+#[test]
+fn clients_meet_at_a_socket(rt: HostRuntime) -> Result<(), Fail> {
+    for meeting in [IN_TURN, FAILED, GIVEN_UP] {
+        meet(&rt, &meeting)?;
+    }
+    Ok(())
+}
