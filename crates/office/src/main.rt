@@ -46,13 +46,15 @@ fn bytes_of(rt: &HostRuntime, file: &str) -> Result<Vec<u8>, Ending> {
 }
 
 /// Carries out an order on the office in a file, which is made where there is none; `text` is what the
-/// order reads. A file that is no database's stays as it is.
+/// order reads. A file that is no database's stays as it is. Where it is not closed, the file and its log still
+/// have every act.
 fn run_in(rt: &HostRuntime, file: &str, order: &Order<'_>, text: &[u8]) -> u8 {
     let mut input = text;
     match Connection::open_from(rt, file, false, Wary) {
         Ok(conn) => {
             let (mut out, mut err) = (io::writer(rt), rt.stderr());
-            let (status, _) = run_on(rt.alloc(), conn, order, &mut input, &mut out, &mut err);
+            let (status, conn) = run_on(rt.alloc(), conn, order, &mut input, &mut out, &mut err);
+            let _ = conn.close();
             status
         }
         Err(_) => ended(rt, Ending::Fault(Fault::Store)),
@@ -80,7 +82,7 @@ where
 {
     match tell_listening(port, &mut io::writer(rt)) {
         Ok(()) => {
-            let service = serve_all(rt.alloc(), listener, count, desk, &mut rt.stderr());
+            let service = serve_all(rt.alloc(), listener, rt, count, desk, &mut rt.stderr());
             Ending::of_service(service.has_failed, service.is_given_up)
         }
         Err(_) => Ending::File,
@@ -104,10 +106,13 @@ where
     match Desk::open(rt.alloc(), conn) {
         Ok(mut desk) => {
             let ending = serve_at(rt, listener, port, count, &mut desk);
-            let _ = desk.close();
+            let _ = desk.close().close();
             ending
         }
-        Err((fault, _)) => Ending::Fault(fault),
+        Err((fault, conn)) => {
+            let _ = conn.close();
+            Ending::Fault(fault)
+        }
     }
 }
 

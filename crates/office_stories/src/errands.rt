@@ -23,7 +23,7 @@ pub(crate) enum Errand<'a> {
     /// Acts and readings are asked at the desk; what is told is a line for each.
     Asks(&'a [&'a str]),
     /// Clients are served who wait at a socket.
-    Meeting(&'a TcpListener, &'a Meeting<'a>),
+    Meeting(&'a HostRuntime, &'a TcpListener, &'a Meeting<'a>),
     /// A row of the program's words.
     Program(&'a str),
     /// Statements change the tables.
@@ -56,7 +56,7 @@ fn done_at<S: Alter>(
     match errand {
         Errand::Rows(way, rows) => tell_rows(alloc, desk, way, rows)?,
         Errand::Asks(asks) => return told_of(alloc, desk, asks),
-        Errand::Meeting(listener, meeting) => serve(alloc, listener, desk, meeting)?,
+        Errand::Meeting(rt, listener, meeting) => serve(rt, listener, desk, meeting)?,
         Errand::Program(_) | Errand::Statements(_) | Errand::Counts => {}
     }
     Ok(String::new(alloc))

@@ -76,13 +76,13 @@ fn hear(alloc: Global, client: Client) -> Result<(), Fail> {
 
 /// Serving must end as the meeting says.
 pub(crate) fn serve<S: Alter>(
-    alloc: Global,
+    rt: &HostRuntime,
     listener: &TcpListener,
     desk: &mut Desk<S>,
     meeting: &Meeting<'_>,
 ) -> Result<(), Fail> {
-    let mut err = Vec::new(alloc);
-    let service = serve_all(alloc, listener, meeting.most, desk, &mut err);
+    let mut err = Vec::new(rt.alloc());
+    let service = serve_all(rt.alloc(), listener, rt, meeting.most, desk, &mut err);
     if service == meeting.service && err.as_slice() == meeting.told.as_bytes() {
         return Ok(());
     }
@@ -95,7 +95,11 @@ pub(crate) fn meet(rt: &HostRuntime, meeting: &Meeting<'_>) -> Result<(), Fail> 
     let clients = clients_of(rt, listener.local_addr()?, meeting.clients)?;
     listener.set_nonblocking(!meeting.is_patient)?;
     let mut image = tell_parts(rt.alloc(), meeting.office)?;
-    do_all(rt.alloc(), &mut image, Errand::Meeting(&listener, meeting))?;
+    do_all(
+        rt.alloc(),
+        &mut image,
+        Errand::Meeting(rt, &listener, meeting),
+    )?;
     for client in clients {
         hear(rt.alloc(), client)?;
     }

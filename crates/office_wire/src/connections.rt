@@ -2,18 +2,23 @@
 ghost use Rattle.std.specs.Prelude.{◌≡◌, ◌≤◌, ◌||◌, false};
 ghost use Rattle.office_wire.specs.Connections.{Ends, IsKept, Turn, Turns, has_failed};
 
+use crate::deadline::Timed;
 use crate::serving::serve_one;
 use office_desk::Desk;
 use office_json::Io;
 use office_store::Fault;
 use sqlite::Alter;
 use std::alloc::Global;
-use std::io::{Read, Write};
+use std::io::{BufWriter, Read, Write};
 use std::net::{OpenListener, OpenStream, Shutdown};
-use std::time::Duration;
+use std::time::{Clock, Duration};
+use std::{io, thread};
 
 /// How many reads follow an answer at most, of 4,096 bytes each.
 const LAST_READS: u32 = 64;
+
+/// How many milliseconds pass after a connection that could not be accepted.
+const ACCEPT_PAUSE: u64 = 100;
 
 /// How serving ended.
 #[derive(Clone, Copy, PartialEq, Eq, Debug, Drop)]
@@ -51,27 +56,46 @@ fn finish<C: Read + OpenStream>(stream: &mut C) {
     }
 }
 
+/// The side of a connection to which its answer is written, through a buffer, so that a short one goes out in
+/// one write; without a buffer where memory is refused for it.
+fn writer_of<'a, C: Write + OpenStream + Drop, K: Clock>(
+    alloc: Global,
+    stream: &C,
+    clock: &'a K,
+) -> io::Result<BufWriter<Timed<'a, C, K>>> {
+    match BufWriter::new(alloc, Timed::new(stream.try_clone()?, clock)) {
+        Ok(writer) => Ok(writer),
+        Err(_) => BufWriter::with_capacity(alloc, 0, Timed::new(stream.try_clone()?, clock)),
+    }
+}
+
 /// Serves a connection, which is closed at the end.
-fn serve_stream<C: Read + Write + OpenStream + Drop, S: Alter>(
+fn serve_stream<C: Read + Write + OpenStream + Drop, K: Clock, S: Alter>(
     alloc: Global,
     stream: C,
+    clock: &K,
     desk: &mut Desk<S>,
 ) -> Result<u16, Io>
     ensures { Turn S.Store result desk.old desk.new }
 {
-    let mut reader = stream;
-    let Ok(mut writer) = reader.try_clone() else {
+    let Ok(mut writer) = writer_of(alloc, &stream, clock) else {
         return Err(Io);
     };
+    let mut reader = Timed::new(stream, clock);
     let status = serve_one(alloc, desk, &mut reader, &mut writer)?;
-    finish(&mut reader);
+    if writer.flush().is_err() {
+        return Err(Io);
+    }
+    finish(reader.stream());
     Ok(status)
 }
 
-/// Waits for a connection and serves it.
-fn serve_next<L: OpenListener, S: Alter>(
+/// Waits for a connection and serves it. Where none can be accepted it waits a little, so that a lasting want, as
+/// of file descriptors, does not use up the count at once.
+fn serve_next<L: OpenListener, K: Clock, S: Alter>(
     alloc: Global,
     listener: &L,
+    clock: &K,
     desk: &mut Desk<S>,
 ) -> Result<u16, Io>
 where
@@ -79,8 +103,11 @@ where
     ensures { Turn S.Store result desk.old desk.new }
 {
     match listener.accept() {
-        Ok((stream, _)) => serve_stream(alloc, stream, desk),
-        Err(_) => Err(Io),
+        Ok((stream, _)) => serve_stream(alloc, stream, clock, desk),
+        Err(_) => {
+            thread::sleep(clock, Duration::from_millis(ACCEPT_PAUSE));
+            Err(Io)
+        }
     }
 }
 
@@ -122,12 +149,14 @@ fn tell_failure<E: Write>(served: Result<u16, Io>, err: &mut E) {
 }
 
 /// Serves so many connections, one after another, and fewer only where the desk was given up. One that
-/// fails counts too, and is told on `err`. What a client asks is not known here, since a socket does not
-/// tell its bytes beforehand: of each connection it is known that the desk stands where serving something
-/// leaves it.
-pub fn serve_all<L: OpenListener, E: Write, S: Alter>(
+/// fails counts too, and is told on `err`. By the clock a whole request may take `LONGEST` seconds from its first
+/// read on, and its whole answer as many from its first write on; a connection that takes longer fails. What a client
+/// asks is not known here, since a socket does not tell its bytes beforehand: of each connection it is known that
+/// the desk stands where serving something leaves it.
+pub fn serve_all<L: OpenListener, K: Clock, E: Write, S: Alter>(
     alloc: Global,
     listener: &L,
+    clock: &K,
     count: u32,
     desk: &mut Desk<S>,
     err: &mut E,
@@ -140,7 +169,7 @@ where
 {
     let mut has_failed = false;
     for before in 0..count {
-        let served = serve_next(alloc, listener, desk);
+        let served = serve_next(alloc, listener, clock, desk);
         tell_failure(served, err);
         has_failed = failed_by(has_failed, served);
         if ends_after(alloc, desk, served) {

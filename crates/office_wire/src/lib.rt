@@ -4,12 +4,13 @@
 //! [`receive`] reads all of a request and touches no desk; [`answer`] does what it asks for and reads
 //! nothing; [`serve_one`] joins them and writes the answer. Acts and answers in JSON are those of
 //! `office_json`, heads and the bytes of an answer those of `office_http`. [`serve_all`] serves connections
-//! over TCP, one after another.
+//! over TCP, one after another, each within its time ([`LONGEST`]).
 #![tactic(auto)]
 
 mod answering;
 mod body;
 mod connections;
+mod deadline;
 mod receiving;
 mod replies;
 mod serving;
@@ -17,6 +18,7 @@ mod serving;
 pub use answering::answer;
 pub use body::ActsBody;
 pub use connections::{Service, serve_all};
+pub use deadline::LONGEST;
 pub use office_json::{Io, ReadFault, answer_value, read_act};
 pub use receiving::{Asked, Asking, ReceiveStop, Received, receive};
 pub use serving::serve_one;

@@ -1,0 +1,79 @@
+//! A deadline for all that is read of a connection, and one for all that is written to it.
+ghost use Rattle.std.specs.Prelude.{◌≡◌, ◌*◌, ◌-◌, ◌≤◌, ◌↔◌, IfOk, IfSome, IsNone, IsSome, OnOk, Some};
+ghost use Rattle.std.specs.Duration.{as_nanos};
+
+use std::io;
+use std::io::{ErrorKind, Read, Write};
+use std::net::OpenStream;
+use std::time::{Clock, Duration};
+
+/// How many seconds a whole request may take, and how many its whole answer. Source: own.
+pub const LONGEST: u64 = 60;
+
+/// What is left of the time for what began then; none where it is over. Both are readings of one clock.
+fn left(began: Duration, now: Duration) -> Option<Duration>
+    ensures over { IsNone result ↔ (LONGEST * 1_000_000_000 ≤ as_nanos now - as_nanos began) }
+    ensures left { IfSome result (λ it. as_nanos it ≡ LONGEST * 1_000_000_000 - (as_nanos now - as_nanos began)) }
+{
+    let left = Duration::from_secs(LONGEST).checked_sub(now.saturating_sub(began))?;
+    if left.is_zero() { None } else { Some(left) }
+}
+
+/// A side of a connection, whose time begins as it is first read or written. It tells no bytes beforehand, as
+/// a socket does not.
+#[derive(Drop)]
+pub(crate) struct Timed<'a, C, K> {
+    stream: C,
+    clock: &'a K,
+    began: Option<Duration>,
+}
+
+impl<'a, C: OpenStream, K: Clock> Timed<'a, C, K> {
+    pub(crate) fn new(stream: C, clock: &'a K) -> Timed<'a, C, K> {
+        Timed {
+            stream,
+            clock,
+            began: None,
+        }
+    }
+
+    /// The connection itself, whose time does not matter any more.
+    pub(crate) fn stream(&mut self) -> &mut C {
+        &mut self.stream
+    }
+
+    /// What is left of its time, which begins with the first call.
+    fn left(&mut self) -> io::Result<Duration>
+        ensures most { IfOk result (λ it. as_nanos it ≤ LONGEST * 1_000_000_000) }
+        ensures begun { OnOk result (IsSome self.new.began) }
+        ensures kept { IfSome self.old.began (λ then. self.new.began ≡ Some then) }
+    {
+        let now = self.clock.monotonic()?;
+        let began = self.began.unwrap_or(now);
+        self.began = Some(began);
+        match left(began, now) {
+            Some(left) => Ok(left),
+            None => Err(io::Error::from(ErrorKind::TimedOut)),
+        }
+    }
+}
+
+impl<'a, C: Read + OpenStream, K: Clock> Read for Timed<'a, C, K> {
+    fn read(&mut self, buf: &mut [u8]) -> io::Result<usize> {
+        let left = self.left()?;
+        self.stream.set_read_timeout(Some(left))?;
+        self.stream.read(buf)
+    }
+}
+
+impl<'a, C: Write + OpenStream, K: Clock> Write for Timed<'a, C, K> {
+    fn write(&mut self, buf: &[u8]) -> io::Result<usize> {
+        let left = self.left()?;
+        self.stream.set_write_timeout(Some(left))?;
+        self.stream.write(buf)
+    }
+
+    fn flush(&mut self) -> io::Result<()> {
+        self.stream.flush()
+    }
+}
