@@ -39,6 +39,8 @@
 #[cfg(test)]
 mod acts;
 #[cfg(test)]
+mod archive_stories;
+#[cfg(test)]
 mod clients;
 #[cfg(test)]
 mod content_stories;

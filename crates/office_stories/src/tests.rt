@@ -1,4 +1,5 @@
 //! Every story is told.
+use crate::archive_stories::ARCHIVE;
 use crate::content_stories::CONTENTS;
 use crate::endings::tell_endings;
 use crate::filing_stories::FILING;
@@ -36,6 +37,11 @@ fn requests_are_answered(rt: HostRuntime) -> Result<(), Fail> {
 fn the_program_tells_what_it_did(rt: HostRuntime) -> Result<(), Fail> {
     tell(rt.alloc(), PROGRAM)?;
     tell_endings(rt.alloc())
+}
+
+#[test]
+fn a_city_archive_has_its_story(rt: HostRuntime) -> Result<(), Fail> {
+    tell(rt.alloc(), ARCHIVE)
 }
 
 #[test]
