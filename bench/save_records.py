@@ -5,7 +5,12 @@ save_records.py each FILE COUNT   each record in a transaction of its own, journ
 save_records.py whole FILE COUNT  all of them in one transaction, the log copied into the file at the end
 save_records.py scan FILE COUNT   nothing is written: the tables are fetched in the order of their keys
 save_records.py acts FILE COUNT   the acts that lead to these rows, as one JSON array in place of a database
+save_records.py csv FILE COUNT    the records as the rows of an import, in place of a database
+save_records.py import FILE CSV   the rows of such a text, read by Python's csv, each record in a transaction of its own
 """
+import base64
+import csv
+import datetime
 import hashlib
 import json
 import sqlite3
@@ -64,6 +69,29 @@ def acts(path, count):
         json.dump(asked, out)
 
 
+def table(path, count):
+    with open(path, "w", encoding="utf-8", newline="") as out:
+        rows = csv.writer(out, lineterminator="\r\n")
+        rows.writerow(["ref", "title", "originated", "aggregation", "class", "schedule", "content"])
+        rows.writerows([f"r{number}", f"r{number}", "2024-01-02", 1, "", "", "YWJj"] for number in range(count))
+
+
+def bring(conn, path):
+    epoch = datetime.date(1970, 1, 1)
+    with open(path, encoding="utf-8", newline="") as text:
+        for number, row in enumerate(csv.DictReader(text), 1):
+            content = base64.b64decode(row["content"], validate=True)
+            originated = (datetime.date.fromisoformat(row["originated"]) - epoch).days
+            told = (number, row["ref"], row["title"], originated, DAY, int(row["aggregation"]), len(content), hashlib.sha256(content).hexdigest(), "here",
+                    row["class"] or None, row["schedule"] or None)
+            conn.execute("BEGIN")
+            conn.execute("INSERT OR REPLACE INTO records VALUES (?, ?, ?, ?, ?, ?, ?, ?, ?, ?, ?, ?, ?, ?, ?, ?, ?, ?, ?)", told + (None,) * 8)
+            conn.execute("INSERT OR REPLACE INTO contents VALUES (?, ?)", (number, content))
+            conn.execute("INSERT OR REPLACE INTO office VALUES (1, 1, ?)", (DAY,))
+            conn.execute("COMMIT")
+    return number
+
+
 def scan(conn, count):
     for table, wanted in KEYS.items():
         rows = conn.execute(f"SELECT {'record' if table == 'contents' else '*'} FROM {table} ORDER BY {wanted}").fetchall()
@@ -71,9 +99,10 @@ def scan(conn, count):
             sys.exit("another number of records")
 
 
-how, path, count = sys.argv[1], sys.argv[2], int(sys.argv[3])
-if how == "acts":
-    acts(path, count)
+how, path = sys.argv[1], sys.argv[2]
+count = 0 if how == "import" else int(sys.argv[3])
+if how in ("acts", "csv"):
+    (acts if how == "acts" else table)(path, count)
     sys.exit(0)
 conn = sqlite3.connect(path, isolation_level=None)
 if how == "scan":
@@ -82,6 +111,11 @@ if how == "scan":
 conn.execute("PRAGMA journal_mode = WAL")
 conn.execute("PRAGMA synchronous = FULL")
 begin(conn)
+if how == "import":
+    count = bring(conn, sys.argv[3])
+    conn.close()
+    print(count, "records")
+    sys.exit(0)
 if how == "whole":
     conn.execute("BEGIN")
 for number in range(1, count + 1):

@@ -45,15 +45,14 @@ fn bytes_of(rt: &HostRuntime, file: &str) -> Result<Vec<u8>, Ending> {
     }
 }
 
-/// Carries out an order on the office in a file, which is made where there is none; `text` is what the
+/// Carries out an order on the office in a file, which is made where there is none; `input` is what the
 /// order reads. A file that is no database's stays as it is. Where it is not closed, the file and its log still
 /// have every act.
-fn run_in(rt: &HostRuntime, file: &str, order: &Order<'_>, text: &[u8]) -> u8 {
-    let mut input = text;
+fn run_from<R: Read>(rt: &HostRuntime, file: &str, order: &Order<'_>, input: &mut R) -> u8 {
     match Connection::open_from(rt, file, false, Wary) {
         Ok(conn) => {
             let (mut out, mut err) = (io::writer(rt), rt.stderr());
-            let (status, conn) = run_on(rt.alloc(), conn, order, &mut input, &mut out, &mut err);
+            let (status, conn) = run_on(rt.alloc(), conn, order, input, &mut out, &mut err);
             let _ = conn.close();
             status
         }
@@ -61,11 +60,25 @@ fn run_in(rt: &HostRuntime, file: &str, order: &Order<'_>, text: &[u8]) -> u8 {
     }
 }
 
+/// The same, where the order reads a text.
+fn run_in(rt: &HostRuntime, file: &str, order: &Order<'_>, text: &[u8]) -> u8 {
+    let mut input = text;
+    run_from(rt, file, order, &mut input)
+}
+
 /// Does the acts of a file, which are read before the office's file is opened.
 fn apply_in(rt: &HostRuntime, file: &str, acts: &str, order: &Order<'_>) -> u8 {
     match bytes_of(rt, acts) {
         Ok(text) => run_in(rt, file, order, text.as_slice()),
         Err(ending) => ended(rt, ending),
+    }
+}
+
+/// Adds the records of a CSV file, which is opened before the office's file, and read row by row.
+fn import_in(rt: &HostRuntime, file: &str, csv: &str, order: &Order<'_>) -> u8 {
+    match File::open(rt, csv) {
+        Ok(mut reader) => run_from(rt, file, order, &mut reader),
+        Err(error) => ended(rt, Ending::of_plan(Err(PlanStop::of(&error)))),
     }
 }
 
@@ -139,6 +152,7 @@ fn perform(rt: &HostRuntime, order: &Order<'_>) -> u8 {
         }
         Order::Plan { file } => ended(rt, plan_in(rt, file)),
         Order::Apply { file, acts } => apply_in(rt, file, acts, order),
+        Order::Import { file, csv, .. } => import_in(rt, file, csv, order),
         Order::Init { file } | Order::Resume { file } | Order::Certificate { file, .. } => {
             run_in(rt, file, order, &[])
         }

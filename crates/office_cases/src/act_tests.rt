@@ -150,7 +150,7 @@ fn code_text(code: Option<&Code>) -> &str {
 }
 
 /// Appends a day.
-fn push_day(out: &mut Vec<u8>, day: Day) -> Option<()> {
+pub(crate) fn push_day(out: &mut Vec<u8>, day: Day) -> Option<()> {
     out.extend_from_slice(&day.text()).ok()
 }
 

@@ -1,4 +1,5 @@
 //! Words of the command line: that they are taken at all, and of which kind the errors of others are.
+use crate::act_tests::push_day;
 use crate::answering::push_refused;
 use crate::rows::words_of;
 use crate::written::push;
@@ -19,6 +20,7 @@ pub(crate) const ROWS: &str = "
     words office serve office.db 8080 3 = serve 8080 3 office.db
     words office serve office.db 00080 01 = serve 80 1 office.db
     words office serve office.db 1 1 = serve 1 1 office.db
+    words office import office.db 2024-01-02 letters.csv = import 2024-01-02 office.db letters.csv
     words office serve office.db 65535 1000000 = serve 65535 1000000 office.db
 
     # words that are no command
@@ -27,6 +29,12 @@ pub(crate) const ROWS: &str = "
     words office dew = InvalidSubcommand
     words office help = DisplayHelp
     words office due --help = DisplayHelp
+
+    # days of no import
+    words office import office.db 2024-1-02 letters.csv = refused 2
+    words office|import|office.db||letters.csv = refused 2
+    words office import office.db 3000-01-01 letters.csv = refused 2
+    words office import office.db 2024-01-02 = MissingRequiredArgument
 
     # numbers of no run
     words office|certificate|office.db| = refused 2
@@ -78,6 +86,9 @@ fn tell_order(order: &Order<'_>, out: &mut Vec<u8>) -> Option<()> {
                 .ok()
                 .and(push_all(out, &["", file]))
         }
+        Order::Import { file, day, csv } => push(out, "import ")
+            .and(push_day(out, *day))
+            .and(push_all(out, &["", file, csv])),
         Order::Serve { file, port, count } => {
             write!(out, "serve {port} {count}")
                 .ok()

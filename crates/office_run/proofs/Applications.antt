@@ -1,5 +1,5 @@
 -- How the performing of acts ends.
-use Rattle.std.proofs.Common.{◌≡◌, ◌∙◌, ◌⊎◌, inl, inr, ℕ, Bool, true, false, List, Option, Result, Ok, Err, refl, sym, ap, subst, map, take, if◌then◌else◌}
+use Rattle.std.proofs.Common.{◌≡◌, ◌∙◌, inl, inr, ℕ, Bool, true, false, List, Option, Result, Ok, Err, refl, sym, ap, subst, map, take, if◌then◌else◌}
 use Rattle.std.specs.List.{list_any}
 use Rattle.std.specs.Prelude.{IfErr, OnOk}
 use Rattle.std.specs.Io.KnownBytes.{Appends}
@@ -14,7 +14,7 @@ use Rattle.office_store.specs.declared.fault.Fault.{Fault}
 use Rattle.office_json.specs.Acts.{asked}
 use Rattle.office_json.specs.Answers.{answer_lines}
 use Rattle.office_json.specs.Lists.{acts_in}
-use Rattle.office_run.specs.Applying.{AreDone, AreStopped, AreAnswered, AreCutShort, Applies, IsUnread, Performs, TextEnds}
+use Rattle.office_run.specs.Applying.{AreDone, AreStopped, Applies, Performs, TextEnds}
 use Rattle.office_run.specs.Endings.{ending_of_acts, is_refusal}
 use Rattle.office_run.specs.Opening.{IsOfOpened}
 use Rattle.office_run.specs.declared.ending.Ending.{Ending}
@@ -30,6 +30,8 @@ performs_of Of Others to acts new written after (how.Refused refusal) h = h
 performs_of Of Others to acts new written after (how.LineRefused line refusal) h = h
 performs_of Of Others to acts new written after (how.ActRefused place refusal) h = h
 performs_of Of Others to acts new written after how.NotJson h = h
+performs_of Of Others to acts new written after how.CsvHeader h = h
+performs_of Of Others to acts new written after (how.CsvRow number) h = h
 performs_of Of Others to acts new written after how.BadWords h = h
 performs_of Of Others to acts new written after how.Socket h = h
 performs_of Of Others to acts new written after how.SomeFailed h = h

@@ -2,4 +2,5 @@ pub mod Applications
 pub mod Certificates
 pub mod DeskActs
 pub mod Endings
+pub mod Imports
 pub mod Resumptions

@@ -2,7 +2,6 @@
 use Rattle.std.specs.FinMap.{get}
 use Rattle.std.specs.Prelude.{◌≡◌, ◌⊎◌, ℕ, List, Option, Some, None}
 use Rattle.std.specs.Io.KnownBytes.{Appends}
-use Rattle.sqlite.specs.Held.{state}
 use Rattle.sqlite.specs.State.{State as FileState}
 use Rattle.office_days.specs.declared.refusal.Refusal.TheVariants as refused
 use Rattle.office_rules.specs.State.{State}
@@ -23,6 +22,8 @@ Certifies Of run written after (how.LineRefused line refusal) = ⊥
 Certifies Of run written after how.SomeRefused = ⊥
 Certifies Of run written after (how.ActRefused place refusal) = ⊥
 Certifies Of run written after how.NotJson = ⊥
+Certifies Of run written after how.CsvHeader = ⊥
+Certifies Of run written after (how.CsvRow number) = ⊥
 Certifies Of run written after how.BadWords = ⊥
 Certifies Of run written after how.Socket = ⊥
 Certifies Of run written after how.SomeFailed = ⊥

@@ -1,5 +1,5 @@
 -- What the program tells its caller at the end. Source: own.
-use Rattle.std.specs.Prelude.{ℕ, List, [], ◌∷◌, ◌++◌, codes, Option, Some, None, Result, Ok, Err, if◌then◌else◌, Bool, true, false}
+use Rattle.std.specs.Prelude.{ℕ, List, [], ◌∷◌, ◌++◌, codes, Option, Some, None, Result, Ok, Err, if◌then◌else◌, ◌==◌, Bool, true, false}
 use Rattle.std.specs.Fmt.{decimal}
 use Rattle.std.specs.List.{list_any}
 use Rattle.office_days.specs.declared.refusal.Refusal.{Refusal}
@@ -11,7 +11,9 @@ use Rattle.office_store.specs.Faults.{fault_number}
 use Rattle.office_store.specs.declared.fault.Fault.{Fault as AnyFault}
 use Rattle.office_store.specs.declared.fault.Fault.TheVariants as fault
 use Rattle.office_run.specs.declared.ending.Ending.{Ending}
-use Rattle.office_run.specs.declared.ending.Ending.TheVariants.{Done, Refused, SomeRefused, LineRefused, ActRefused, NotJson, BadWords, File, Socket, SomeFailed, Fault}
+use Rattle.office_run.specs.declared.ending.Ending.TheVariants.{Done, Refused, SomeRefused, LineRefused, ActRefused, NotJson, CsvHeader, CsvRow, BadWords, File, Socket, SomeFailed, Fault}
+use Rattle.office_wire.specs.declared.importing.ImportStop.{ImportStop}
+use Rattle.office_wire.specs.declared.importing.ImportStop.TheVariants as import
 use Rattle.office_plan.specs.declared.input.PlanStop.{PlanStop}
 use Rattle.office_plan.specs.declared.input.PlanStop.TheVariants as stop
 
@@ -38,6 +40,14 @@ abbrev pub ending_of_acts : Result (Unit {0}) AnyFault → List Answer → Endin
 ending_of_acts (Ok done) given = if list_any is_refusal given then SomeRefused else Done
 ending_of_acts (Err f) given = Fault f
 
+-- a row that is refused is told by the exit status alone, and what stopped an import as such
+abbrev pub ending_of_import : Result ℕ ImportStop → Ending
+ending_of_import (Ok refused) = if refused == 0 then Done else SomeRefused
+ending_of_import (Err import.Header) = CsvHeader
+ending_of_import (Err (import.Row number)) = CsvRow number
+ending_of_import (Err (import.Fault f)) = Fault f
+ending_of_import (Err import.Io) = File
+
 -- a service that was given up is told as the fault by which a desk answers no more, and a connection that failed by the exit status alone
 abbrev pub ending_of_service : Bool → Bool → Ending
 ending_of_service has_failed is_given_up = if is_given_up then Fault fault.Reopen else if has_failed then SomeFailed else Done
@@ -50,6 +60,8 @@ exit_status SomeRefused = 1
 exit_status (LineRefused line refusal) = 1
 exit_status (ActRefused place refusal) = 1
 exit_status NotJson = 1
+exit_status CsvHeader = 1
+exit_status (CsvRow number) = 1
 exit_status BadWords = 2
 exit_status File = 3
 exit_status Socket = 3
@@ -68,6 +80,8 @@ line_said (LineRefused line refusal) = codes "office: line " ++ decimal line ++ 
 line_said SomeRefused = []
 line_said (ActRefused place refusal) = codes "office: act " ++ decimal place ++ codes " refused " ++ decimal (refusal_number refusal) ++ 10 ∷ []
 line_said NotJson = codes "office: json" ++ 10 ∷ []
+line_said CsvHeader = codes "office: csv header" ++ 10 ∷ []
+line_said (CsvRow number) = codes "office: csv row " ++ decimal number ++ 10 ∷ []
 line_said BadWords = []
 line_said File = codes "office: file" ++ 10 ∷ []
 line_said Socket = codes "office: socket" ++ 10 ∷ []

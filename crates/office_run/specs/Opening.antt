@@ -1,6 +1,5 @@
 -- Whether the office in a file was opened. Source: own.
 use Rattle.std.specs.Prelude.{◌≡◌, ◌≢◌, ℕ, List, Option, false, true}
-use Rattle.sqlite.specs.Held.{state}
 use Rattle.sqlite.specs.State.{State as FileState, HasCleanDisk}
 use Rattle.office_rules.specs.Rows.{rows_of}
 use Rattle.office_rules.specs.State.{State, empty_state}

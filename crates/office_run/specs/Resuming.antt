@@ -2,7 +2,6 @@
 use Rattle.std.specs.Fmt.{decimal}
 use Rattle.std.specs.Prelude.{◌≡◌, ◌⊎◌, ℕ, suc, List, ◌∷◌, [], ◌++◌, codes, Option, Some, None}
 use Rattle.std.specs.Io.KnownBytes.{Appends}
-use Rattle.sqlite.specs.Held.{state}
 use Rattle.sqlite.specs.State.{State as FileState}
 use Rattle.office_days.specs.declared.refusal.Refusal.TheVariants as refused
 use Rattle.office_rules.specs.Rows.{rows_of}
@@ -53,6 +52,8 @@ Resumes Of new written after (how.LineRefused line refusal) = ⊥
 Resumes Of new written after how.SomeRefused = ⊥
 Resumes Of new written after (how.ActRefused place refusal) = ⊥
 Resumes Of new written after how.NotJson = ⊥
+Resumes Of new written after how.CsvHeader = ⊥
+Resumes Of new written after (how.CsvRow number) = ⊥
 Resumes Of new written after how.BadWords = ⊥
 Resumes Of new written after how.Socket = ⊥
 Resumes Of new written after how.SomeFailed = ⊥

@@ -6,6 +6,7 @@ use office_days::Refusal;
 use office_plan::{Io, PlanStop};
 use office_rules::Answer;
 use office_store::Fault;
+use office_wire::ImportStop;
 use std::fmt;
 
 /// How the program ends. Its text is the line on standard error, with its line feed, or nothing.
@@ -23,6 +24,10 @@ pub enum Ending {
     ActRefused(u64, Refusal),
     /// What was read is no JSON array.
     NotJson,
+    /// The first row of what was imported does not name the columns.
+    CsvHeader,
+    /// The row of that number, from 1, is none of an import; the rows before it are done.
+    CsvRow(u64),
     /// The words are no command of the program; what is wrong was said already.
     BadWords,
     /// Standard output could not be written.
@@ -50,7 +55,7 @@ fn has_refusal(answers: &[Answer]) -> bool
 }
 
 impl Ending {
-    ghost use Rattle.office_run.specs.Endings.{ending_of, ending_of_acts, ending_of_plan, ending_of_service, exit_status};
+    ghost use Rattle.office_run.specs.Endings.{ending_of, ending_of_acts, ending_of_import, ending_of_plan, ending_of_service, exit_status};
 
     /// The ending of a command that answers a refusal or none.
     pub fn of(answer: Result<Option<Refusal>, Io>) -> Ending
@@ -86,6 +91,20 @@ impl Ending {
         }
     }
 
+    /// The ending of an import, of whose rows so many were refused.
+    pub fn of_import(done: Result<u64, ImportStop>) -> Ending
+        ensures { result ≡ ending_of_import done }
+    {
+        match done {
+            Ok(0) => Ending::Done,
+            Ok(_) => Ending::SomeRefused,
+            Err(ImportStop::Header) => Ending::CsvHeader,
+            Err(ImportStop::Row(number)) => Ending::CsvRow(number),
+            Err(ImportStop::Fault(fault)) => Ending::Fault(fault),
+            Err(ImportStop::Io) => Ending::File,
+        }
+    }
+
     /// The ending of a service.
     pub fn of_service(has_failed: bool, is_given_up: bool) -> Ending
         ensures { result ≡ ending_of_service has_failed is_given_up }
@@ -110,6 +129,8 @@ impl Ending {
             Ending::LineRefused(_, _) => 1,
             Ending::ActRefused(_, _) => 1,
             Ending::NotJson => 1,
+            Ending::CsvHeader => 1,
+            Ending::CsvRow(_) => 1,
             Ending::BadWords => 2,
             Ending::File => 3,
             Ending::Socket => 3,
@@ -137,6 +158,8 @@ impl fmt::Display for Ending {
                 writeln!(f, "office: act {place} refused {}", refusal.number())
             }
             Ending::NotJson => writeln!(f, "office: json"),
+            Ending::CsvHeader => writeln!(f, "office: csv header"),
+            Ending::CsvRow(number) => writeln!(f, "office: csv row {number}"),
             Ending::File => writeln!(f, "office: file"),
             Ending::Socket => writeln!(f, "office: socket"),
             Ending::Fault(fault) => writeln!(f, "office: fault {}", fault.number()),

@@ -11,6 +11,7 @@ ghost use Rattle.office_run.specs.declared.ending.Ending.{Ending as AnyEnding};
 use crate::applying::apply_on;
 use crate::certifying::certificate_on;
 use crate::ending::Ending;
+use crate::importing::import_on;
 use crate::resuming::resume_on;
 use office_desk::Desk;
 use office_plan::{Io, write_out};
@@ -75,6 +76,7 @@ fn carry_out<R: Read, W: Write, S: Alter>(
     match order {
         Order::Init { .. } => init_on(alloc, conn, out),
         Order::Apply { .. } => apply_on(alloc, conn, input, out),
+        Order::Import { day, .. } => import_on(alloc, conn, *day, input, out),
         Order::Resume { .. } => resume_on(alloc, conn, out),
         Order::Certificate { run, .. } => certificate_on(alloc, conn, *run, out),
         Order::Due { .. } | Order::Plan { .. } | Order::Serve { .. } | Order::Nothing => {

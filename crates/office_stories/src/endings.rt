@@ -8,7 +8,7 @@ use std::alloc::Global;
 use std::test::Fail;
 
 /// Each kind of ending.
-const ENDINGS: [Ending; 16] = [
+const ENDINGS: [Ending; 18] = [
     Ending::Done,
     Ending::Refused(Refusal::BadText),
     Ending::Refused(Refusal::WrongDigest),
@@ -19,6 +19,8 @@ const ENDINGS: [Ending; 16] = [
     Ending::BadWords,
     Ending::File,
     Ending::Socket,
+    Ending::CsvHeader,
+    Ending::CsvRow(7),
     Ending::SomeFailed,
     Ending::Fault(Fault::Memory),
     Ending::Fault(Fault::Store),
@@ -38,6 +40,8 @@ const ROWS: &str = r"0;
 2;
 3;office: file\n
 3;office: socket\n
+1;office: csv header\n
+1;office: csv row 7\n
 3;
 4;office: fault 30\n
 3;office: fault 31\n

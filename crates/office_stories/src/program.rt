@@ -1,6 +1,7 @@
 //! The program's words over a connection to an office.
 use crate::failures::failure;
 use crate::repeating::unescaped;
+use office_days::Day;
 use office_run::run_on;
 use office_words::Order;
 use sqlite::{Alter, Connection};
@@ -10,6 +11,27 @@ use std::test::Fail;
 /// The file that the orders name.
 const FILE: &str = "office.db";
 
+/// The order of an import on that day, and the text that it reads.
+fn import_of(rest: &str) -> (Order<'static>, &str) {
+    match rest.split_once(' ') {
+        Some((day, text)) => match Day::read(day) {
+            Some(day) => {
+                let csv = "letters.csv";
+                (
+                    Order::Import {
+                        file: FILE,
+                        day,
+                        csv,
+                    },
+                    text,
+                )
+            }
+            None => (Order::Nothing, text),
+        },
+        None => (Order::Nothing, rest),
+    }
+}
+
 /// The order of those words, and the text that it reads.
 fn order_of(words: &str) -> (Order<'static>, &str) {
     match words.split_once(' ') {
@@ -17,6 +39,7 @@ fn order_of(words: &str) -> (Order<'static>, &str) {
             let run = run.parse().unwrap_or(0);
             (Order::Certificate { file: FILE, run }, "")
         }
+        Some(("import", rest)) => import_of(rest),
         Some(("apply", text)) => {
             let acts = "acts.json";
             (Order::Apply { file: FILE, acts }, text)

@@ -77,4 +77,40 @@ apply {} = 1;;office: json\n
 apply [{"act":"open-run","day":"2024-01-03","by":"registrar"},{"act":"run-step","day":"2024-01-03"}] = 1;;office: act 1 refused 2\n
 apply [{"act":"close-aggregation","day":"2024-01-03","aggregation":0}] = 1;;office: act 0 refused 3\n
 certificate 1 = 1;;office: refused 5\n
+
+# Records are imported, and imported again
+## at the desk of the base office
+## by the program
+import 2024-01-02 ref,title,originated,aggregation,class,schedule,content\nr4,"Lease, 2023",2023-05-01,1,,,YWJj\nr5,x,2023-13-01,1,,,\nr6,x,2023-05-01,9,,,\n = 1;1 number 4\n2 refused 2\n3 refused 5\n;
+import 2024-01-02 ref,title,originated,aggregation,class,schedule,content\nr4,"Lease, 2023",2023-05-01,1,,,YWJj\nr5,x,2023-13-01,1,,,\nr6,x,2023-05-01,9,,,\n = 1;1 same 4\n2 refused 2\n3 refused 5\n;
+import 2024-01-03 ref,title,originated,aggregation,class,schedule,content\nr6,"The ""new"" lease",2023-05-01,2,FIN,D1, = 0;1 number 5\n;
+import 2024-01-02 ref,title,originated,aggregation,class,schedule,content\nr7,x,2023-05-01,1,,,\n = 1;1 refused 1\n;
+import 2024-01-03 ref,title,originated,aggregation,class,schedule,content\n = 0;;
+## at the desk
+record 4 has "title":"Lease, 2023"
+content 4 is "abc"
+record 5 has "class":"FIN"
+record 5 has "title":"The \"new\" lease"
+
+# Spreadsheets write a byte order mark, quotes and two bytes at the end of a line
+## at the desk of the base office
+## by the program
+import 2024-01-02 \ufeff"ref","title","originated","aggregation","class","schedule","content"\r\n"r4","x","2023-05-01","1","","",""\r\n = 0;1 number 4\n;
+import 2024-01-02 "\ufeffref",title,originated,aggregation,class,schedule,content\r\nr4,x,2023-05-01,1,,,\r\n\r\nr5,x,2023-05-01,2,,, = 0;1 same 4\n2 number 5\n;
+
+# An import is refused row by row, 2 before 3
+## at the desk of the base office
+## by the program
+import 2024-01-02 ref,title,originated,aggregation,class,schedule,content\nr4,x,2023-05-01,0,,,\n,x,2023-05-01,0,,,\nr4,x,2023-05-01,one,,,\nr4,x,2023-05-01,1,F F,,\nr4,x,2023-05-01,1,,,YWJ\nr4,"two\nlines",2023-05-01,1,,,\nr1,y,2023-05-01,1,,,\nr4,x,2023-05-01,00001,,, = 1;1 refused 3\n2 refused 2\n3 refused 2\n4 refused 2\n5 refused 2\n6 refused 2\n7 refused 4\n8 number 4\n;
+
+# What is no import stops where it is none
+## at the desk of the base office
+## by the program
+import 2024-01-02  = 1;;office: csv header\n
+import 2024-01-02 ref,title = 1;;office: csv header\n
+import 2024-01-02 title,ref,originated,aggregation,class,schedule,content\nx,r4,2023-05-01,1,,, = 1;;office: csv header\n
+import 2024-01-02 ref,title,originated,aggregation,class,schedule,content\nr4,x,2023-05-01,1,,,\nr5,x,2023-05-01,1,,\nr6,x,2023-05-01,1,,,\n = 1;1 number 4\n;office: csv row 2\n
+import 2024-01-02 ref,title,originated,aggregation,class,schedule,content\nr4,x,2023-05-01,1,,,\nr5,x,2023-05-01,1,,,,\n = 1;1 same 4\n;office: csv row 2\n
+## at the desk
+record 5 is none
 "#;

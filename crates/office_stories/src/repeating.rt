@@ -50,5 +50,6 @@ pub(crate) fn copies(alloc: Global, text: &str, list: &str) -> Result<Vec<String
 pub(crate) fn unescaped(alloc: Global, text: &str) -> Result<String, AllocError> {
     let text = text.replace(alloc, "\\n", "\n")?;
     let text = text.as_str().replace(alloc, "\\r", "\r")?;
+    let text = text.as_str().replace(alloc, "\\ufeff", "\u{feff}")?;
     text.as_str().replace(alloc, "\\t", "\t")
 }

@@ -1,5 +1,5 @@
 -- How serving goes on.
-use Rattle.std.proofs.Common.{◌≡◌, ℕ, zero, suc, ◌+◌, Bool, false, ◌||◌, Result, refl}
+use Rattle.std.proofs.Common.{ℕ, ◌+◌, Bool, false, ◌||◌, Result, refl}
 use native.Mathlib.Numerals.{unary_clauses}
 use Rattle.sqlite_trees.specs.declared.store.Store.{Ghosts}
 use Rattle.office_plan.specs.declared.output.Io.{Io}

@@ -1,5 +1,6 @@
 pub mod AnyAnswer
 pub mod Connected
+pub mod Imported
 pub mod Kept
 pub mod Performed
 pub mod Replied

@@ -1,5 +1,5 @@
 -- Acts that a fault stopped, as they are served.
-use Rattle.std.proofs.Common.{◌≡◌, ◌∙◌, ap, sym, subst, inr, ◌+◌, ℕ, List, [], ◌++◌, take}
+use Rattle.std.proofs.Common.{◌≡◌, ◌∙◌, ap, subst, inr, ◌+◌, ℕ, List, [], ◌++◌, take}
 use Rattle.sqlite.specs.Held.{state}
 use Rattle.sqlite.specs.State.{HasCleanDisk}
 use Rattle.sqlite_trees.specs.declared.store.Store.{Ghosts}

@@ -1,5 +1,6 @@
 pub mod Answering
 pub mod Connections
+pub mod Importing
 pub mod Receiving
 pub mod Replies
 pub mod Serving

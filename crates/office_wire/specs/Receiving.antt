@@ -1,5 +1,5 @@
 -- What a connection asks for, by all its bytes. Source: RFC 9112 for the request, as `office_http` reads it; the rest is own.
-use Rattle.std.specs.Prelude.{◌≡◌, ◌≢◌, ℕ, ℤ, Bool, List, length, take, nat_lt, if◌then◌else◌, Option, Some, None}
+use Rattle.std.specs.Prelude.{◌≡◌, ℕ, ℤ, List, length, take, nat_lt, if◌then◌else◌, Option}
 use Rattle.httparse.specs.Grammar.{RequestHead}
 use Rattle.office_http.specs.Plans.{is_head_method, plan_at}
 use Rattle.office_http.specs.Requests.{IsRequest, nothing, headless, asks}

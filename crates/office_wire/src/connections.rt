@@ -112,7 +112,7 @@ where
 }
 
 /// Whether the desk was given up: it is asked for no acts.
-fn is_given_up<S: Alter>(alloc: Global, desk: &mut Desk<S>) -> bool
+pub(crate) fn is_given_up<S: Alter>(alloc: Global, desk: &mut Desk<S>) -> bool
     ensures kept { IsKept S.Store desk.old desk.new }
     ensures told { result ≡ desk.old.is_given_up }
 {

@@ -1,12 +1,14 @@
 -- What the program is to do, with the operands of the words that name an office's file read. Source: own.
-use Rattle.std.specs.Prelude.{ℕ, Result, Ok, Err}
+use Rattle.std.specs.Prelude.{ℕ, ℤ, Option, Some, None, Result, Ok, Err}
 use Rattle.clap.specs.Words.{Text}
 use Rattle.office_days.specs.ThingNumbers.{thing_number}
+use Rattle.office_days.specs.Texts.{day_named}
 use Rattle.office_days.specs.declared.refusal.Refusal.{Refusal}
-use Rattle.office_words.specs.Command.{Asked, nothing_asked, application_asked, due_day_asked, plan_file_asked, init_file_asked, resumption_asked, certificate_asked, service_asked}
+use Rattle.office_days.specs.declared.refusal.Refusal.TheVariants.{BadText}
+use Rattle.office_words.specs.Command.{Asked, nothing_asked, application_asked, due_day_asked, plan_file_asked, init_file_asked, resumption_asked, certificate_asked, importation_asked, service_asked}
 use Rattle.office_words.specs.Services.{service_numbers}
 use Rattle.office_words.specs.declared.order.Order.{Order}
-use Rattle.office_words.specs.declared.order.Order.TheVariants.{Apply, Certificate, Due, Init, Nothing, Plan, Resume, Serve}
+use Rattle.office_words.specs.declared.order.Order.TheVariants.{Apply, Certificate, Due, Import, Init, Nothing, Plan, Resume, Serve}
 
 -- what is ordered; `due` and `plan` read their operands themselves
 pub data Ordered : Type 0 where
@@ -17,6 +19,7 @@ pub data Ordered : Type 0 where
   application_ordered : Text → Text → Ordered
   resumption_ordered : Text → Ordered
   certificate_ordered : Text → ℕ → Ordered
+  importation_ordered : Text → ℤ → Text → Ordered
   service_ordered : Text → ℕ → ℕ → Ordered
 
 abbrev pub ordered : Order → Ordered
@@ -26,6 +29,7 @@ ordered (Init file) = init_file_ordered file.now
 ordered (Apply file acts) = application_ordered file.now acts.now
 ordered (Resume file) = resumption_ordered file.now
 ordered (Certificate file run) = certificate_ordered file.now run
+ordered (Import file day csv) = importation_ordered file.now day csv.now
 ordered (Serve file port count) = service_ordered file.now port count
 ordered Nothing = nothing_ordered
 
@@ -33,6 +37,11 @@ ordered Nothing = nothing_ordered
 abbrev pub certificate_of : Text → Result ℕ Refusal → Result Ordered Refusal
 certificate_of file (Ok run) = Ok (certificate_ordered file run)
 certificate_of file (Err refusal) = Err refusal
+
+-- the import on a day, where a text was read as one
+abbrev pub importation_of : Text → Text → Option ℤ → Result Ordered Refusal
+importation_of file csv (Some day) = Ok (importation_ordered file day csv)
+importation_of file csv None = Err BadText
 
 -- the service at a port for so many connections, where texts were read as both
 abbrev pub service_of : Text → Result (ℕ × ℕ) Refusal → Result Ordered Refusal
@@ -48,4 +57,5 @@ order_asked (init_file_asked file) = Ok (init_file_ordered file)
 order_asked (application_asked file acts) = Ok (application_ordered file acts)
 order_asked (resumption_asked file) = Ok (resumption_ordered file)
 order_asked (certificate_asked file number) = certificate_of file (thing_number number)
+order_asked (importation_asked file day csv) = importation_of file csv (day_named day)
 order_asked (service_asked file port count) = service_of file (service_numbers port count)

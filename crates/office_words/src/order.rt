@@ -4,7 +4,7 @@ ghost use Rattle.office_words.specs.Orders.{order_asked, ordered};
 
 use crate::service::read_service;
 use crate::words::Words;
-use office_days::{Refusal, read_thing_number};
+use office_days::{Day, Refusal, read_thing_number};
 
 /// What the program is to do: its words, with the operands of those that name an office's file read.
 /// `due` and `plan`, which open no office, read theirs where they are done.
@@ -37,6 +37,12 @@ pub enum Order<'a> {
         file: &'a str,
         run: u32,
     },
+    /// Adds, on that day, the records of the rows of that CSV file to the office in the other one.
+    Import {
+        file: &'a str,
+        day: Day,
+        csv: &'a str,
+    },
     /// Answers requests to the office in the file, at that port, until so many connections were served.
     Serve {
         file: &'a str,
@@ -49,7 +55,7 @@ pub enum Order<'a> {
 
 /// What the words order, or why an operand is refused; no file is looked at. The number of a run is one or
 /// more ASCII digits, from 1 to 4,294,967,295, leading zeros allowed; so are the port of a service, from 1
-/// to 65,535, and its count of connections, from 1 to 1,000,000.
+/// to 65,535, and its count of connections, from 1 to 1,000,000. The day of an import is written as 2017-06-30.
 pub fn order_of<'a>(words: Words<'a>) -> Result<Order<'a>, Refusal>
     ensures ok { IfOk result (λ order. order_asked (asked words.entry) ≡ Ok (ordered order)) }
     ensures err { IfErr result (λ refusal. order_asked (asked words.entry) ≡ Err refusal) }
@@ -73,6 +79,10 @@ pub fn order_of<'a>(words: Words<'a>) -> Result<Order<'a>, Refusal>
         Words::Certificate { file, number } => match read_thing_number(number) {
             Ok(run) => Ok(Order::Certificate { file, run }),
             Err(refusal) => Err(refusal),
+        },
+        Words::Import { file, day, csv } => match Day::read(day) {
+            Some(day) => Ok(Order::Import { file, day, csv }),
+            None => Err(Refusal::BadText),
         },
         Words::Serve { file, port, count } => match read_service(port, count) {
             Ok((port, count)) => Ok(Order::Serve { file, port, count }),

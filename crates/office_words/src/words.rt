@@ -1,6 +1,6 @@
 ghost use Rattle.std.specs.Prelude.{◌≡◌, IfOk, IfErr, true, map};
 ghost use Rattle.clap.specs.Words.{found_of, kind_of, rows_of, subcommand_of, subcommand_rows_of, takes};
-ghost use Rattle.office_words.specs.Command.{apply_asked, asked, asked_in, due_asked, init_asked, number_asked, office_app, plan_asked, resume_asked, serve_asked, text_of};
+ghost use Rattle.office_words.specs.Command.{apply_asked, asked, asked_in, due_asked, import_asked, init_asked, number_asked, office_app, plan_asked, resume_asked, serve_asked, text_of};
 
 use crate::command::office_command;
 use clap::error::ErrorKind;
@@ -32,6 +32,11 @@ pub enum Words<'a> {
     Certificate {
         file: &'a str,
         number: &'a str,
+    },
+    Import {
+        file: &'a str,
+        day: &'a str,
+        csv: &'a str,
     },
     Serve {
         file: &'a str,
@@ -102,6 +107,16 @@ fn certificate_words<'a>(matches: &ArgMatches<'a>) -> Words<'a>
     }
 }
 
+fn import_words<'a>(matches: &ArgMatches<'a>) -> Words<'a>
+    ensures { asked result ≡ import_asked (rows_of (found_of matches.now)) }
+{
+    Words::Import {
+        file: operand(matches, "FILE"),
+        day: operand(matches, "DAY"),
+        csv: operand(matches, "CSV"),
+    }
+}
+
 fn serve_words<'a>(matches: &ArgMatches<'a>) -> Words<'a>
     ensures { asked result ≡ serve_asked (rows_of (found_of matches.now)) }
 {
@@ -122,6 +137,7 @@ fn words_of<'a>(matches: &ArgMatches<'a>) -> Words<'a>
         Some(("apply", inner)) => apply_words(inner),
         Some(("resume", inner)) => resume_words(inner),
         Some(("certificate", inner)) => certificate_words(inner),
+        Some(("import", inner)) => import_words(inner),
         Some(("serve", inner)) => serve_words(inner),
         _ => Words::Nothing,
     }

@@ -1,4 +1,4 @@
-use Rattle.std.proofs.Common.{◌≡◌, ◌∙◌, ap}
+use Rattle.std.proofs.Common.{◌∙◌, ap}
 use Rattle.office_http.specs.Replies.{Response}
 use Rattle.office_wire.proofs.Unavailable.{memory_unavailable}
 use Rattle.office_wire.proofs.serving.served.Goals as goal

@@ -1,0 +1,2 @@
+pub mod ImportRows
+pub mod ImportText

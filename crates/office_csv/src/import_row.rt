@@ -1,0 +1,133 @@
+//! A row of an import as the record that it asks to add.
+ghost use Rattle.std.specs.Prelude.{◌≡◌, ◌≤◌, IfOk, Ok, length};
+ghost use Rattle.office_days.specs.ThingNumbers.{thing_number};
+ghost use Rattle.office_json.specs.Acts.{told};
+ghost use Rattle.office_json.specs.Parts.{IsReadAs};
+ghost use Rattle.office_csv.specs.ImportRows.{IsRowRead, asked_record, code_field, day_field, is_first_column, is_header, named};
+
+use office_days::{Day, Refusal, read_thing_number};
+use office_json::{Content, ReadFault, both, read_code, read_content, read_words};
+use office_rules::NewRecord;
+use office_tree::{AggNo, Code, Text};
+use std::alloc::Global;
+
+/// The fields of a row of an import, as texts.
+#[derive(Clone, Copy)]
+pub struct ImportRow<'a> {
+    pub ref_text: &'a str,
+    pub title: &'a str,
+    pub originated: &'a str,
+    pub aggregation: &'a str,
+    pub class: &'a str,
+    pub schedule: &'a str,
+    pub content: &'a str,
+}
+
+/// Whether a field is the name of the first column, also behind a byte order mark.
+fn is_first_column(field: &str) -> bool
+    ensures { result ≡ is_first_column field.now }
+{
+    field == "ref" || field == "\u{feff}ref"
+}
+
+impl ImportRow<'_> {
+    /// Whether the fields are the names of the columns.
+    pub(crate) fn is_header(&self) -> bool
+        ensures { result ≡ is_header (named self.now) }
+    {
+        is_first_column(self.ref_text)
+            && self.title == "title"
+            && self.originated == "originated"
+            && self.aggregation == "aggregation"
+            && self.class == "class"
+            && self.schedule == "schedule"
+            && self.content == "content"
+    }
+}
+
+/// The day that a field is.
+fn day_of(field: &str) -> Result<Day, ReadFault>
+    ensures { IsReadAs (day_field field.now) result }
+{
+    let day = Day::read(field).ok_or(Refusal::BadText)?;
+    Ok(day)
+}
+
+/// The number of an aggregation that a field is.
+fn number_of(field: &str) -> Result<AggNo, ReadFault>
+    ensures { IsReadAs (thing_number field.now) result }
+{
+    let number = read_thing_number(field)?;
+    Ok(number)
+}
+
+/// The code that a field is; none where it is empty.
+#[tactic(auto, using(office_json::proofs::Made::fault_made))]
+fn code_of(alloc: Global, field: &str) -> Result<Option<Code>, ReadFault>
+    ensures { IsReadAs (code_field field.now) result }
+{
+    if field.is_empty() {
+        return Ok(None);
+    }
+    match read_code(alloc, field) {
+        Ok(code) => Ok(Some(code)),
+        Err(fault) => Err(fault),
+    }
+}
+
+/// What was read without memory.
+fn told(content: Result<Content, Refusal>) -> Result<Content, ReadFault>
+    ensures { IsReadAs content result }
+{
+    match content {
+        Ok(content) => Ok(content),
+        Err(refusal) => Err(ReadFault::Refused(refusal)),
+    }
+}
+
+/// A new record of its parts.
+fn record_of(
+    named: (Text, Text),
+    placed: (Day, AggNo),
+    planned: (Option<Code>, Option<Code>),
+    content: Content,
+) -> NewRecord
+    ensures { told result ≡ asked_record ((named, placed), (planned, content)) }
+{
+    let (ref_text, title) = named;
+    let (originated, aggregation) = placed;
+    let (class, schedule) = planned;
+    let bytes = content.into_bytes();
+    match NewRecord::new(
+        ref_text,
+        title,
+        originated,
+        aggregation,
+        class,
+        schedule,
+        bytes,
+    ) {
+        Some(record) => record,
+        None => unreachable!(),
+    }
+}
+
+/// The new record that a row asks to add. It is refused as `BadText` where a field is not of its form,
+/// else as `BadNumber` where the number of the aggregation or the length of the content is out of its
+/// range. Empty fields for class and schedule are none.
+#[tactic(auto, unfolding(crate::specs::ImportRows::record_asked))]
+pub fn read_import_row(alloc: Global, row: &ImportRow) -> Result<NewRecord, ReadFault>
+    ensures { IsRowRead (named row.now) result }
+{
+    let content = told(read_content(alloc, row.content)?);
+    let named = both(
+        read_words(alloc, row.ref_text),
+        read_words(alloc, row.title),
+    );
+    let placed = both(day_of(row.originated), number_of(row.aggregation));
+    let planned = both(code_of(alloc, row.class), code_of(alloc, row.schedule));
+    match both(both(named, placed), both(planned, content)) {
+        Ok(((named, placed), (planned, content))) => Ok(record_of(named, placed, planned, content)),
+        Err(fault) => Err(fault),
+    }
+}

@@ -1,0 +1,26 @@
+use Rattle.std.proofs.Common.{inl, inr, refl, rules}
+use Rattle.sqlite.specs.Held.{state}
+use Rattle.sqlite.specs.State.{HasCleanDisk}
+use Rattle.office_rules.specs.State.{State, empty_state}
+use Rattle.office_desk.specs.Leaving.{StandsAt}
+use Rattle.office_run.specs.Opening.{IsOfOpened}
+use Rattle.office_run.proofs.Imports.{closed_imports, imports_of}
+use Rattle.office_run.proofs.importing.import_on.Goals as goal
+
+pub returns-in-Ok : goal.returns-in-Ok
+returns-in-Ok g c =
+    let old = state g.S.Store c.args.conn in
+    let new = state g.S.Store c.import_at-ending.new.desk.held in
+    let opened = c.in-Ok.ensures in
+    let ended = c.import_at-ending.ensures in
+    inr (closed_imports g.S.Store c.args.day _ old c.import_at-ending.new.desk.held _ _ _ c.import_at-ending.result c.close.ensures
+    (imports_of (λ (P : State → Type 0). (t : State) → HasCleanDisk new → StandsAt g.S.Store t c.in-Ok.desk → P t) (IsOfOpened old new)
+    (λ P told.
+    record {
+      made = λ clean blank. told empty_state clean (opened.made (ended.clean clean) blank);
+      found = λ clean rest. let f = opened.found (ended.clean clean) rest in (f.0, f.1, told f.0 clean f.2);
+    })
+    c.args.day _ new _ _ _ ended.imports))
+
+pub returns-in-Err : goal.returns-in-Err
+returns-in-Err g c = inl (c.in-Err.fault, refl, search rules, refl)

@@ -1,0 +1,50 @@
+//! The records of a CSV file, at the office in a file.
+ghost use Rattle.std.specs.Prelude.{◌≡◌, false, option_map};
+ghost use Rattle.csv.specs.Reading.{strip_bom};
+ghost use Rattle.sqlite.specs.Held.{state};
+ghost use Rattle.sqlite.specs.State.{HasCleanDisk};
+ghost use Rattle.office_rules.specs.State.{State};
+ghost use Rattle.office_desk.specs.Leaving.{StandsAt};
+ghost use Rattle.office_run.specs.Importing.{ImportEnds, ImportsAt};
+
+use crate::ending::Ending;
+use office_days::Day;
+use office_desk::Desk;
+use office_wire::import_records;
+use sqlite::{Alter, Connection};
+use std::alloc::Global;
+use std::io::{Read, Write};
+
+/// Adds the records of a text at a desk.
+fn import_at<R: Read, W: Write, S: Alter>(
+    alloc: Global,
+    desk: &mut Desk<S>,
+    day: Day,
+    input: &mut R,
+    out: &mut W,
+) -> Ending
+    ensures clean { HasCleanDisk (state S.Store desk.new.held) → HasCleanDisk (state S.Store desk.old.held) }
+    ensures imports { ImportsAt (λ P. (t : State) → HasCleanDisk (state S.Store desk.new.held) → StandsAt S.Store t desk.old → P t) day (option_map strip_bom (R.remaining input.old)) (state S.Store desk.new.held) (W.contents out.old) (W.contents out.new) result }
+{
+    Ending::of_import(import_records(alloc, desk, day, input, out))
+}
+
+/// `import FILE DAY CSV` over a connection to the file; `input` is the text of CSV.
+pub fn import_on<R: Read, W: Write, S: Alter>(
+    alloc: Global,
+    conn: Connection<S>,
+    day: Day,
+    input: &mut R,
+    out: &mut W,
+) -> (Ending, Connection<S>)
+    requires { conn.in_transaction ≡ false }
+    ensures { ImportEnds day (R.remaining input.old) (state S.Store conn) (state S.Store result.1) (W.contents out.old) (W.contents out.new) result.0 }
+{
+    match Desk::open(alloc, conn) {
+        Ok(mut desk) => {
+            let ending = import_at(alloc, &mut desk, day, input, out);
+            (ending, desk.close())
+        }
+        Err((fault, conn)) => (Ending::Fault(fault), conn),
+    }
+}

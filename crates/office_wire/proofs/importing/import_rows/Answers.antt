@@ -1,0 +1,29 @@
+use Rattle.std.proofs.Common.{ap, Err}
+use Rattle.office_csv.specs.declared.reading.RowStop.{RowStop}
+use Rattle.office_wire.proofs.Imported.{front_end, front_io, front_more, front_start, front_stopped, front_unread}
+use Rattle.office_wire.proofs.importing.import_rows.Goals as goal
+
+pub loop-before-init : goal.loop-before-init
+loop-before-init g c = (c.requires, front_start _ _ _ _ _ _)
+
+pub returns-in-Ok-false-clause-ok : goal.returns-in-Ok-false-clause-ok
+returns-in-Ok-false-clause-ok g c = front_end _ _ _ _ _ _ _ _ _ _ _ _ _ _ _ c.loop-before.invariant.1 (rw c.in-Ok-false.field-0-test at c.in-Ok-false.ensures.reads)
+
+pub returns-in-Err-clause-err : goal.returns-in-Err-clause-err
+returns-in-Err-clause-err g c =
+    λ s clean stands. rw c.stopped.ensures (front_unread _ _ _ _ _ _ _ _ _ _ _ _ _ c.loop-before.invariant.1 (λ e. c.in-Err.ensures.bad (ap (λ (why : RowStop). Err why) e)) s clean stands)
+
+pub returns-in-Err-take_row-clause-err : goal.returns-in-Err-take_row-clause-err
+returns-in-Err-take_row-clause-err g c =
+    front_stopped _ _ _ _ _ _ _ _ _ _ _ _ _ _ _ _ _ _ c.loop-before.invariant.1 (rw c.in-Ok-true.field-0-test at c.in-Ok-true.ensures.reads) c.in-Ok-true.ensures.text c.take_row.ensures.clean
+    c.in-Err-take_row.ensures.err
+
+pub loop-before-preserved : goal.loop-before-preserved
+loop-before-preserved g c = (
+  c.in-Ok-true.ensures.plain c.in-Ok-true.field-0-test,
+  rw c.counted-refused.ensures
+      (front_more _ _ _ _ _ _ _ _ _ _ _ _ _ _ _ _ _ _ c.loop-before.invariant.1 (rw c.in-Ok-true.field-0-test at c.in-Ok-true.ensures.reads) c.in-Ok-true.ensures.text c.take_row.ensures.clean c.in-Ok.ensures.ok),
+)
+
+pub returns-clause-err : goal.returns-clause-err
+returns-clause-err g c = front_io _ _ _ _ _ _ _ _ _ _ _ _ c.loop-before.invariant.1

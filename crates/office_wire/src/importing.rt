@@ -1,0 +1,269 @@
+//! Records that are added by the rows of a text of CSV.
+ghost use Rattle.std.specs.Prelude.{◌≡◌, ◌+◌, ◌-◌, ◌^◌, ◌<◌, Err, IfErr, IfOk, IsTrue, OnOk, option_map};
+ghost use Rattle.std.specs.Io.KnownBytes.{Appends};
+ghost use Rattle.csv.specs.Reading.{reader_state, source_of, strip_bom};
+ghost use Rattle.csv.specs.declared.parser.State.TheVariants.{StartRecord};
+ghost use Rattle.csv.specs.Records.{fields_of};
+ghost use Rattle.sqlite.specs.Held.{state};
+ghost use Rattle.sqlite.specs.State.{HasCleanDisk};
+ghost use Rattle.office_rules.specs.Acts.{step};
+ghost use Rattle.office_rules.specs.State.{State};
+ghost use Rattle.office_desk.specs.Leaving.{StandsAt};
+ghost use Rattle.office_csv.specs.ImportRows.{Fields, fields_in, named};
+ghost use Rattle.office_csv.specs.ImportText.{IsPlain};
+ghost use Rattle.office_wire.specs.Importing.{DoStops, Imports, IsActStopped, IsRowDone, IsRowStopped, RowsImport, RowsStop, Stops, TakeStops, is_refusal, line_of, one_if, stop_at};
+
+use crate::connections::is_given_up;
+use csv::{Reader, StringRecord};
+use office_csv::{
+    ImportRow, RowStop, import_reader, next_row, read_header, read_import_row, row_in,
+};
+use office_days::Day;
+use office_desk::Desk;
+use office_json::{Io, ReadFault};
+use office_rules::{Act, Answer};
+use office_store::Fault;
+use sqlite::Alter;
+use std::alloc::Global;
+use std::io::{Read, Write};
+
+/// Why an import stopped. What the rows before it asked for is done.
+#[derive(Clone, Copy, PartialEq, Eq, Debug)]
+pub enum ImportStop {
+    /// The first row does not name the columns, or there is none.
+    Header,
+    /// The row of that number, from 1, has another number of fields, or is not UTF-8.
+    Row(u64),
+    /// The desk told this fault, or want of memory.
+    Fault(Fault),
+    /// The reader or the writer answered an error.
+    Io,
+}
+
+/// Does an act, and gives its answer.
+fn add<S: Alter>(alloc: Global, desk: &mut Desk<S>, act: Act) -> Result<Answer, Fault>
+    ensures clean { HasCleanDisk (state S.Store desk.new.held) → HasCleanDisk (state S.Store desk.old.held) }
+    ensures ok { IfOk result (λ answer. (s : State) → HasCleanDisk (state S.Store desk.new.held) → StandsAt S.Store s desk.old → (answer ≡ (step s act).0) × StandsAt S.Store (step s act).1 desk.new) }
+    ensures err { IfErr result (λ fault. (s : State) → HasCleanDisk (state S.Store desk.new.held) → StandsAt S.Store s desk.old → IsActStopped S.Store s act fault desk.new) }
+{
+    let acts = [act];
+    let mut answers = Vec::new(alloc);
+    match desk.perform_all(&acts, &mut answers) {
+        // of an act that is done there is an answer
+        Ok(()) => answers.pop().ok_or(Fault::Reopen),
+        Err(fault) => Err(fault),
+    }
+}
+
+/// Does what a row asks for, and gives the answer.
+fn answer_row<S: Alter>(
+    alloc: Global,
+    desk: &mut Desk<S>,
+    day: Day,
+    row: &ImportRow<'_>,
+) -> Result<Answer, Fault>
+    ensures clean { HasCleanDisk (state S.Store desk.new.held) → HasCleanDisk (state S.Store desk.old.held) }
+    ensures ok { IfOk result (λ answer. (s : State) → HasCleanDisk (state S.Store desk.new.held) → StandsAt S.Store s desk.old → (t : State) × IsRowDone day s (named row.now) answer t × StandsAt S.Store t desk.new) }
+    ensures err { IfErr result (λ fault. (s : State) → HasCleanDisk (state S.Store desk.new.held) → StandsAt S.Store s desk.old → IsRowStopped S.Store day s (named row.now) fault desk.new) }
+{
+    match read_import_row(alloc, row) {
+        Ok(record) => add(alloc, desk, Act::AddRecord { day, record }),
+        Err(ReadFault::Refused(refusal)) => Ok(Answer::Refused(refusal)),
+        Err(ReadFault::Memory) => Err(Fault::Memory),
+    }
+}
+
+/// Writes the line of a row: its number, and what was answered to it.
+#[tactic(auto, unfolding(crate::specs::Importing::line_of))]
+fn write_line<W: Write>(number: u64, answer: Answer, out: &mut W) -> Result<(), Io>
+    ensures { OnOk result (Appends (W.contents out.old) (W.contents out.new) (line_of number answer)) }
+{
+    let written = match answer {
+        Answer::Number(n) => writeln!(out, "{number} number {n}"),
+        Answer::Same(n) => writeln!(out, "{number} same {n}"),
+        Answer::Refused(why) => writeln!(out, "{number} refused {}", why.number()),
+        Answer::Done | Answer::Step(_, _) | Answer::RunClosed(_) => writeln!(out, "{number}"),
+    };
+    written.or(Err(Io))
+}
+
+/// Whether an answer refuses.
+fn is_refusal(answer: Answer) -> bool
+    ensures { result ≡ is_refusal answer }
+{
+    match answer {
+        Answer::Refused(_) => true,
+        _ => false,
+    }
+}
+
+/// Does what a row of seven fields asks for, and writes its line. Whether it was refused.
+fn do_row<S: Alter, W: Write>(
+    alloc: Global,
+    desk: &mut Desk<S>,
+    day: Day,
+    number: u64,
+    row: &ImportRow<'_>,
+    out: &mut W,
+) -> Result<bool, ImportStop>
+    ensures clean { HasCleanDisk (state S.Store desk.new.held) → HasCleanDisk (state S.Store desk.old.held) }
+    ensures ok { IfOk result (λ refused. (s : State) → HasCleanDisk (state S.Store desk.new.held) → StandsAt S.Store s desk.old → (answer : _) × (t : State) × IsRowDone day s (named row.now) answer t × StandsAt S.Store t desk.new
+        × Appends (W.contents out.old) (W.contents out.new) (line_of number answer) × (refused ≡ is_refusal answer)) }
+    ensures err { IfErr result (λ stop. (s : State) → HasCleanDisk (state S.Store desk.new.held) → StandsAt S.Store s desk.old → DoStops S.Store day s (named row.now) stop desk.new (W.contents out.old) (W.contents out.new)) }
+{
+    match answer_row(alloc, desk, day, row) {
+        Ok(answer) => match write_line(number, answer, out) {
+            Ok(()) => Ok(is_refusal(answer)),
+            Err(Io) => Err(ImportStop::Io),
+        },
+        Err(fault) => Err(ImportStop::Fault(fault)),
+    }
+}
+
+/// Does what a row asks for, and writes its line. Whether it was refused.
+fn take_row<S: Alter, W: Write>(
+    alloc: Global,
+    desk: &mut Desk<S>,
+    day: Day,
+    number: u64,
+    row: &StringRecord,
+    out: &mut W,
+) -> Result<bool, ImportStop>
+    ensures clean { HasCleanDisk (state S.Store desk.new.held) → HasCleanDisk (state S.Store desk.old.held) }
+    ensures ok { IfOk result (λ refused. (fields : Fields) × (fields_of row.now ≡ fields_in fields) × ((s : State) → HasCleanDisk (state S.Store desk.new.held) → StandsAt S.Store s desk.old → (answer : _) × (t : State) × IsRowDone day s fields answer t × StandsAt S.Store t desk.new
+        × Appends (W.contents out.old) (W.contents out.new) (line_of number answer) × (refused ≡ is_refusal answer))) }
+    ensures err { IfErr result (λ stop. (s : State) → HasCleanDisk (state S.Store desk.new.held) → StandsAt S.Store s desk.old → TakeStops S.Store day s number (fields_of row.now) stop desk.new (W.contents out.old) (W.contents out.new)) }
+{
+    match row_in(row) {
+        Some(it) => do_row(alloc, desk, day, number, &it, out),
+        None => Err(ImportStop::Row(number)),
+    }
+}
+
+/// Why an import stops where no row was read in that place.
+fn stopped(stop: RowStop, number: u64) -> ImportStop
+    ensures { result ≡ stop_at stop number }
+{
+    match stop {
+        RowStop::NotText => ImportStop::Row(number),
+        RowStop::Memory => ImportStop::Fault(Fault::Memory),
+        RowStop::Io => ImportStop::Io,
+    }
+}
+
+/// So many refused rows, and one more where it was.
+fn counted(refused: u64, is_refused: bool) -> u64
+    requires { refused < 2 ^ 64 - 1 }
+    ensures { result ≡ refused + one_if is_refused }
+{
+    if is_refused { refused + 1 } else { refused }
+}
+
+/// Does what all rows after the header ask for, each before the next is read. How many were refused.
+fn import_rows<S: Alter, R: Read, W: Write>(
+    alloc: Global,
+    desk: &mut Desk<S>,
+    day: Day,
+    rdr: &mut Reader<R>,
+    out: &mut W,
+) -> Result<u64, ImportStop>
+    requires { IsPlain rdr.old }
+    ensures clean { HasCleanDisk (state S.Store desk.new.held) → HasCleanDisk (state S.Store desk.old.held) }
+    ensures ok { IfOk result (λ refused. (s : State) → HasCleanDisk (state S.Store desk.new.held) → StandsAt S.Store s desk.old
+        → RowsImport S.Store day s (reader_state rdr.old) (source_of R.remaining rdr.old) refused desk.new (W.contents out.old) (W.contents out.new)) }
+    ensures err { IfErr result (λ stop. (s : State) → HasCleanDisk (state S.Store desk.new.held) → StandsAt S.Store s desk.old
+        → RowsStop S.Store day s (reader_state rdr.old) (source_of R.remaining rdr.old) stop desk.new (W.contents out.old) (W.contents out.new)) }
+{
+    let mut row = StringRecord::new(alloc);
+    let mut refused = 0;
+    for before in 0..u64::MAX {
+        match next_row(rdr, &mut row) {
+            Ok(true) => {}
+            Ok(false) => return Ok(refused),
+            Err(stop) => return Err(stopped(stop, before + 1)),
+        }
+        match take_row(alloc, desk, day, before + 1, &row, out) {
+            Ok(is_refused) => refused = counted(refused, is_refused),
+            Err(stop) => return Err(stop),
+        }
+    }
+    Err(ImportStop::Io)
+}
+
+/// Does what a text asks for: its header is read first, and then its rows. How many were refused.
+fn import_text<S: Alter, R: Read, W: Write>(
+    alloc: Global,
+    desk: &mut Desk<S>,
+    day: Day,
+    rdr: &mut Reader<R>,
+    out: &mut W,
+) -> Result<u64, ImportStop>
+    requires plain { IsPlain rdr.old }
+    requires start { reader_state rdr.old ≡ StartRecord }
+    ensures clean { HasCleanDisk (state S.Store desk.new.held) → HasCleanDisk (state S.Store desk.old.held) }
+    ensures ok { IfOk result (λ refused. (s : State) → HasCleanDisk (state S.Store desk.new.held) → StandsAt S.Store s desk.old
+        → Imports S.Store day s (source_of R.remaining rdr.old) refused desk.new (W.contents out.old) (W.contents out.new)) }
+    ensures err { IfErr result (λ stop. (s : State) → HasCleanDisk (state S.Store desk.new.held) → StandsAt S.Store s desk.old
+        → Stops S.Store day s (source_of R.remaining rdr.old) stop desk.new (W.contents out.old) (W.contents out.new)) }
+{
+    let mut row = StringRecord::new(alloc);
+    match read_header(rdr, &mut row) {
+        Ok(true) => import_rows(alloc, desk, day, rdr, out),
+        Ok(false) => Err(ImportStop::Header),
+        Err(RowStop::NotText) => Err(ImportStop::Header),
+        Err(RowStop::Memory) => Err(ImportStop::Fault(Fault::Memory)),
+        Err(RowStop::Io) => Err(ImportStop::Io),
+    }
+}
+
+/// Does what a text asks for, and sends the lines out. How many rows were refused.
+fn import_open<S: Alter, R: Read, W: Write>(
+    alloc: Global,
+    desk: &mut Desk<S>,
+    day: Day,
+    reader: &mut R,
+    out: &mut W,
+) -> Result<u64, ImportStop>
+    ensures clean { HasCleanDisk (state S.Store desk.new.held) → HasCleanDisk (state S.Store desk.old.held) }
+    ensures ok { IfOk result (λ refused. (s : State) → HasCleanDisk (state S.Store desk.new.held) → StandsAt S.Store s desk.old
+        → Imports S.Store day s (option_map strip_bom (R.remaining reader.old)) refused desk.new (W.contents out.old) (W.contents out.new)) }
+    ensures err { IfErr result (λ stop. (s : State) → HasCleanDisk (state S.Store desk.new.held) → StandsAt S.Store s desk.old
+        → Stops S.Store day s (option_map strip_bom (R.remaining reader.old)) stop desk.new (W.contents out.old) (W.contents out.new)) }
+{
+    let mut rdr = import_reader(alloc, reader);
+    match import_text(alloc, desk, day, &mut rdr, out) {
+        Ok(refused) => match out.flush() {
+            Ok(()) => Ok(refused),
+            Err(_) => Err(ImportStop::Io),
+        },
+        Err(stop) => Err(stop),
+    }
+}
+
+/// Adds, on that day, the records that the rows of a text of CSV ask for, one after another, each before the next
+/// row is read, and writes a line for each: its number, from 1, and `number N`, `same N` or `refused N`. Gives how
+/// many were refused. The first row names the columns `ref,title,originated,aggregation,class,schedule,content`.
+///
+/// Where it stops, what the rows before asked for is done: at `Header` that is nothing; at `Row(N)` the Nth row
+/// has another number of fields or is not UTF-8; at `Fault` the desk was stopped at the next row, or memory was
+/// wanting to read it; at `Io` the reader or the writer answered an error, and the last row that was done may have
+/// no line. The same text may be given again: a record that is there is told as the same.
+pub fn import_records<S: Alter, R: Read, W: Write>(
+    alloc: Global,
+    desk: &mut Desk<S>,
+    day: Day,
+    reader: &mut R,
+    out: &mut W,
+) -> Result<u64, ImportStop>
+    ensures clean { HasCleanDisk (state S.Store desk.new.held) → HasCleanDisk (state S.Store desk.old.held) }
+    ensures ok { IfOk result (λ refused. (s : State) → HasCleanDisk (state S.Store desk.new.held) → StandsAt S.Store s desk.old
+        → Imports S.Store day s (option_map strip_bom (R.remaining reader.old)) refused desk.new (W.contents out.old) (W.contents out.new)) }
+    ensures err { IfErr result (λ stop. (s : State) → HasCleanDisk (state S.Store desk.new.held) → StandsAt S.Store s desk.old
+        → Stops S.Store day s (option_map strip_bom (R.remaining reader.old)) stop desk.new (W.contents out.old) (W.contents out.new)) }
+    ensures gone { IsTrue desk.old.is_given_up → (result ≡ Err (ImportStop.Fault Fault.Reopen)) × (desk.new ≡ desk.old) × (out.new ≡ out.old) }
+{
+    if is_given_up(alloc, desk) {
+        return Err(ImportStop::Fault(Fault::Reopen));
+    }
+    import_open(alloc, desk, day, reader, out)
+}
