@@ -153,9 +153,10 @@ fn perform(rt: &HostRuntime, order: &Order<'_>) -> u8 {
         Order::Plan { file } => ended(rt, plan_in(rt, file)),
         Order::Apply { file, acts } => apply_in(rt, file, acts, order),
         Order::Import { file, csv, .. } => import_in(rt, file, csv, order),
-        Order::Init { file } | Order::Resume { file } | Order::Certificate { file, .. } => {
-            run_in(rt, file, order, &[])
-        }
+        Order::Init { file }
+        | Order::Resume { file }
+        | Order::Certificate { file, .. }
+        | Order::Export { file, .. } => run_in(rt, file, order, &[]),
         Order::Serve { file, port, count } => ended(rt, serve_in(rt, file, *port, *count)),
         Order::Nothing => ended(rt, Ending::BadWords),
     }

@@ -1,12 +1,17 @@
 //! What is told of an office in memory: spent aggregations, runs and their certificates, records, what is due.
+ghost use Rattle.std.specs.Prelude.{◌≡◌, IfOk, map};
+ghost use Rattle.serde_json.specs.View.{view};
+ghost use Rattle.office_json.specs.DueJson.{due_row_data};
+
 use crate::offices::{act_of, perform};
 use crate::written::push;
 use office_days::Day;
-use office_json::{due_value, record_value, text_of};
-use office_machine::Machine;
+use office_json::{due_row_value, due_value, record_value, text_of};
+use office_machine::{DueRows, Machine};
 use office_proof::{Entry, RunNo, entry_line};
 use office_rules::RecordView;
 use office_tree::{Memory, RecordNo, Status};
+use serde_json::Value;
 use std::alloc::Global;
 use std::io::Write;
 
@@ -256,40 +261,27 @@ fn tell_ended(office: &Machine, record_no: RecordNo, out: &mut Vec<u8>) -> Optio
     }
 }
 
-/// Appends what is told of records.
-fn push_views(
-    office: &Machine,
-    numbers: &[RecordNo],
-    views: &mut Vec<RecordView>,
-) -> Result<(), Memory> {
-    for number in numbers {
-        if let Some(view) = office.record(*views.allocator(), *number)? {
-            views.push(view)?;
-        }
+/// The rows that are left, in JSON.
+fn row_values(alloc: Global, mut rows: DueRows<'_>) -> Result<Vec<Value>, Memory>
+    ensures { IfOk result (λ values. map view values.items ≡ map due_row_data rows.entry) }
+{
+    let mut values = Vec::new(alloc);
+    while let Some(row) = rows.next_row() {
+        values.push(due_row_value(alloc, &row)?)?;
     }
-    Ok(())
+    Ok(values)
 }
 
-/// The text of records that are due.
-fn due_text(alloc: Global, views: &[RecordView]) -> Result<String, Memory> {
-    let value = due_value(alloc, views)?;
-    text_of(alloc, &value)
-}
-
-/// Appends what is told of records that are due.
-fn push_due(views: &[RecordView], out: &mut Vec<u8>) -> Option<()> {
-    let text = due_text(*out.allocator(), views).ok()?;
-    push(out, text.as_str())
+/// The text of the rows of what is due on a day.
+fn due_text(alloc: Global, office: &Machine, day: Day) -> Result<String, Memory> {
+    let values = row_values(alloc, office.due_rows(alloc, day)?)?;
+    text_of(alloc, &due_value(values))
 }
 
 /// What is told of the records that are due on a day.
 fn tell_due(office: &Machine, day: Day, out: &mut Vec<u8>) -> Option<()> {
-    let numbers = office.due_list(*out.allocator(), day).ok()?;
-    let mut views = Vec::new(*out.allocator());
-    match push_views(office, &numbers, &mut views) {
-        Ok(()) => push_due(&views, out),
-        Err(_) => None,
-    }
+    let text = due_text(*out.allocator(), office, day).ok()?;
+    push(out, text.as_str())
 }
 
 /// What is told of the thing of that number.

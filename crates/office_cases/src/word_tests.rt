@@ -3,7 +3,7 @@ use crate::act_tests::push_day;
 use crate::answering::push_refused;
 use crate::rows::words_of;
 use crate::written::push;
-use office_words::{Order, order_of, read_words};
+use office_words::{Order, Register, order_of, read_words};
 use std::io::Write;
 
 /// Each row is a command line. A refusal is that of an operand; what is no command of the program is told
@@ -21,6 +21,8 @@ pub(crate) const ROWS: &str = "
     words office serve office.db 00080 01 = serve 80 1 office.db
     words office serve office.db 1 1 = serve 1 1 office.db
     words office import office.db 2024-01-02 letters.csv = import 2024-01-02 office.db letters.csv
+    words office export office.db entries = export entries office.db
+    words office export office.db 2025-01-02 = export 2025-01-02 office.db
     words office serve office.db 65535 1000000 = serve 65535 1000000 office.db
 
     # words that are no command
@@ -35,6 +37,13 @@ pub(crate) const ROWS: &str = "
     words office|import|office.db||letters.csv = refused 2
     words office import office.db 3000-01-01 letters.csv = refused 2
     words office import office.db 2024-01-02 = MissingRequiredArgument
+
+    # names of no register
+    words office export office.db Entries = refused 2
+    words office export office.db 2025-1-2 = refused 2
+    words office|export|office.db| = refused 2
+    words office export office.db entries 2025-01-02 = UnknownArgument
+    words office export office.db = MissingRequiredArgument
 
     # numbers of no run
     words office|certificate|office.db| = refused 2
@@ -68,6 +77,14 @@ fn push_all(out: &mut Vec<u8>, words: &[&str]) -> Option<()> {
     Some(())
 }
 
+/// The register that is ordered.
+fn tell_register(register: &Register, out: &mut Vec<u8>) -> Option<()> {
+    match register {
+        Register::Entries => push(out, "entries"),
+        Register::Due(day) => push_day(out, *day),
+    }
+}
+
 /// What is ordered.
 fn tell_order(order: &Order<'_>, out: &mut Vec<u8>) -> Option<()> {
     match order {
@@ -89,6 +106,9 @@ fn tell_order(order: &Order<'_>, out: &mut Vec<u8>) -> Option<()> {
         Order::Import { file, day, csv } => push(out, "import ")
             .and(push_day(out, *day))
             .and(push_all(out, &["", file, csv])),
+        Order::Export { file, register } => push(out, "export ")
+            .and(tell_register(register, out))
+            .and(push_all(out, &["", file])),
         Order::Serve { file, port, count } => {
             write!(out, "serve {port} {count}")
                 .ok()

@@ -1,2 +1,3 @@
 pub mod ImportRows
 pub mod ImportText
+pub mod Registers

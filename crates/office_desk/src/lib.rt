@@ -16,3 +16,4 @@ mod resuming;
 mod telling;
 
 pub use desk::Desk;
+pub use office_machine::{DueRows, EntryRows};

@@ -2,13 +2,13 @@
 use Rattle.std.proofs.Common.{◌≡◌, refl}
 use Rattle.serde_json.proofs.OnLiterals.{serde_json_on_literals}
 use Rattle.serde_json.specs.Data.{Members, object, no_members}
-use Rattle.office_rules.specs.declared.record_view.RecordView.{RecordView}
+use Rattle.office_rules.specs.Registers.{DueTold}
 use Rattle.office_json.specs.DueJson.{due_row_data, put_plan, put_rest}
 
-in_order : (r : RecordView) → object (put_rest r (put_plan r no_members)) ≡ due_row_data r
+in_order : (r : DueTold) → object (put_rest r (put_plan r no_members)) ≡ due_row_data r
 unfolding serde_json_on_literals put_plan put_rest due_row_data
 in_order r = refl
 
 -- members to which both parts were put
-pub all_put : (r : RecordView) (plan rest : Members) → plan ≡ put_plan r no_members → rest ≡ put_rest r plan → object rest ≡ due_row_data r
+pub all_put : (r : DueTold) (plan rest : Members) → plan ≡ put_plan r no_members → rest ≡ put_rest r plan → object rest ≡ due_row_data r
 all_put r plan rest a b = rw (b, a) (in_order r)

@@ -11,6 +11,7 @@ use Rattle.office_tree.specs.declared.head.Confirmation.{Confirmation}
 use Rattle.office_proof.specs.declared.entry.Entry.{Entry}
 use Rattle.office_rules.specs.declared.answer.Answer.{Answer}
 use Rattle.office_rules.specs.declared.answer.Answer.TheVariants.{Done, Number, Same, Step, RunClosed, Refused}
+use Rattle.office_rules.specs.Registers.{DueTold}
 use Rattle.office_rules.specs.declared.record_view.RecordView.{RecordView}
 use Rattle.office_json.specs.Answers.{answer_data}
 use Rattle.office_json.specs.DueJson.{due_row_data}
@@ -48,11 +49,11 @@ record_has_none r ending = rw (
   code_has_none r.held,
 ) refl
 
-pub due_row_has_none : (r : RecordView) → has_float (due_row_data r) ≡ false
+pub due_row_has_none : (r : DueTold) → has_float (due_row_data r) ≡ false
 unfolding due_row_data
-due_row_has_none r = rw (or_null_has_none day_data (λ day. refl) r.due, code_has_none r.held) refl
+due_row_has_none r = rw (code_has_none r.held) refl
 
-pub due_has_none : (values : Vec Value Global) (rows : List RecordView) → map view values.items ≡ map due_row_data rows → has_float (view (Array values)) ≡ false
+pub due_has_none : (values : Vec Value Global) (rows : List DueTold) → map view values.items ≡ map due_row_data rows → has_float (view (Array values)) ≡ false
 due_has_none values rows told = rw (view-Array values, told) (array_has_none due_row_data due_row_has_none rows)
 
 pub answer_has_none : (answer : Answer) → has_float (answer_data answer) ≡ false

@@ -1,11 +1,12 @@
 //! The list of what is due on a day.
-ghost use Rattle.std.specs.Prelude.{◌≡◌, false, IfOk, OnOk};
+ghost use Rattle.std.specs.Prelude.{◌≡◌, false, IfOk, List, OnOk, map};
 ghost use Rattle.serde_json.specs.View.{members_view, view};
 ghost use Rattle.serde_json.specs.Written.{has_float};
+ghost use Rattle.office_rules.specs.Registers.{DueTold, due_told};
 ghost use Rattle.office_json.specs.DueJson.{due_data, due_row_data, put_plan, put_rest};
 
-use crate::told::{Told, put_all, told_code, told_due};
-use office_rules::RecordView;
+use crate::told::{Told, put_all, told_code};
+use office_rules::DueRow;
 use office_tree::Memory;
 use serde_json::{Map, Value};
 use std::alloc::{AllocError, Global};
@@ -15,9 +16,9 @@ use std::alloc::{AllocError, Global};
 fn put_plan(
     map: &mut Map<String, Value>,
     alloc: Global,
-    told: &RecordView,
+    told: &DueRow<'_>,
 ) -> Result<(), AllocError>
-    ensures { OnOk result (members_view map.new.entries ≡ put_plan told.now (members_view map.old.entries)) }
+    ensures { OnOk result (members_view map.new.entries ≡ put_plan (due_told told.now) (members_view map.old.entries)) }
 {
     put_all(
         map,
@@ -26,7 +27,7 @@ fn put_plan(
             ("action", Told::Text(told.action.text())),
             ("class", Told::Text(told.class.text())),
             ("confirmed", Told::Flag(told.counts)),
-            ("due", told_due(told.due)),
+            ("due", Told::Due(told.due)),
         ],
     )
 }
@@ -36,15 +37,15 @@ fn put_plan(
 fn put_rest(
     map: &mut Map<String, Value>,
     alloc: Global,
-    told: &RecordView,
+    told: &DueRow<'_>,
 ) -> Result<(), AllocError>
-    ensures { OnOk result (members_view map.new.entries ≡ put_rest told.now (members_view map.old.entries)) }
+    ensures { OnOk result (members_view map.new.entries ≡ put_rest (due_told told.now) (members_view map.old.entries)) }
 {
     put_all(
         map,
         alloc,
         &[
-            ("held", told_code(told.held.as_ref())),
+            ("held", told_code(told.held)),
             ("record", Told::Number(u64::from(told.number))),
             ("ref", Told::Text(told.ref_text.text())),
             ("schedule", Told::Text(told.schedule.text())),
@@ -53,8 +54,8 @@ fn put_rest(
 }
 
 /// A record that is due, in JSON. `Memory` comes where an allocation was refused.
-pub fn due_row_value(alloc: Global, told: &RecordView) -> Result<Value, Memory>
-    ensures value { IfOk result (λ value. view value ≡ due_row_data told.now) }
+pub fn due_row_value(alloc: Global, told: &DueRow<'_>) -> Result<Value, Memory>
+    ensures value { IfOk result (λ value. view value ≡ due_row_data (due_told told.now)) }
     ensures no_float { IfOk result (λ value. has_float (view value) ≡ false) }
 {
     let mut map = Map::new(alloc);
@@ -63,15 +64,11 @@ pub fn due_row_value(alloc: Global, told: &RecordView) -> Result<Value, Memory>
     Ok(Value::Object(map))
 }
 
-/// The records that are due, in JSON: an array of them in the order given. `Memory` comes where an
-/// allocation was refused.
-pub fn due_value(alloc: Global, rows: &[RecordView]) -> Result<Value, Memory>
-    ensures value { IfOk result (λ value. view value ≡ due_data rows.now) }
-    ensures no_float { IfOk result (λ value. has_float (view value) ≡ false) }
+/// The array of rows that were told in JSON.
+#[tactic(auto, using(crate::proofs::Floatless::due_has_none))]
+pub fn due_value(rows: Vec<Value>) -> Value
+    ensures value { (told : List DueTold) → map view rows.items ≡ map due_row_data told → view result ≡ due_data told }
+    ensures no_float { (told : List DueTold) → map view rows.items ≡ map due_row_data told → has_float (view result) ≡ false }
 {
-    let mut values = Vec::new(alloc);
-    for row in rows {
-        values.push(due_row_value(alloc, row)?)?;
-    }
-    Ok(Value::Array(values))
+    Value::Array(rows)
 }

@@ -1,6 +1,6 @@
 -- The due list: the pairs that are found of one record after the other, and the numbers that are read from them in order.
 use Rattle.std.proofs.Common.{◌≡◌, ℕ, zero, suc, ◌+◌, ◌≤◌, Bool, true, false, cond, List, [], ◌∷◌, length, Option, Some, None, refl, sym, ap, ◌∙◌, arith, ◌⊎◌, inl, inr, get_or}
-use Rattle.std.specs.Prelude.{ℤ, pos, int_le}
+use Rattle.std.specs.Prelude.{ℤ, pos, int_le, IsTrue}
 use Rattle.std.specs.declared.cmp.Ordering.{Ordering}
 use Rattle.std.specs.declared.cmp.Ordering.TheVariants.{Less}
 use Rattle.std.specs.Ordering.{int_cmp, nat_cmp, ordering_then, is_eq}
@@ -20,12 +20,14 @@ use Rattle.std.proofs.lemmas.Map.Lookups.{CmpEqualImpliesEq, exact_signed, exact
 use Rattle.std.proofs.lemmas.Map.Made.{Contains-values_of, Contains-from_values_of}
 use Rattle.std.proofs.lemmas.Map.Views.{btree_set_contains_iff, tells_apart}
 use Rattle.office_tree.specs.Lists.{holds_of, numbered}
-use Rattle.office_tree.specs.Tree.{TreeState, due_by, due_of, is_keep, schedule_of, start_by, start_in, status_of}
+use Rattle.office_tree.specs.Tree.{TreeState, due_by, due_of, has_record, is_keep, schedule_of, start_by, start_in, status_of}
 use Rattle.office_tree.specs.declared.aggregation.Aggregation.{Aggregation}
 use Rattle.office_tree.specs.declared.head.Record.{Record}
 use Rattle.office_tree.specs.declared.schedule.Schedule.{Schedule}
 use Rattle.office_rules.specs.Readings.{AreDuePairs, IsDueList, due_cmp, due_here, is_due_here}
 use Rattle.office_tree.specs.Disposal.{is_here}
+use Rattle.office_machine.specs.DuePairs.{AreOwnPairs}
+use Rattle.office_machine.proofs.Places.{within_has}
 
 -- by due day, then number
 abbrev pub pair_cmp : ℤ × ℕ → ℤ × ℕ → Ordering
@@ -127,6 +129,18 @@ pub found_all : (tree : TreeState) (day : ℤ) (n : ℕ) (pairs : BTreeSet (ℤ 
 found_all tree day n pairs all found due r =
     let listed = btree_set_contains_iff pair_total pair_exact pairs (due, r) in
     (λ h. (found.only due r (listed.1 h)).1, λ h. let there = due_there tree day due r h in listed.0 (found.these due r (omega arith) h))
+
+due_first : (tree : TreeState) (day due : ℤ) (r : ℕ) → due_here tree day r ≡ Some due → 1 ≤ r
+due_first tree day due zero h = let is = (due_is (is_due_here tree day 0) (due_of tree 0) due h).1 in let none = no_due tree 0 (schedule_of tree 0) refl in absurd cc
+due_first tree day due (suc r) h = omega arith
+
+-- each pair is of a record that is there, with its due day
+pub all_there : (tree : TreeState) (day : ℤ) (pairs : List (ℤ × ℕ)) → AreDuePairs tree day pairs → AreOwnPairs tree pairs
+all_there tree day pairs are =
+    recursion_from_All (λ pair. IsTrue (has_record tree pair.1) × (due_of tree pair.1 ≡ Some pair.0)) pairs (λ k d l.
+    let pair = get_or pairs k d in
+    let here = (are pair.0 pair.1).0 (All-contains_itself pairs k d l) in
+    (within_has tree pair.1 (due_first tree day pair.0 pair.1 here) (due_there tree day pair.0 pair.1 here), (due_is (is_due_here tree day pair.1) (due_of tree pair.1) pair.0 here).1))
 
 -- ---- the numbers of the pairs, in order
 

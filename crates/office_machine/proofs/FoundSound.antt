@@ -1,32 +1,25 @@
 -- An office whose parts pass what is examined is sound with contents of the keys, and the parts of a sound one pass.
-use Rattle.std.proofs.Common.{◌≡◌, ℕ, ◌≤◌, List, [], ◌∷◌, map, length, Option, Some, None, Bool, false, cond, refl, sym, ap, subst, ◌∙◌}
-use Rattle.std.specs.Prelude.{IsSome, IsTrue, true, nat_le}
-use Rattle.std.specs.FinMap.{FinMap, entries, get, get-entries, values}
+use Rattle.std.proofs.Common.{◌≡◌, ℕ, List, [], ◌∷◌, map, length, Option, Some, Bool, false, cond, refl, sym, ap, subst, ◌∙◌}
+use Rattle.std.specs.Prelude.{true, nat_le}
+use Rattle.std.specs.FinMap.{FinMap, entries, get-entries, values}
 use Rattle.std.specs.FinMap.Entries.{find}
 use Rattle.std.specs.List.{list_any}
 use Rattle.std.specs.Ordering.{eq_by_cmp, is_eq, nat_cmp}
 use Rattle.std.specs.declared.cmp.Ordering.{Ordering}
 use Rattle.std.specs.declared.cmp.Ordering.TheVariants.{Less, Equal, Greater}
 use Rattle.std.proofs.lemmas.Map.Lookups.{CmpEqualImpliesEq, exact_pairs, exact_unsigned}
-use Rattle.office_days.specs.Limits.{IsDayNumber}
-use Rattle.office_tree.specs.Examined.{AreContentsShort}
-use Rattle.office_tree.specs.Forms.{IsFormedTree}
-use Rattle.office_tree.specs.Lists.{numbered}
 use Rattle.office_tree.specs.Sound as tree
 use Rattle.office_tree.specs.declared.head.Record.{Record}
 use Rattle.office_tree.proofs.Bridge.{from_numbers}
 use Rattle.office_tree.proofs.Named.{le_to}
 use Rattle.office_holds.specs.Founding.{is_pair}
-use Rattle.office_holds.specs.Forms.{AreFormedHolds, FitsHoldLimits}
-use Rattle.office_proof.specs.Forms.{IsFormedEntry}
 use Rattle.office_proof.specs.declared.entry.Entry.{Entry}
 use Rattle.office_rules.specs.Copies.{HaveSameRows}
 use Rattle.office_rules.specs.Founding.{AreEntriesKeyed, AreTablesOf, DoPartsAgree, EachHasOneEnding, HaveKeys, IsFormedOffice, entry_rows}
 use Rattle.office_rules.specs.Rows.{rows_of}
-use Rattle.office_rules.specs.Sound.{IsFormedRun, IsSound}
-use Rattle.office_rules.specs.State.{ByteMap, EntryMap, entry_cmp, Office, State, with_contents}
+use Rattle.office_rules.specs.Sound.{IsSound}
+use Rattle.office_rules.specs.State.{ByteMap, entry_cmp, Office, State, with_contents}
 use Rattle.office_rules.specs.Tables.{StandsFor}
-use Rattle.office_rules.specs.declared.run.Run.{Run}
 use Rattle.office_rules.specs.declared.tables.Tables.{Tables}
 use Rattle.office_rules.proofs.OneState.{one_office}
 use Rattle.office_machine.proofs.EntryTests.{AreEntriesSound, entries_sound, entries_tested}

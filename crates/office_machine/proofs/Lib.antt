@@ -17,6 +17,7 @@ pub mod OfficeSound
 pub mod OpenedRuns
 pub mod PartsTests
 pub mod Passing
+pub mod Places
 pub mod RecordRows
 pub mod RunClosing
 pub mod RunEntries

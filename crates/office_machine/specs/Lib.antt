@@ -1,3 +1,5 @@
+pub mod DuePairs
+pub mod EntryPlaces
 pub mod Lesser
 pub mod RunWrites
 pub mod TreeRows

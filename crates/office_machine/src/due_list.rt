@@ -22,7 +22,11 @@ fn due_here(tree: &Tree, record_no: RecordNo, day: Day) -> Option<DueDay>
 }
 
 /// The records that are here and due on that day or before it, each by its due day and number.
-fn due_pairs(alloc: Global, tree: &Tree, day: Day) -> Result<BTreeSet<(DueDay, RecordNo)>, Memory>
+pub(crate) fn due_pairs(
+    alloc: Global,
+    tree: &Tree,
+    day: Day,
+) -> Result<BTreeSet<(DueDay, RecordNo)>, Memory>
     ensures { IfOk result (λ pairs. AreDuePairs tree.now day pairs.keys) }
 {
     let mut pairs = BTreeSet::new(alloc);

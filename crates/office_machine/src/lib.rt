@@ -14,6 +14,8 @@ mod deciding_records;
 mod deciding_runs;
 mod disposing;
 mod due_list;
+mod due_rows;
+mod entry_rows;
 mod founding;
 mod lesser;
 mod machine;
@@ -24,6 +26,8 @@ mod running;
 mod storing;
 mod taking;
 
+pub use due_rows::DueRows;
+pub use entry_rows::EntryRows;
 pub use machine::Machine;
 pub use office_rules::{
     Act, Answer, Change, Decision, NewRecord, RecordRow, RecordView, RowWrite, Run, Tables,

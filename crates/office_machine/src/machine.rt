@@ -4,12 +4,15 @@ ghost use Rattle.std.specs.Option.{option_map};
 ghost use Rattle.std.specs.String.{string_bytes};
 ghost use Rattle.office_rules.specs.Acts.{CanBeMade, IsDecidedFor, IsFeasible, KeepsHeld, may_release};
 ghost use Rattle.office_rules.specs.Readings.{IsDueList, all_entries_of, ending_entry, record_view};
+ghost use Rattle.office_rules.specs.Registers.{AreDueRows, entry_rows};
 ghost use Rattle.office_rules.specs.Runs.{next_in_run};
 ghost use Rattle.office_rules.specs.Sound.{IsSoundOffice};
 ghost use Rattle.office_rules.specs.State.{empty_office};
 ghost use Rattle.office_rules.specs.Writes.{all_office_writes};
 
 use crate::due_list::due_list;
+use crate::due_rows::DueRows;
+use crate::entry_rows::EntryRows;
 use crate::parts::Parts;
 use crate::{Act, Change, Decision, RecordView};
 use office_days::Day;
@@ -116,6 +119,21 @@ impl Machine {
         ensures { IfOk result (λ list. IsDueList self.now.tree day list.items) }
     {
         due_list(alloc, &self.parts.tree, day)
+    }
+
+    /// What is told of the records that are due on the day, row by row, in the order of the due list.
+    pub fn due_rows(&self, alloc: Global, day: Day) -> Result<DueRows<'_>, Memory>
+        ensures { IfOk result (λ rows. AreDueRows self.now day rows) }
+    {
+        self.parts.due_rows(alloc, day)
+    }
+
+    /// What is told of all entries, row by row, by run, then record.
+    pub fn entry_rows(&self) -> EntryRows<'_>
+        ensures { result ≡ entry_rows self.now }
+    {
+        self.sound();
+        self.parts.entry_rows()
     }
 
     /// The tree, by which its readings and checks are reached.

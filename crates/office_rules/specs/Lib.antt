@@ -7,6 +7,7 @@ pub mod Forms
 pub mod Founding
 pub mod Meanings
 pub mod Readings
+pub mod Registers
 pub mod Rows
 pub mod Runs
 pub mod Sound

@@ -14,6 +14,8 @@ use Rattle.office_run.specs.declared.ending.Ending.{Ending}
 use Rattle.office_run.specs.declared.ending.Ending.TheVariants.{Done, Refused, SomeRefused, LineRefused, ActRefused, NotJson, CsvHeader, CsvRow, BadWords, File, Socket, SomeFailed, Fault}
 use Rattle.office_wire.specs.declared.importing.ImportStop.{ImportStop}
 use Rattle.office_wire.specs.declared.importing.ImportStop.TheVariants as import
+use Rattle.office_wire.specs.declared.registers.ExportStop.{ExportStop}
+use Rattle.office_wire.specs.declared.registers.ExportStop.TheVariants as export
 use Rattle.office_plan.specs.declared.input.PlanStop.{PlanStop}
 use Rattle.office_plan.specs.declared.input.PlanStop.TheVariants as stop
 
@@ -47,6 +49,12 @@ ending_of_import (Err import.Header) = CsvHeader
 ending_of_import (Err (import.Row number)) = CsvRow number
 ending_of_import (Err (import.Fault f)) = Fault f
 ending_of_import (Err import.Io) = File
+
+-- what stopped an export is told as such
+abbrev pub ending_of_export : Result (Unit {0}) ExportStop → Ending
+ending_of_export (Ok done) = Done
+ending_of_export (Err (export.Fault f)) = Fault f
+ending_of_export (Err export.Io) = File
 
 -- a service that was given up is told as the fault by which a desk answers no more, and a connection that failed by the exit status alone
 abbrev pub ending_of_service : Bool → Bool → Ending

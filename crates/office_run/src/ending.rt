@@ -6,7 +6,7 @@ use office_days::Refusal;
 use office_plan::{Io, PlanStop};
 use office_rules::Answer;
 use office_store::Fault;
-use office_wire::ImportStop;
+use office_wire::{ExportStop, ImportStop};
 use std::fmt;
 
 /// How the program ends. Its text is the line on standard error, with its line feed, or nothing.
@@ -55,7 +55,7 @@ fn has_refusal(answers: &[Answer]) -> bool
 }
 
 impl Ending {
-    ghost use Rattle.office_run.specs.Endings.{ending_of, ending_of_acts, ending_of_import, ending_of_plan, ending_of_service, exit_status};
+    ghost use Rattle.office_run.specs.Endings.{ending_of, ending_of_acts, ending_of_export, ending_of_import, ending_of_plan, ending_of_service, exit_status};
 
     /// The ending of a command that answers a refusal or none.
     pub fn of(answer: Result<Option<Refusal>, Io>) -> Ending
@@ -102,6 +102,17 @@ impl Ending {
             Err(ImportStop::Row(number)) => Ending::CsvRow(number),
             Err(ImportStop::Fault(fault)) => Ending::Fault(fault),
             Err(ImportStop::Io) => Ending::File,
+        }
+    }
+
+    /// The ending of an export.
+    pub fn of_export(done: Result<(), ExportStop>) -> Ending
+        ensures { result ≡ ending_of_export done }
+    {
+        match done {
+            Ok(()) => Ending::Done,
+            Err(ExportStop::Fault(fault)) => Ending::Fault(fault),
+            Err(ExportStop::Io) => Ending::File,
         }
     }
 

@@ -11,6 +11,7 @@ ghost use Rattle.office_run.specs.declared.ending.Ending.{Ending as AnyEnding};
 use crate::applying::apply_on;
 use crate::certifying::certificate_on;
 use crate::ending::Ending;
+use crate::exporting::export_on;
 use crate::importing::import_on;
 use crate::resuming::resume_on;
 use office_desk::Desk;
@@ -77,6 +78,7 @@ fn carry_out<R: Read, W: Write, S: Alter>(
         Order::Init { .. } => init_on(alloc, conn, out),
         Order::Apply { .. } => apply_on(alloc, conn, input, out),
         Order::Import { day, .. } => import_on(alloc, conn, *day, input, out),
+        Order::Export { register, .. } => export_on(alloc, conn, *register, out),
         Order::Resume { .. } => resume_on(alloc, conn, out),
         Order::Certificate { run, .. } => certificate_on(alloc, conn, *run, out),
         Order::Due { .. } | Order::Plan { .. } | Order::Serve { .. } | Order::Nothing => {

@@ -3,7 +3,7 @@ use crate::failures::failure;
 use crate::repeating::unescaped;
 use office_days::Day;
 use office_run::run_on;
-use office_words::Order;
+use office_words::{Order, Register};
 use sqlite::{Alter, Connection};
 use std::alloc::Global;
 use std::test::Fail;
@@ -32,6 +32,20 @@ fn import_of(rest: &str) -> (Order<'static>, &str) {
     }
 }
 
+/// The order of an export of that register.
+fn export_of(register: &str) -> Order<'static> {
+    match Day::read(register) {
+        Some(day) => Order::Export {
+            file: FILE,
+            register: Register::Due(day),
+        },
+        None => Order::Export {
+            file: FILE,
+            register: Register::Entries,
+        },
+    }
+}
+
 /// The order of those words, and the text that it reads.
 fn order_of(words: &str) -> (Order<'static>, &str) {
     match words.split_once(' ') {
@@ -40,6 +54,7 @@ fn order_of(words: &str) -> (Order<'static>, &str) {
             (Order::Certificate { file: FILE, run }, "")
         }
         Some(("import", rest)) => import_of(rest),
+        Some(("export", register)) => (export_of(register), ""),
         Some(("apply", text)) => {
             let acts = "acts.json";
             (Order::Apply { file: FILE, acts }, text)

@@ -113,4 +113,45 @@ import 2024-01-02 ref,title,originated,aggregation,class,schedule,content\nr4,x,
 import 2024-01-02 ref,title,originated,aggregation,class,schedule,content\nr4,x,2023-05-01,1,,,\nr5,x,2023-05-01,1,,,,\n = 1;1 same 4\n;office: csv row 2\n
 ## at the desk
 record 5 is none
+
+# A new office has registers without rows
+## by the program
+export 2025-01-02 = 0;record,ref,class,schedule,action,due,held,confirmed\n;
+export entries = 0;run,record,ref,outcome,class,schedule,due,hold,confirmed_by,length,digest\n;
+
+# Registers tell what is due and what was done
+## at the desk of the base office
+2025-01-01 confirm 1 destroy = refused 15
+2025-01-02 confirm 1 transfer = refused 16
+2025-01-02 confirm 1 destroy = done
+2025-01-01 open-run = refused 1
+## by the program
+export 2025-01-01 = 0;record,ref,class,schedule,action,due,held,confirmed\n;
+export 2025-01-02 = 0;record,ref,class,schedule,action,due,held,confirmed\n1,r1,FIN,D1,destroy,2025-01-02,,yes\n2,r2,LEG,D1,destroy,2025-01-02,,no\n3,r3,FIN,D1,destroy,2025-01-02,,no\n;
+export entries = 0;run,record,ref,outcome,class,schedule,due,hold,confirmed_by,length,digest\n;
+## at the desk
+2025-01-02 place-hold H-9 = done
+2025-01-02 hold-on H-9 class LEG = done
+2025-01-02 place-hold H-2 = done
+2025-01-02 hold-on H-2 record 2 = done
+2025-01-02 confirm 2 destroy = done
+2025-01-02 confirm 3 destroy = done
+2025-01-02 open-run = number 1
+2025-01-02 run-step = step 1 destroyed
+2025-01-02 run-step = step 2 skipped
+## by the program
+export 2025-01-02 = 0;record,ref,class,schedule,action,due,held,confirmed\n2,r2,LEG,D1,destroy,2025-01-02,H-2,yes\n3,r3,FIN,D1,destroy,2025-01-02,,yes\n;
+export entries = 0;run,record,ref,outcome,class,schedule,due,hold,confirmed_by,length,digest\n1,1,r1,destroyed,FIN,D1,2025-01-02,,registrar,3,ba7816bf8f01cfea414140de5dae2223b00361a396177a9cb410ff61f20015ad\n1,2,r2,skipped,LEG,D1,2025-01-02,H-2,registrar,0,e3b0c44298fc1c149afbf4c8996fb92427ae41e4649b934ca495991b7852b855\n;
+resume = 0;certificate 1\n;
+export entries = 0;run,record,ref,outcome,class,schedule,due,hold,confirmed_by,length,digest\n1,1,r1,destroyed,FIN,D1,2025-01-02,,registrar,3,ba7816bf8f01cfea414140de5dae2223b00361a396177a9cb410ff61f20015ad\n1,2,r2,skipped,LEG,D1,2025-01-02,H-2,registrar,0,e3b0c44298fc1c149afbf4c8996fb92427ae41e4649b934ca495991b7852b855\n1,3,r3,destroyed,FIN,D1,2025-01-02,,registrar,3,ba7816bf8f01cfea414140de5dae2223b00361a396177a9cb410ff61f20015ad\n;
+init = 0;version 1\n;
+
+# Registers are in the order of the days, and put in quotes what needs it
+## at the desk of the base office
+2024-01-02 add-schedule D3 added days 3 review = done
+## by the program
+import 2024-01-02 ref,title,originated,aggregation,class,schedule,content\n"a, ""b""",x,2023-05-01,1,,,\n"two\twords",x,2023-05-01,1,,,\nr6,x,2023-05-01,2,,D3,\n = 1;1 number 4\n2 refused 2\n3 number 5\n;
+export 2024-01-04 = 0;record,ref,class,schedule,action,due,held,confirmed\n;
+export 2024-01-05 = 0;record,ref,class,schedule,action,due,held,confirmed\n5,r6,LEG,D3,review,2024-01-05,,no\n;
+export 2999-12-31 = 0;record,ref,class,schedule,action,due,held,confirmed\n5,r6,LEG,D3,review,2024-01-05,,no\n1,r1,FIN,D1,destroy,2025-01-02,,no\n2,r2,LEG,D1,destroy,2025-01-02,,no\n3,r3,FIN,D1,destroy,2025-01-02,,no\n4,"a, ""b""",FIN,D1,destroy,2025-01-02,,no\n;
 "#;

@@ -5,7 +5,6 @@ pub mod Kept
 pub mod Performed
 pub mod Replied
 pub mod Resumed
-pub mod Rows
 pub mod Told
 pub mod Unavailable
 pub mod Untold

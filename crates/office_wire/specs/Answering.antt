@@ -1,16 +1,16 @@
 -- What is answered to what is asked of the office, and where the desk stands then. Source: own.
 use Rattle.std.specs.FinMap.{get}
-use Rattle.std.specs.Prelude.{◌≡◌, ◌≢◌, ◌⊎◌, ◌+◌, ◌<◌, ◌≤◌, ℕ, ℤ, suc, IsTrue, List, [], ◌∷◌, length, map, take, Option, Some, None, Result, Ok, Err}
+use Rattle.std.specs.Prelude.{◌≡◌, ◌≢◌, ◌⊎◌, ◌+◌, ◌<◌, ◌≤◌, ℕ, ℤ, suc, IsTrue, List, [], length, map, take, Option, Some, None, Result, Ok, Err}
 use Rattle.sqlite.specs.Held.{state}
 use Rattle.sqlite_trees.specs.declared.store.Store.{Ghosts}
 use Rattle.office_days.specs.declared.refusal.Refusal.TheVariants as refusal
 use Rattle.office_rules.specs.Acts.{after, answers}
-use Rattle.office_rules.specs.Readings.{IsDueList, ending_entry, record_view}
+use Rattle.office_rules.specs.Readings.{ending_entry, record_view}
+use Rattle.office_rules.specs.Registers.{AreDueRows, DueTold}
 use Rattle.office_rules.specs.Runs.{IsMidway, after_steps, open_run, whole}
 use Rattle.office_rules.specs.State.{Office, State}
 use Rattle.office_rules.specs.declared.act.Act.{Act}
 use Rattle.office_rules.specs.declared.answer.Answer.TheVariants.{Refused, RunClosed}
-use Rattle.office_rules.specs.declared.record_view.RecordView.{RecordView}
 use Rattle.office_store.specs.declared.fault.Fault.{Fault}
 use Rattle.office_store.specs.declared.fault.Fault.TheVariants as fault
 use Rattle.office_desk.specs.Desk.{DeskState}
@@ -111,22 +111,9 @@ abbrev pub TellsContent : {S : Type 0} → (Response → Type 0) → Ghosts S �
 TellsContent Told g t None desk = TellsNone Told g t (failure_response failure.Content) desk
 TellsContent Told g t (Some r) desk = IsTold Told g t r desk ⊎ ((f : Fault) × IsUntold Told g t r f desk)
 
--- what is told of the records of a list
-abbrev pub and_told : Option RecordView → List RecordView → List RecordView
-and_told None rows = rows
-and_told (Some row) rows = row ∷ rows
-
-abbrev pub told_of : Office → List ℕ → List RecordView
-told_of s [] = []
-told_of s (r ∷ rs) = and_told (record_view s r) (told_of s rs)
-
--- the records of the due list of a day, as they are told
-abbrev pub AreDueRows : State → ℤ → List RecordView → Type 0
-AreDueRows t day rows = (list : List ℕ) × IsDueList t.office.tree day list × (rows ≡ told_of t.office list)
-
 abbrev pub TellsDue : {S : Type 0} → (Response → Type 0) → Ghosts S → State → Option ℤ → DeskState S → Type 0
 TellsDue Told g t None desk = TellsNone Told g t (failure_response failure.Day) desk
-TellsDue Told g t (Some day) desk = (((rows : List RecordView) × AreDueRows t day rows × Told (due_response rows)) ⊎ Told (fault_response fault.Memory)) × StandsAt g t desk
+TellsDue Told g t (Some day) desk = (((rows : List DueTold) × AreDueRows t.office day rows × Told (due_response rows)) ⊎ Told (fault_response fault.Memory)) × StandsAt g t desk
 
 abbrev pub TellsCertificate : {S : Type 0} → (Response → Type 0) → Ghosts S → State → Option ℕ → DeskState S → Type 0
 TellsCertificate Told g t None desk = TellsNone Told g t (failure_response failure.Certificate) desk

@@ -7,6 +7,7 @@ use Rattle.office_days.specs.declared.refusal.Refusal.{Refusal}
 use Rattle.office_proof.specs.declared.entry.Entry.{Entry}
 use Rattle.office_rules.specs.declared.answer.Answer.{Answer}
 use Rattle.office_rules.specs.declared.answer.Answer.TheVariants as answer
+use Rattle.office_rules.specs.Registers.{DueTold}
 use Rattle.office_rules.specs.declared.record_view.RecordView.{RecordView}
 use Rattle.office_store.specs.Faults.{fault_number}
 use Rattle.office_store.specs.declared.fault.Fault.{Fault}
@@ -60,7 +61,7 @@ record_response None ending = failure_response failure.Record
 record_response (Some told) ending = json_response status.Fine (record_data told ending)
 
 -- what is due
-abbrev pub due_response : List RecordView → Response
+abbrev pub due_response : List DueTold → Response
 due_response rows = json_response status.Fine (due_data rows)
 
 -- a content; 404 where there is none

@@ -1,14 +1,14 @@
 //! What is asked is done at the desk, and answered.
 ghost use Rattle.std.specs.FinMap.{get};
-ghost use Rattle.std.specs.Prelude.{◌≡◌, ◌⊎◌, ℕ, IfErr, IfOk, IsTrue, List, [], OnErr, false, option_map, string_bytes};
+ghost use Rattle.std.specs.Prelude.{◌≡◌, ◌⊎◌, IfErr, IfOk, IsTrue, [], OnErr, false, option_map, string_bytes};
 ghost use Rattle.sqlite.specs.Held.{state};
 ghost use Rattle.sqlite.specs.State.{HasCleanDisk};
-ghost use Rattle.office_rules.specs.Readings.{IsDueList, ending_entry, record_view};
+ghost use Rattle.office_rules.specs.Readings.{ending_entry, record_view};
 ghost use Rattle.office_rules.specs.State.{State};
 ghost use Rattle.office_desk.specs.Leaving.{StandsAt};
 ghost use Rattle.office_json.specs.Lists.{acts_in};
 ghost use Rattle.office_http.specs.Replies.{response};
-ghost use Rattle.office_wire.specs.Answering.{Answers, ArePerformed, IsToldOf, IsUnavailable, PerformsAsked, Resumes, Starves, TellsCertificate, TellsContent, TellsDue, TellsRecord, gone_acts, gone_reading, gone_response, told_of};
+ghost use Rattle.office_wire.specs.Answering.{Answers, ArePerformed, IsToldOf, IsUnavailable, PerformsAsked, Resumes, Starves, TellsCertificate, TellsContent, TellsDue, TellsRecord, gone_acts, gone_reading, gone_response};
 ghost use Rattle.office_wire.specs.Replies.{fault_response, stopped_response};
 ghost use Rattle.office_wire.specs.Receiving.{asked_for};
 
@@ -137,35 +137,6 @@ fn tell_content<S: Alter>(
     }
 }
 
-/// What is told of the records of a list.
-#[tactic(auto, using(crate::proofs::Rows::one_told))]
-fn rows_of<S: Alter>(
-    alloc: Global,
-    desk: &Desk<S>,
-    list: &[RecordNo],
-) -> Result<Vec<RecordView>, Fault>
-    ensures ok { IfOk result (λ rows. rows.items ≡ told_of desk.now.office list.now) }
-    ensures err { IfErr result (λ fault. (fault ≡ Fault.Memory) ⊎ IsTrue desk.now.is_given_up) }
-{
-    let mut rows = Vec::new(alloc);
-    for record_no in list {
-        if let Some(view) = desk.record(*record_no)? {
-            rows.push(view).or(Err(Fault::Memory))?;
-        }
-    }
-    Ok(rows)
-}
-
-/// What is told of the records that are due on a day.
-fn due_rows<S: Alter>(alloc: Global, desk: &Desk<S>, day: Day) -> Result<Vec<RecordView>, Fault>
-    ensures ok { IfOk result (λ rows. (list : List ℕ) × IsDueList desk.now.office.tree day list × (rows.items ≡ told_of desk.now.office list)) }
-    ensures err { IfErr result (λ fault. (fault ≡ Fault.Memory) ⊎ IsTrue desk.now.is_given_up) }
-    ensures gone { IsTrue desk.now.is_given_up → result ≡ Err Fault.Reopen }
-{
-    let list = desk.due_list(day)?;
-    rows_of(alloc, desk, list.as_slice())
-}
-
 /// Tells what is due on a day.
 fn tell_due<S: Alter>(alloc: Global, desk: &Desk<S>, day: Option<Day>) -> Result<Reply, Memory>
     ensures ok { IfOk result (λ reply. (t : State) → StandsAt S.Store t desk.now → TellsDue (λ told. response reply ≡ told) S.Store t day desk.now) }
@@ -174,8 +145,8 @@ fn tell_due<S: Alter>(alloc: Global, desk: &Desk<S>, day: Option<Day>) -> Result
     let Some(day) = day else {
         return Ok(failure_reply(Failure::Day));
     };
-    match due_rows(alloc, desk, day) {
-        Ok(rows) => due_reply(alloc, rows.as_slice()),
+    match desk.due_rows(day) {
+        Ok(rows) => due_reply(alloc, rows),
         Err(fault) => fault_reply(alloc, fault),
     }
 }

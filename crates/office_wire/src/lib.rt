@@ -13,6 +13,7 @@ mod connections;
 mod deadline;
 mod importing;
 mod receiving;
+mod registers;
 mod replies;
 mod serving;
 
@@ -23,4 +24,5 @@ pub use deadline::LONGEST;
 pub use importing::{ImportStop, import_records};
 pub use office_json::{Io, ReadFault, answer_value, read_act};
 pub use receiving::{Asked, Asking, ReceiveStop, Received, receive};
+pub use registers::{ExportStop, export_due, export_entries};
 pub use serving::serve_one;

@@ -1,17 +1,19 @@
 //! The answers of HTTP to what is asked of the office.
-ghost use Rattle.std.specs.Prelude.{◌≡◌, false, IfOk, if◌then◌else◌, option_map, string_bytes};
+ghost use Rattle.std.specs.Prelude.{◌≡◌, false, IfOk, if◌then◌else◌, map, option_map, string_bytes};
 ghost use Rattle.std.specs.List.{list_any};
 ghost use Rattle.std.specs.Option.{option_copied};
 ghost use Rattle.serde_json.specs.View.{view};
 ghost use Rattle.serde_json.specs.Written.{has_float};
+ghost use Rattle.office_json.specs.DueJson.{due_row_data};
 ghost use Rattle.office_http.specs.Replies.{response};
 ghost use Rattle.office_wire.specs.Replies.{acts_response, answer_response, answers_status, bad_act_response, certificate_response, content_response, due_response, fault_response, is_refusal, json_response, record_response, stopped_response};
 
 use office_days::Refusal;
+use office_desk::DueRows;
 use office_http::{Allow, Body, Failure, Kind, Reply, Status, failure_reply};
 use office_json::{
-    answer_value, answers_value, bad_act_value, due_value, fault_value, record_value,
-    stopped_value, text_of,
+    answer_value, answers_value, bad_act_value, due_row_value, due_value, fault_value,
+    record_value, stopped_value, text_of,
 };
 use office_proof::Entry;
 use office_rules::{Answer, RecordView};
@@ -127,11 +129,23 @@ pub(crate) fn record_reply(
     json_reply(alloc, Status::Fine, &value)
 }
 
-/// What is due.
-pub(crate) fn due_reply(alloc: Global, rows: &[RecordView]) -> Result<Reply, Memory>
-    ensures { IfOk result (λ reply. response reply ≡ due_response rows.now) }
+/// The rows of what is due, in JSON.
+fn row_values(alloc: Global, mut rows: DueRows<'_>) -> Result<Vec<Value>, Memory>
+    ensures { IfOk result (λ values. map view values.items ≡ map due_row_data rows.entry) }
 {
-    let value = due_value(alloc, rows)?;
+    let mut values = Vec::new(alloc);
+    while let Some(row) = rows.next_row() {
+        values.push(due_row_value(alloc, &row)?)?;
+    }
+    Ok(values)
+}
+
+/// What is due.
+pub(crate) fn due_reply(alloc: Global, rows: DueRows<'_>) -> Result<Reply, Memory>
+    ensures { IfOk result (λ reply. response reply ≡ due_response rows.entry) }
+{
+    let values = row_values(alloc, rows)?;
+    let value = due_value(values);
     json_reply(alloc, Status::Fine, &value)
 }
 

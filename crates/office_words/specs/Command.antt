@@ -4,7 +4,7 @@ use Rattle.std.specs.Str.{bytes_eq}
 use Rattle.clap.specs.Words.{App, Row, Rule, Text, first_of, new_app, new_rule, with_rule, with_subcommand}
 use Rattle.office_words.specs.declared.command.Operand.{Operand}
 use Rattle.office_words.specs.declared.words.Words.{Words}
-use Rattle.office_words.specs.declared.words.Words.TheVariants.{Apply, Certificate, Due, Import, Init, Nothing, Plan, Resume, Serve}
+use Rattle.office_words.specs.declared.words.Words.TheVariants.{Apply, Certificate, Due, Export, Import, Init, Nothing, Plan, Resume, Serve}
 
 -- an operand that must be there
 abbrev pub operand : Text → Rule
@@ -47,6 +47,10 @@ import_app =
     with_rule (with_rule (with_rule (new_app (codes "import"))
     (operand (codes "FILE"))) (operand (codes "DAY"))) (operand (codes "CSV"))
 
+-- `export FILE REGISTER`
+abbrev pub export_app : App
+export_app = with_rule (with_rule (new_app (codes "export")) (operand (codes "FILE"))) (operand (codes "REGISTER"))
+
 -- `serve FILE PORT COUNT`
 abbrev pub serve_app : App
 serve_app =
@@ -69,9 +73,9 @@ with_file_commands app = with_subcommand (with_subcommand app init_app.top) appl
 unfoldable pub with_run_commands : App → App
 with_run_commands app = with_subcommand (with_subcommand app resume_app.top) certificate_app.top
 
--- with the command that adds records by the rows of a text of CSV
-unfoldable pub with_import_command : App → App
-with_import_command app = with_subcommand app import_app.top
+-- with the commands that take and give texts of CSV
+unfoldable pub with_csv_commands : App → App
+with_csv_commands app = with_subcommand (with_subcommand app import_app.top) export_app.top
 
 -- with the command that answers requests to that office
 unfoldable pub with_service_command : App → App
@@ -80,7 +84,7 @@ with_service_command app = with_subcommand app serve_app.top
 -- `office COMMAND ..`
 unfoldable pub office_app : App
 office_app =
-    with_service_command (with_import_command (with_run_commands (with_file_commands (with_plain_commands (with_commands (new_app (codes "office")))))))
+    with_service_command (with_csv_commands (with_run_commands (with_file_commands (with_plain_commands (with_commands (new_app (codes "office")))))))
 
 -- the text of an operand; `clap` takes no words in which one lacks
 abbrev pub text_of : Text → List Row → Text
@@ -96,6 +100,7 @@ pub data Asked : Type 0 where
   resumption_asked : Text → Asked
   certificate_asked : Text → Text → Asked
   importation_asked : Text → Text → Text → Asked
+  exportation_asked : Text → Text → Asked
   service_asked : Text → Text → Text → Asked
 
 abbrev pub asked : Words → Asked
@@ -106,6 +111,7 @@ asked (Apply file acts) = application_asked file.now acts.now
 asked (Resume file) = resumption_asked file.now
 asked (Certificate file number) = certificate_asked file.now number.now
 asked (Import file day csv) = importation_asked file.now day.now csv.now
+asked (Export file register) = exportation_asked file.now register.now
 asked (Serve file port count) = service_asked file.now port.now count.now
 asked Nothing = nothing_asked
 
@@ -130,6 +136,9 @@ number_asked rows = certificate_asked (text_of (codes "FILE") rows) (text_of (co
 abbrev pub import_asked : List Row → Asked
 import_asked rows = importation_asked (text_of (codes "FILE") rows) (text_of (codes "DAY") rows) (text_of (codes "CSV") rows)
 
+abbrev pub export_asked : List Row → Asked
+export_asked rows = exportation_asked (text_of (codes "FILE") rows) (text_of (codes "REGISTER") rows)
+
 abbrev pub serve_asked : List Row → Asked
 serve_asked rows = service_asked (text_of (codes "FILE") rows) (text_of (codes "PORT") rows) (text_of (codes "COUNT") rows)
 
@@ -144,4 +153,5 @@ asked_in (Some p) =
     else (if bytes_eq p.0 (codes "resume") then resume_asked p.1
     else (if bytes_eq p.0 (codes "certificate") then number_asked p.1
     else (if bytes_eq p.0 (codes "import") then import_asked p.1
-    else (if bytes_eq p.0 (codes "serve") then serve_asked p.1 else nothing_asked)))))))
+    else (if bytes_eq p.0 (codes "export") then export_asked p.1
+    else (if bytes_eq p.0 (codes "serve") then serve_asked p.1 else nothing_asked))))))))

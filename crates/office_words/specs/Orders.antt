@@ -1,14 +1,17 @@
 -- What the program is to do, with the operands of the words that name an office's file read. Source: own.
-use Rattle.std.specs.Prelude.{ℕ, ℤ, Option, Some, None, Result, Ok, Err}
+use Rattle.std.specs.Prelude.{ℕ, ℤ, Option, Some, None, Result, Ok, Err, codes, if◌then◌else◌, option_map}
+use Rattle.std.specs.Str.{bytes_eq}
 use Rattle.clap.specs.Words.{Text}
 use Rattle.office_days.specs.ThingNumbers.{thing_number}
 use Rattle.office_days.specs.Texts.{day_named}
 use Rattle.office_days.specs.declared.refusal.Refusal.{Refusal}
 use Rattle.office_days.specs.declared.refusal.Refusal.TheVariants.{BadText}
-use Rattle.office_words.specs.Command.{Asked, nothing_asked, application_asked, due_day_asked, plan_file_asked, init_file_asked, resumption_asked, certificate_asked, importation_asked, service_asked}
+use Rattle.office_words.specs.Command.{Asked, nothing_asked, application_asked, due_day_asked, plan_file_asked, init_file_asked, resumption_asked, certificate_asked, importation_asked, exportation_asked, service_asked}
 use Rattle.office_words.specs.Services.{service_numbers}
+use Rattle.office_words.specs.declared.register.Register.{Register}
+use Rattle.office_words.specs.declared.register.Register.TheVariants as register
 use Rattle.office_words.specs.declared.order.Order.{Order}
-use Rattle.office_words.specs.declared.order.Order.TheVariants.{Apply, Certificate, Due, Import, Init, Nothing, Plan, Resume, Serve}
+use Rattle.office_words.specs.declared.order.Order.TheVariants.{Apply, Certificate, Due, Export, Import, Init, Nothing, Plan, Resume, Serve}
 
 -- what is ordered; `due` and `plan` read their operands themselves
 pub data Ordered : Type 0 where
@@ -20,6 +23,7 @@ pub data Ordered : Type 0 where
   resumption_ordered : Text → Ordered
   certificate_ordered : Text → ℕ → Ordered
   importation_ordered : Text → ℤ → Text → Ordered
+  exportation_ordered : Text → Register → Ordered
   service_ordered : Text → ℕ → ℕ → Ordered
 
 abbrev pub ordered : Order → Ordered
@@ -30,6 +34,7 @@ ordered (Apply file acts) = application_ordered file.now acts.now
 ordered (Resume file) = resumption_ordered file.now
 ordered (Certificate file run) = certificate_ordered file.now run
 ordered (Import file day csv) = importation_ordered file.now day csv.now
+ordered (Export file register) = exportation_ordered file.now register
 ordered (Serve file port count) = service_ordered file.now port count
 ordered Nothing = nothing_ordered
 
@@ -42,6 +47,15 @@ certificate_of file (Err refusal) = Err refusal
 abbrev pub importation_of : Text → Text → Option ℤ → Result Ordered Refusal
 importation_of file csv (Some day) = Ok (importation_ordered file day csv)
 importation_of file csv None = Err BadText
+
+-- the register that a text names: `entries`, or the day of the due register
+abbrev pub register_named : Text → Option Register
+register_named text = if bytes_eq text (codes "entries") then Some register.Entries else option_map register.Due (day_named text)
+
+-- the export of a register, where a text names one
+abbrev pub exportation_of : Text → Option Register → Result Ordered Refusal
+exportation_of file (Some it) = Ok (exportation_ordered file it)
+exportation_of file None = Err BadText
 
 -- the service at a port for so many connections, where texts were read as both
 abbrev pub service_of : Text → Result (ℕ × ℕ) Refusal → Result Ordered Refusal
@@ -58,4 +72,5 @@ order_asked (application_asked file acts) = Ok (application_ordered file acts)
 order_asked (resumption_asked file) = Ok (resumption_ordered file)
 order_asked (certificate_asked file number) = certificate_of file (thing_number number)
 order_asked (importation_asked file day csv) = importation_of file csv (day_named day)
+order_asked (exportation_asked file text) = exportation_of file (register_named text)
 order_asked (service_asked file port count) = service_of file (service_numbers port count)

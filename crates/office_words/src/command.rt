@@ -2,7 +2,7 @@
 ghost use Rattle.std.specs.Prelude.{◌≡◌, IfOk, false};
 ghost use Rattle.clap.specs.Words.{app_of, new_app, rule_of, with_subcommand};
 ghost use Rattle.clap.specs.declared.builder.command.Command.TheViews.{out-Command as fields_of};
-ghost use Rattle.office_words.specs.Command.{office_app, operand, with_file_commands, with_import_command, with_operands, with_plain_commands, with_run_commands, with_service_command};
+ghost use Rattle.office_words.specs.Command.{office_app, operand, with_csv_commands, with_file_commands, with_operands, with_plain_commands, with_run_commands, with_service_command};
 
 use clap::{Arg, Command};
 use std::alloc::{AllocError, Global};
@@ -163,12 +163,12 @@ fn with_run_commands<'a>(alloc: Global, command: Command<'a>) -> Result<Command<
     )
 }
 
-/// With the command that adds records by the rows of a text of CSV.
-#[tactic(auto, unfolding(crate::specs::Command::with_import_command))]
-fn with_import_command<'a>(alloc: Global, command: Command<'a>) -> Result<Command<'a>, AllocError>
-    ensures { IfOk result (λ c. app_of c ≡ with_import_command (app_of command.entry)) }
+/// With the commands that take and give texts of CSV.
+#[tactic(auto, unfolding(crate::specs::Command::with_csv_commands))]
+fn with_csv_commands<'a>(alloc: Global, command: Command<'a>) -> Result<Command<'a>, AllocError>
+    ensures { IfOk result (λ c. app_of c ≡ with_csv_commands (app_of command.entry)) }
 {
-    with_command(
+    let command = with_command(
         alloc,
         command,
         "import",
@@ -185,6 +185,22 @@ fn with_import_command<'a>(alloc: Global, command: Command<'a>) -> Result<Comman
             Operand {
                 name: "CSV",
                 help: "A file of ref, title, originated, aggregation, class, schedule, content",
+            },
+        ],
+    )?;
+    with_command(
+        alloc,
+        command,
+        "export",
+        "Writes a register of the office as CSV",
+        &[
+            Operand {
+                name: "FILE",
+                help: "The office's file",
+            },
+            Operand {
+                name: "REGISTER",
+                help: "entries, or the day of what is due, as 2017-06-30",
             },
         ],
     )
@@ -228,6 +244,6 @@ pub(crate) fn office_command<'a>(alloc: Global) -> Result<Command<'a>, AllocErro
     let command = with_plain_commands(alloc, command)?;
     let command = with_file_commands(alloc, command)?;
     let command = with_run_commands(alloc, command)?;
-    let command = with_import_command(alloc, command)?;
+    let command = with_csv_commands(alloc, command)?;
     with_service_command(alloc, command)
 }

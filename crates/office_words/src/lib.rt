@@ -8,8 +8,10 @@
 
 mod command;
 mod order;
+mod register;
 mod service;
 mod words;
 
 pub use order::{Order, order_of};
+pub use register::Register;
 pub use words::{Words, read_words};

@@ -2,6 +2,7 @@ ghost use Rattle.std.specs.Prelude.{◌≡◌, Err, IfErr, IfOk, Ok};
 ghost use Rattle.office_words.specs.Command.{asked};
 ghost use Rattle.office_words.specs.Orders.{order_asked, ordered};
 
+use crate::register::{Register, read_register};
 use crate::service::read_service;
 use crate::words::Words;
 use office_days::{Day, Refusal, read_thing_number};
@@ -43,6 +44,11 @@ pub enum Order<'a> {
         day: Day,
         csv: &'a str,
     },
+    /// Writes that register of the office in the file.
+    Export {
+        file: &'a str,
+        register: Register,
+    },
     /// Answers requests to the office in the file, at that port, until so many connections were served.
     Serve {
         file: &'a str,
@@ -55,7 +61,8 @@ pub enum Order<'a> {
 
 /// What the words order, or why an operand is refused; no file is looked at. The number of a run is one or
 /// more ASCII digits, from 1 to 4,294,967,295, leading zeros allowed; so are the port of a service, from 1
-/// to 65,535, and its count of connections, from 1 to 1,000,000. The day of an import is written as 2017-06-30.
+/// to 65,535, and its count of connections, from 1 to 1,000,000. The day of an import is written as 2017-06-30;
+/// the register of an export is `entries`, or such a day.
 pub fn order_of<'a>(words: Words<'a>) -> Result<Order<'a>, Refusal>
     ensures ok { IfOk result (λ order. order_asked (asked words.entry) ≡ Ok (ordered order)) }
     ensures err { IfErr result (λ refusal. order_asked (asked words.entry) ≡ Err refusal) }
@@ -82,6 +89,10 @@ pub fn order_of<'a>(words: Words<'a>) -> Result<Order<'a>, Refusal>
         },
         Words::Import { file, day, csv } => match Day::read(day) {
             Some(day) => Ok(Order::Import { file, day, csv }),
+            None => Err(Refusal::BadText),
+        },
+        Words::Export { file, register } => match read_register(register) {
+            Some(register) => Ok(Order::Export { file, register }),
             None => Err(Refusal::BadText),
         },
         Words::Serve { file, port, count } => match read_service(port, count) {

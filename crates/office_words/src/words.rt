@@ -1,6 +1,6 @@
 ghost use Rattle.std.specs.Prelude.{◌≡◌, IfOk, IfErr, true, map};
 ghost use Rattle.clap.specs.Words.{found_of, kind_of, rows_of, subcommand_of, subcommand_rows_of, takes};
-ghost use Rattle.office_words.specs.Command.{apply_asked, asked, asked_in, due_asked, import_asked, init_asked, number_asked, office_app, plan_asked, resume_asked, serve_asked, text_of};
+ghost use Rattle.office_words.specs.Command.{apply_asked, asked, asked_in, due_asked, export_asked, import_asked, init_asked, number_asked, office_app, plan_asked, resume_asked, serve_asked, text_of};
 
 use crate::command::office_command;
 use clap::error::ErrorKind;
@@ -37,6 +37,10 @@ pub enum Words<'a> {
         file: &'a str,
         day: &'a str,
         csv: &'a str,
+    },
+    Export {
+        file: &'a str,
+        register: &'a str,
     },
     Serve {
         file: &'a str,
@@ -117,6 +121,15 @@ fn import_words<'a>(matches: &ArgMatches<'a>) -> Words<'a>
     }
 }
 
+fn export_words<'a>(matches: &ArgMatches<'a>) -> Words<'a>
+    ensures { asked result ≡ export_asked (rows_of (found_of matches.now)) }
+{
+    Words::Export {
+        file: operand(matches, "FILE"),
+        register: operand(matches, "REGISTER"),
+    }
+}
+
 fn serve_words<'a>(matches: &ArgMatches<'a>) -> Words<'a>
     ensures { asked result ≡ serve_asked (rows_of (found_of matches.now)) }
 {
@@ -138,6 +151,7 @@ fn words_of<'a>(matches: &ArgMatches<'a>) -> Words<'a>
         Some(("resume", inner)) => resume_words(inner),
         Some(("certificate", inner)) => certificate_words(inner),
         Some(("import", inner)) => import_words(inner),
+        Some(("export", inner)) => export_words(inner),
         Some(("serve", inner)) => serve_words(inner),
         _ => Words::Nothing,
     }

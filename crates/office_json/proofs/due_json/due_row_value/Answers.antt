@@ -11,4 +11,4 @@ returns-clause-value c =
     rw (view-Object c.put_rest.new.map) (all_put _ _ _ (rw none at c.in_ok-put_plan.ensures) c.in_ok-put_rest.ensures)
 
 pub returns-clause-no_float : goal.returns-clause-no_float
-returns-clause-no_float c = rw (returns-clause-value c) (due_row_has_none c.args.told.now)
+returns-clause-no_float c = rw (returns-clause-value c) (due_row_has_none _)

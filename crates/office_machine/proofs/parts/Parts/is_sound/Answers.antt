@@ -1,6 +1,6 @@
-use Rattle.std.proofs.Common.{◌≡◌, ◌∙◌, Bool, Ok, ap, map, subst, sym}
+use Rattle.std.proofs.Common.{◌∙◌, Bool, Ok, ap, map, subst, sym}
 use Rattle.std.specs.Cmp.{nat_cmp_total}
-use Rattle.std.specs.FinMap.{entries, from_entries}
+use Rattle.std.specs.FinMap.{from_entries}
 use Rattle.std.specs.Ordering.{nat_cmp}
 use Rattle.office_rows.proofs.Maps.{entries_of_ordered}
 use Rattle.office_tree.specs.Sound.{RefsDiffer}

@@ -1,0 +1,68 @@
+-- The registers as CSV: what is due on a day, and the entries of all runs. Source: RFC 4180, its fields and their quoting; that a
+-- line ends with a line feed alone, and the columns, are own.
+use Rattle.std.specs.Prelude.{ℕ, ℤ, Bool, true, false, List, [], ◌∷◌, ◌++◌, codes}
+use Rattle.std.specs.Fmt.{decimal}
+use Rattle.std.specs.List.{flat_map}
+use Rattle.std.specs.Option.{unwrap_or}
+use Rattle.csv.specs.Writing.{default_writer, row_text}
+use Rattle.hex.specs.Hex.{encode_lower}
+use Rattle.office_days.specs.Calendar.{civil}
+use Rattle.office_days.specs.Texts.{day_text}
+use Rattle.office_tree.specs.Words.{action_word}
+use Rattle.office_proof.specs.Outcomes.{outcome_word}
+use Rattle.office_rules.specs.Registers.{DueTold, EntryTold}
+
+-- a row of a register, with its line feed
+abbrev pub row_of : List (List ℕ) → List ℕ
+row_of fields = row_text default_writer fields
+
+-- a day, as 2024-02-29
+abbrev pub day_field : ℤ → List ℕ
+day_field day = day_text (civil day)
+
+-- whether a confirmation counts
+abbrev pub yes_or_no : Bool → List ℕ
+yes_or_no true = codes "yes"
+yes_or_no false = codes "no"
+
+-- ---- what is due
+
+abbrev pub due_columns : List (List ℕ)
+due_columns = codes "record" ∷ codes "ref" ∷ codes "class" ∷ codes "schedule" ∷ codes "action" ∷ codes "due" ∷ codes "held" ∷ codes "confirmed" ∷ []
+
+-- a record that is due: the least hold that covers it, or nothing, and whether a confirmation of it counts
+abbrev pub due_fields : DueTold → List (List ℕ)
+due_fields r =
+    decimal r.number ∷ r.ref_text ∷ r.class ∷ r.schedule ∷ action_word r.action ∷ day_field r.due ∷ unwrap_or r.held [] ∷ yes_or_no r.counts ∷ []
+
+unfoldable pub due_line : DueTold → List ℕ
+due_line r = row_of (due_fields r)
+
+abbrev pub due_lines : List DueTold → List ℕ
+due_lines rows = flat_map due_line rows
+
+-- the due register: its columns, and then a line for each row
+abbrev pub due_register : List DueTold → List ℕ
+due_register rows = row_of due_columns ++ due_lines rows
+
+-- ---- the entries
+
+abbrev pub entry_columns : List (List ℕ)
+entry_columns =
+    codes "run" ∷ codes "record" ∷ codes "ref" ∷ codes "outcome" ∷ codes "class" ∷ codes "schedule" ∷ codes "due" ∷ codes "hold" ∷ codes "confirmed_by" ∷ codes "length" ∷ codes "digest" ∷ []
+
+-- an entry, the ref of its record, and length and SHA-256 of what was its content
+abbrev pub entry_fields : EntryTold → List (List ℕ)
+entry_fields it =
+    decimal it.entry.run ∷ decimal it.entry.record_no ∷ it.ref_text ∷ outcome_word it.entry.outcome ∷ it.entry.class ∷ it.entry.schedule
+    ∷ day_field it.entry.due ∷ unwrap_or it.entry.hold [] ∷ it.entry.confirmed_by ∷ decimal it.length ∷ encode_lower it.digest ∷ []
+
+unfoldable pub entry_line : EntryTold → List ℕ
+entry_line it = row_of (entry_fields it)
+
+abbrev pub entry_lines : List EntryTold → List ℕ
+entry_lines rows = flat_map entry_line rows
+
+-- the register of entries: its columns, and then a line for each row
+abbrev pub entry_register : List EntryTold → List ℕ
+entry_register rows = row_of entry_columns ++ entry_lines rows

@@ -1,0 +1,131 @@
+//! The register of the entries of all runs.
+ghost use Rattle.std.specs.Prelude.{◌≡◌, ◌∷◌, [], IfOk, OnOk};
+ghost use Rattle.std.specs.Fmt.{decimal};
+ghost use Rattle.std.specs.Io.KnownBytes.{Appends};
+ghost use Rattle.std.specs.Option.{unwrap_or};
+ghost use Rattle.std.specs.String.{string_bytes};
+ghost use Rattle.hex.specs.Hex.{encode_lower};
+ghost use Rattle.office_proof.specs.Outcomes.{outcome_word};
+ghost use Rattle.office_rules.specs.Registers.{entry_told};
+ghost use Rattle.office_csv.specs.Registers.{day_field, entry_columns, entry_line, row_of};
+
+use crate::RegisterStop;
+use crate::fields::{code_field, due_field, number_field, put_row, row_of};
+use office_proof::Entry;
+use office_rules::EntryRow;
+use office_tree::Memory;
+use std::alloc::Global;
+use std::io::Write;
+
+/// The header of the register of entries.
+fn entry_header(alloc: Global) -> Result<Vec<u8>, Memory>
+    ensures { IfOk result (λ row. row.items ≡ row_of entry_columns) }
+{
+    row_of(
+        alloc,
+        &[
+            b"run",
+            b"record",
+            b"ref",
+            b"outcome",
+            b"class",
+            b"schedule",
+            b"due",
+            b"hold",
+            b"confirmed_by",
+            b"length",
+            b"digest",
+        ],
+    )
+}
+
+/// The texts in the line of an entry that are written of numbers, days and digests.
+#[derive(Drop)]
+struct Written {
+    run: String,
+    number: String,
+    due: Vec<u8>,
+    length: String,
+    digest: String,
+}
+
+/// They, of a row.
+fn texts_of(alloc: Global, told: &EntryRow<'_>) -> Result<Written, Memory>
+    ensures numbers { IfOk result (λ it. (string_bytes it.run ≡ decimal told.now.entry.now.run) × (string_bytes it.number ≡ decimal told.now.entry.now.record_no)) }
+    ensures due { IfOk result (λ it. it.due.items ≡ day_field told.now.entry.now.due) }
+    ensures content { IfOk result (λ it. (string_bytes it.length ≡ decimal told.now.length) × (string_bytes it.digest ≡ encode_lower told.now.digest.now)) }
+{
+    Ok(Written {
+        run: number_field(alloc, told.entry.run)?,
+        number: number_field(alloc, told.entry.record_no)?,
+        due: due_field(alloc, told.entry.due)?,
+        length: number_field(alloc, told.length)?,
+        digest: hex::encode(alloc, told.digest)?,
+    })
+}
+
+/// The word for an entry's outcome.
+fn outcome_of(entry: &Entry) -> &str
+    ensures { result.now ≡ outcome_word entry.now.outcome }
+{
+    entry.outcome.text()
+}
+
+/// The line of a row, and what is written of it.
+fn line_written<'a>(
+    alloc: Global,
+    told: &'a EntryRow<'a>,
+    texts: &'a Written,
+) -> Result<Vec<u8>, Memory>
+    ensures { IfOk result (λ row. row.items ≡ row_of (
+        string_bytes texts.now.run ∷ string_bytes texts.now.number ∷ told.now.ref_text.now ∷ outcome_word told.now.entry.now.outcome ∷ told.now.entry.now.class
+        ∷ told.now.entry.now.schedule ∷ texts.now.due.items ∷ unwrap_or told.now.entry.now.hold [] ∷ told.now.entry.now.confirmed_by ∷ string_bytes texts.now.length
+        ∷ string_bytes texts.now.digest ∷ [])) }
+{
+    let entry = told.entry;
+    row_of(
+        alloc,
+        &[
+            texts.run.as_bytes(),
+            texts.number.as_bytes(),
+            told.ref_text.text().as_bytes(),
+            outcome_of(entry).as_bytes(),
+            entry.class.text().as_bytes(),
+            entry.schedule.text().as_bytes(),
+            texts.due.as_slice(),
+            code_field(entry.hold.as_ref()).as_bytes(),
+            entry.confirmed_by.text().as_bytes(),
+            texts.length.as_bytes(),
+            texts.digest.as_bytes(),
+        ],
+    )
+}
+
+/// The line of a row.
+#[tactic(auto, unfolding(crate::specs::Registers::entry_line))]
+fn entry_line(alloc: Global, told: &EntryRow<'_>) -> Result<Vec<u8>, Memory>
+    ensures { IfOk result (λ row. row.items ≡ entry_line (entry_told told.now)) }
+{
+    let texts = texts_of(alloc, told)?;
+    line_written(alloc, told, &texts)
+}
+
+/// Writes the header of the register of entries.
+pub fn write_entry_header<W: Write>(alloc: Global, out: &mut W) -> Result<(), RegisterStop>
+    ensures { OnOk result (Appends (W.contents out.old) (W.contents out.new) (row_of entry_columns)) }
+{
+    let header = entry_header(alloc)?;
+    put_row(out, &header)
+}
+
+/// Writes the line of an entry.
+pub fn write_entry_line<W: Write>(
+    alloc: Global,
+    told: &EntryRow<'_>,
+    out: &mut W,
+) -> Result<(), RegisterStop>
+    ensures { OnOk result (Appends (W.contents out.old) (W.contents out.new) (entry_line (entry_told told.now))) }
+{
+    let line = entry_line(alloc, told)?;
+    put_row(out, &line)
+}

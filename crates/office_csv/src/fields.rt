@@ -1,0 +1,60 @@
+//! What stands in the fields of a row, and the row of them.
+ghost use Rattle.std.specs.Prelude.{◌≡◌, [], IfOk, OnOk, map};
+ghost use Rattle.std.specs.Fmt.{decimal};
+ghost use Rattle.std.specs.Io.KnownBytes.{Appends};
+ghost use Rattle.std.specs.Option.{option_copied, unwrap_or};
+ghost use Rattle.std.specs.String.{string_bytes};
+ghost use Rattle.office_csv.specs.Registers.{day_field, row_of};
+
+use crate::RegisterStop;
+use csv::WriterBuilder;
+use office_days::DueDay;
+use office_tree::{Code, Memory};
+use std::alloc::Global;
+use std::io::Write;
+
+/// A number in decimal digits.
+pub(crate) fn number_field(alloc: Global, number: u32) -> Result<String, Memory>
+    ensures { IfOk result (λ field. string_bytes field ≡ decimal number) }
+{
+    Ok(format!(in alloc; "{number}")?)
+}
+
+/// A due day as `2024-02-29`.
+#[tactic(auto, using(office_proof::proofs::DateBytes::date_is_text))]
+pub(crate) fn due_field(alloc: Global, due: DueDay) -> Result<Vec<u8>, Memory>
+    ensures { IfOk result (λ field. field.items ≡ day_field due) }
+{
+    Ok(Vec::from_slice(alloc, &due.text())?)
+}
+
+/// A code, or nothing.
+pub(crate) fn code_field<'a>(code: Option<&'a Code>) -> &'a str
+    ensures { result.now ≡ unwrap_or (option_copied code.entry) [] }
+{
+    match code {
+        Some(code) => code.text(),
+        None => "",
+    }
+}
+
+/// The row of these fields, with its line feed.
+pub(crate) fn row_of(alloc: Global, fields: &[&[u8]]) -> Result<Vec<u8>, Memory>
+    ensures { IfOk result (λ row. row.items ≡ row_of (map (λ field. field.now) fields.now)) }
+{
+    let mut writer = WriterBuilder::new().from_writer(Vec::new(alloc));
+    match writer.write_fields(fields) {
+        Ok(()) => match writer.into_inner() {
+            Ok(row) => Ok(row),
+            Err(_) => Err(Memory),
+        },
+        Err(_) => Err(Memory),
+    }
+}
+
+/// Writes a row, as it stands.
+pub(crate) fn put_row<W: Write>(out: &mut W, row: &[u8]) -> Result<(), RegisterStop>
+    ensures { OnOk result (Appends (W.contents out.old) (W.contents out.new) row.now) }
+{
+    out.write_all(row).or(Err(RegisterStop::Io))
+}

@@ -1,0 +1,95 @@
+//! What is due, row by row.
+ghost use Rattle.std.specs.Prelude.{◌≡◌, ◌∷◌, ◌&&◌, [], IfOk, IfSome, IsNone, IsTrue, Some};
+ghost use Rattle.std.specs.Option.{option_copied};
+ghost use Rattle.std.specs.Ordering.{int_eq};
+ghost use Rattle.office_tree.specs.Disposal.{same_action};
+ghost use Rattle.office_tree.specs.Lists.{holds_of};
+ghost use Rattle.office_tree.specs.Tree.{due_of, has_record};
+ghost use Rattle.office_rules.specs.Registers.{AreDueRows, due_row, due_told};
+
+use crate::due_list::due_pairs;
+use crate::parts::Parts;
+use office_days::{Day, DueDay};
+use office_rules::DueRow;
+use office_tree::{Action, Confirmation, Memory, RecordNo};
+use std::alloc::Global;
+use std::collections::btree_set;
+use std::marker::Model;
+
+/// The records that are due on a day, one row after another, by due day, then number. Contracts see the rows that
+/// are left.
+#[derive(Drop)]
+pub struct DueRows<'a> {
+    parts: &'a Parts,
+    pairs: btree_set::IntoIter<(DueDay, RecordNo)>,
+}
+
+impl<'a> Model for DueRows<'a> {
+    ghost use Rattle.std.specs.Coded.{codes};
+    ghost use Rattle.std.specs.Prelude.{List};
+    ghost use Rattle.office_rules.specs.Registers.{DueTold};
+    ghost use Rattle.office_machine.specs.DuePairs.{AreOwnPairs, rows_of_pairs};
+
+    ghost Value = { List DueTold };
+
+    ghost view = { λ rows. rows_of_pairs rows.parts.now rows.pairs };
+
+    ghost invariant = { λ rows. AreOwnPairs rows.parts.now.tree rows.pairs };
+}
+
+/// Whether the confirmation is of that action and that due day.
+fn counts(confirmation: Option<&Confirmation>, action: Action, due: DueDay) -> bool
+    ensures { result ≡ holds_of (option_copied confirmation.entry) (λ it. same_action it.action action && int_eq it.due due) }
+{
+    match confirmation {
+        Some(confirmation) => confirmation.is_of(action, Some(due)),
+        None => false,
+    }
+}
+
+impl Parts {
+    /// What is told of a record that is due on that day.
+    fn due_row(&self, record_no: RecordNo, due: DueDay) -> DueRow<'_>
+        requires there { IsTrue (has_record self.now.tree record_no) }
+        requires due { due_of self.now.tree record_no ≡ Some due }
+        ensures { due_row self.now record_no ≡ Some (due_told result) }
+    {
+        let tree = &self.tree;
+        let head = tree.record(record_no);
+        let action = tree.schedule_of(record_no).action;
+        DueRow {
+            number: record_no,
+            ref_text: &head.ref_text,
+            class: tree.class_of(record_no),
+            schedule: tree.plan_of(record_no),
+            action,
+            due,
+            held: self.holds.covering(tree, record_no),
+            counts: counts(head.confirmation.as_ref(), action, due),
+        }
+    }
+
+    /// The records that are due on the day, each as it is told.
+    pub(crate) fn due_rows(&self, alloc: Global, day: Day) -> Result<DueRows<'_>, Memory>
+        ensures { IfOk result (λ rows. AreDueRows self.now day rows) }
+    {
+        let pairs = due_pairs(alloc, &self.tree, day)?;
+        Ok(DueRows {
+            parts: self,
+            pairs: pairs.into_iter(),
+        })
+    }
+}
+
+impl<'a> DueRows<'a> {
+    /// The next row, which is not told again; none after the last.
+    pub fn next_row(&mut self) -> Option<DueRow<'a>>
+        ensures some { IfSome result (λ row. self.old ≡ due_told row ∷ self.new) }
+        ensures none { IsNone result → self.old ≡ [] }
+    {
+        match self.pairs.next() {
+            Some((due, record_no)) => Some(self.parts.due_row(record_no, due)),
+            None => None,
+        }
+    }
+}

@@ -1,0 +1,55 @@
+-- How the writing of a register ends.
+use Rattle.std.proofs.Common.{◌≡◌, ◌⊎◌, inl, inr, ℕ, Bool, true, false, IsTrue, List, Option, Result, Ok, Err, IfErr, OnOk, refl, sym, subst}
+use Rattle.office_rules.specs.State.{Office, State}
+use Rattle.office_store.specs.declared.fault.Fault.{Fault}
+use Rattle.office_store.specs.declared.fault.Fault.TheVariants as fault
+use Rattle.sqlite.specs.Held.{Held, state}
+use Rattle.sqlite.specs.State.{State as FileState}
+use Rattle.sqlite_trees.specs.declared.store.Store.{Ghosts}
+use Rattle.office_wire.specs.declared.registers.ExportStop.{ExportStop}
+use Rattle.office_wire.specs.declared.registers.ExportStop.TheVariants as export
+use Rattle.office_words.specs.declared.register.Register.{Register}
+use Rattle.office_run.specs.Endings.{ending_of_export}
+use Rattle.office_run.specs.Exporting.{ExportEnds, Exports, IsRegister}
+use Rattle.office_run.specs.Opening.{IsOfOpened, IsOpened}
+use Rattle.office_run.specs.declared.ending.Ending.{Ending}
+use Rattle.office_run.specs.declared.ending.Ending.TheVariants as how
+
+-- an export that is so of the states that are told in one way is so of those told in another
+pub exports_of : (Of Others : (State → Type 0) → Type 0) → ((P : State → Type 0) → Of P → Others P) → (it : Register) (written after : Option (List ℕ)) (e : Ending) → Exports Of it written after e → Exports Others it written after e
+exports_of Of Others to it written after how.Done h = to _ h
+exports_of Of Others to it written after (how.Refused refusal) h = h
+exports_of Of Others to it written after (how.LineRefused line refusal) h = h
+exports_of Of Others to it written after how.SomeRefused h = h
+exports_of Of Others to it written after (how.ActRefused place refusal) h = h
+exports_of Of Others to it written after how.NotJson h = h
+exports_of Of Others to it written after how.CsvHeader h = h
+exports_of Of Others to it written after (how.CsvRow number) h = h
+exports_of Of Others to it written after how.BadWords h = h
+exports_of Of Others to it written after how.Socket h = h
+exports_of Of Others to it written after how.SomeFailed h = h
+exports_of Of Others to it written after how.File h = h
+exports_of Of Others to it written after (how.Fault f) h = h
+
+-- what is exported over a connection is so over the one that a closing gives back
+pub closed_exports : {S : Type 0} (g : Ghosts S) (it : Register) (old : FileState) (held closed : Held S) (written after : Option (List ℕ)) (e : Ending) → closed ≡ held
+    → IsOpened old (state g held) → Exports (IsOfOpened old (state g held)) it written after e → ExportEnds it old (state g closed) written after e
+closed_exports g it old held closed written after e same opened told = subst (λ (h : Held _). ExportEnds it old (state g h) written after e) (sym same) (inr (opened, told))
+
+not_gone : (is_given_up : Bool) → is_given_up ≡ false → IsTrue is_given_up → ⊥
+not_gone true still gone = absurd cc
+not_gone false still gone = let no : false ≡ true = gone in absurd cc
+
+stopped : (Of : (State → Type 0) → Type 0) (it : Register) (written after : Option (List ℕ)) (stop : ExportStop) (is_given_up : Bool) → is_given_up ≡ false
+    → (stop ≡ export.Io) ⊎ ((stop ≡ export.Fault fault.Memory) ⊎ (stop ≡ export.Fault fault.Reopen) × IsTrue is_given_up) → Exports Of it written after (ending_of_export (Err stop))
+stopped Of it written after stop is_given_up still (inl io) = subst (λ (x : ExportStop). Exports Of it written after (ending_of_export (Err x))) (sym io) tt
+stopped Of it written after stop is_given_up still (inr (inl memory)) = subst (λ (x : ExportStop). Exports Of it written after (ending_of_export (Err x))) (sym memory) refl
+stopped Of it written after stop is_given_up still (inr (inr gone)) = absurd (not_gone is_given_up still gone.1)
+
+-- an export ends as the register was written
+pub exported : (old : Office) (it : Register) (written after : Option (List ℕ)) (is_given_up : Bool) (x : Result (Unit {0}) ExportStop) (e : Ending) → is_given_up ≡ false → e ≡ ending_of_export x
+    → OnOk x (IsRegister it written after old)
+    → IfErr x (λ stop. (stop ≡ export.Io) ⊎ ((stop ≡ export.Fault fault.Memory) ⊎ (stop ≡ export.Fault fault.Reopen) × IsTrue is_given_up))
+    → Exports (λ P. (s : State) → s.office ≡ old → P s) it written after e
+exported old it written after is_given_up (Ok done) e still is ok err = rw is (λ s same. subst (IsRegister it written after) (sym same) ok)
+exported old it written after is_given_up (Err stop) e still is ok err = rw is (stopped (λ P. (s : State) → s.office ≡ old → P s) it written after stop is_given_up still err)

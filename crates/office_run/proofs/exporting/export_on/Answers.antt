@@ -1,0 +1,29 @@
+use Rattle.std.proofs.Common.{◌≡◌, ◌∙◌, ap, inl, refl, sym, rules}
+use Rattle.sqlite.specs.Held.{state}
+use Rattle.office_rules.specs.State.{State, empty_state}
+use Rattle.office_desk.specs.Desk.{DeskState}
+use Rattle.office_run.specs.Opening.{IsOfOpened, IsOpened}
+use Rattle.office_run.proofs.Exports.{closed_exports, exports_of}
+use Rattle.office_run.proofs.exporting.export_on.Goals as goal
+
+pub returns-in-Ok : goal.returns-in-Ok
+returns-in-Ok g c =
+    let old = state g.S.Store c.args.conn in
+    let new = state g.S.Store c.in-Ok.desk.held in
+    let it = c.in-Ok.ensures in
+    let opened : IsOpened old new = record {
+      made = λ clean blank. (it.made clean blank).rows;
+      found = λ clean rest. let f = it.found clean rest in (f.0, f.1, f.2.rows, f.3);
+    } in
+    closed_exports g.S.Store c.args.register old c.in-Ok.desk.held _ _ _ c.export_at-ending.result
+    (c.close.ensures ∙ ap (λ (d : DeskState _). d.held) c.export_at-ending.ensures.kept) opened
+    (exports_of (λ (P : State → Type 0). (s : State) → s.office ≡ c.in-Ok.desk.office → P s) (IsOfOpened old new)
+    (λ P told.
+    record {
+      made = λ clean blank. told empty_state (sym (it.made clean blank).office);
+      found = λ clean rest. let f = it.found clean rest in (f.0, f.1, told f.0 (sym f.2.office));
+    })
+    c.args.register _ _ _ c.export_at-ending.ensures.exports)
+
+pub returns-in-Err : goal.returns-in-Err
+returns-in-Err g c = inl (c.in-Err.fault, refl, search rules, refl)

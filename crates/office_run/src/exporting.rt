@@ -1,0 +1,65 @@
+//! The registers of the office in a file.
+ghost use Rattle.std.specs.Prelude.{◌≡◌, ◌⊎◌, IfErr, IsTrue, OnOk, false};
+ghost use Rattle.sqlite.specs.Held.{state};
+ghost use Rattle.office_rules.specs.State.{State};
+ghost use Rattle.office_run.specs.Exporting.{ExportEnds, Exports, IsRegister};
+
+use crate::ending::Ending;
+use office_desk::Desk;
+use office_store::Fault;
+use office_wire::{ExportStop, export_due, export_entries};
+use office_words::Register;
+use sqlite::{Alter, Connection};
+use std::alloc::Global;
+use std::io::Write;
+
+/// Writes a register at a desk.
+fn write_register<W: Write, S: Alter>(
+    alloc: Global,
+    desk: &mut Desk<S>,
+    register: Register,
+    out: &mut W,
+) -> Result<(), ExportStop>
+    ensures ok { OnOk result (IsRegister register (W.contents out.old) (W.contents out.new) desk.old.office) }
+    ensures err { IfErr result (λ stop. (stop ≡ ExportStop.Io) ⊎ ((stop ≡ ExportStop.Fault Fault.Memory) ⊎ (stop ≡ ExportStop.Fault Fault.Reopen) × IsTrue desk.old.is_given_up)) }
+    ensures kept { desk.new ≡ desk.old }
+{
+    match register {
+        Register::Entries => export_entries(alloc, desk, out),
+        Register::Due(day) => export_due(alloc, desk, day, out),
+    }
+}
+
+/// Writes a register at a desk that is open.
+#[tactic(auto, using(crate::proofs::Exports::exported))]
+fn export_at<W: Write, S: Alter>(
+    alloc: Global,
+    desk: &mut Desk<S>,
+    register: Register,
+    out: &mut W,
+) -> Ending
+    requires { desk.old.is_given_up ≡ false }
+    ensures exports { Exports (λ P. (s : State) → s.office ≡ desk.old.office → P s) register (W.contents out.old) (W.contents out.new) result }
+    ensures kept { desk.new ≡ desk.old }
+{
+    Ending::of_export(write_register(alloc, desk, register, out))
+}
+
+/// `export FILE entries` or `export FILE DAY` over a connection to the file.
+pub fn export_on<W: Write, S: Alter>(
+    alloc: Global,
+    conn: Connection<S>,
+    register: Register,
+    out: &mut W,
+) -> (Ending, Connection<S>)
+    requires { conn.in_transaction ≡ false }
+    ensures { ExportEnds register (state S.Store conn) (state S.Store result.1) (W.contents out.old) (W.contents out.new) result.0 }
+{
+    match Desk::open(alloc, conn) {
+        Ok(mut desk) => {
+            let ending = export_at(alloc, &mut desk, register, out);
+            (ending, desk.close())
+        }
+        Err((fault, conn)) => (Ending::Fault(fault), conn),
+    }
+}

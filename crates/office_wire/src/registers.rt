@@ -1,0 +1,147 @@
+//! The registers of the office, written as CSV.
+ghost use Rattle.std.specs.Prelude.{◌≡◌, ◌⊎◌, Err, IfErr, IsTrue, List, [], OnOk};
+ghost use Rattle.std.specs.Io.KnownBytes.{Appends};
+ghost use Rattle.office_rules.specs.Registers.{AreDueRows, DueTold, entry_rows};
+ghost use Rattle.office_csv.specs.Registers.{due_lines, due_register, entry_lines, entry_register};
+
+use office_csv::{
+    RegisterStop, write_due_header, write_due_line, write_entry_header, write_entry_line,
+};
+use office_days::Day;
+use office_desk::{Desk, DueRows, EntryRows};
+use office_store::Fault;
+use sqlite::Alter;
+use std::alloc::Global;
+use std::io::Write;
+
+/// Why a register was not written to its end; some of it may have gone out.
+#[derive(Clone, Copy, PartialEq, Eq, Debug)]
+pub enum ExportStop {
+    /// The desk told this fault, or want of memory.
+    Fault(Fault),
+    /// The writer answered an error.
+    Io,
+}
+
+/// Why an export stops where a register does.
+fn stopped(stop: RegisterStop) -> ExportStop
+    ensures { (result ≡ ExportStop.Io) ⊎ (result ≡ ExportStop.Fault Fault.Memory) }
+{
+    match stop {
+        RegisterStop::Memory => ExportStop::Fault(Fault::Memory),
+        RegisterStop::Io => ExportStop::Io,
+    }
+}
+
+/// Sends out what was written.
+fn flush<W: Write>(out: &mut W) -> Result<(), RegisterStop>
+    ensures { OnOk result (Appends (W.contents out.old) (W.contents out.new) []) }
+{
+    match out.flush() {
+        Ok(()) => Ok(()),
+        Err(_) => Err(RegisterStop::Io),
+    }
+}
+
+/// Writes a line for each row that is left.
+#[tactic(auto, using(office_json::proofs::Appending::appends_both, office_json::proofs::Appending::appends_none))]
+fn write_due_lines<W: Write>(
+    alloc: Global,
+    mut rows: DueRows<'_>,
+    out: &mut W,
+) -> Result<(), RegisterStop>
+    ensures { OnOk result (Appends (W.contents out.old) (W.contents out.new) (due_lines rows.entry)) }
+{
+    while let Some(row) = rows.next_row() {
+        write_due_line(alloc, &row, out)?;
+    }
+    flush(out)
+}
+
+/// Writes the due register.
+#[tactic(auto, using(office_json::proofs::Appending::appends_both))]
+fn write_due_register<W: Write>(
+    alloc: Global,
+    rows: DueRows<'_>,
+    out: &mut W,
+) -> Result<(), RegisterStop>
+    ensures { OnOk result (Appends (W.contents out.old) (W.contents out.new) (due_register rows.entry)) }
+{
+    write_due_header(alloc, out)?;
+    write_due_lines(alloc, rows, out)
+}
+
+/// Writes a line for each row that is left.
+#[tactic(auto, using(office_json::proofs::Appending::appends_both, office_json::proofs::Appending::appends_none))]
+fn write_entry_lines<W: Write>(
+    alloc: Global,
+    mut rows: EntryRows<'_>,
+    out: &mut W,
+) -> Result<(), RegisterStop>
+    ensures { OnOk result (Appends (W.contents out.old) (W.contents out.new) (entry_lines rows.entry)) }
+{
+    while let Some(row) = rows.next_row() {
+        write_entry_line(alloc, &row, out)?;
+    }
+    flush(out)
+}
+
+/// Writes the register of entries.
+#[tactic(auto, using(office_json::proofs::Appending::appends_both))]
+fn write_entry_register<W: Write>(
+    alloc: Global,
+    rows: EntryRows<'_>,
+    out: &mut W,
+) -> Result<(), RegisterStop>
+    ensures { OnOk result (Appends (W.contents out.old) (W.contents out.new) (entry_register rows.entry)) }
+{
+    write_entry_header(alloc, out)?;
+    write_entry_lines(alloc, rows, out)
+}
+
+/// Writes the due register of a day as CSV: its columns `record,ref,class,schedule,action,due,held,confirmed`, and a
+/// line for each record that is here and due on that day or before it, by due day, then number. Each line goes out
+/// before the next is made, and at `Ok` all of them were sent out. It changes nothing. `Fault(Memory)` comes where
+/// memory was refused, `Fault(Reopen)` where the desk was given up, and then nothing is written; `Io` where the
+/// writer answered an error. At `Fault(Memory)` and `Io` some of the register may have gone out.
+pub fn export_due<S: Alter, W: Write>(
+    alloc: Global,
+    desk: &mut Desk<S>,
+    day: Day,
+    out: &mut W,
+) -> Result<(), ExportStop>
+    ensures ok { OnOk result ((rows : List DueTold) × AreDueRows desk.old.office day rows × Appends (W.contents out.old) (W.contents out.new) (due_register rows)) }
+    ensures err { IfErr result (λ stop. (stop ≡ ExportStop.Io) ⊎ ((stop ≡ ExportStop.Fault Fault.Memory) ⊎ (stop ≡ ExportStop.Fault Fault.Reopen) × IsTrue desk.old.is_given_up)) }
+    ensures kept { desk.new ≡ desk.old }
+    ensures gone { IsTrue desk.old.is_given_up → (result ≡ Err (ExportStop.Fault Fault.Reopen)) × (out.new ≡ out.old) }
+{
+    match desk.due_rows(day) {
+        Ok(rows) => match write_due_register(alloc, rows, out) {
+            Ok(()) => Ok(()),
+            Err(stop) => Err(stopped(stop)),
+        },
+        Err(fault) => Err(ExportStop::Fault(fault)),
+    }
+}
+
+/// Writes the register of the entries of all runs as CSV: its columns
+/// `run,record,ref,outcome,class,schedule,due,hold,confirmed_by,length,digest`, and a line for each entry, by run,
+/// then record. Ref, length and digest are those of the record's head. Otherwise as `export_due`.
+pub fn export_entries<S: Alter, W: Write>(
+    alloc: Global,
+    desk: &mut Desk<S>,
+    out: &mut W,
+) -> Result<(), ExportStop>
+    ensures ok { OnOk result (Appends (W.contents out.old) (W.contents out.new) (entry_register (entry_rows desk.old.office))) }
+    ensures err { IfErr result (λ stop. (stop ≡ ExportStop.Io) ⊎ ((stop ≡ ExportStop.Fault Fault.Memory) ⊎ (stop ≡ ExportStop.Fault Fault.Reopen) × IsTrue desk.old.is_given_up)) }
+    ensures kept { desk.new ≡ desk.old }
+    ensures gone { IsTrue desk.old.is_given_up → (result ≡ Err (ExportStop.Fault Fault.Reopen)) × (out.new ≡ out.old) }
+{
+    match desk.entry_rows() {
+        Ok(rows) => match write_entry_register(alloc, rows, out) {
+            Ok(()) => Ok(()),
+            Err(stop) => Err(stopped(stop)),
+        },
+        Err(fault) => Err(ExportStop::Fault(fault)),
+    }
+}

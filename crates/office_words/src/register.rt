@@ -1,0 +1,26 @@
+ghost use Rattle.std.specs.Prelude.{◌≡◌};
+ghost use Rattle.office_words.specs.Orders.{register_named};
+
+use office_days::Day;
+
+/// A register of the office, which is written as CSV.
+#[derive(Clone, Copy)]
+pub enum Register {
+    /// The entries of all runs.
+    Entries,
+    /// What is due on a day.
+    Due(Day),
+}
+
+/// The register that an operand names: `entries`, or the day of the due register, as 2017-06-30.
+pub(crate) fn read_register(text: &str) -> Option<Register>
+    ensures { result ≡ register_named text.now }
+{
+    if text == "entries" {
+        return Some(Register::Entries);
+    }
+    match Day::read(text) {
+        Some(day) => Some(Register::Due(day)),
+        None => None,
+    }
+}
