@@ -1,5 +1,5 @@
 -- The decision that adds a record: its row, its content and the office's day.
-use Rattle.std.proofs.Common.{◌≡◌, ◌≤◌, ◌<◌, ◌+◌, ℕ, suc, List, [], ◌∷◌, length, Option, Some, None, ℤ, Vec, Global, sym, ap, ◌∙◌, subst, arith}
+use Rattle.std.proofs.Common.{◌≡◌, ◌≤◌, ◌<◌, ◌+◌, ℕ, suc, List, [], ◌∷◌, length, Option, Some, None, ℤ, Vec, Global, refl, sym, ap, ◌∙◌, subst, arith}
 use Rattle.std.specs.FinMap.{insert}
 use Rattle.office_days.specs.declared.refusal.Refusal.{Refusal}
 use Rattle.office_tree.specs.Conditions.{first_of, conditions_of_add_record}
@@ -10,6 +10,7 @@ use Rattle.office_tree.specs.Sound as tree
 use Rattle.office_tree.specs.Tree.{TreeState}
 use Rattle.office_tree.specs.declared.head.Record.{Record}
 use Rattle.office_tree.specs.declared.status.Status.TheVariants.{Here}
+use Rattle.office_tree.proofs.FoundRefs.{keeps_next}
 use Rattle.office_tree.proofs.Keeping.{IsSound-add_record}
 use Rattle.office_tree.proofs.Putting.{put_next}
 use Rattle.office_rules.specs.Acts.{IsChangeTo}
@@ -63,9 +64,9 @@ record_added s t day new r head bytes change same none table sound next is copie
     let puts = next_put s.tree r head (new_head day new) number sound_now.statuses is in
     let low : 0 < r = omega (arith, number) in
     let last : r ≤ length s.tree.records + 1 = omega (arith, number) in
-    let fits : CanWrite s (addition_writes r head bytes day) = ((low, last, subst tree.IsSound (sym puts) kept), (tt, (tt, tt))) in
+    let fits : CanWrite s (addition_writes r head bytes day) = ((low, last, subst tree.IsSound (sym puts) kept, keeps_next (λ (it : Record). it.ref_text) s.tree.records r head.ref_text number), (tt, (tt, tt))) in
     let few : length change.writes.items ≤ 6 = rw written (omega arith) in
     subst (λ (o : Option ℕ). IsChangeTo s (λ contents. by_same_record o (with_contents s contents) day new) change) (sym none)
     (accepted_change s (refusals_of_add_record s day new) (Number (suc (length s.tree.records))) (λ contents. with_new_record (with_contents s contents) day new) change accepted
-    (ap Number number_suc ∙ sym done) few (subst (CanWrite s) (sym written) fits)
+    (ap Number number_suc ∙ sym done) refl few (subst (CanWrite s) (sym written) fits)
     (λ contents. ap (λ ws. all_writes ws (with_contents s contents)) written ∙ (λ j. with_contents (with_tree s day (puts j)) (insert contents (sym number_suc j) (copied j)))))

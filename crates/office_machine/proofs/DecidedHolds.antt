@@ -33,7 +33,7 @@ put_change : (s : Office) (day : ℤ) (conditions : List (Refusal × Bool)) (aft
     → ((contents : ByteMap) → write row (with_contents s contents) ≡ with_contents (record s { holds = after }) contents)
     → IsChangeTo s (λ contents. stepped (dated s day conditions) (with_contents s contents) Done (with_office (with_contents s contents) (with_holds s day after))) change
 put_change s day conditions after row change accepted same writes can wrote =
-    accepted_change s (dated s day conditions) Done (λ contents. with_office (with_contents s contents) (with_holds s day after)) change accepted same
+    accepted_change s (dated s day conditions) Done (λ contents. with_office (with_contents s contents) (with_holds s day after)) change accepted same refl
     (let n = ap length writes in omega (arith, n)) (subst (λ (ws : List RowWrite). CanWrite s ws) (sym writes) (can, (tt, tt)))
     (λ contents. ap (λ ws. all_writes ws (with_contents s contents)) writes ∙ ap (write (row_write.Day day)) (wrote contents))
 

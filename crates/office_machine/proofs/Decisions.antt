@@ -1,9 +1,9 @@
 -- What a decision rests on: the first condition of an act's table that holds, or that none does.
-use Rattle.std.proofs.Common.{◌≡◌, ◌≤◌, Bool, List, length, Some, None, Result, Ok, Err, IfOk, sym, ap, ◌∙◌}
+use Rattle.std.proofs.Common.{◌≡◌, ◌≤◌, Bool, true, List, length, Some, None, Result, Ok, Err, IfOk, sym, ap, ◌∙◌}
 use Rattle.office_days.specs.declared.refusal.Refusal.{Refusal}
 use Rattle.office_tree.specs.Conditions.{first_of}
 use Rattle.office_tree.specs.declared.memory.Memory.{Memory}
-use Rattle.office_rules.specs.Acts.{IsChangeTo, IsDecidedTo, IsGoing}
+use Rattle.office_rules.specs.Acts.{IsChangeTo, IsDecidedTo, IsGoing, is_of_change}
 use Rattle.office_rules.specs.State.{with_contents, Office, State, ByteMap}
 use Rattle.office_rules.specs.Steps.{stepped, by_refusal}
 use Rattle.office_rules.specs.Writes.{CanWrite, all_writes}
@@ -23,11 +23,12 @@ pub accepted_step : (conditions : List (Refusal × Bool)) (before : State) (answ
 accepted_step conditions before answer next e = ap (λ o. by_refusal o before answer next) e
 
 -- a change for an accepted act
-pub accepted_change : (s : Office) (conditions : List (Refusal × Bool)) (answer : Answer) (next : ByteMap → State) (change : Change) → first_of conditions ≡ None → answer ≡ change.answer → length change.writes.items ≤ 6
+pub accepted_change : (s : Office) (conditions : List (Refusal × Bool)) (answer : Answer) (next : ByteMap → State) (change : Change) → first_of conditions ≡ None → answer ≡ change.answer → is_of_change answer ≡ true → length change.writes.items ≤ 6
     → CanWrite s change.writes.items → ((contents : ByteMap) → all_writes change.writes.items (with_contents s contents) ≡ next contents)
     → IsChangeTo s (λ contents. stepped conditions (with_contents s contents) answer (next contents)) change
-accepted_change s conditions answer next change accepted same few fits leads = record {
+accepted_change s conditions answer next change accepted same told few fits leads = record {
   answered = λ contents. ap (λ (p : Answer × State). p.0) (accepted_step conditions (with_contents s contents) answer (next contents) accepted) ∙ same;
+  changes = ap is_of_change (sym same) ∙ told;
   few = few;
   fits = fits;
   leads = λ contents. leads contents ∙ sym (ap (λ (p : Answer × State). p.1) (accepted_step conditions (with_contents s contents) answer (next contents) accepted));

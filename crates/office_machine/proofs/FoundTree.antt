@@ -1,14 +1,10 @@
 -- The tree of rows, and rows of which there is no tree.
-use Rattle.std.proofs.Common.{◌≡◌, ℕ, List, length, Option, Some, None, Result, Ok, Err, refl, sym, subst, ◌∙◌}
-use Rattle.std.specs.Prelude.{IfOk}
-use Rattle.std.specs.Option.{ok_or}
+use Rattle.std.proofs.Common.{◌≡◌, ℕ, List, length, sym, ◌∙◌}
 use Rattle.std.specs.Cmp.Lexicographic.{nat_list_cmp_total}
 use Rattle.std.specs.FinMap.{same_entries_map}
 use Rattle.std.specs.List.Sorted.{IsStrictlySortedBy}
 use Rattle.std.specs.Map.{keys_of}
-use Rattle.office_rows.specs.Rows.{OnDamaged, numbered_rows}
-use Rattle.office_rows.specs.declared.build.Rebuild.{Rebuild}
-use Rattle.office_rows.specs.declared.build.Rebuild.TheVariants.{Damaged}
+use Rattle.office_rows.specs.Rows.{numbered_rows}
 use Rattle.office_rows.proofs.Maps.{entries_of_ordered}
 use Rattle.office_tree.specs.Founding.{tree_of}
 use Rattle.office_tree.specs.Sound.{IsSound}
@@ -46,17 +42,3 @@ module _ (schedules : List (List ℕ × Schedule)) (classes : List (List ℕ × 
       let ones = same_heads tree.records heads tree.statuses statuses sound.statuses long columns in
       let ends = same_statuses tree.records heads tree.statuses statuses sound.statuses long columns in
       λ i. record { schedules = by i; classes = under i; aggregations = all i; records = ones i; statuses = ends i }
-
--- ---- what is there, or damaged
-
-pub damaged_if_none : {X P : Type 0} (found : Option X) (r : Result X Rebuild) → r ≡ ok_or found Damaged → (found ≡ None → P) → OnDamaged r P
-damaged_if_none None (Ok x) e so = absurd cc
-damaged_if_none None (Err d) e so = λ _. so refl
-damaged_if_none (Some x) (Ok y) e so = tt
-damaged_if_none (Some x) (Err d) e so = absurd cc
-
-pub ok_if_some : {X : Type 0} {P : X → Type 0} (found : Option X) (r : Result X Rebuild) → r ≡ ok_or found Damaged → ((x : X) → found ≡ Some x → P x) → IfOk r P
-ok_if_some None (Ok x) e so = absurd cc
-ok_if_some None (Err d) e so = tt
-ok_if_some {X} {P} (Some x) (Ok y) e so = let same : x ≡ y = cc in subst P same (so x refl)
-ok_if_some (Some x) (Err d) e so = absurd cc

@@ -1,5 +1,5 @@
 -- What is right of the change by which a run is opened.
-use Rattle.std.proofs.Common.{◌≡◌, ◌+◌, ℕ, suc, List, [], ◌∷◌, length, None, ℤ, sym, ap, subst, ◌∙◌, arith}
+use Rattle.std.proofs.Common.{◌≡◌, ◌+◌, ℕ, suc, List, [], ◌∷◌, length, None, ℤ, refl, sym, ap, subst, ◌∙◌, arith}
 use Rattle.office_tree.specs.Conditions.{first_of}
 use Rattle.office_tree.proofs.Putting.{put_next}
 use Rattle.office_rules.specs.Acts.{IsChangeTo}
@@ -25,7 +25,7 @@ can_open s day by = ((omega arith, omega arith), (tt, tt))
 pub opening_change : (s : Office) (day : ℤ) (by : List ℕ) (change : Change) → first_of (refusals_of_open_run s day) ≡ None → Number (suc (length s.runs)) ≡ change.answer → change.writes.items ≡ opening_writes (length s.runs + 1) day by
     → IsChangeTo s (λ contents. step_open_run (with_contents s contents) day by) change
 opening_change s day by change accepted same writes =
-    accepted_change s (refusals_of_open_run s day) (Number (suc (length s.runs))) (λ contents. with_office (with_contents s contents) (after_open_run s day by)) change accepted same
+    accepted_change s (refusals_of_open_run s day) (Number (suc (length s.runs))) (λ contents. with_office (with_contents s contents) (after_open_run s day by)) change accepted same refl
     (let n = ap length writes in omega (arith, n)) (subst (CanWrite s) (sym writes) (can_open s day by))
     (λ contents. ap (λ ws. all_writes ws (with_contents s contents)) writes
     ∙ ap (λ (runs : List Run). with_contents (record s { runs = runs; day = day }) contents) (put_next s.runs (new_run day by)))

@@ -8,7 +8,7 @@ use Rattle.office_tree.specs.Conditions.{first_of}
 use Rattle.office_tree.specs.Lists.{numbered}
 use Rattle.office_tree.proofs.Places.{numbered_within}
 use Rattle.office_tree.proofs.Putting.{put-edited}
-use Rattle.office_rules.specs.Acts.{IsChangeTo}
+use Rattle.office_rules.specs.Acts.{IsChangeTo, is_of_change}
 use Rattle.office_rules.specs.Conditions.{refusals_of_run_step}
 use Rattle.office_rules.specs.Runs.{certificate_of, closed, next_ready, open_run, run_step, step_at, step_of}
 use Rattle.office_rules.specs.State.{with_contents, Office, ByteMap}
@@ -49,6 +49,6 @@ closing s run it text change opened none there told answered written =
     let answer : answer_in s (open_run s) ≡ RunClosed run = ap (answer_in s) opened ∙ ap (answer_at s run) none in
     let fits : CanWrite s (closing_writes run text it) = (tt, (within, tt)) in
     let few : length change.writes.items ≤ 6 = rw written (omega arith) in
-    accepted_change s (refusals_of_run_step s) (answer_in s (open_run s)) (λ contents. step_of (with_contents s contents) (open_run s)) change accepted (answer ∙ sym answered) few
+    accepted_change s (refusals_of_run_step s) (answer_in s (open_run s)) (λ contents. step_of (with_contents s contents) (open_run s)) change accepted (answer ∙ sym answered) (ap is_of_change answer) few
     (subst (CanWrite s) (sym written) fits)
     (λ contents. ap (λ ws. all_writes ws (with_contents s contents)) written ∙ closed_is s run it text contents there told ∙ sym (step_is s run contents opened none))

@@ -18,7 +18,7 @@ use Rattle.office_tree.proofs.Putting.{length-put, put-edited, put_same}
 use Rattle.office_proof.specs.declared.entry.Entry.{Entry}
 use Rattle.office_proof.specs.declared.outcome.Outcome.{Outcome}
 use Rattle.office_proof.specs.declared.outcome.Outcome.TheVariants as outcome
-use Rattle.office_rules.specs.Acts.{IsChangeTo}
+use Rattle.office_rules.specs.Acts.{IsChangeTo, is_of_change}
 use Rattle.office_rules.specs.Disposing.{entry_of, outcome_of}
 use Rattle.office_machine.specs.RunWrites.{taking_writes}
 use Rattle.office_rules.specs.Runs.{open_run, next_ready, run_step, step_at, step_of, with_outcomes, with_cursor}
@@ -143,6 +143,7 @@ taken s run r o head it change sound opened next comes there at answer writes =
     let step = λ (contents : ByteMap). step_takes (with_contents s contents) run r o opened next comes in
     record {
       answered = λ contents. ap (λ (p : Answer × State). p.0) (step contents) ∙ sym answer;
+      changes = ap is_of_change answer;
       few = subst (λ (ws : List RowWrite). length ws ≤ 6) (sym writes) (few_writes o (entry_of s run r o) head it);
       fits = subst (CanWrite s) (sym writes) (can_write s run r o head it (sound_tree s sound) there at);
       leads = λ contents. ap (λ ws. all_writes ws (with_contents s contents)) writes ∙ wrote (with_contents s contents) run r head was it there t.status at o ∙ sym (ap (λ (p : Answer × State). p.1) (step contents));

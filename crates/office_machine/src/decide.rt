@@ -101,7 +101,8 @@ impl Parts {
     /// receipt.
     #[tactic(auto, unfolding(office_rules::specs::Acts::step))]
     fn decide_on_records(&self, alloc: Global, act: &Act) -> Result<Decision, Memory>
-        requires { IsOnRecords act.now }
+        requires sound { IsSoundOffice self.now }
+        requires kind { IsOnRecords act.now }
         ensures { IfOk result (λ d. IsDecidedFor self.now act.now d) }
     {
         match act {

@@ -5,6 +5,7 @@ ghost use Rattle.office_tree.specs.Lists.{or_else};
 ghost use Rattle.office_rules.specs.Acts.{IsDecidedTo};
 ghost use Rattle.office_rules.specs.Conditions.{is_same_record, same_record};
 ghost use Rattle.office_rules.specs.Effects.{new_head};
+ghost use Rattle.office_rules.specs.Sound.{IsSoundOffice};
 ghost use Rattle.office_rules.specs.State.{with_contents};
 ghost use Rattle.office_rules.specs.Steps.{step_add_record, step_confirm, step_receipt, step_review, step_set_record_schedule};
 
@@ -93,16 +94,20 @@ fn new_head(alloc: Global, day: Day, new: &NewRecord, digest: [u8; 32]) -> Resul
 impl Parts {
     /// The record that was added before with all that is asked now, where its content has that digest.
     fn same_record(&self, new: &NewRecord, digest: [u8; 32]) -> Option<RecordNo>
-        requires { digest ≡ sha256 new.now.content.items }
+        requires sound { IsSoundOffice self.now }
+        requires digest { digest ≡ sha256 new.now.content.items }
         ensures { result ≡ same_record self.now new.now }
     {
-        for before in 0..self.tree.record_count() {
-            let record_no = before + 1;
-            if is_same(new, digest, self.tree.record(record_no)) {
-                return Some(record_no);
+        match self.tree.record_of_ref(&new.ref_text) {
+            Some(record_no) => {
+                if is_same(new, digest, self.tree.record(record_no)) {
+                    Some(record_no)
+                } else {
+                    None
+                }
             }
+            None => None,
         }
-        None
     }
 
     /// What is decided of a new record, which may have been added before.
@@ -112,6 +117,7 @@ impl Parts {
         day: Day,
         new: &NewRecord,
     ) -> Result<Decision, Memory>
+        requires { IsSoundOffice self.now }
         ensures { IfOk result (λ d. IsDecidedTo self.now (λ contents. step_add_record (with_contents self.now contents) day new.now) d) }
     {
         let digest = digest_of(&new.content);

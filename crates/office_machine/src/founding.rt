@@ -43,7 +43,11 @@ fn tree_of_rows(
     let classes = keyed(alloc, classes)?;
     let aggregations = numbered(alloc, aggregations)?;
     let (heads, statuses) = records_of(alloc, records)?;
-    Tree::of_parts(schedules, classes, aggregations, heads, statuses).ok_or(Rebuild::Damaged)
+    match Tree::of_parts(alloc, schedules, classes, aggregations, heads, statuses) {
+        Ok(Some(tree)) => Ok(tree),
+        Ok(None) => Err(Rebuild::Damaged),
+        Err(_) => Err(Rebuild::Memory),
+    }
 }
 
 impl Parts {

@@ -86,8 +86,8 @@ all_free s (w ∷ ws) (follows, rest) differ =
 
 -- and so has the first row, where refs differ after it
 free_to_put : (s : Office) (w : RowWrite) → CanPut s w → Differs (write_office w s) → RefIsFree s w
-free_to_put s (row_write.Aggregation number it) (low, high, sound) differ = none_other (λ it. it.ref_text) s.tree.aggregations number it differ.of_aggregations low high
-free_to_put s (row_write.Record number head status) (low, high, sound) differ = none_other (λ it. it.ref_text) s.tree.records number head differ.of_records low high
+free_to_put s (row_write.Aggregation number it) (low, high, sound, keeps) differ = none_other (λ it. it.ref_text) s.tree.aggregations number it differ.of_aggregations low high
+free_to_put s (row_write.Record number head status) (low, high, sound, keeps) differ = none_other (λ it. it.ref_text) s.tree.records number head differ.of_records low high
 free_to_put s (row_write.Schedule code schedule) puts differ = tt
 free_to_put s (row_write.Class code class) puts differ = tt
 free_to_put s (row_write.Hold code hold) puts differ = tt

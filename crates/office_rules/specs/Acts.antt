@@ -8,6 +8,7 @@ use Rattle.office_rules.specs.Writes.{all_writes, all_office_writes, CanWrite}
 use Rattle.office_rules.specs.declared.act.Act.{Act}
 use Rattle.office_rules.specs.declared.act.Act.TheVariants as act
 use Rattle.office_rules.specs.declared.answer.Answer.{Answer}
+use Rattle.office_rules.specs.declared.answer.Answer.TheVariants as answer
 use Rattle.office_rules.specs.declared.change.Change.{Change}
 use Rattle.office_rules.specs.declared.change.Decision.{Decision}
 use Rattle.office_rules.specs.declared.change.Decision.TheVariants as decision
@@ -43,9 +44,19 @@ abbrev pub answers : State → List Act → List Answer
 answers s [] = []
 answers s (a ∷ rest) = (step s a).0 ∷ answers (step s a).1 rest
 
+-- an answer that tells of what was changed: no refusal, and not that a record was added before
+abbrev pub is_of_change : Answer → Bool
+is_of_change answer.Done = true
+is_of_change (answer.Number n) = true
+is_of_change (answer.Same r) = false
+is_of_change (answer.Step r outcome) = true
+is_of_change (answer.RunClosed run) = true
+is_of_change (answer.Refused refusal) = false
+
 -- a change that is right where each contents lead to such an answer and next state: its answer, at most six writes that can be done, and what they lead to
 pub record IsChangeTo (s : Office) (next : ByteMap → Answer × State) (change : Change) : Type 0 where
   pub answered : (contents : ByteMap) → (next contents).0 ≡ change.answer
+  pub changes : is_of_change change.answer ≡ true
   pub few : length change.writes.items ≤ 6
   pub fits : CanWrite s change.writes.items
   pub leads : (contents : ByteMap) → all_writes change.writes.items (with_contents s contents) ≡ (next contents).1

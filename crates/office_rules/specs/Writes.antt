@@ -2,6 +2,7 @@
 use Rattle.std.specs.Prelude.{◌≡◌, ◌<◌, ◌≤◌, ◌+◌, ℕ, List, [], ◌∷◌, length, Some, IsSome}
 use Rattle.std.specs.FinMap.{get, insert, remove}
 use Rattle.std.specs.String.{string_bytes}
+use Rattle.office_tree.specs.Indexes.{KeepsRef, aggregation_refs, record_refs}
 use Rattle.office_tree.specs.Lists.{numbered, put}
 use Rattle.office_tree.specs.Rows.{put_schedule, put_class, put_aggregation, put_record}
 use Rattle.office_tree.specs.Sound as tree
@@ -48,12 +49,14 @@ abbrev pub all_writes : List RowWrite → State → State
 all_writes [] s = s
 all_writes (w ∷ ws) s = all_writes ws (write w s)
 
--- a write that can be done first, which may take memory: the key of its row is there or is the next number, and tree and holds stay within what they promise
+-- a write that can be done first, which may take memory: the key of its row is there, under the same ref, or is the next number, and tree and holds stay within what they promise
 abbrev pub CanPut : Office → RowWrite → Type 0
 CanPut s (row_write.Schedule code schedule) = tree.IsSound (put_schedule s.tree code schedule)
 CanPut s (row_write.Class code class) = tree.IsSound (put_class s.tree code class)
-CanPut s (row_write.Aggregation number aggregation) = (0 < number) × (number ≤ length s.tree.aggregations + 1) × tree.IsSound (put_aggregation s.tree number aggregation)
-CanPut s (row_write.Record number head status) = (0 < number) × (number ≤ length s.tree.records + 1) × tree.IsSound (put_record s.tree number head status)
+CanPut s (row_write.Aggregation number aggregation) =
+    (0 < number) × (number ≤ length s.tree.aggregations + 1) × tree.IsSound (put_aggregation s.tree number aggregation) × KeepsRef (aggregation_refs s.tree.aggregations) number aggregation.ref_text
+CanPut s (row_write.Record number head status) =
+    (0 < number) × (number ≤ length s.tree.records + 1) × tree.IsSound (put_record s.tree number head status) × KeepsRef (record_refs s.tree.records) number head.ref_text
 CanPut s (row_write.Hold code hold) = FitsHoldLimits (put_hold s.holds code hold)
 CanPut s (row_write.Target hold target) = IsSome (get s.holds hold) × FitsHoldLimits (held_on s.holds hold target)
 CanPut s (row_write.TargetGone hold target) = Unit {0}

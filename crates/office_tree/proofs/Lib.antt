@@ -7,6 +7,7 @@ pub mod Differing
 pub mod DueNumbers
 pub mod EachFormed
 pub mod Forming
+pub mod FoundRefs
 pub mod Inserting
 pub mod Keeping
 pub mod LastAddition
@@ -14,12 +15,13 @@ pub mod LastAdditions
 pub mod Least
 pub mod Maps
 pub mod Named
-pub mod Placed
 pub mod Papers
+pub mod Placed
 pub mod Places
 pub mod Plan
 pub mod Putting
 pub mod Reading
+pub mod RefIndexes
 pub mod Refs
 pub mod ScheduleLemmas
 pub mod SpentAggregations

@@ -5,6 +5,7 @@ pub mod Effects
 pub mod Examined
 pub mod Forms
 pub mod Founding
+pub mod Indexes
 pub mod Lists
 pub mod Meanings
 pub mod Rows

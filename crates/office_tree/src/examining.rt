@@ -1,16 +1,21 @@
 //! What is examined of a tree before it is taken over with the rest of an office.
-ghost use Rattle.std.specs.Prelude.{◌≡◌, ◌↔◌, IsTrue, false, true, Ok};
+ghost use Rattle.std.specs.Prelude.{◌≡◌, ◌≤◌, ◌↔◌, IsTrue, false, length};
+ghost use Rattle.std.specs.FinMap.{from_entries};
 ghost use Rattle.office_tree.specs.Disposal.{is_disposal};
 ghost use Rattle.office_tree.specs.Examined.{AllHavePapers, AreContentsShort, IsTreeBy, has_papers, is_by, is_confirmed_by, is_disposal_confirmed, is_receipted_by, is_record_by, is_reviewed_by};
 ghost use Rattle.office_tree.specs.Forms.{IsFormedTree};
+ghost use Rattle.office_tree.specs.Indexes.{Indexes, aggregation_refs, record_refs};
 ghost use Rattle.office_tree.specs.Lists.{Differ};
 ghost use Rattle.office_tree.specs.Sound.{RefsDiffer};
+ghost use Rattle.office_tree.specs.Tree.{code_cmp};
 
 use crate::formed::{formed_aggregations, formed_classes, formed_records, formed_schedules};
-use crate::{Action, Aggregation, Confirmation, Memory, Receipt, Record, Review, Status, Tree};
+use crate::indexing::number_of;
+use crate::{
+    Action, AggNo, Aggregation, Confirmation, Receipt, Record, RecordNo, Review, Status, Text, Tree,
+};
 use office_days::Day;
-use std::alloc::Global;
-use std::collections::BTreeSet;
+use std::collections::BTreeMap;
 
 /// Whether the action is one that a disposal run does.
 fn is_disposal(action: Action) -> bool
@@ -95,32 +100,34 @@ fn is_record_by(last: Day, head: &Record) -> bool
         && is_receipted_by(last, &head.receipt)
 }
 
-/// Whether no two aggregations have one ref.
-fn do_aggregation_refs_differ(aggregations: &[Aggregation], alloc: Global) -> Result<bool, Memory>
-    ensures yes { result ≡ Ok true → Differ (λ it. it.ref_text) aggregations.now }
-    ensures no { result ≡ Ok false → Differ (λ it. it.ref_text) aggregations.now → ⊥ }
+/// Whether each aggregation's number is the one under its ref, so that no two have one ref.
+fn do_aggregation_refs_differ(index: &BTreeMap<Text, AggNo>, aggregations: &[Aggregation]) -> bool
+    requires indexed { Indexes (from_entries {R = code_cmp} index.now.entries) (aggregation_refs aggregations.now) }
+    requires few { length aggregations.now ≤ 50_000 }
+    ensures yes { IsTrue result → Differ (λ it. it.ref_text) aggregations.now }
+    ensures no { result ≡ false → Differ (λ it. it.ref_text) aggregations.now → ⊥ }
 {
-    let mut refs = BTreeSet::new(alloc);
-    for it in aggregations {
-        if !refs.insert(it.ref_text.text())? {
-            return Ok(false);
+    for (i, it) in aggregations.iter().enumerate() {
+        if number_of(index, &it.ref_text) != Some(i as AggNo + 1) {
+            return false;
         }
     }
-    Ok(true)
+    true
 }
 
-/// Whether no two records have one ref.
-fn do_record_refs_differ(records: &[Record], alloc: Global) -> Result<bool, Memory>
-    ensures yes { result ≡ Ok true → Differ (λ head. head.ref_text) records.now }
-    ensures no { result ≡ Ok false → Differ (λ head. head.ref_text) records.now → ⊥ }
+/// Whether each record's number is the one under its ref, so that no two have one ref.
+fn do_record_refs_differ(index: &BTreeMap<Text, RecordNo>, records: &[Record]) -> bool
+    requires indexed { Indexes (from_entries {R = code_cmp} index.now.entries) (record_refs records.now) }
+    requires few { length records.now ≤ 200_000 }
+    ensures yes { IsTrue result → Differ (λ head. head.ref_text) records.now }
+    ensures no { result ≡ false → Differ (λ head. head.ref_text) records.now → ⊥ }
 {
-    let mut refs = BTreeSet::new(alloc);
-    for head in records {
-        if !refs.insert(head.ref_text.text())? {
-            return Ok(false);
+    for (i, head) in records.iter().enumerate() {
+        if number_of(index, &head.ref_text) != Some(i as RecordNo + 1) {
+            return false;
         }
     }
-    Ok(true)
+    true
 }
 
 impl Tree {
@@ -157,14 +164,14 @@ impl Tree {
     }
 
     /// Whether no two aggregations and no two records have one ref.
-    pub fn do_refs_differ(&self, alloc: Global) -> Result<bool, Memory>
-        ensures yes { result ≡ Ok true → RefsDiffer self.now.aggregations self.now.records }
-        ensures no { result ≡ Ok false → RefsDiffer self.now.aggregations self.now.records → ⊥ }
+    pub fn do_refs_differ(&self) -> bool
+        ensures yes { IsTrue result → RefsDiffer self.now.aggregations self.now.records }
+        ensures no { result ≡ false → RefsDiffer self.now.aggregations self.now.records → ⊥ }
     {
-        if !do_aggregation_refs_differ(&self.aggregations, alloc)? {
-            return Ok(false);
+        if !do_aggregation_refs_differ(&self.by_aggregation_ref, &self.aggregations) {
+            return false;
         }
-        do_record_refs_differ(&self.records, alloc)
+        do_record_refs_differ(&self.by_record_ref, &self.records)
     }
 
     /// Tells in proofs that all that stands in the tree is of its form; a call changes nothing.

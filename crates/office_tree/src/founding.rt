@@ -1,4 +1,4 @@
-ghost use Rattle.std.specs.Prelude.{◌≡◌, ◌↔◌, ◌<◌, ◌≤◌, ℕ, IsTrue, IfSome, MatchOption, true, false, length, nat_le, Some};
+ghost use Rattle.std.specs.Prelude.{◌≡◌, ◌↔◌, ◌<◌, ◌≤◌, ℕ, IsTrue, IfOk, IfSome, MatchOption, true, false, length, nat_le, Some};
 ghost use Rattle.std.specs.BTreeMap as map;
 ghost use Rattle.std.specs.FinMap.{contains_key, from_entries, len};
 ghost use Rattle.std.specs.List.{All};
@@ -9,7 +9,9 @@ ghost use Rattle.office_tree.specs.Sound.{IsSound, NamesStand, RootsHaveClasses}
 ghost use Rattle.office_tree.specs.Tree.{chain, chain_of, code_cmp};
 ghost use Rattle.office_tree.specs.declared.aggregation.Aggregation.{Aggregation};
 
-use crate::{AggNo, Aggregation, Class, Code, Record, Schedule, Status, Tree};
+use crate::indexing::{index_of_aggregations, index_of_records};
+use crate::{AggNo, Aggregation, Class, Code, Memory, Record, Schedule, Status, Tree};
+use std::alloc::Global;
 use std::collections::BTreeMap;
 
 /// How many things have codes.
@@ -216,25 +218,30 @@ fn are_sound(
 }
 
 impl Tree {
-    /// The tree of these parts; `None` exactly where they hang not together.
+    /// The tree of these parts, with indexes of their refs; `None` exactly where they hang not together.
     pub fn of_parts(
+        alloc: Global,
         schedules: BTreeMap<Code, Schedule>,
         classes: BTreeMap<Code, Class>,
         aggregations: Vec<Aggregation>,
         records: Vec<Record>,
         statuses: Vec<Status>,
-    ) -> Option<Tree>
-        ensures { MatchOption result (IsSound (tree_of schedules.entries classes.entries aggregations.items records.items statuses.items) → ⊥) (λ tree. tree ≡ tree_of schedules.entries classes.entries aggregations.items records.items statuses.items) }
+    ) -> Result<Option<Tree>, Memory>
+        ensures { IfOk result (λ found. MatchOption found (IsSound (tree_of schedules.entries classes.entries aggregations.items records.items statuses.items) → ⊥) (λ tree. tree ≡ tree_of schedules.entries classes.entries aggregations.items records.items statuses.items)) }
     {
         if !are_sound(&schedules, &classes, &aggregations, &records, &statuses) {
-            return None;
+            return Ok(None);
         }
-        Some(Tree {
+        let by_aggregation_ref = index_of_aggregations(alloc, &aggregations)?;
+        let by_record_ref = index_of_records(alloc, &records)?;
+        Ok(Some(Tree {
             schedules,
             classes,
             aggregations,
             records,
             statuses,
-        })
+            by_aggregation_ref,
+            by_record_ref,
+        }))
     }
 }

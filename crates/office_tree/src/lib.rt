@@ -28,6 +28,7 @@ mod finding;
 mod formed;
 mod founding;
 mod head;
+mod indexing;
 pub mod laws;
 mod memory;
 mod placing;

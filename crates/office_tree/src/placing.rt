@@ -1,9 +1,11 @@
 ghost use Rattle.std.specs.Prelude.{◌≡◌, ◌+◌, ◌<◌, ◌≤◌, OnOk, OnErr, IsOk, IsTrue, length, vec_len, vec_capacity};
 ghost use Rattle.std.specs.FinMap.{contains_key};
+ghost use Rattle.office_tree.specs.Indexes.{KeepsRef, aggregation_refs, record_refs};
 ghost use Rattle.office_tree.specs.Lists.{put};
 ghost use Rattle.office_tree.specs.Rows.{put_aggregation, put_class, put_record, put_schedule};
 ghost use Rattle.office_tree.specs.Sound.{IsSound};
 
+use crate::indexing::index_row;
 use crate::{AggNo, Aggregation, Class, Code, Memory, Record, RecordNo, Schedule, Status, Tree};
 
 /// Puts a row in place of the one with that number, which needs no memory, or as the next. Rows are
@@ -36,24 +38,15 @@ fn make_room<T: Drop>(rows: &mut Vec<T>, number: u32) -> Result<(), Memory>
     Ok(())
 }
 
-/// Puts two rows of one number in, each in place of the one with that number, which needs no
-/// memory, or as the next: both or, where memory is refused, neither.
-fn put_both<T: Drop, U: Drop>(
-    firsts: &mut Vec<T>,
-    seconds: &mut Vec<U>,
-    number: u32,
-    first: T,
-    second: U,
-) -> Result<(), Memory>
+/// Puts a row in for which there is room.
+fn place_row<T: Drop>(rows: &mut Vec<T>, number: u32, row: T)
     requires low { 0 < number }
-    requires same { vec_len firsts.old ≡ vec_len seconds.old }
-    ensures ok { OnOk result ((firsts.new.items ≡ put firsts.old.items number first) × (seconds.new.items ≡ put seconds.old.items number second)) }
-    ensures err { OnErr result ((firsts.new.items ≡ firsts.old.items) × (seconds.new.items ≡ seconds.old.items)) }
-    ensures in_place { number ≤ vec_len firsts.old → IsOk result }
+    requires room { vec_len rows.old < number → vec_len rows.old < vec_capacity rows.old }
+    ensures { rows.new.items ≡ put rows.old.items number row }
 {
-    make_room(seconds, number)?;
-    put_row(firsts, number, first)?;
-    put_row(seconds, number, second)
+    if put_row(rows, number, row).is_err() {
+        unreachable!();
+    }
 }
 
 impl Tree {
@@ -81,20 +74,32 @@ impl Tree {
         Ok(())
     }
 
-    /// Puts an aggregation in place of the one with that number, which needs no memory, or as the
-    /// next.
+    /// Puts an aggregation in place of the one with that number, which has the same ref and needs no memory, or as
+    /// the next.
     pub fn put_aggregation(&mut self, aggregation: AggNo, it: Aggregation) -> Result<(), Memory>
         requires sound { IsSound (put_aggregation self.old aggregation it) }
         requires number { (0 < aggregation) × (aggregation ≤ length self.old.aggregations + 1) }
+        requires ref_text { KeepsRef (aggregation_refs self.old.aggregations) aggregation it.ref_text }
         ensures ok { OnOk result (self.new ≡ put_aggregation self.old aggregation it) }
         ensures err { OnErr result (self.new ≡ self.old) }
         ensures in_place { aggregation ≤ length self.old.aggregations → IsOk result }
     {
-        put_row(&mut self.aggregations, aggregation, it)
+        make_room(&mut self.aggregations, aggregation)?;
+        let alloc = *self.aggregations.allocator();
+        let count = self.aggregations.len();
+        index_row(
+            &mut self.by_aggregation_ref,
+            alloc,
+            count,
+            aggregation,
+            &it.ref_text,
+        )?;
+        place_row(&mut self.aggregations, aggregation, it);
+        Ok(())
     }
 
-    /// Puts a record's head with its status in place of the one with that number, which needs no
-    /// memory, or as the next.
+    /// Puts a record's head with its status in place of the one with that number, which has the same ref and needs
+    /// no memory, or as the next.
     pub fn put_record(
         &mut self,
         record_no: RecordNo,
@@ -103,16 +108,24 @@ impl Tree {
     ) -> Result<(), Memory>
         requires sound { IsSound (put_record self.old record_no head status) }
         requires number { (0 < record_no) × (record_no ≤ length self.old.records + 1) }
+        requires ref_text { KeepsRef (record_refs self.old.records) record_no head.ref_text }
         ensures ok { OnOk result (self.new ≡ put_record self.old record_no head status) }
         ensures err { OnErr result (self.new ≡ self.old) }
         ensures in_place { record_no ≤ length self.old.records → IsOk result }
     {
-        put_both(
-            &mut self.records,
-            &mut self.statuses,
+        make_room(&mut self.records, record_no)?;
+        make_room(&mut self.statuses, record_no)?;
+        let alloc = *self.records.allocator();
+        let count = self.records.len();
+        index_row(
+            &mut self.by_record_ref,
+            alloc,
+            count,
             record_no,
-            head,
-            status,
-        )
+            &head.ref_text,
+        )?;
+        place_row(&mut self.records, record_no, head);
+        place_row(&mut self.statuses, record_no, status);
+        Ok(())
     }
 }

@@ -1,14 +1,14 @@
 ghost use Rattle.std.specs.Prelude.{◌≡◌, ◌≤◌, length};
 ghost use Rattle.office_tree.specs.Tree.{empty_tree, has_aggregation, has_record};
 
-use crate::{AggNo, Aggregation, Class, Code, Record, RecordNo, Schedule, Status};
+use crate::{AggNo, Aggregation, Class, Code, Record, RecordNo, Schedule, Status, Text};
 use std::alloc::Global;
 use std::collections::BTreeMap;
 use std::marker::Model;
 
-/// Schedules and classes by code, aggregations and record heads by number. Contracts see a
-/// `TreeState`, which is sound: every named thing is there, a root has a class, and no open
-/// aggregation has a closed parent.
+/// Schedules and classes by code, aggregations and record heads by number, and the numbers under their refs.
+/// Contracts see a `TreeState`, which is sound: every named thing is there, a root has a class, and no open
+/// aggregation has a closed parent. Nothing in it is derived: the indexes of refs are not seen.
 #[derive(Drop)]
 pub struct Tree {
     pub(crate) schedules: BTreeMap<Code, Schedule>,
@@ -16,12 +16,14 @@ pub struct Tree {
     pub(crate) aggregations: Vec<Aggregation>,
     pub(crate) records: Vec<Record>,
     pub(crate) statuses: Vec<Status>,
+    pub(crate) by_aggregation_ref: BTreeMap<Text, AggNo>,
+    pub(crate) by_record_ref: BTreeMap<Text, RecordNo>,
 }
 
 impl Model for Tree {
     ghost use Rattle.std.specs.FinMap.{from_entries};
     ghost use Rattle.office_tree.specs.Tree.{TreeState};
-    ghost use Rattle.office_tree.specs.Sound.{IsSound};
+    ghost use Rattle.office_tree.specs.Indexes.{IsKept};
     ghost use Rattle.std.specs.Coded.{codes};
     ghost use Rattle.std.specs.FinMap as map;
 
@@ -37,13 +39,13 @@ impl Model for Tree {
       statuses = t.statuses.items;
     } };
 
-    ghost invariant = { λ t. IsSound (record {
+    ghost invariant = { λ t. IsKept (record {
       schedules = from_entries t.schedules.entries;
       classes = from_entries t.classes.entries;
       aggregations = t.aggregations.items;
       records = t.records.items;
       statuses = t.statuses.items;
-    }) };
+    }) (from_entries t.by_aggregation_ref.entries) (from_entries t.by_record_ref.entries) };
 }
 
 impl Tree {
@@ -57,6 +59,8 @@ impl Tree {
             aggregations: Vec::new(alloc),
             records: Vec::new(alloc),
             statuses: Vec::new(alloc),
+            by_aggregation_ref: BTreeMap::new(alloc),
+            by_record_ref: BTreeMap::new(alloc),
         }
     }
 

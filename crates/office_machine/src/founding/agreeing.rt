@@ -96,6 +96,6 @@ impl Parts {
         if !has_one_each {
             return Ok(false);
         }
-        self.tree.do_refs_differ(alloc)
+        Ok(self.tree.do_refs_differ())
     }
 }

@@ -6,7 +6,7 @@ use Rattle.office_rows.proofs.Maps.{keys_ascend}
 use Rattle.office_tree.specs.Sound.{IsSound}
 use Rattle.office_tree.specs.Tree.{code_cmp}
 use Rattle.office_machine.specs.TreeRows.{AreTreeRows}
-use Rattle.office_machine.proofs.FoundTree.{damaged_if_none, ok_if_some, tree_has_rows, tree_of_rows_is}
+use Rattle.office_machine.proofs.FoundTree.{tree_has_rows, tree_of_rows_is}
 use Rattle.office_machine.proofs.founding.tree_of_rows.Goals as goal
 
 pub returns-in_err-schedules-clause-damaged : goal.returns-in_err-schedules-clause-damaged
@@ -19,17 +19,15 @@ returns-in_err-classes-clause-damaged c =
     damaged_exit c.from_residual-in_err-classes.result c.in_err-classes.field-0.0 c.from_residual-in_err-classes.ensures.1 c.in_err-classes.ensures.damaged
     (λ fails tree sound rows. fails (subst (λ es. IsStrictlySortedBy code_cmp (keys_of es)) rows.of_classes (keys_ascend code_cmp tree.classes)))
 
-pub returns-clause-ok : goal.returns-clause-ok
-returns-clause-ok c =
-    ok_if_some c.of_parts.result c.ok_or.result c.ok_or.ensures.value (λ tree found.
-    let is = rw found at c.of_parts.ensures in
+pub returns-in-Ok-Some-clause-ok : goal.returns-in-Ok-Some-clause-ok
+returns-in-Ok-Some-clause-ok c =
+    let is = rw c.in-Ok-Some.field-0-is at c.in-Ok-Some.ensures in
     subst (AreTreeRows c.args.schedules.items c.args.classes.items c.args.aggregations.items c.args.records.items) (sym is)
     (tree_has_rows c.in_ok-schedules.schedules.entries c.in_ok-classes.classes.entries c.in_ok-aggregations.aggregations.items c.in_ok-heads.heads.items c.in_ok-heads.statuses.items
-    c.in_ok-schedules.ensures.ordered c.in_ok-classes.ensures.ordered _ _ _ _ c.in_ok-schedules.ensures.ok c.in_ok-classes.ensures.ok c.in_ok-aggregations.ensures.ok c.in_ok-heads.ensures.ok))
+    c.in_ok-schedules.ensures.ordered c.in_ok-classes.ensures.ordered _ _ _ _ c.in_ok-schedules.ensures.ok c.in_ok-classes.ensures.ok c.in_ok-aggregations.ensures.ok c.in_ok-heads.ensures.ok)
 
-pub returns-clause-damaged : goal.returns-clause-damaged
-returns-clause-damaged c =
-    damaged_if_none c.of_parts.result c.ok_or.result c.ok_or.ensures.value (λ none tree sound rows.
-    let unsound = rw none at c.of_parts.ensures in
+pub returns-in-Ok-None-clause-damaged : goal.returns-in-Ok-None-clause-damaged
+returns-in-Ok-None-clause-damaged c _ tree sound rows =
+    let unsound = rw c.in-Ok-None.field-0-is at c.in-Ok-None.ensures in
     unsound (subst IsSound (tree_of_rows_is c.in_ok-schedules.schedules.entries c.in_ok-classes.classes.entries c.in_ok-aggregations.aggregations.items c.in_ok-heads.heads.items c.in_ok-heads.statuses.items
-    c.in_ok-schedules.ensures.ordered c.in_ok-classes.ensures.ordered _ _ _ _ c.in_ok-schedules.ensures.ok c.in_ok-classes.ensures.ok c.in_ok-aggregations.ensures.ok c.in_ok-heads.ensures.ok tree c.in_ok-heads.ensures.long sound rows) sound))
+    c.in_ok-schedules.ensures.ordered c.in_ok-classes.ensures.ordered _ _ _ _ c.in_ok-schedules.ensures.ok c.in_ok-classes.ensures.ok c.in_ok-aggregations.ensures.ok c.in_ok-heads.ensures.ok tree c.in_ok-heads.ensures.long sound rows) sound)

@@ -1,4 +1,4 @@
-use Rattle.std.proofs.Common.{◌≡◌, ◌∙◌, ◌-◌, None, List, length, set, ap, sym, subst, arith}
+use Rattle.std.proofs.Common.{◌≡◌, ◌∙◌, ◌-◌, None, List, length, set, ap, refl, sym, subst, arith}
 use Rattle.office_tree.specs.Conditions.{first_of, conditions_of_close_aggregation}
 use Rattle.office_tree.specs.Effects.{closed_aggregation}
 use Rattle.office_tree.specs.Lists.{edited}
@@ -8,6 +8,7 @@ use Rattle.office_tree.specs.contracts.tree.Tree.{the_view}
 use Rattle.office_tree.specs.declared.aggregation.Aggregation.{Aggregation}
 use Rattle.office_tree.proofs.Keeping.{IsSound-close_aggregation, as_closed, closes_within}
 use Rattle.office_tree.proofs.Places.{edited_read}
+use Rattle.office_tree.proofs.RefIndexes.{kept_aggregation, kept_as}
 use Rattle.office_tree.proofs.tree.Tree.apply_close_aggregation.Goals as goal
 
 -- what is written is the aggregation as it was read, closed
@@ -22,7 +23,8 @@ pub invariant_of-self : goal.invariant_of-self
 invariant_of-self c =
     let tree = the_view c.self.inside in
     let accepted = subst (λ (t : TreeState). first_of (conditions_of_close_aggregation t c.args.aggregation) ≡ None) (sym c.self.view_is) c.requires in
-    subst (λ (aggregations : List Aggregation). IsSound (record tree { aggregations = aggregations })) (written c) (IsSound-close_aggregation tree c.args.aggregation c.args.day c.self.invariant accepted)
+    kept_as _ _ _ _ (ap (λ (aggregations : List Aggregation). record tree { aggregations = aggregations }) (written c))
+    (kept_aggregation tree _ _ c.args.aggregation _ c.self.invariant (IsSound-close_aggregation tree c.args.aggregation c.args.day c.self.invariant.sound accepted) (λ it. refl))
 
 pub returns-clause-ok : goal.returns-clause-ok
 returns-clause-ok c =

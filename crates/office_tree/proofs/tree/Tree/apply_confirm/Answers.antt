@@ -1,11 +1,11 @@
-use Rattle.std.proofs.Common.{◌≡◌, ◌∙◌, ◌-◌, None, set, sym, ap, subst}
+use Rattle.std.proofs.Common.{◌≡◌, ◌∙◌, ◌-◌, None, set, refl, sym, ap, subst}
 use Rattle.std.specs.Option.{option_map}
 use Rattle.office_tree.specs.Conditions.{first_of, conditions_of_confirm}
 use Rattle.office_tree.specs.Effects.{confirmed}
-use Rattle.office_tree.specs.Sound.{IsSound}
 use Rattle.office_tree.specs.Tree.{TreeState, due_of}
 use Rattle.office_tree.specs.contracts.tree.Tree.{the_view}
 use Rattle.office_tree.proofs.Amending.{IsSound-confirm, head_written, confirms_record}
+use Rattle.office_tree.proofs.RefIndexes.{kept_as, kept_head}
 use Rattle.office_tree.proofs.tree.Tree.apply_confirm.Goals as goal
 
 -- what is written is the head as it was read, changed
@@ -19,7 +19,7 @@ written c =
 pub invariant_of-self : goal.invariant_of-self
 invariant_of-self c =
     let accepted = subst (λ (t : TreeState). first_of (conditions_of_confirm t c.args.day c.args.record_no c.args.action) ≡ None) (sym c.self.view_is) c.requires in
-    subst (λ (t : TreeState). IsSound t) (written c) (IsSound-confirm (the_view c.self.inside) c.args.day c.args.record_no c.args.action c.args.by c.self.invariant accepted)
+    kept_as _ _ _ _ (written c) (kept_head _ _ _ _ _ c.self.invariant (IsSound-confirm (the_view c.self.inside) c.args.day c.args.record_no c.args.action c.args.by c.self.invariant.sound accepted) (λ head. refl))
 
 pub returns-clause-ok : goal.returns-clause-ok
 returns-clause-ok c = sym (written c) ∙ ap (λ t. confirmed t c.args.day c.args.record_no c.args.action c.args.by) c.self.view_is

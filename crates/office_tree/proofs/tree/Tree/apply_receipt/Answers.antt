@@ -1,11 +1,11 @@
 use Rattle.std.proofs.Common.{◌≡◌, ◌∙◌, ◌-◌, None, set, sym, ap, subst}
 use Rattle.office_tree.specs.Conditions.{first_of, conditions_of_receipt}
 use Rattle.office_tree.specs.Effects.{receipted}
-use Rattle.office_tree.specs.Sound.{IsSound}
 use Rattle.office_tree.specs.Tree.{TreeState}
 use Rattle.office_tree.specs.contracts.tree.Tree.{the_view}
 use Rattle.office_tree.specs.declared.status.Status.TheVariants.{Received}
 use Rattle.office_tree.proofs.Amending.{IsSound-receipt, receipt_written, receipts_record}
+use Rattle.office_tree.proofs.RefIndexes.{kept_as, kept_receipted}
 use Rattle.office_tree.proofs.tree.Tree.apply_receipt.Goals as goal
 
 -- what is written is the head as it was read, with the receipt, and the status
@@ -18,7 +18,7 @@ written c =
 pub invariant_of-self : goal.invariant_of-self
 invariant_of-self c =
     let accepted = subst (λ (t : TreeState). first_of (conditions_of_receipt t c.args.record_no c.args.digest) ≡ None) (sym c.self.view_is) c.requires in
-    subst (λ (t : TreeState). IsSound t) (written c) (IsSound-receipt (the_view c.self.inside) c.args.day c.args.record_no c.args.digest c.args.by c.self.invariant accepted)
+    kept_as _ _ _ _ (written c) (kept_receipted _ _ _ _ _ _ c.self.invariant (IsSound-receipt (the_view c.self.inside) c.args.day c.args.record_no c.args.digest c.args.by c.self.invariant.sound accepted))
 
 pub returns-clause-ok : goal.returns-clause-ok
 returns-clause-ok c = sym (written c) ∙ ap (λ t. receipted t c.args.day c.args.record_no c.args.by) c.self.view_is

@@ -7,6 +7,7 @@ use Rattle.office_tree.specs.contracts.tree.Tree.{the_view}
 use Rattle.office_tree.specs.declared.classified.Classified.{Classified}
 use Rattle.office_tree.proofs.Accepting.{not_false}
 use Rattle.office_tree.proofs.Amending.{IsSound-reclassify, aggregation_written, head_written, reclassifies}
+use Rattle.office_tree.proofs.RefIndexes.{kept_as, kept_reclassified}
 use Rattle.office_tree.proofs.tree.Tree.apply_reclassify.Goals as goal
 
 -- what is written is the aggregation as it was read, with the class
@@ -31,10 +32,10 @@ sound : (tree now : TreeState) (what : Classified) (class : Option (List ℕ)) �
 sound tree now what class same is accepted = IsSound-reclassify tree what class is (subst (λ (t : TreeState). first_of (conditions_of_reclassify t what class) ≡ None) (sym same) accepted)
 
 pub invariant_of-self : goal.invariant_of-self
-invariant_of-self c = subst (λ (t : TreeState). IsSound t) (aggregation_put c) (sound (the_view c.self.inside) c.args.self.now c.args.what c.args.class c.self.view_is c.self.invariant c.requires)
+invariant_of-self c = kept_as _ _ _ _ (aggregation_put c) (kept_reclassified _ _ _ _ _ c.self.invariant (sound (the_view c.self.inside) c.args.self.now c.args.what c.args.class c.self.view_is c.self.invariant.sound c.requires))
 
 pub invariant_of-self-in-Record : goal.invariant_of-self-in-Record
-invariant_of-self-in-Record c = subst (λ (t : TreeState). IsSound t) (head_put c) (sound (the_view c.self.inside) c.args.self.now c.args.what c.args.class c.self.view_is c.self.invariant c.requires)
+invariant_of-self-in-Record c = kept_as _ _ _ _ (head_put c) (kept_reclassified _ _ _ _ _ c.self.invariant (sound (the_view c.self.inside) c.args.self.now c.args.what c.args.class c.self.view_is c.self.invariant.sound c.requires))
 
 pub returns-in-Aggregation-clause-ok : goal.returns-in-Aggregation-clause-ok
 returns-in-Aggregation-clause-ok c = sym (aggregation_put c) ∙ ap (λ t. reclassified t c.args.what c.args.class) c.self.view_is

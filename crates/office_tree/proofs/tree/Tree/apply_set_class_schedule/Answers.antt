@@ -1,15 +1,15 @@
-use Rattle.std.proofs.Common.{◌≡◌, ◌∙◌, None, true, sym, ap, subst}
+use Rattle.std.proofs.Common.{◌≡◌, ◌∙◌, None, refl, true, sym, ap, subst}
 use Rattle.std.specs.FinMap.{FinMap, contains_key, from_entries}
 use Rattle.std.specs.Option.{is_some}
 use Rattle.office_tree.specs.Conditions.{first_of, conditions_of_set_class_schedule}
 use Rattle.office_tree.specs.Effects.{with_class_schedule}
-use Rattle.office_tree.specs.Sound.{IsSound}
 use Rattle.office_tree.specs.Tree.{TreeState, code_cmp}
 use Rattle.office_tree.specs.contracts.tree.Tree.{the_view}
 use Rattle.office_tree.specs.declared.class.Class.{Class}
 use Rattle.office_tree.proofs.Amending.{IsSound-set_class_schedule, as_scheduled, schedules_class}
 use Rattle.office_tree.proofs.Inserting.{amended_written}
 use Rattle.office_tree.proofs.Plan.{contains_is}
+use Rattle.office_tree.proofs.RefIndexes.{kept_as, same_refs}
 use Rattle.office_tree.proofs.tree.Tree.apply_set_class_schedule.Goals as goal
 
 pub unreachable-requires : goal.unreachable-requires
@@ -32,7 +32,7 @@ written c =
 pub invariant_of-self : goal.invariant_of-self
 invariant_of-self c =
     let accepted = subst (λ (t : TreeState). first_of (conditions_of_set_class_schedule t c.args.class.now c.args.schedule) ≡ None) (sym c.self.view_is) c.requires in
-    subst (λ (t : TreeState). IsSound t) (written c) (IsSound-set_class_schedule (the_view c.self.inside) c.args.class.now c.args.schedule c.self.invariant accepted)
+    kept_as _ _ _ _ (written c) (same_refs (the_view c.self.inside) (with_class_schedule (the_view c.self.inside) c.args.class.now c.args.schedule) _ _ c.self.invariant (IsSound-set_class_schedule (the_view c.self.inside) c.args.class.now c.args.schedule c.self.invariant.sound accepted) refl refl)
 
 pub returns-clause-ok : goal.returns-clause-ok
 returns-clause-ok c = sym (written c) ∙ ap (λ t. with_class_schedule t c.args.class.now c.args.schedule) c.self.view_is

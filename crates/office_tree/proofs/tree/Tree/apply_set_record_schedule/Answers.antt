@@ -1,10 +1,10 @@
-use Rattle.std.proofs.Common.{◌≡◌, ◌∙◌, ◌-◌, None, set, sym, ap, subst}
+use Rattle.std.proofs.Common.{◌≡◌, ◌∙◌, ◌-◌, None, set, refl, sym, ap, subst}
 use Rattle.office_tree.specs.Conditions.{first_of, conditions_of_set_record_schedule}
 use Rattle.office_tree.specs.Effects.{with_record_schedule}
-use Rattle.office_tree.specs.Sound.{IsSound}
 use Rattle.office_tree.specs.Tree.{TreeState}
 use Rattle.office_tree.specs.contracts.tree.Tree.{the_view}
 use Rattle.office_tree.proofs.Amending.{IsSound-set_record_schedule, head_written, schedules_record}
+use Rattle.office_tree.proofs.RefIndexes.{kept_as, kept_head}
 use Rattle.office_tree.proofs.tree.Tree.apply_set_record_schedule.Goals as goal
 
 -- what is written is the head as it was read, changed
@@ -16,7 +16,7 @@ written c =
 pub invariant_of-self : goal.invariant_of-self
 invariant_of-self c =
     let accepted = subst (λ (t : TreeState). first_of (conditions_of_set_record_schedule t c.args.record_no c.args.schedule) ≡ None) (sym c.self.view_is) c.requires in
-    subst (λ (t : TreeState). IsSound t) (written c) (IsSound-set_record_schedule (the_view c.self.inside) c.args.record_no c.args.schedule c.self.invariant accepted)
+    kept_as _ _ _ _ (written c) (kept_head _ _ _ _ _ c.self.invariant (IsSound-set_record_schedule (the_view c.self.inside) c.args.record_no c.args.schedule c.self.invariant.sound accepted) (λ head. refl))
 
 pub returns-clause-ok : goal.returns-clause-ok
 returns-clause-ok c = sym (written c) ∙ ap (λ t. with_record_schedule t c.args.record_no c.args.schedule) c.self.view_is

@@ -19,7 +19,7 @@ pub unreachable-requires : goal.unreachable-requires
 unreachable-requires c =
     let tree = the_view c.self.inside in
     let of = ap (λ t. class_of t c.args.record_no) c.self.view_is ∙ c.class_of.ensures in
-    let there = class_there tree.schedules tree.classes tree.aggregations tree.records c.args.record_no c.class_of.result.now c.self.invariant.names of in
+    let there = class_there tree.schedules tree.classes tree.aggregations tree.records c.args.record_no c.class_of.result.now c.self.invariant.sound.names of in
     let found = get_is c.self.inside.classes.entries c.class_of.result.now ∙ sym c.in-None.ensures.value in
     let bad : IsSome {T = Class} None = subst (λ (o : Option Class). IsSome o) found there in
     cc

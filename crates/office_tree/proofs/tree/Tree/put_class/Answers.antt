@@ -1,4 +1,4 @@
-use Rattle.std.proofs.Common.{◌∙◌, sym, ap, subst}
+use Rattle.std.proofs.Common.{◌∙◌, refl, sym, ap, subst}
 use Rattle.std.specs.FinMap.{contains_key}
 use Rattle.office_tree.specs.Rows.{put_class}
 use Rattle.office_tree.specs.Sound.{IsSound}
@@ -6,6 +6,7 @@ use Rattle.office_tree.specs.Tree.{TreeState}
 use Rattle.office_tree.specs.contracts.tree.Tree.{the_view}
 use Rattle.office_tree.proofs.Inserting.{inserted}
 use Rattle.office_tree.proofs.Plan.{not_contained}
+use Rattle.office_tree.proofs.RefIndexes.{same_refs}
 use Rattle.office_tree.proofs.tree.Tree.put_class.Goals as goal
 
 pub returns-clause-ok : goal.returns-clause-ok
@@ -15,7 +16,7 @@ returns-clause-ok c =
     ap (λ classes. record tree { classes = classes }) new ∙ ap (λ t. put_class t c.args.code c.args.class) c.self.view_is
 
 pub invariant_of-self-2 : goal.invariant_of-self-2
-invariant_of-self-2 c = subst (λ (t : TreeState). IsSound t) (sym (returns-clause-ok c)) c.requires
+invariant_of-self-2 c = same_refs (the_view c.self.inside) _ _ _ c.self.invariant (subst (λ (t : TreeState). IsSound t) (sym (returns-clause-ok c)) c.requires) refl refl
 
 pub returns-in_err-insert-clause-in_place : goal.returns-in_err-insert-clause-in_place
 returns-in_err-insert-clause-in_place c = λ there. absurd (not_contained c.self.inside.classes.entries c.args.code c.in_err-insert.ensures.absent (ap (λ t. contains_key t.classes c.args.code) c.self.view_is ∙ there))

@@ -13,7 +13,7 @@ pub unreachable-requires : goal.unreachable-requires
 unreachable-requires c =
     let tree = the_view c.self.inside in
     let of = ap (λ t. plan_of t c.args.record_no) c.self.view_is ∙ c.plan_of.ensures in
-    let there = plan_there tree.schedules tree.classes tree.aggregations tree.records c.args.record_no c.plan_of.result.now c.self.invariant.names of in
+    let there = plan_there tree.schedules tree.classes tree.aggregations tree.records c.args.record_no c.plan_of.result.now c.self.invariant.sound.names of in
     let found = get_is c.self.inside.schedules.entries c.plan_of.result.now ∙ sym c.in-None.ensures.value in
     let bad : IsSome {T = Schedule} None = subst (λ (o : Option Schedule). IsSome o) found there in
     cc
