@@ -57,7 +57,7 @@ impl<S: Alter> Desk<S> {
         ensures version { IfErr result (λ e. HasCleanDisk (state S.Store e.1) → IsAtRest (state S.Store conn) → e.0 ≡ Fault.Version → IsOtherVersion (state S.Store conn).now.trees) }
         ensures damaged { IfErr result (λ e. HasCleanDisk (state S.Store e.1) → IsAtRest (state S.Store conn) → e.0 ≡ Fault.Damaged → StandForNone (state S.Store conn).now.trees) }
         ensures this_version { IfErr result (λ e. HasCleanDisk (state S.Store e.1) → IsAtRest (state S.Store conn) → e.0 ≡ Fault.Damaged → IsOtherVersion (state S.Store conn).now.trees → ⊥) }
-        ensures other_tables { IfErr result (λ e. is_some (table_named (state S.Store conn).now.schema (codes "office")) ≡ false → e.0 ≡ Fault.Damaged → has_other_table (state S.Store conn).now.schema ≡ true) }
+        ensures other_tables { IfErr result (λ e. is_some (table_named (state S.Store conn).now.schema (codes "office")) ≡ false → e.0 ≡ Fault.Damaged → (has_other_table (state S.Store conn).now.schema ≡ true) × (e.1 ≡ conn)) }
         ensures leaves { IfErr result (λ e. HasCleanDisk (state S.Store e.1) → IsAtRest (state S.Store conn) → LeavesLess (state S.Store conn) (state S.Store e.1)) }
         ensures leaves_first { IfErr result (λ e. HasCleanDisk (state S.Store e.1) → IsBlank (state S.Store conn) → LeavesFirst (state S.Store conn) (state S.Store e.1)) }
         ensures faults { IfErr result (λ e. e.0 ≢ Fault.Reopen) }
@@ -75,7 +75,7 @@ impl<S: Alter> Desk<S> {
         requires { conn.in_transaction ≡ false }
         ensures made { IfOk result (λ desk. HasCleanDisk (state S.Store desk.held) → IsBlank (state S.Store conn) → StandsAt S.Store empty_state desk) }
         ensures open { IfOk result (λ desk. desk.is_given_up ≡ false) }
-        ensures other_tables { IfErr result (λ e. e.0 ≡ Fault.Damaged → has_other_table (state S.Store conn).now.schema ≡ true) }
+        ensures other_tables { IfErr result (λ e. e.0 ≡ Fault.Damaged → (has_other_table (state S.Store conn).now.schema ≡ true) × (e.1 ≡ conn)) }
         ensures leaves_first { IfErr result (λ e. HasCleanDisk (state S.Store e.1) → IsBlank (state S.Store conn) → LeavesFirst (state S.Store conn) (state S.Store e.1)) }
         ensures faults { IfErr result (λ e. e.0 ≢ Fault.Reopen) }
         ensures ended { IfErr result (λ e. e.1.in_transaction ≡ false) }

@@ -134,9 +134,10 @@ impl<S: Alter> Store<S> {
         content_in(&mut self.conn, record_no)
     }
 
-    /// The connection, with its tables as they are.
+    /// The connection, with its tables as they are and no transaction under way.
     pub fn release(self) -> Connection<S>
-        ensures { result ≡ self }
+        ensures same { result ≡ self }
+        ensures ended { result.in_transaction ≡ false }
     {
         self.conn
     }

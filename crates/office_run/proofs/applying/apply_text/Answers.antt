@@ -13,7 +13,7 @@ returns-in-Ok g c =
     let new = state g.S.Store c.apply_at-ending.new.desk.held in
     let opened = c.in-Ok.ensures in
     let ended = c.apply_at-ending.ensures in
-    closed_applies g.S.Store c.args.text.now old c.apply_at-ending.new.desk.held _ _ _ c.apply_at-ending.result c.close.ensures
+    closed_applies g.S.Store c.args.text.now old c.apply_at-ending.new.desk.held _ _ _ c.apply_at-ending.result c.close.ensures.same
     (applies_of (λ (P : State → Type 0). (t : State) → HasCleanDisk new → StandsAt g.S.Store t c.in-Ok.desk → P t) (IsOfOpened old new)
     (λ P told.
     record {

@@ -14,7 +14,7 @@ returns-in-Ok g c =
       made = λ clean blank. (it.made clean blank).rows;
       found = λ clean rest. let f = it.found clean rest in (f.0, f.1, f.2.rows, f.3);
     } in
-    closed_certifies g.S.Store c.args.run old c.in-Ok.desk.held _ _ _ c.certificate_at-ending.result c.close.ensures opened
+    closed_certifies g.S.Store c.args.run old c.in-Ok.desk.held _ _ _ c.certificate_at-ending.result c.close.ensures.same opened
     (certifies_of (λ (P : State → Type 0). (s : State) → s.office ≡ c.in-Ok.desk.office → P s) (IsOfOpened old new)
     (λ P told.
     record {

@@ -16,7 +16,7 @@ returns-in-Ok g c =
       found = λ clean rest. let f = it.found clean rest in (f.0, f.1, f.2.rows, f.3);
     } in
     closed_exports g.S.Store c.args.register old c.in-Ok.desk.held _ _ _ c.export_at-ending.result
-    (c.close.ensures ∙ ap (λ (d : DeskState _). d.held) c.export_at-ending.ensures.kept) opened
+    (c.close.ensures.same ∙ ap (λ (d : DeskState _). d.held) c.export_at-ending.ensures.kept) opened
     (exports_of (λ (P : State → Type 0). (s : State) → s.office ≡ c.in-Ok.desk.office → P s) (IsOfOpened old new)
     (λ P told.
     record {

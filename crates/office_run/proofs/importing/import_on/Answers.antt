@@ -13,7 +13,7 @@ returns-in-Ok g c =
     let new = state g.S.Store c.import_at-ending.new.desk.held in
     let opened = c.in-Ok.ensures in
     let ended = c.import_at-ending.ensures in
-    inr (closed_imports g.S.Store c.args.day _ old c.import_at-ending.new.desk.held _ _ _ c.import_at-ending.result c.close.ensures
+    inr (closed_imports g.S.Store c.args.day _ old c.import_at-ending.new.desk.held _ _ _ c.import_at-ending.result c.close.ensures.same
     (imports_of (λ (P : State → Type 0). (t : State) → HasCleanDisk new → StandsAt g.S.Store t c.in-Ok.desk → P t) (IsOfOpened old new)
     (λ P told.
     record {

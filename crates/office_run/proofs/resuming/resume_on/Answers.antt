@@ -13,7 +13,7 @@ returns-in-Ok g c =
     let new = state g.S.Store c.resume_at-ending.new.desk.held in
     let opened = c.in-Ok.ensures in
     let ended = c.resume_at-ending.ensures in
-    closed_resumes g.S.Store old c.resume_at-ending.new.desk.held _ _ _ c.resume_at-ending.result c.close.ensures
+    closed_resumes g.S.Store old c.resume_at-ending.new.desk.held _ _ _ c.resume_at-ending.result c.close.ensures.same
     (resumes_of (λ (P : State → Type 0). (t : State) → HasCleanDisk new → StandsAt g.S.Store t c.in-Ok.desk → P t) (IsOfOpened old new)
     (λ P told.
     record {

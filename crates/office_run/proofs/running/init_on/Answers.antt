@@ -11,4 +11,4 @@ returns-in-Ok-clause-ends g c =
       found = λ clean rest. let f = c.in-Ok.ensures.found clean rest in (f.0, f.1, f.2.rows, f.3);
     } in
     opened-ends _ _ _ _ _ c.tell_version.ensures.endings c.tell_version.ensures.written
-    (subst (λ (h : _). IsOpened (state g.S.Store c.args.conn) (state g.S.Store h)) (sym c.close.ensures) opened)
+    (subst (λ (h : _). IsOpened (state g.S.Store c.args.conn) (state g.S.Store h)) (sym c.close.ensures.same) opened)

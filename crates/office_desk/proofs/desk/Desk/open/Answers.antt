@@ -52,3 +52,6 @@ returns-in-Ok-false-clause-leaves g c =
 
 pub returns-in-Ok-false-clause-leaves_first : goal.returns-in-Ok-false-clause-leaves_first
 returns-in-Ok-false-clause-leaves_first g c = rw c.found.ensures.same at c.begin.ensures.leaves_first
+
+pub returns-in-Ok-false-clause-other_tables : goal.returns-in-Ok-false-clause-other_tables
+returns-in-Ok-false-clause-other_tables g c = IfErr-weaker c.begin.result _ _ (λ e told none. told) (rw c.found.ensures.same at c.begin.ensures.other_tables)

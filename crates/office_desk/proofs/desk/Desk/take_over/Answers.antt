@@ -51,9 +51,9 @@ returns-in-Ok-clause-found g c clean rest =
 
 pub returns-in-Err-clause-damaged : goal.returns-in-Err-clause-damaged
 returns-in-Err-clause-damaged g c clean rest damaged s stands =
-    let read = c.in_ok-store.ensures.read (rw c.release.ensures at clean) rest in
+    let read = c.in_ok-store.ensures.read (rw c.release.ensures.same at clean) rest in
     c.in-Err.ensures.damaged (c.of_rebuild.ensures.only damaged) s (c.law_of_read_rows.ensures.stand s c.in_ok-store.tables _ stands.sound stands.rows read) stands.sound
 
 pub returns-in-Err-clause-this_version : goal.returns-in-Err-clause-this_version
 returns-in-Err-clause-this_version g c clean rest damaged other =
-    this_version (state g.S.Store c.args.conn).now.trees c.in_ok-store.tables.day (c.in_ok-store.ensures.read (rw c.release.ensures at clean) rest).office other
+    this_version (state g.S.Store c.args.conn).now.trees c.in_ok-store.tables.day (c.in_ok-store.ensures.read (rw c.release.ensures.same at clean) rest).office other
