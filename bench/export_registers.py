@@ -2,7 +2,7 @@
 """Both registers of an office's file, by Python's csv and sqlite3, of the records that `make` gives it.
 
 export_registers.py make FOLDER COUNT  the acts after which an office of COUNT records, as save_records.py writes it, has all of them
-                                       confirmed and every tenth held (held.json), and those that open a run (run.json)
+                                       confirmed and each tenth held, as far as one hold can have targets (held.json), and those that open a run (run.json)
 export_registers.py due FILE DAY       what is due on DAY; each schedule begins with the day of addition and takes years
 export_registers.py entries FILE       the entries of all runs
 """
@@ -18,7 +18,7 @@ DAY = "2025-01-02"
 
 def make(folder, count):
     acts = [{"act": "place-hold", "day": DAY, "code": "H", "reason": "a suit", "by": "counsel"}]
-    acts += [{"act": "hold-on", "day": DAY, "hold": "H", "target": f"record:{number}"} for number in range(10, count + 1, 10)]
+    acts += [{"act": "hold-on", "day": DAY, "hold": "H", "target": f"record:{number}"} for number in range(10, count + 1, 10)][:1000]
     acts += [{"act": "confirm", "day": DAY, "record": number, "action": "destroy", "by": "registrar"} for number in range(1, count + 1)]
     for name, them in (("held", acts), ("run", [{"act": "open-run", "day": DAY, "by": "registrar"}])):
         with open(f"{folder}/{name}.json", "w", encoding="utf-8") as out:

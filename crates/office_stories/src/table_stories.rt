@@ -41,6 +41,20 @@ fault 33 after DELETE FROM contents WHERE record = 2
 fault 33 after DELETE FROM classes WHERE code = 'LEG'
 fault 33 after UPDATE office SET day = 0
 
+# A table that another program keeps in the file stays as it is, and does the office no harm
+## at the desk of the base office
+## in the tables
+CREATE TABLE notes(id INTEGER PRIMARY KEY, note TEXT); INSERT INTO notes VALUES (7, 'kept')
+## at the desk
+record 1 has "ref":"r1"
+2024-01-03 place-hold H-9 = done
+2024-01-03 lift-hold H-9 = done
+## by the program
+init = 0;version 1\n;
+## tried on the tables
+opened after DELETE FROM notes; INSERT INTO office SELECT id, 1, 20000 FROM notes WHERE note = 'kept'
+fault 33 after INSERT INTO office SELECT id, 1, 20000 FROM notes WHERE note = 'kept'
+
 # An open run stays open and goes on, and an ended record has no content
 ## at the desk of the base office
 2025-01-02 confirm 1 destroy = done
