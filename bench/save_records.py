@@ -7,6 +7,7 @@ save_records.py scan FILE COUNT   nothing is written: the tables are fetched in 
 save_records.py acts FILE COUNT   the acts that lead to these rows, as one JSON array in place of a database
 save_records.py csv FILE COUNT    the records as the rows of an import, in place of a database
 save_records.py import FILE CSV   the rows of such a text, read by Python's csv, each record in a transaction of its own
+save_records.py import-twice FILE CSV  the same, the office's day in a second transaction, so that each record costs two syncs as the office's does
 """
 import base64
 import csv
@@ -76,7 +77,7 @@ def table(path, count):
         rows.writerows([f"r{number}", f"r{number}", "2024-01-02", 1, "", "", "YWJj"] for number in range(count))
 
 
-def bring(conn, path):
+def bring(conn, path, parts):
     epoch = datetime.date(1970, 1, 1)
     with open(path, encoding="utf-8", newline="") as text:
         for number, row in enumerate(csv.DictReader(text), 1):
@@ -87,6 +88,9 @@ def bring(conn, path):
             conn.execute("BEGIN")
             conn.execute("INSERT OR REPLACE INTO records VALUES (?, ?, ?, ?, ?, ?, ?, ?, ?, ?, ?, ?, ?, ?, ?, ?, ?, ?, ?)", told + (None,) * 8)
             conn.execute("INSERT OR REPLACE INTO contents VALUES (?, ?)", (number, content))
+            if parts == 2:
+                conn.execute("COMMIT")
+                conn.execute("BEGIN")
             conn.execute("INSERT OR REPLACE INTO office VALUES (1, 1, ?)", (DAY,))
             conn.execute("COMMIT")
     return number
@@ -100,7 +104,7 @@ def scan(conn, count):
 
 
 how, path = sys.argv[1], sys.argv[2]
-count = 0 if how == "import" else int(sys.argv[3])
+count = 0 if how in ("import", "import-twice") else int(sys.argv[3])
 if how in ("acts", "csv"):
     (acts if how == "acts" else table)(path, count)
     sys.exit(0)
@@ -111,8 +115,8 @@ if how == "scan":
 conn.execute("PRAGMA journal_mode = WAL")
 conn.execute("PRAGMA synchronous = FULL")
 begin(conn)
-if how == "import":
-    count = bring(conn, sys.argv[3])
+if how in ("import", "import-twice"):
+    count = bring(conn, sys.argv[3], 2 if how == "import-twice" else 1)
     conn.close()
     print(count, "records")
     sys.exit(0)
