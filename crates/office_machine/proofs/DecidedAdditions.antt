@@ -18,14 +18,16 @@ use Rattle.office_rules.specs.Conditions.{dated, refusals_of_add_record, same_re
 use Rattle.office_rules.specs.Effects.{new_head, with_new_record, with_tree}
 use Rattle.office_rules.specs.State.{with_contents, Office, ByteMap}
 use Rattle.office_rules.specs.Steps.{by_same_record, step_add_record}
-use Rattle.office_rules.specs.Writes.{CanWrite, all_writes}
+use Rattle.office_rules.specs.Writes.{CanWrite, all_writes, write_office}
 use Rattle.office_rules.specs.declared.answer.Answer.TheVariants.{Number, Refused}
 use Rattle.office_rules.specs.declared.change.Change.{Change}
 use Rattle.office_rules.specs.declared.new_record.NewRecord.{NewRecord}
 use Rattle.office_rules.specs.declared.rows.RowWrite.{RowWrite}
 use Rattle.office_rules.specs.declared.rows.RowWrite.TheVariants as row_write
 use Rattle.office_rules.proofs.Accepted.{dated_accepted}
+use Rattle.office_machine.specs.DayWrites.{day_writes}
 use Rattle.office_machine.proofs.Decisions.{refused_step, accepted_change}
+use Rattle.office_machine.proofs.DayWrites.{day_led, days_follow, few_days}
 
 -- the table's answer depends on the tree, the class and the schedule alone
 pub same_addition : (t u : TreeState) (name : List ℕ) (home : ℕ) (class own_class schedule own_schedule : Option (List ℕ)) → t ≡ u → class ≡ own_class → schedule ≡ own_schedule
@@ -40,8 +42,8 @@ addition_refused s day new refusal none table contents =
     ∙ refused_step (refusals_of_add_record s day new) refusal (with_contents s contents) (Number (suc (length s.tree.records))) (with_new_record (with_contents s contents) day new) table
 
 -- the row of a record, its content and the day
-abbrev pub addition_writes : ℕ → Record → Vec ℕ Global → ℤ → List RowWrite
-addition_writes r head bytes day = row_write.Record r head Here ∷ row_write.Content r bytes ∷ row_write.Day day ∷ []
+abbrev pub addition_writes : Office → ℕ → Record → Vec ℕ Global → ℤ → List RowWrite
+addition_writes s r head bytes day = row_write.Record r head Here ∷ row_write.Content r bytes ∷ day_writes s day
 
 -- the tree with the next row put in is the tree with the record added
 next_put : (t : TreeState) (r : ℕ) (head new : Record) → r ≡ length t.records + 1 → length t.statuses ≡ length t.records → head ≡ new → put_record t r head Here ≡ added_record t new
@@ -53,7 +55,7 @@ next_put t r head new next standing is =
 
 pub record_added : (s : Office) (t : TreeState) (day : ℤ) (new : NewRecord) (r : ℕ) (head : Record) (bytes : Vec ℕ Global) (change : Change)
     → t ≡ s.tree → same_record s new ≡ None → first_of (dated s day (conditions_of_add_record t new.ref_text new.aggregation new.class new.schedule)) ≡ None → tree.IsSound t
-    → r ≡ length t.records + 1 → head ≡ new_head day new → bytes.items ≡ new.content.items → change.answer ≡ Number r → change.writes.items ≡ addition_writes r head bytes day
+    → r ≡ length t.records + 1 → head ≡ new_head day new → bytes.items ≡ new.content.items → change.answer ≡ Number r → change.writes.items ≡ addition_writes s r head bytes day
     → IsChangeTo s (λ contents. step_add_record (with_contents s contents) day new) change
 record_added s t day new r head bytes change same none table sound next is copied done written =
     let accepted = subst (λ (u : TreeState). first_of (dated s day (conditions_of_add_record u new.ref_text new.aggregation new.class new.schedule)) ≡ None) same table in
@@ -64,9 +66,10 @@ record_added s t day new r head bytes change same none table sound next is copie
     let puts = next_put s.tree r head (new_head day new) number sound_now.statuses is in
     let low : 0 < r = omega (arith, number) in
     let last : r ≤ length s.tree.records + 1 = omega (arith, number) in
-    let fits : CanWrite s (addition_writes r head bytes day) = ((low, last, subst tree.IsSound (sym puts) kept, keeps_next (λ (it : Record). it.ref_text) s.tree.records r head.ref_text number), (tt, (tt, tt))) in
-    let few : length change.writes.items ≤ 6 = rw written (omega arith) in
+    let fits : CanWrite s (addition_writes s r head bytes day) = ((low, last, subst tree.IsSound (sym puts) kept, keeps_next (λ (it : Record). it.ref_text) s.tree.records r head.ref_text number), (tt, days_follow s (write_office (row_write.Record r head Here) s) day)) in
+    let days = few_days s day in
+    let few : length change.writes.items ≤ 6 = rw written (omega (arith, days)) in
     subst (λ (o : Option ℕ). IsChangeTo s (λ contents. by_same_record o (with_contents s contents) day new) change) (sym none)
     (accepted_change s (refusals_of_add_record s day new) (Number (suc (length s.tree.records))) (λ contents. with_new_record (with_contents s contents) day new) change accepted
     (ap Number number_suc ∙ sym done) refl few (subst (CanWrite s) (sym written) fits)
-    (λ contents. ap (λ ws. all_writes ws (with_contents s contents)) written ∙ (λ j. with_contents (with_tree s day (puts j)) (insert contents (sym number_suc j) (copied j)))))
+    (λ contents. ap (λ ws. all_writes ws (with_contents s contents)) written ∙ day_led s day (all_writes (row_write.Record r head Here ∷ row_write.Content r bytes ∷ []) (with_contents s contents)) refl ∙ (λ j. with_contents (with_tree s day (puts j)) (insert contents (sym number_suc j) (copied j)))))

@@ -1,5 +1,5 @@
 -- What is right of the changes by which an own class of an aggregation or of a record is set or taken away.
-use Rattle.std.proofs.Common.{◌≡◌, ℕ, List, [], ◌∷◌, Option, Some, None, ℤ, refl, sym, ap, subst, ◌∙◌, arith}
+use Rattle.std.proofs.Common.{◌≡◌, ℕ, List, ◌∷◌, Option, Some, None, ℤ, refl, sym, ap, subst, ◌∙◌, arith}
 use Rattle.office_tree.specs.Conditions.{first_of}
 use Rattle.office_tree.specs.Effects.{reclassified}
 use Rattle.office_tree.specs.Lists.{numbered, edited, put}
@@ -21,6 +21,7 @@ use Rattle.office_rules.specs.declared.answer.Answer.TheVariants.{Done}
 use Rattle.office_rules.specs.declared.change.Change.{Change}
 use Rattle.office_rules.specs.declared.rows.RowWrite.TheVariants as row_write
 use Rattle.office_rules.proofs.Accepted.{accepted_by_tree}
+use Rattle.office_machine.specs.DayWrites.{day_writes}
 use Rattle.office_machine.proofs.DecidedTree.{put_change}
 
 -- the tree stays sound
@@ -29,7 +30,7 @@ kept s day what class accepted sound = IsSound-reclassify s.tree what class soun
 
 pub aggregation_reclassified : (s : Office) (day : ℤ) (a : ℕ) (class : Option (List ℕ)) (old it : Aggregation) (change : Change)
     → tree.IsSound s.tree → first_of (refusals_of_reclassify s day (classified.Aggregation a) class) ≡ None → numbered s.tree.aggregations a ≡ Some old → it ≡ record old { class = class } → Done ≡ change.answer
-    → change.writes.items ≡ row_write.Aggregation a it ∷ row_write.Day day ∷ [] → IsChangeTo s (λ contents. step_reclassify (with_contents s contents) day (classified.Aggregation a) class) change
+    → change.writes.items ≡ row_write.Aggregation a it ∷ day_writes s day → IsChangeTo s (λ contents. step_reclassify (with_contents s contents) day (classified.Aggregation a) class) change
 aggregation_reclassified s day a class old it change sound accepted there is same writes =
     let what = classified.Aggregation a in
     let after : List Aggregation = edited s.tree.aggregations a (λ x. record x { class = class }) in
@@ -45,7 +46,7 @@ aggregation_reclassified s day a class old it change sound accepted there is sam
 
 pub record_reclassified : (s : Office) (day : ℤ) (r : ℕ) (class : Option (List ℕ)) (old head : Record) (status : Status) (change : Change)
     → tree.IsSound s.tree → first_of (refusals_of_reclassify s day (classified.Record r) class) ≡ None → numbered s.tree.records r ≡ Some old → numbered s.tree.statuses r ≡ Some status → head ≡ record old { class = class } → Done ≡ change.answer
-    → change.writes.items ≡ row_write.Record r head status ∷ row_write.Day day ∷ [] → IsChangeTo s (λ contents. step_reclassify (with_contents s contents) day (classified.Record r) class) change
+    → change.writes.items ≡ row_write.Record r head status ∷ day_writes s day → IsChangeTo s (λ contents. step_reclassify (with_contents s contents) day (classified.Record r) class) change
 record_reclassified s day r class old head status change sound accepted there standing is same writes =
     let what = classified.Record r in
     let heads = ap (put s.tree.records r) is ∙ put-edited s.tree.records r (λ x. record x { class = class }) old there in

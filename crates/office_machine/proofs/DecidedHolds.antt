@@ -1,5 +1,5 @@
 -- What is right of the changes by which acts put a row into the holds.
-use Rattle.std.proofs.Common.{◌≡◌, ℕ, List, [], ◌∷◌, length, Option, Some, None, refl, sym, ap, subst, ◌∙◌, Bool, true, false, ℤ, arith}
+use Rattle.std.proofs.Common.{◌≡◌, ℕ, List, ◌∷◌, length, Option, Some, None, refl, sym, ap, subst, ◌∙◌, Bool, true, false, ℤ, arith}
 use Rattle.std.specs.Prelude.{IsSome}
 use Rattle.std.specs.FinMap.{get, insert}
 use Rattle.std.specs.Option.{is_none}
@@ -18,31 +18,33 @@ use Rattle.office_holds.proofs.Keeping.{FitsHoldLimits-held_on, FitsHoldLimits-l
 use Rattle.office_rules.specs.Acts.{IsChangeTo}
 use Rattle.office_rules.specs.Conditions.{conditions_of_covering, dated, lacks_target, refusals_of_hold_off, refusals_of_hold_on, refusals_of_lift_hold, refusals_of_place_hold}
 use Rattle.office_rules.specs.Effects.{with_holds}
-use Rattle.office_rules.specs.State.{Office, ByteMap, with_contents, with_office}
+use Rattle.office_rules.specs.State.{Office, State, ByteMap, with_contents, with_office}
 use Rattle.office_rules.specs.Steps.{step_hold_off, step_hold_on, step_lift_hold, step_place_hold, stepped}
-use Rattle.office_rules.specs.Writes.{CanPut, CanWrite, all_writes, write}
+use Rattle.office_rules.specs.Writes.{CanPut, CanWrite, all_writes, write, write_office}
 use Rattle.office_rules.specs.declared.answer.Answer.TheVariants.{Done}
 use Rattle.office_rules.specs.declared.change.Change.{Change}
 use Rattle.office_rules.specs.declared.rows.RowWrite.{RowWrite}
 use Rattle.office_rules.specs.declared.rows.RowWrite.TheVariants as row_write
 use Rattle.office_rules.proofs.Accepted.{accepted_of, dated_accepted}
+use Rattle.office_machine.specs.DayWrites.{day_writes}
 use Rattle.office_machine.proofs.Decisions.{accepted_change}
+use Rattle.office_machine.proofs.DayWrites.{day_led, days_follow, few_days}
 
 -- a row that is put into the holds, and the day
-put_change : (s : Office) (day : ℤ) (conditions : List (Refusal × Bool)) (after : HoldMap) (row : RowWrite) (change : Change) → first_of (dated s day conditions) ≡ None → Done ≡ change.answer → change.writes.items ≡ row ∷ row_write.Day day ∷ [] → CanPut s row
+put_change : (s : Office) (day : ℤ) (conditions : List (Refusal × Bool)) (after : HoldMap) (row : RowWrite) (change : Change) → first_of (dated s day conditions) ≡ None → Done ≡ change.answer → change.writes.items ≡ row ∷ day_writes s day → CanPut s row
     → ((contents : ByteMap) → write row (with_contents s contents) ≡ with_contents (record s { holds = after }) contents)
     → IsChangeTo s (λ contents. stepped (dated s day conditions) (with_contents s contents) Done (with_office (with_contents s contents) (with_holds s day after))) change
 put_change s day conditions after row change accepted same writes can wrote =
     accepted_change s (dated s day conditions) Done (λ contents. with_office (with_contents s contents) (with_holds s day after)) change accepted same refl
-    (let n = ap length writes in omega (arith, n)) (subst (λ (ws : List RowWrite). CanWrite s ws) (sym writes) (can, (tt, tt)))
-    (λ contents. ap (λ ws. all_writes ws (with_contents s contents)) writes ∙ ap (write (row_write.Day day)) (wrote contents))
+    (let n = ap length writes in let days = few_days s day in omega (arith, n, days)) (subst (λ (ws : List RowWrite). CanWrite s ws) (sym writes) (can, days_follow s (write_office row s) day))
+    (λ contents. ap (λ ws. all_writes ws (with_contents s contents)) writes ∙ day_led s day (write row (with_contents s contents)) (ap (λ (t : State). t.office.day) (wrote contents)) ∙ ap (write (row_write.Day day)) (wrote contents))
 
 -- the columns of a new hold
 abbrev pub placed_row : ℤ → List ℕ → List ℕ → HoldRow
 placed_row day reason by = record { reason = reason; placed = day; placed_by = by; lifted = None }
 
 pub placing_change : (s : Office) (day : ℤ) (code reason by : List ℕ) (change : Change) → FitsHoldLimits s.holds → first_of (refusals_of_place_hold s day code) ≡ None → Done ≡ change.answer
-    → change.writes.items ≡ row_write.Hold code (placed_row day reason by) ∷ row_write.Day day ∷ [] → IsChangeTo s (λ contents. step_place_hold (with_contents s contents) day code reason by) change
+    → change.writes.items ≡ row_write.Hold code (placed_row day reason by) ∷ day_writes s day → IsChangeTo s (λ contents. step_place_hold (with_contents s contents) day code reason by) change
 placing_change s day code reason by change fits accepted same writes =
     let none = (dated_accepted s day (conditions_of_place_hold s.holds code) accepted).1 in
     let puts = placed_by_put s.holds day code reason by none in
@@ -68,7 +70,7 @@ lifted_by_put holds day code hold there =
     ∙ sym (ap (amended_by holds code (λ it. record it { lifted = Some day })) there)
 
 pub lifting_change : (s : Office) (day : ℤ) (code : List ℕ) (hold : HoldState) (change : Change) → FitsHoldLimits s.holds → first_of (refusals_of_lift_hold s day code) ≡ None → get s.holds code ≡ Some hold → Done ≡ change.answer
-    → change.writes.items ≡ row_write.Hold code (lifted_row day hold) ∷ row_write.Day day ∷ [] → IsChangeTo s (λ contents. step_lift_hold (with_contents s contents) day code) change
+    → change.writes.items ≡ row_write.Hold code (lifted_row day hold) ∷ day_writes s day → IsChangeTo s (λ contents. step_lift_hold (with_contents s contents) day code) change
 lifting_change s day code hold change fits accepted there same writes =
     let puts = lifted_by_put s.holds day code hold there in
     put_change s day (conditions_of_lift_hold s.holds code) (lifted_hold s.holds day code) (row_write.Hold code (lifted_row day hold)) change accepted same writes
@@ -87,13 +89,13 @@ accepted_by_holds s code target accepted =
     (some_of (get s.holds code) lacks.0, accepted_of (conditions_of_hold_on s.holds code target) (no.0, (lacks.0, (no.1.1.0, (no.1.1.1.0, tt)))))
 
 pub covering_change : (s : Office) (day : ℤ) (code : List ℕ) (target : Target) (change : Change) → FitsHoldLimits s.holds → first_of (refusals_of_hold_on s day code target) ≡ None → Done ≡ change.answer
-    → change.writes.items ≡ row_write.Target code target ∷ row_write.Day day ∷ [] → IsChangeTo s (λ contents. step_hold_on (with_contents s contents) day code target) change
+    → change.writes.items ≡ row_write.Target code target ∷ day_writes s day → IsChangeTo s (λ contents. step_hold_on (with_contents s contents) day code target) change
 covering_change s day code target change fits accepted same writes =
     let by_holds = accepted_by_holds s code target (dated_accepted s day (conditions_of_covering s code target) accepted).1 in
     put_change s day (conditions_of_covering s code target) (held_on s.holds code target) (row_write.Target code target) change accepted same writes
     (by_holds.0, FitsHoldLimits-held_on s.holds fits code target by_holds.1) (λ contents. refl)
 
 pub uncovering_change : (s : Office) (day : ℤ) (code : List ℕ) (target : Target) (change : Change) → first_of (refusals_of_hold_off s day code target) ≡ None → Done ≡ change.answer
-    → change.writes.items ≡ row_write.TargetGone code target ∷ row_write.Day day ∷ [] → IsChangeTo s (λ contents. step_hold_off (with_contents s contents) day code target) change
+    → change.writes.items ≡ row_write.TargetGone code target ∷ day_writes s day → IsChangeTo s (λ contents. step_hold_off (with_contents s contents) day code target) change
 uncovering_change s day code target change accepted same writes =
     put_change s day (conditions_of_hold_off s.holds code target) (held_off s.holds code target) (row_write.TargetGone code target) change accepted same writes tt (λ contents. refl)

@@ -1,5 +1,5 @@
 -- Decisions that write the row of one record or one aggregation, and the office's day.
-use Rattle.std.proofs.Common.{◌≡◌, ◌≤◌, ◌+◌, ℕ, Bool, true, List, [], ◌∷◌, length, Option, Some, None, ℤ, refl, sym, ap, ◌∙◌, subst, arith}
+use Rattle.std.proofs.Common.{◌≡◌, ◌≤◌, ◌+◌, ℕ, Bool, true, List, ◌∷◌, length, Option, Some, None, ℤ, refl, sym, ap, ◌∙◌, subst, arith}
 use Rattle.std.specs.Prelude.{not}
 use Rattle.std.specs.Option.{option_map}
 use Rattle.office_days.specs.declared.refusal.Refusal.{Refusal}
@@ -24,13 +24,15 @@ use Rattle.office_rules.specs.Conditions.{dated, refusals_of_confirm, refusals_o
 use Rattle.office_rules.specs.Effects.{with_tree}
 use Rattle.office_rules.specs.State.{with_contents, Office, with_office}
 use Rattle.office_rules.specs.Steps.{stepped, step_confirm, step_receipt, step_review, step_set_record_schedule}
-use Rattle.office_rules.specs.Writes.{CanWrite, all_writes}
+use Rattle.office_rules.specs.Writes.{CanWrite, all_writes, write, write_office}
 use Rattle.office_rules.specs.declared.answer.Answer.TheVariants.{Done}
 use Rattle.office_rules.specs.declared.change.Change.{Change}
 use Rattle.office_rules.specs.declared.rows.RowWrite.{RowWrite}
 use Rattle.office_rules.specs.declared.rows.RowWrite.TheVariants as row_write
 use Rattle.office_rules.proofs.Accepted.{dated_accepted}
+use Rattle.office_machine.specs.DayWrites.{day_writes}
 use Rattle.office_machine.proofs.Decisions.{accepted_change}
+use Rattle.office_machine.proofs.DayWrites.{day_led, days_follow, few_days}
 
 -- ---- what an accepted act says of the tree
 
@@ -59,8 +61,8 @@ record_to_receipt t r digest accepted = not_false (has_record t r) (none_holds (
 -- ---- the row of a record
 
 -- a row of a record that is there, and the day
-abbrev pub head_writes : ℕ → Record → Status → ℤ → List RowWrite
-head_writes r head status day = row_write.Record r head status ∷ row_write.Day day ∷ []
+abbrev pub head_writes : Office → ℕ → Record → Status → ℤ → List RowWrite
+head_writes s r head status day = row_write.Record r head status ∷ day_writes s day
 
 -- the tree with the row put in is the tree with the head changed
 head_put : (t : TreeState) (r : ℕ) (edit : Record → Record) (old head : Record) (status : Status) → numbered t.records r ≡ Some old → numbered t.statuses r ≡ Some status → head ≡ edit old
@@ -71,20 +73,21 @@ head_put t r edit old head status there standing is =
 -- a row put in place of the one of a record that is there, which makes a sound tree of the tree
 row_changed : (s : Office) (day : ℤ) (r : ℕ) (next : TreeState) (old head : Record) (status : Status) (conditions : List (Refusal × Bool)) (change : Change)
     → first_of conditions ≡ None → numbered s.tree.records r ≡ Some old → head.ref_text ≡ old.ref_text → put_record s.tree r head status ≡ next → tree.IsSound next
-    → change.answer ≡ Done → change.writes.items ≡ head_writes r head status day
+    → change.answer ≡ Done → change.writes.items ≡ head_writes s r head status day
     → IsChangeTo s (λ contents. stepped conditions (with_contents s contents) Done (with_office (with_contents s contents) (with_tree s day next))) change
 row_changed s day r next old head status conditions change accepted there named puts sound done written =
     let within = numbered_within s.tree.records r old there in
     let last : r ≤ length s.tree.records + 1 = omega (arith, within.1) in
-    let fits : CanWrite s (head_writes r head status day) = ((within.0, last, subst tree.IsSound (sym puts) sound, keeps_there (λ (it : Record). it.ref_text) s.tree.records r old head there named), (tt, tt)) in
-    let few : length change.writes.items ≤ 6 = rw written (omega arith) in
+    let fits : CanWrite s (head_writes s r head status day) = ((within.0, last, subst tree.IsSound (sym puts) sound, keeps_there (λ (it : Record). it.ref_text) s.tree.records r old head there named), days_follow s (write_office (row_write.Record r head status) s) day) in
+    let days = few_days s day in
+    let few : length change.writes.items ≤ 6 = rw written (omega (arith, days)) in
     accepted_change s conditions Done (λ contents. with_office (with_contents s contents) (with_tree s day next)) change accepted (sym done) refl few
     (subst (CanWrite s) (sym written) fits)
-    (λ contents. ap (λ ws. all_writes ws (with_contents s contents)) written ∙ ap (λ t. with_contents (with_tree s day t) contents) puts)
+    (λ contents. ap (λ ws. all_writes ws (with_contents s contents)) written ∙ day_led s day (write (row_write.Record r head status) (with_contents s contents)) refl ∙ ap (λ t. with_contents (with_tree s day t) contents) puts)
 
 pub head_changed : (s : Office) (day : ℤ) (r : ℕ) (edit : Record → Record) (old head : Record) (status : Status) (conditions : List (Refusal × Bool)) (change : Change)
     → first_of conditions ≡ None → numbered s.tree.records r ≡ Some old → numbered s.tree.statuses r ≡ Some status → head ≡ edit old → (edit old).ref_text ≡ old.ref_text → tree.IsSound (with_head s.tree r edit)
-    → change.answer ≡ Done → change.writes.items ≡ head_writes r head status day
+    → change.answer ≡ Done → change.writes.items ≡ head_writes s r head status day
     → IsChangeTo s (λ contents. stepped conditions (with_contents s contents) Done (with_office (with_contents s contents) (with_tree s day (with_head s.tree r edit)))) change
 head_changed s day r edit old head status conditions change accepted there standing is named sound done written =
     row_changed s day r (with_head s.tree r edit) old head status conditions change accepted there (ap (λ (it : Record). it.ref_text) is ∙ named) (head_put s.tree r edit old head status there standing is) sound done written
@@ -97,7 +100,7 @@ pub record IsRead (t : TreeState) (r : ℕ) (old : Record) (status : Status) : T
 
 pub scheduled : (s : Office) (t : TreeState) (day : ℤ) (r : ℕ) (schedule : Option (List ℕ)) (old head : Record) (status : Status) (change : Change)
     → t ≡ s.tree → first_of (dated s day (conditions_of_set_record_schedule t r schedule)) ≡ None → IsRead t r old status → head ≡ record old { schedule = schedule }
-    → change.answer ≡ Done → change.writes.items ≡ head_writes r head status day
+    → change.answer ≡ Done → change.writes.items ≡ head_writes s r head status day
     → IsChangeTo s (λ contents. step_set_record_schedule (with_contents s contents) day r schedule) change
 scheduled s t day r schedule old head status change same table reads is done written =
     let accepted = subst (λ (u : TreeState). first_of (dated s day (conditions_of_set_record_schedule u r schedule)) ≡ None) same table in
@@ -112,7 +115,7 @@ confirming named day by due = option_map (λ it. record { action = named; due = 
 pub confirmed_on : (s : Office) (t : TreeState) (day : ℤ) (r : ℕ) (named : Action) (by : List ℕ) (old head : Record) (status : Status) (change : Change)
     → t ≡ s.tree → first_of (dated s day (conditions_of_confirm t day r named)) ≡ None → IsRead t r old status
     → head ≡ record old { confirmation = confirming named day by (due_of t r) }
-    → change.answer ≡ Done → change.writes.items ≡ head_writes r head status day
+    → change.answer ≡ Done → change.writes.items ≡ head_writes s r head status day
     → IsChangeTo s (λ contents. step_confirm (with_contents s contents) day r named by) change
 confirmed_on s t day r named by old head status change same table reads is done written =
     let accepted = subst (λ (u : TreeState). first_of (dated s day (conditions_of_confirm u day r named)) ≡ None) same table in
@@ -125,7 +128,7 @@ confirmed_on s t day r named by old head status change same table reads is done 
 pub reviewed_on : (s : Office) (t : TreeState) (day : ℤ) (r : ℕ) (schedule : Option (List ℕ)) (by : List ℕ) (old head : Record) (status : Status) (change : Change)
     → t ≡ s.tree → first_of (dated s day (conditions_of_review t day r schedule)) ≡ None → IsRead t r old status
     → head ≡ record old { review = Some (record { day = day; by = by }); schedule = or_else schedule old.schedule }
-    → change.answer ≡ Done → change.writes.items ≡ head_writes r head status day
+    → change.answer ≡ Done → change.writes.items ≡ head_writes s r head status day
     → IsChangeTo s (λ contents. step_review (with_contents s contents) day r schedule by) change
 reviewed_on s t day r schedule by old head status change same table reads is done written =
     let accepted = subst (λ (u : TreeState). first_of (dated s day (conditions_of_review u day r schedule)) ≡ None) same table in
@@ -146,7 +149,7 @@ receipt_put t day r by old head sound there is =
 pub received_on : (s : Office) (t : TreeState) (day : ℤ) (r : ℕ) (digest by : List ℕ) (old head : Record) (change : Change)
     → t ≡ s.tree → first_of (dated s day (conditions_of_receipt t r digest)) ≡ None → tree.IsSound t → numbered t.records r ≡ Some old
     → head ≡ record old { receipt = Some (record { day = day; by = by }) }
-    → change.answer ≡ Done → change.writes.items ≡ head_writes r head Received day
+    → change.answer ≡ Done → change.writes.items ≡ head_writes s r head Received day
     → IsChangeTo s (λ contents. step_receipt (with_contents s contents) day r digest by) change
 received_on s t day r digest by old head change same table sound there is done written =
     let accepted = subst (λ (u : TreeState). first_of (dated s day (conditions_of_receipt u r digest)) ≡ None) same table in

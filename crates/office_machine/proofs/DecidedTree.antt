@@ -22,16 +22,18 @@ use Rattle.office_tree.proofs.Putting.{put_next, put-edited}
 use Rattle.office_rules.specs.Acts.{IsChangeTo, is_of_change}
 use Rattle.office_rules.specs.Conditions.{dated, refusals_of_add_schedule, refusals_of_add_class, refusals_of_set_class_schedule, refusals_of_add_aggregation, refusals_of_close_aggregation}
 use Rattle.office_rules.specs.Effects.{with_tree}
-use Rattle.office_rules.specs.State.{with_contents, Office, ByteMap, with_office}
+use Rattle.office_rules.specs.State.{with_contents, Office, State, ByteMap, with_office}
 use Rattle.office_rules.specs.Steps.{stepped, step_add_schedule, step_add_class, step_set_class_schedule, step_add_aggregation, step_close_aggregation}
-use Rattle.office_rules.specs.Writes.{all_writes, write, CanWrite, CanPut}
+use Rattle.office_rules.specs.Writes.{all_writes, write, write_office, CanWrite, CanPut}
 use Rattle.office_rules.specs.declared.answer.Answer.{Answer}
 use Rattle.office_rules.specs.declared.answer.Answer.TheVariants.{Done, Number}
 use Rattle.office_rules.specs.declared.change.Change.{Change}
 use Rattle.office_rules.specs.declared.rows.RowWrite.{RowWrite}
 use Rattle.office_rules.specs.declared.rows.RowWrite.TheVariants as row_write
 use Rattle.office_rules.proofs.Accepted.{dated_accepted}
+use Rattle.office_machine.specs.DayWrites.{day_writes}
 use Rattle.office_machine.proofs.Decisions.{accepted_change}
+use Rattle.office_machine.proofs.DayWrites.{day_led, days_follow, few_days}
 
 abbrev pub new_aggregation : List ℕ → List ℕ → Option ℕ → Option (List ℕ) → Aggregation
 new_aggregation ref_text title parent class = record { ref_text = ref_text; title = title; parent = parent; class = class; closed = None }
@@ -42,21 +44,21 @@ none_of None h = refl
 none_of (Some refusal) h = absurd (h refusal refl)
 
 -- a row that is put into the tree, and the day
-pub put_change : (s : Office) (day : ℤ) (conditions : List (Refusal × Bool)) (answer : Answer) (after : TreeState) (row : RowWrite) (change : Change) → first_of (dated s day conditions) ≡ None → answer ≡ change.answer → is_of_change answer ≡ true → change.writes.items ≡ row ∷ row_write.Day day ∷ [] → CanPut s row
+pub put_change : (s : Office) (day : ℤ) (conditions : List (Refusal × Bool)) (answer : Answer) (after : TreeState) (row : RowWrite) (change : Change) → first_of (dated s day conditions) ≡ None → answer ≡ change.answer → is_of_change answer ≡ true → change.writes.items ≡ row ∷ day_writes s day → CanPut s row
     → ((contents : ByteMap) → write row (with_contents s contents) ≡ with_contents (record s { tree = after }) contents)
     → IsChangeTo s (λ contents. stepped (dated s day conditions) (with_contents s contents) answer (with_office (with_contents s contents) (with_tree s day after))) change
 put_change s day conditions answer after row change accepted same told writes can wrote =
     accepted_change s (dated s day conditions) answer (λ contents. with_office (with_contents s contents) (with_tree s day after)) change accepted same told
-    (let n = ap length writes in omega (arith, n)) (subst (λ (ws : List RowWrite). CanWrite s ws) (sym writes) (can, (tt, tt)))
-    (λ contents. ap (λ ws. all_writes ws (with_contents s contents)) writes ∙ ap (write (row_write.Day day)) (wrote contents))
+    (let n = ap length writes in let days = few_days s day in omega (arith, n, days)) (subst (λ (ws : List RowWrite). CanWrite s ws) (sym writes) (can, days_follow s (write_office row s) day))
+    (λ contents. ap (λ ws. all_writes ws (with_contents s contents)) writes ∙ day_led s day (write row (with_contents s contents)) (ap (λ (t : State). t.office.day) (wrote contents)) ∙ ap (write (row_write.Day day)) (wrote contents))
 
-pub schedule_change : (s : Office) (day : ℤ) (code : List ℕ) (schedule : Schedule) (change : Change) → tree.IsSound s.tree → first_of (refusals_of_add_schedule s day code) ≡ None → Done ≡ change.answer → change.writes.items ≡ row_write.Schedule code schedule ∷ row_write.Day day ∷ []
+pub schedule_change : (s : Office) (day : ℤ) (code : List ℕ) (schedule : Schedule) (change : Change) → tree.IsSound s.tree → first_of (refusals_of_add_schedule s day code) ≡ None → Done ≡ change.answer → change.writes.items ≡ row_write.Schedule code schedule ∷ day_writes s day
     → IsChangeTo s (λ contents. step_add_schedule (with_contents s contents) day code schedule) change
 schedule_change s day code schedule change sound accepted same writes =
     put_change s day (conditions_of_add_schedule s.tree code) Done (added_schedule s.tree code schedule) (row_write.Schedule code schedule) change accepted same refl writes
     (IsSound-add_schedule s.tree code schedule sound (dated_accepted s day (conditions_of_add_schedule s.tree code) accepted).1) (λ contents. refl)
 
-pub class_change : (s : Office) (day : ℤ) (code : List ℕ) (class : Class) (change : Change) → tree.IsSound s.tree → first_of (refusals_of_add_class s day code class) ≡ None → Done ≡ change.answer → change.writes.items ≡ row_write.Class code class ∷ row_write.Day day ∷ []
+pub class_change : (s : Office) (day : ℤ) (code : List ℕ) (class : Class) (change : Change) → tree.IsSound s.tree → first_of (refusals_of_add_class s day code class) ≡ None → Done ≡ change.answer → change.writes.items ≡ row_write.Class code class ∷ day_writes s day
     → IsChangeTo s (λ contents. step_add_class (with_contents s contents) day code class) change
 class_change s day code class change sound accepted same writes =
     put_change s day (conditions_of_add_class s.tree code class.schedule) Done (added_class s.tree code class) (row_write.Class code class) change accepted same refl writes
@@ -72,7 +74,7 @@ class_there t class schedule accepted none =
 
 -- a class that is there, with another schedule in place of its own
 pub class_schedule_change : (s : Office) (day : ℤ) (class schedule : List ℕ) (it : Class) (change : Change) → tree.IsSound s.tree → first_of (refusals_of_set_class_schedule s day class schedule) ≡ None → get s.tree.classes class ≡ Some it → Done ≡ change.answer
-    → change.writes.items ≡ row_write.Class class (as_scheduled schedule it) ∷ row_write.Day day ∷ [] → IsChangeTo s (λ contents. step_set_class_schedule (with_contents s contents) day class schedule) change
+    → change.writes.items ≡ row_write.Class class (as_scheduled schedule it) ∷ day_writes s day → IsChangeTo s (λ contents. step_set_class_schedule (with_contents s contents) day class schedule) change
 class_schedule_change s day class schedule it change sound accepted there same writes =
     let put : amended s.tree.classes class (as_scheduled schedule) ≡ insert s.tree.classes class (as_scheduled schedule it) = ap (amended_by s.tree.classes class (as_scheduled schedule)) there in
     let kept = IsSound-set_class_schedule s.tree class schedule sound (dated_accepted s day (conditions_of_set_class_schedule s.tree class schedule) accepted).1 in
@@ -81,7 +83,7 @@ class_schedule_change s day class schedule it change sound accepted there same w
     (λ contents. ap (λ (classes : FinMap code_cmp Class). with_contents (record s { tree = record s.tree { classes = classes } }) contents) (sym put))
 
 -- a row of an aggregation that is there or is the next one, where the put makes of the aggregations what the act does
-aggregation_put : (s : Office) (day : ℤ) (conditions : List (Refusal × Bool)) (answer : Answer) (a : ℕ) (it : Aggregation) (after : List Aggregation) (change : Change) → first_of (dated s day conditions) ≡ None → answer ≡ change.answer → is_of_change answer ≡ true → change.writes.items ≡ row_write.Aggregation a it ∷ row_write.Day day ∷ []
+aggregation_put : (s : Office) (day : ℤ) (conditions : List (Refusal × Bool)) (answer : Answer) (a : ℕ) (it : Aggregation) (after : List Aggregation) (change : Change) → first_of (dated s day conditions) ≡ None → answer ≡ change.answer → is_of_change answer ≡ true → change.writes.items ≡ row_write.Aggregation a it ∷ day_writes s day
     → 0 < a → a ≤ length s.tree.aggregations + 1 → put s.tree.aggregations a it ≡ after → tree.IsSound (record s.tree { aggregations = after }) → KeepsRef (aggregation_refs s.tree.aggregations) a it.ref_text
     → IsChangeTo s (λ contents. stepped (dated s day conditions) (with_contents s contents) answer (with_office (with_contents s contents) (with_tree s day (record s.tree { aggregations = after })))) change
 aggregation_put s day conditions answer a it after change accepted same told writes low high is sound keeps =
@@ -90,7 +92,7 @@ aggregation_put s day conditions answer a it after change accepted same told wri
     (λ contents. ap (λ (aggregations : List Aggregation). with_contents (record s { tree = record s.tree { aggregations = aggregations } }) contents) is)
 
 pub aggregation_change : (s : Office) (day : ℤ) (ref_text title : List ℕ) (parent : Option ℕ) (class : Option (List ℕ)) (change : Change) → tree.IsSound s.tree → first_of (refusals_of_add_aggregation s day ref_text parent class) ≡ None → Number (suc (length s.tree.aggregations)) ≡ change.answer
-    → change.writes.items ≡ row_write.Aggregation (length s.tree.aggregations + 1) (new_aggregation ref_text title parent class) ∷ row_write.Day day ∷ [] → IsChangeTo s (λ contents. step_add_aggregation (with_contents s contents) day ref_text title parent class) change
+    → change.writes.items ≡ row_write.Aggregation (length s.tree.aggregations + 1) (new_aggregation ref_text title parent class) ∷ day_writes s day → IsChangeTo s (λ contents. step_add_aggregation (with_contents s contents) day ref_text title parent class) change
 aggregation_change s day ref_text title parent class change sound accepted same writes =
     let it = new_aggregation ref_text title parent class in
     let conditions = conditions_of_add_aggregation s.tree ref_text parent class in
@@ -99,7 +101,7 @@ aggregation_change s day ref_text title parent class change sound accepted same 
     (keeps_next (λ (it : Aggregation). it.ref_text) s.tree.aggregations (length s.tree.aggregations + 1) ref_text refl)
 
 pub closing_change : (s : Office) (day : ℤ) (a : ℕ) (it : Aggregation) (change : Change) → tree.IsSound s.tree → first_of (refusals_of_close_aggregation s day a) ≡ None → numbered s.tree.aggregations a ≡ Some it → Done ≡ change.answer
-    → change.writes.items ≡ row_write.Aggregation a (as_closed day it) ∷ row_write.Day day ∷ [] → IsChangeTo s (λ contents. step_close_aggregation (with_contents s contents) day a) change
+    → change.writes.items ≡ row_write.Aggregation a (as_closed day it) ∷ day_writes s day → IsChangeTo s (λ contents. step_close_aggregation (with_contents s contents) day a) change
 closing_change s day a it change sound accepted there same writes =
     let conditions = conditions_of_close_aggregation s.tree a in
     let by_tree = (dated_accepted s day conditions accepted).1 in

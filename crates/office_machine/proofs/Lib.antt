@@ -1,3 +1,4 @@
+pub mod DayWrites
 pub mod DecidedAdditions
 pub mod DecidedClasses
 pub mod DecidedHolds

@@ -1,3 +1,4 @@
+pub mod DayWrites
 pub mod DuePairs
 pub mod EntryPlaces
 pub mod Lesser

@@ -5,7 +5,7 @@ ghost use Rattle.office_tree.specs.Conditions.{first_of};
 ghost use Rattle.office_rules.specs.Acts.{IsDecidedTo, IsGoing};
 ghost use Rattle.office_rules.specs.Conditions.{dated};
 ghost use Rattle.office_rules.specs.State.{with_contents};
-ghost use Rattle.office_rules.specs.declared.rows.RowWrite.TheVariants as row_write;
+ghost use Rattle.office_machine.specs.DayWrites.{day_writes};
 ghost use Rattle.office_rules.specs.Steps.{step_add_aggregation, step_add_class, step_add_schedule, step_close_aggregation, step_set_class_schedule};
 
 use crate::parts::Parts;
@@ -30,19 +30,6 @@ pub(crate) fn then(mut writes: Vec<RowWrite>, last: RowWrite) -> Result<Vec<RowW
     Ok(writes)
 }
 
-/// The decision to do that write and then to set the office's day.
-pub(crate) fn go(
-    alloc: Global,
-    answer: Answer,
-    write: RowWrite,
-    day: Day,
-) -> Result<Decision, Memory>
-    ensures { IfOk result (λ d. IsGoing answer (write ∷ row_write.Day day ∷ []) d) }
-{
-    let writes = two(alloc, write, RowWrite::Day { day })?;
-    Ok(Decision::Go(Change { answer, writes }))
-}
-
 /// An aggregation of these, open.
 fn open_aggregation(
     alloc: Global,
@@ -65,6 +52,34 @@ fn open_aggregation(
 }
 
 impl Parts {
+    /// The writes, and then that of the office's day, where it is another.
+    pub(crate) fn with_day(
+        &self,
+        mut writes: Vec<RowWrite>,
+        day: Day,
+    ) -> Result<Vec<RowWrite>, Memory>
+        ensures { IfOk result (λ all. all.items ≡ writes.items ++ day_writes self.now day) }
+    {
+        if day != self.day {
+            writes.push(RowWrite::Day { day })?;
+        }
+        Ok(writes)
+    }
+
+    /// The decision to do that write and then to set the office's day.
+    pub(crate) fn go(
+        &self,
+        alloc: Global,
+        answer: Answer,
+        write: RowWrite,
+        day: Day,
+    ) -> Result<Decision, Memory>
+        ensures { IfOk result (λ d. IsGoing answer (write ∷ day_writes self.now day) d) }
+    {
+        let writes = self.with_day(Vec::from_array(alloc, [write])?, day)?;
+        Ok(Decision::Go(Change { answer, writes }))
+    }
+
     /// The refusal of an act of that day: the day's, where it is before the office's, else the other.
     pub(crate) fn dated(&self, day: Day, refusal: Option<Refusal>) -> Option<Refusal>
         ensures { (conditions : List (Refusal × Bool)) → refusal ≡ first_of conditions → result ≡ first_of (dated self.now day conditions) }
@@ -90,7 +105,7 @@ impl Parts {
         }
         self.tree.sound();
         let code = code.copy(alloc)?;
-        go(
+        self.go(
             alloc,
             Answer::Done,
             RowWrite::Schedule { code, schedule },
@@ -116,7 +131,7 @@ impl Parts {
         let title = title.copy(alloc)?;
         let (code, schedule) = copy_codes(alloc, code, schedule)?;
         let class = Class { title, schedule };
-        go(alloc, Answer::Done, RowWrite::Class { code, class }, day)
+        self.go(alloc, Answer::Done, RowWrite::Class { code, class }, day)
     }
 
     /// What is decided of another schedule for a class.
@@ -142,7 +157,7 @@ impl Parts {
         };
         let (code, schedule) = copy_codes(alloc, class, schedule)?;
         let class = Class { title, schedule };
-        go(alloc, Answer::Done, RowWrite::Class { code, class }, day)
+        self.go(alloc, Answer::Done, RowWrite::Class { code, class }, day)
     }
 
     /// What is decided of a new aggregation.
@@ -170,7 +185,7 @@ impl Parts {
             number,
             aggregation,
         };
-        go(alloc, Answer::Number(number), write, day)
+        self.go(alloc, Answer::Number(number), write, day)
     }
 
     /// What is decided of an aggregation's closing.
@@ -192,6 +207,6 @@ impl Parts {
             number: aggregation,
             aggregation: closed,
         };
-        go(alloc, Answer::Done, write, day)
+        self.go(alloc, Answer::Done, write, day)
     }
 }

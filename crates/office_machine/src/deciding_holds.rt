@@ -5,7 +5,6 @@ ghost use Rattle.office_rules.specs.Conditions.{conditions_of_target, lacks_targ
 ghost use Rattle.office_rules.specs.State.{with_contents};
 ghost use Rattle.office_rules.specs.Steps.{step_hold_off, step_hold_on, step_lift_hold, step_place_hold};
 
-use crate::deciding::go;
 use crate::lesser::lesser;
 use crate::parts::Parts;
 use crate::{Answer, Decision, RowWrite};
@@ -78,7 +77,7 @@ impl Parts {
             placed_by,
             lifted: None,
         };
-        go(alloc, Answer::Done, RowWrite::Hold { code, hold }, day)
+        self.go(alloc, Answer::Done, RowWrite::Hold { code, hold }, day)
     }
 
     /// What is decided of a target for a hold.
@@ -99,7 +98,7 @@ impl Parts {
         self.holds.sound();
         let hold = code.copy(alloc)?;
         let target = target.copy(alloc)?;
-        go(alloc, Answer::Done, RowWrite::Target { hold, target }, day)
+        self.go(alloc, Answer::Done, RowWrite::Target { hold, target }, day)
     }
 
     /// What is decided of a target that is to be taken off a hold.
@@ -117,7 +116,7 @@ impl Parts {
         }
         let hold = code.copy(alloc)?;
         let target = target.copy(alloc)?;
-        go(
+        self.go(
             alloc,
             Answer::Done,
             RowWrite::TargetGone { hold, target },
@@ -144,6 +143,6 @@ impl Parts {
         let code = code.copy(alloc)?;
         let mut hold = before.row().copy(alloc)?;
         hold.lifted = Some(day);
-        go(alloc, Answer::Done, RowWrite::Hold { code, hold }, day)
+        self.go(alloc, Answer::Done, RowWrite::Hold { code, hold }, day)
     }
 }

@@ -9,7 +9,7 @@ ghost use Rattle.office_rules.specs.Sound.{IsSoundOffice};
 ghost use Rattle.office_rules.specs.State.{with_contents};
 ghost use Rattle.office_rules.specs.Steps.{step_add_record, step_confirm, step_receipt, step_review, step_set_record_schedule};
 
-use crate::deciding::{go, then, two};
+use crate::deciding::two;
 use crate::parts::Parts;
 use crate::{Answer, Change, Decision, NewRecord, RowWrite};
 use office_days::{Day, DueDay};
@@ -142,7 +142,7 @@ impl Parts {
             status: Status::Here,
         };
         let writes = two(alloc, write, RowWrite::Content { number, bytes })?;
-        let writes = then(writes, RowWrite::Day { day })?;
+        let writes = self.with_day(writes, day)?;
         Ok(Decision::Go(Change {
             answer: Answer::Number(number),
             writes,
@@ -175,7 +175,7 @@ impl Parts {
             head,
             status,
         };
-        go(alloc, Answer::Done, write, day)
+        self.go(alloc, Answer::Done, write, day)
     }
 
     /// What is decided of a confirmation of a record's disposal.
@@ -202,7 +202,7 @@ impl Parts {
             head,
             status,
         };
-        go(alloc, Answer::Done, write, day)
+        self.go(alloc, Answer::Done, write, day)
     }
 
     /// What is decided of a record's review.
@@ -232,7 +232,7 @@ impl Parts {
             head,
             status,
         };
-        go(alloc, Answer::Done, write, day)
+        self.go(alloc, Answer::Done, write, day)
     }
 
     /// What is decided of a receiver's receipt for a record that was sent, by which it is received.
@@ -258,6 +258,6 @@ impl Parts {
             head,
             status: Status::Received,
         };
-        go(alloc, Answer::Done, write, day)
+        self.go(alloc, Answer::Done, write, day)
     }
 }

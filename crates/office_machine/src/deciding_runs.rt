@@ -7,7 +7,7 @@ ghost use Rattle.office_rules.specs.Sound.{IsSoundOffice};
 ghost use Rattle.office_rules.specs.State.{with_contents};
 ghost use Rattle.office_rules.specs.Steps.{step_open_run, step_run_step};
 
-use crate::deciding::{go, two};
+use crate::deciding::two;
 use crate::parts::Parts;
 use crate::{Answer, Change, Decision, RowWrite, Run};
 use office_days::{Day, Refusal};
@@ -50,7 +50,7 @@ impl Parts {
             cursor: 0,
             is_closed: false,
         };
-        go(
+        self.go(
             alloc,
             Answer::Number(number),
             RowWrite::Run { number, run },

@@ -7,7 +7,6 @@ ghost use Rattle.office_rules.specs.Conditions.{refusals_of_reclassify};
 ghost use Rattle.office_rules.specs.State.{with_contents};
 ghost use Rattle.office_rules.specs.Steps.{step_reclassify};
 
-use crate::deciding::go;
 use crate::lesser::lesser;
 use crate::parts::Parts;
 use crate::{Answer, Decision, RowWrite};
@@ -36,7 +35,7 @@ impl Parts {
             number,
             aggregation,
         };
-        go(alloc, Answer::Done, write, day)
+        self.go(alloc, Answer::Done, write, day)
     }
 
     /// What is decided of a record's own class where nothing refuses it.
@@ -60,7 +59,7 @@ impl Parts {
             head,
             status,
         };
-        go(alloc, Answer::Done, write, day)
+        self.go(alloc, Answer::Done, write, day)
     }
 
     /// What is decided of an own class of an aggregation or a record, set or taken away.

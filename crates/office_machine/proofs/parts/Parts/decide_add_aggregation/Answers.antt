@@ -1,4 +1,4 @@
-use Rattle.std.proofs.Common.{◌≡◌, ◌∙◌, [], ◌∷◌, suc, ◌+◌, length, sym, ap, subst, arith}
+use Rattle.std.proofs.Common.{◌≡◌, ◌∙◌, ◌∷◌, suc, ◌+◌, length, sym, ap, subst, arith}
 use Rattle.std.specs.Option.{option_copied}
 use Rattle.office_tree.specs.Conditions.{first_of, conditions_of_add_aggregation}
 use Rattle.office_tree.specs.Sound.{IsSound}
@@ -9,6 +9,7 @@ use Rattle.office_rules.specs.State.{ByteMap, with_contents, with_office}
 use Rattle.office_rules.specs.Steps.{step_add_aggregation}
 use Rattle.office_rules.specs.declared.answer.Answer.TheVariants.{Number}
 use Rattle.office_rules.specs.declared.rows.RowWrite.TheVariants as row_write
+use Rattle.office_machine.specs.DayWrites.{day_writes}
 use Rattle.office_machine.proofs.DecidedTree.{none_of, aggregation_change}
 use Rattle.office_machine.proofs.Decisions.{going, refused_step}
 use Rattle.office_machine.proofs.parts.Parts.decide_add_aggregation.Goals.{After-dated}
@@ -36,4 +37,4 @@ returns c =
     let next = λ (contents : ByteMap). step_add_aggregation (with_contents s contents) c.args.day c.args.ref_text.now c.args.title.now c.args.parent (option_copied c.args.class) in
     going s next (Number (c.aggregation_count-number.result + 1)) _ c.go.result c.go.ensures (λ change answer writes.
     aggregation_change s c.args.day c.args.ref_text.now c.args.title.now c.args.parent (option_copied c.args.class) change (subst IsSound tree c.sound.ensures) accepted (ap Number number ∙ sym answer)
-    (writes ∙ (λ i. row_write.Aggregation (count i + 1) (it i) ∷ row_write.Day c.args.day ∷ [])))
+    (writes ∙ (λ i. row_write.Aggregation (count i + 1) (it i) ∷ day_writes c.args.self.now c.args.day)))

@@ -1,4 +1,4 @@
-use Rattle.std.proofs.Common.{◌≡◌, ◌∙◌, [], ◌∷◌, sym, ap, subst}
+use Rattle.std.proofs.Common.{◌≡◌, ◌∙◌, ◌∷◌, sym, ap, subst}
 use Rattle.office_tree.specs.Conditions.{first_of, conditions_of_add_class}
 use Rattle.office_tree.specs.Sound.{IsSound}
 use Rattle.office_tree.specs.Tree.{TreeState}
@@ -9,6 +9,7 @@ use Rattle.office_rules.specs.State.{ByteMap, with_contents, with_office}
 use Rattle.office_rules.specs.Steps.{step_add_class}
 use Rattle.office_rules.specs.declared.answer.Answer.TheVariants.{Done}
 use Rattle.office_rules.specs.declared.rows.RowWrite.TheVariants as row_write
+use Rattle.office_machine.specs.DayWrites.{day_writes}
 use Rattle.office_machine.proofs.DecidedTree.{none_of, class_change}
 use Rattle.office_machine.proofs.Decisions.{going, refused_step}
 use Rattle.office_machine.proofs.parts.Parts.decide_add_class.Goals.{After-dated}
@@ -38,4 +39,4 @@ returns c =
     let next = λ (contents : ByteMap). step_add_class (with_contents c.args.self.now contents) c.args.day c.args.code.now (asked p) in
     going c.args.self.now next Done _ c.go.result c.go.ensures (λ change answer writes.
     class_change c.args.self.now c.args.day c.args.code.now (asked p) change (subst IsSound (ap (λ o. o.tree) c.self.view_is) c.sound.ensures) accepted (sym answer)
-    (writes ∙ (λ i. row_write.Class (codes i).0 (record { title = title i; schedule = (codes i).1 }) ∷ row_write.Day c.args.day ∷ [])))
+    (writes ∙ (λ i. row_write.Class (codes i).0 (record { title = title i; schedule = (codes i).1 }) ∷ day_writes c.args.self.now c.args.day)))

@@ -1,8 +1,8 @@
-use Rattle.std.proofs.Common.{◌∙◌, ◌+◌, ◌∷◌, [], ◌++◌, List, sym, ap, refl}
+use Rattle.std.proofs.Common.{◌∙◌, ◌+◌, ◌++◌, List, sym, ap, refl}
 use Rattle.std.specs.Option.{option_copied}
 use Rattle.office_tree.specs.Conditions.{conditions_of_add_record}
 use Rattle.office_rules.specs.declared.rows.RowWrite.{RowWrite}
-use Rattle.office_rules.specs.declared.rows.RowWrite.TheVariants as row_write
+use Rattle.office_machine.specs.DayWrites.{day_writes}
 use Rattle.office_machine.proofs.DecidedAdditions.{addition_refused, record_added, same_addition}
 use Rattle.office_machine.proofs.parts.Parts.decide_add_record.Goals as goal
 
@@ -23,4 +23,4 @@ returns c =
     record_added c.args.self.now t c.args.day new (c.record_count-number.result + 1) c.in_ok-head.head c.in_ok-bytes.bytes _
     (ap (λ o. o.tree) c.self.view_is) (sym c.same_record.ensures ∙ c.in_default.is) (sym table ∙ c.in_default-dated.is) c.sound.ensures
     (ap (λ n. n + 1) c.record_count-number.ensures.count) c.in_ok-head.ensures (c.in_ok-bytes.ensures.items ∙ c.deref-2.ensures.value) refl
-    (c.in_ok-writes-2.ensures ∙ ap (λ (ws : List RowWrite). ws ++ row_write.Day c.args.day ∷ []) c.in_ok-writes.ensures)
+    (c.in_ok-writes-2.ensures ∙ ap (λ (ws : List RowWrite). ws ++ day_writes c.args.self.now c.args.day) c.in_ok-writes.ensures)

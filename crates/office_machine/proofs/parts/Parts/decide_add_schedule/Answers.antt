@@ -1,4 +1,4 @@
-use Rattle.std.proofs.Common.{◌≡◌, ◌∙◌, [], ◌∷◌, sym, ap, subst}
+use Rattle.std.proofs.Common.{◌≡◌, ◌∙◌, ◌∷◌, sym, ap, subst}
 use Rattle.office_tree.specs.Conditions.{first_of, conditions_of_add_schedule}
 use Rattle.office_tree.specs.Sound.{IsSound}
 use Rattle.office_tree.specs.Tree.{TreeState}
@@ -8,6 +8,7 @@ use Rattle.office_rules.specs.State.{ByteMap, with_contents, with_office}
 use Rattle.office_rules.specs.Steps.{step_add_schedule}
 use Rattle.office_rules.specs.declared.answer.Answer.TheVariants.{Done}
 use Rattle.office_rules.specs.declared.rows.RowWrite.TheVariants as row_write
+use Rattle.office_machine.specs.DayWrites.{day_writes}
 use Rattle.office_machine.proofs.DecidedTree.{none_of, schedule_change}
 use Rattle.office_machine.proofs.Decisions.{going, refused_step}
 use Rattle.office_machine.proofs.parts.Parts.decide_add_schedule.Goals.{After-dated}
@@ -28,6 +29,6 @@ pub returns : goal.returns
 returns c =
     let accepted = sym (table (goal.at.returns c).After-dated) ∙ none_of c.dated.result c.in_default.not-Some in
     let next = λ (contents : ByteMap). step_add_schedule (with_contents c.args.self.now contents) c.args.day c.args.code.now c.args.schedule in
-    let row = ap (λ code. row_write.Schedule code c.args.schedule ∷ row_write.Day c.args.day ∷ []) c.in_ok-code.ensures in
+    let row = ap (λ code. row_write.Schedule code c.args.schedule ∷ day_writes c.args.self.now c.args.day) c.in_ok-code.ensures in
     going c.args.self.now next Done _ c.go.result c.go.ensures (λ change answer writes.
     schedule_change c.args.self.now c.args.day c.args.code.now c.args.schedule change (subst IsSound (ap (λ o. o.tree) c.self.view_is) c.sound.ensures) accepted (sym answer) (writes ∙ row))

@@ -1,4 +1,4 @@
-use Rattle.std.proofs.Common.{◌≡◌, ◌∙◌, [], ◌∷◌, Some, sym, ap, subst}
+use Rattle.std.proofs.Common.{◌≡◌, ◌∙◌, ◌∷◌, Some, sym, ap, subst}
 use Rattle.office_tree.specs.Conditions.{first_of, conditions_of_close_aggregation}
 use Rattle.office_tree.specs.Lists.{numbered}
 use Rattle.office_tree.specs.Sound.{IsSound}
@@ -11,6 +11,7 @@ use Rattle.office_rules.specs.State.{ByteMap, with_contents, with_office}
 use Rattle.office_rules.specs.Steps.{step_close_aggregation}
 use Rattle.office_rules.specs.declared.answer.Answer.TheVariants.{Done}
 use Rattle.office_rules.specs.declared.rows.RowWrite.TheVariants as row_write
+use Rattle.office_machine.specs.DayWrites.{day_writes}
 use Rattle.office_machine.proofs.DecidedTree.{none_of, closing_change}
 use Rattle.office_machine.proofs.Decisions.{going, refused_step}
 use Rattle.office_machine.proofs.parts.Parts.decide_close_aggregation.Goals.{After-dated}
@@ -36,7 +37,7 @@ returns c =
     let next = λ (contents : ByteMap). step_close_aggregation (with_contents s contents) c.args.day c.args.aggregation in
     going s next Done _ c.go.result c.go.ensures (λ change answer writes.
     closing_change s c.args.day c.args.aggregation c.aggregation.result.now change (subst IsSound tree c.sound.ensures) accepted there (sym answer)
-    (writes ∙ ap (λ it. row_write.Aggregation c.args.aggregation (as_closed c.args.day it) ∷ row_write.Day c.args.day ∷ []) c.in_ok-closed.ensures))
+    (writes ∙ ap (λ it. row_write.Aggregation c.args.aggregation (as_closed c.args.day it) ∷ day_writes c.args.self.now c.args.day) c.in_ok-closed.ensures))
 
 pub aggregation-requires : goal.aggregation-requires
 aggregation-requires c =

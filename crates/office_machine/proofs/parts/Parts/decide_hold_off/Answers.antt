@@ -1,4 +1,4 @@
-use Rattle.std.proofs.Common.{◌≡◌, ◌∙◌, [], ◌∷◌, sym, ap}
+use Rattle.std.proofs.Common.{◌≡◌, ◌∙◌, ◌∷◌, sym, ap}
 use Rattle.office_tree.specs.Conditions.{first_of}
 use Rattle.office_holds.specs.Conditions.{conditions_of_hold_off}
 use Rattle.office_holds.specs.Holds.{HoldMap}
@@ -8,6 +8,7 @@ use Rattle.office_rules.specs.State.{ByteMap, with_contents, with_office}
 use Rattle.office_rules.specs.Steps.{step_hold_off}
 use Rattle.office_rules.specs.declared.answer.Answer.TheVariants.{Done}
 use Rattle.office_rules.specs.declared.rows.RowWrite.TheVariants as row_write
+use Rattle.office_machine.specs.DayWrites.{day_writes}
 use Rattle.office_machine.proofs.DecidedHolds.{uncovering_change}
 use Rattle.office_machine.proofs.Decisions.{going, refused_step}
 use Rattle.office_machine.proofs.parts.Parts.decide_hold_off.Goals.{After-dated}
@@ -32,4 +33,4 @@ returns c =
     let target = c.in_ok-target.ensures in
     let next = λ (contents : ByteMap). step_hold_off (with_contents s contents) c.args.day c.args.code.now c.args.target.now in
     going s next Done _ c.go.result c.go.ensures (λ change answer writes.
-    uncovering_change s c.args.day c.args.code.now c.args.target.now change accepted (sym answer) (writes ∙ (λ i. row_write.TargetGone (code i) (target i) ∷ row_write.Day c.args.day ∷ [])))
+    uncovering_change s c.args.day c.args.code.now c.args.target.now change accepted (sym answer) (writes ∙ (λ i. row_write.TargetGone (code i) (target i) ∷ day_writes c.args.self.now c.args.day)))

@@ -1,4 +1,4 @@
-use Rattle.std.proofs.Common.{◌≡◌, ◌∙◌, [], ◌∷◌, sym, ap, subst}
+use Rattle.std.proofs.Common.{◌≡◌, ◌∙◌, ◌∷◌, sym, ap, subst}
 use Rattle.office_tree.specs.Conditions.{first_of}
 use Rattle.office_holds.specs.Conditions.{conditions_of_hold_on}
 use Rattle.office_holds.specs.Forms.{FitsHoldLimits}
@@ -9,6 +9,7 @@ use Rattle.office_rules.specs.State.{ByteMap, Office, with_contents, with_office
 use Rattle.office_rules.specs.Steps.{step_hold_on}
 use Rattle.office_rules.specs.declared.answer.Answer.TheVariants.{Done}
 use Rattle.office_rules.specs.declared.rows.RowWrite.TheVariants as row_write
+use Rattle.office_machine.specs.DayWrites.{day_writes}
 use Rattle.office_machine.proofs.DecidedHolds.{covering_change}
 use Rattle.office_machine.proofs.Decisions.{going, refused_step}
 use Rattle.office_machine.proofs.LesserRefusals.{lesser_of_covering}
@@ -37,4 +38,4 @@ returns c =
     let target = c.in_ok-target.ensures in
     let next = λ (contents : ByteMap). step_hold_on (with_contents s contents) c.args.day c.args.code.now c.args.target.now in
     going s next Done _ c.go.result c.go.ensures (λ change answer writes.
-    covering_change s c.args.day c.args.code.now c.args.target.now change (subst FitsHoldLimits (ap (λ o. o.holds) c.self.view_is) c.sound.ensures) accepted (sym answer) (writes ∙ (λ i. row_write.Target (code i) (target i) ∷ row_write.Day c.args.day ∷ [])))
+    covering_change s c.args.day c.args.code.now c.args.target.now change (subst FitsHoldLimits (ap (λ o. o.holds) c.self.view_is) c.sound.ensures) accepted (sym answer) (writes ∙ (λ i. row_write.Target (code i) (target i) ∷ day_writes c.args.self.now c.args.day)))

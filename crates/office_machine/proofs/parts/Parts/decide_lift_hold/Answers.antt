@@ -1,4 +1,4 @@
-use Rattle.std.proofs.Common.{◌≡◌, ◌∙◌, [], ◌∷◌, Some, sym, ap, subst}
+use Rattle.std.proofs.Common.{◌≡◌, ◌∙◌, ◌∷◌, Some, sym, ap, subst}
 use Rattle.std.specs.FinMap.{get}
 use Rattle.std.specs.Option.{option_copied}
 use Rattle.office_tree.specs.Conditions.{first_of}
@@ -11,6 +11,7 @@ use Rattle.office_rules.specs.State.{ByteMap, with_contents, with_office}
 use Rattle.office_rules.specs.Steps.{step_lift_hold}
 use Rattle.office_rules.specs.declared.answer.Answer.TheVariants.{Done}
 use Rattle.office_rules.specs.declared.rows.RowWrite.TheVariants as row_write
+use Rattle.office_machine.specs.DayWrites.{day_writes}
 use Rattle.office_machine.proofs.DecidedHolds.{hold_there, lifting_change}
 use Rattle.office_machine.proofs.Decisions.{going, refused_step}
 use Rattle.office_machine.proofs.parts.Parts.decide_lift_hold.Goals.{After-dated}
@@ -37,7 +38,7 @@ returns c =
     let next = λ (contents : ByteMap). step_lift_hold (with_contents s contents) c.args.day c.args.code.now in
     going s next Done _ c.go.result c.go.ensures (λ change answer writes.
     lifting_change s c.args.day c.args.code.now c.in-Some-hold.before.now change (subst FitsHoldLimits (ap (λ o. o.holds) c.self.view_is) c.sound.ensures) accepted there (sym answer)
-    (writes ∙ (λ i. row_write.Hold (code i) (record (row i) { lifted = Some c.args.day }) ∷ row_write.Day c.args.day ∷ [])))
+    (writes ∙ (λ i. row_write.Hold (code i) (record (row i) { lifted = Some c.args.day }) ∷ day_writes c.args.self.now c.args.day)))
 
 pub unreachable-requires : goal.unreachable-requires
 unreachable-requires c =

@@ -1,4 +1,4 @@
-use Rattle.std.proofs.Common.{◌≡◌, ◌∙◌, [], ◌∷◌, suc, ◌+◌, length, sym, ap, arith}
+use Rattle.std.proofs.Common.{◌≡◌, ◌∙◌, ◌∷◌, suc, ◌+◌, length, sym, ap, arith}
 use Rattle.office_tree.specs.Conditions.{first_of}
 use Rattle.office_rules.specs.Conditions.{conditions_of_open_run, refusals_of_open_run}
 use Rattle.office_rules.specs.Effects.{after_open_run, new_run}
@@ -6,6 +6,7 @@ use Rattle.office_rules.specs.State.{ByteMap, with_contents, with_office}
 use Rattle.office_rules.specs.Steps.{step_open_run}
 use Rattle.office_rules.specs.declared.answer.Answer.TheVariants.{Number}
 use Rattle.office_rules.specs.declared.rows.RowWrite.TheVariants as row_write
+use Rattle.office_machine.specs.DayWrites.{day_writes}
 use Rattle.office_machine.proofs.DecidedTree.{none_of}
 use Rattle.office_machine.proofs.Decisions.{going, refused_step}
 use Rattle.office_machine.proofs.OfficeSound.{few_runs}
@@ -34,4 +35,4 @@ returns c =
     let number : suc (length s.runs) ≡ c.run_count-number.result + 1 = omega (arith, count) in
     let next = λ (contents : ByteMap). step_open_run (with_contents s contents) c.args.day c.args.by.now in
     going s next (Number (c.run_count-number.result + 1)) _ c.go.result c.go.ensures (λ change answer writes.
-    opening_change s c.args.day c.args.by.now change accepted (ap Number number ∙ sym answer) (writes ∙ (λ i. row_write.Run (count i + 1) (new_run c.args.day (by i)) ∷ row_write.Day c.args.day ∷ [])))
+    opening_change s c.args.day c.args.by.now change accepted (ap Number number ∙ sym answer) (writes ∙ (λ i. row_write.Run (count i + 1) (new_run c.args.day (by i)) ∷ day_writes c.args.self.now c.args.day)))

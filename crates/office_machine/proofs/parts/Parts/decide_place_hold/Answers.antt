@@ -1,4 +1,4 @@
-use Rattle.std.proofs.Common.{◌≡◌, ◌∙◌, [], ◌∷◌, sym, ap, subst}
+use Rattle.std.proofs.Common.{◌≡◌, ◌∙◌, ◌∷◌, sym, ap, subst}
 use Rattle.office_tree.specs.Conditions.{first_of}
 use Rattle.office_holds.specs.Conditions.{conditions_of_place_hold}
 use Rattle.office_holds.specs.Forms.{FitsHoldLimits}
@@ -9,6 +9,7 @@ use Rattle.office_rules.specs.State.{ByteMap, with_contents, with_office}
 use Rattle.office_rules.specs.Steps.{step_place_hold}
 use Rattle.office_rules.specs.declared.answer.Answer.TheVariants.{Done}
 use Rattle.office_rules.specs.declared.rows.RowWrite.TheVariants as row_write
+use Rattle.office_machine.specs.DayWrites.{day_writes}
 use Rattle.office_machine.proofs.DecidedHolds.{placed_row, placing_change}
 use Rattle.office_machine.proofs.Decisions.{going, refused_step}
 use Rattle.office_machine.proofs.parts.Parts.decide_place_hold.Goals.{After-dated}
@@ -34,4 +35,4 @@ returns c =
     let next = λ (contents : ByteMap). step_place_hold (with_contents s contents) c.args.day c.args.code.now c.args.reason.now c.args.by.now in
     going s next Done _ c.go.result c.go.ensures (λ change answer writes.
     placing_change s c.args.day c.args.code.now c.args.reason.now c.args.by.now change (subst FitsHoldLimits (ap (λ o. o.holds) c.self.view_is) c.sound.ensures) accepted (sym answer)
-    (writes ∙ (λ i. row_write.Hold (code i) (placed_row c.args.day (texts i).0 (texts i).1) ∷ row_write.Day c.args.day ∷ [])))
+    (writes ∙ (λ i. row_write.Hold (code i) (placed_row c.args.day (texts i).0 (texts i).1) ∷ day_writes c.args.self.now c.args.day)))

@@ -1,4 +1,4 @@
-use Rattle.std.proofs.Common.{◌≡◌, ◌∙◌, [], ◌∷◌, Some, sym, ap, subst}
+use Rattle.std.proofs.Common.{◌≡◌, ◌∙◌, ◌∷◌, Some, sym, ap, subst}
 use Rattle.std.specs.FinMap.{get}
 use Rattle.office_tree.specs.Conditions.{first_of, conditions_of_set_class_schedule}
 use Rattle.office_tree.specs.Sound.{IsSound}
@@ -10,6 +10,7 @@ use Rattle.office_rules.specs.Steps.{step_set_class_schedule}
 use Rattle.office_rules.specs.declared.answer.Answer.TheVariants.{Done}
 use Rattle.office_rules.specs.declared.rows.RowWrite.TheVariants as row_write
 use Rattle.office_rules.proofs.Accepted.{dated_accepted}
+use Rattle.office_machine.specs.DayWrites.{day_writes}
 use Rattle.office_machine.proofs.DecidedTree.{none_of, class_there, class_schedule_change}
 use Rattle.office_machine.proofs.Decisions.{going, refused_step}
 use Rattle.office_machine.proofs.parts.Parts.decide_set_class_schedule.Goals.{After-dated}
@@ -37,7 +38,7 @@ returns c =
     let next = λ (contents : ByteMap). step_set_class_schedule (with_contents s contents) c.args.day c.args.class.now c.args.schedule.now in
     going s next Done _ c.go.result c.go.ensures (λ change answer writes.
     class_schedule_change s c.args.day c.args.class.now c.args.schedule.now c.in-Some-class.it.now change (subst IsSound tree c.sound.ensures) accepted there (sym answer)
-    (writes ∙ (λ i. row_write.Class (codes i).0 (record { title = title i; schedule = (codes i).1 }) ∷ row_write.Day c.args.day ∷ [])))
+    (writes ∙ (λ i. row_write.Class (codes i).0 (record { title = title i; schedule = (codes i).1 }) ∷ day_writes c.args.self.now c.args.day)))
 
 pub unreachable-requires : goal.unreachable-requires
 unreachable-requires c =
