@@ -205,12 +205,12 @@ fn tell_act(act: &Act, out: &mut Vec<u8>) -> Option<()> {
         Act::AddRecord { day, record } => push_day(out, *day).and(tell_record(out, record)),
         Act::HoldOff {
             day,
-            code,
+            hold,
             target: Target::Aggregation(number),
         } => push_day(out, *day).and(write!(
             out,
             " hold-off {}, aggregation {number}",
-            code.text()
+            hold.text()
         ).ok()),
         Act::Reclassify { day, target, class } => push_day(out, *day).and(write!(
             out,

@@ -179,9 +179,9 @@ fn tell_act(office: &mut Machine, holds: &mut Holds, act: &Act, out: &mut Vec<u8
             reason,
             by,
         } => place_copied(holds, *day, code, reason, by, out),
-        Act::HoldOn { code, target, .. } => cover(holds, code, target, out),
-        Act::HoldOff { code, target, .. } => uncover(holds, code, target, out),
-        Act::LiftHold { day, code } => lift(holds, *day, code, out),
+        Act::HoldOn { hold, target, .. } => cover(holds, hold, target, out),
+        Act::HoldOff { hold, target, .. } => uncover(holds, hold, target, out),
+        Act::LiftHold { day, hold } => lift(holds, *day, hold, out),
         Act::Reclassify { target, class, .. } => {
             reclassify(office.tree(), holds, *target, class.as_ref(), out)
         }

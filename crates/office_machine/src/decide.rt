@@ -147,9 +147,9 @@ impl Parts {
                 reason,
                 by,
             } => self.decide_place_hold(alloc, *day, code, reason, by),
-            Act::HoldOn { day, code, target } => self.decide_hold_on(alloc, *day, code, target),
-            Act::HoldOff { day, code, target } => self.decide_hold_off(alloc, *day, code, target),
-            Act::LiftHold { day, code } => self.decide_lift_hold(alloc, *day, code),
+            Act::HoldOn { day, hold, target } => self.decide_hold_on(alloc, *day, hold, target),
+            Act::HoldOff { day, hold, target } => self.decide_hold_off(alloc, *day, hold, target),
+            Act::LiftHold { day, hold } => self.decide_lift_hold(alloc, *day, hold),
             _ => unreachable!(),
         }
     }

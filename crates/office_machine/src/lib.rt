@@ -29,6 +29,7 @@ mod taking;
 pub use due_rows::DueRows;
 pub use entry_rows::EntryRows;
 pub use machine::Machine;
+pub use office_rows::Rebuild;
 pub use office_rules::{
     Act, Answer, Change, Decision, NewRecord, RecordRow, RecordView, RowWrite, Run, Tables,
 };

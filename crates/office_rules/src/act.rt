@@ -69,19 +69,19 @@ pub enum Act {
     /// Puts a target on a hold.
     HoldOn {
         day: Day,
-        code: Code,
+        hold: Code,
         target: Target,
     },
     /// Takes a target off a hold.
     HoldOff {
         day: Day,
-        code: Code,
+        hold: Code,
         target: Target,
     },
     /// Lifts a hold for good; its targets stay on record.
     LiftHold {
         day: Day,
-        code: Code,
+        hold: Code,
     },
     /// Confirms that a due record may be disposed of as its plan says.
     Confirm {

@@ -212,12 +212,21 @@ impl Act {
                 formed_text(reason);
                 formed_text(by);
             }
-            Act::HoldOn { day, code, target } => {
+            Act::HoldOn {
+                day,
+                hold: code,
+                target,
+            } => {
                 formed_day(*day);
                 formed_code(code);
                 formed_target(target);
             }
-            Act::HoldOff { day, code, .. } | Act::LiftHold { day, code } => {
+            Act::HoldOff {
+                day,
+                hold: code,
+                ..
+            }
+            | Act::LiftHold { day, hold: code } => {
                 formed_day(*day);
                 formed_code(code);
             }

@@ -48,7 +48,11 @@ pub(crate) fn hold_on(alloc: Global, value: &Value) -> Result<Act, ReadFault>
         target_at(alloc, value, "target"),
     );
     match both(day_at(value, "day"), what) {
-        Ok((day, (code, target))) => Ok(Act::HoldOn { day, code, target }),
+        Ok((day, (code, target))) => Ok(Act::HoldOn {
+            day,
+            hold: code,
+            target,
+        }),
         Err(fault) => Err(fault),
     }
 }
@@ -66,7 +70,11 @@ pub(crate) fn hold_off(alloc: Global, value: &Value) -> Result<Act, ReadFault>
         target_at(alloc, value, "target"),
     );
     match both(day_at(value, "day"), what) {
-        Ok((day, (code, target))) => Ok(Act::HoldOff { day, code, target }),
+        Ok((day, (code, target))) => Ok(Act::HoldOff {
+            day,
+            hold: code,
+            target,
+        }),
         Err(fault) => Err(fault),
     }
 }
@@ -80,7 +88,7 @@ pub(crate) fn lift_hold(alloc: Global, value: &Value) -> Result<Act, ReadFault>
         return Err(ReadFault::Refused(Refusal::BadText));
     }
     match both(day_at(value, "day"), code_at(alloc, value, "hold")) {
-        Ok((day, code)) => Ok(Act::LiftHold { day, code }),
+        Ok((day, code)) => Ok(Act::LiftHold { day, hold: code }),
         Err(fault) => Err(fault),
     }
 }
