@@ -1,7 +1,10 @@
 -- One request and its answer. Source: own; requests and the form of answers are those of RFC 9112.
-use Rattle.std.specs.Prelude.{◌≡◌, ◌⊎◌, ℕ, Bool, false, List, Option, Some, None}
+use Rattle.std.specs.Prelude.{◌≡◌, ◌⊎◌, ℕ, Bool, false, List, IfOk, IfSome, IsSome, OnErr, Option, Some, None, Result, Ok, Err}
 use Rattle.std.specs.Io.KnownBytes.{Appends}
+use Rattle.sqlite.specs.Held.{state}
+use Rattle.sqlite.specs.State.{HasCleanDisk}
 use Rattle.sqlite_trees.specs.declared.store.Store.{Ghosts}
+use Rattle.office_plan.specs.declared.output.Io.{Io}
 use Rattle.office_rules.specs.State.{State}
 use Rattle.office_desk.specs.Desk.{DeskState}
 use Rattle.office_desk.specs.Leaving.{StandsAt}
@@ -103,3 +106,11 @@ TellsUnavailable (Some it) = IsUnavailable (response it.reply)
 abbrev pub IsSent : Option Sending → ℕ → Option (List ℕ) → Option (List ℕ) → Type 0
 IsSent None status written after = (status ≡ 0) × (after ≡ written)
 IsSent (Some it) status written after = Writes it.is_head (response it.reply) status written after
+
+-- a request is served in two halves: where the first fails, nothing was done and nothing written; else it gives what is to be written, for which the desk stands already, and the second writes that or fails
+abbrev pub IsInHalves : {S : Type 0} → Ghosts S → Option (List ℕ) → (unread untouched : Type 0) → Result (Option Sending) Io → Result ℕ Io → Option (List ℕ) → Option (List ℕ) → DeskState S → DeskState S → Type 0
+IsInHalves g all unread untouched (Err e) status written after old new = (status ≡ Err e) × (new ≡ old) × untouched
+IsInHalves g all unread untouched (Ok it) status written after old new =
+    IfSome all (λ bytes. (t : State) → HasCleanDisk (state g new.held) → StandsAt g t old → IsToSend g t bytes unread it new)
+    × IfOk status (λ code. IsSent it code written after)
+    × OnErr status (IsSome it)

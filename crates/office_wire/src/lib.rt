@@ -2,7 +2,8 @@
 //! answer is written.
 //!
 //! [`receive`] reads all of a request and touches no desk; [`answer`] does what it asks for and reads
-//! nothing; [`serve_one`] joins them and writes the answer. Acts and answers in JSON are those of
+//! nothing; [`answer_next`] joins them and writes nothing, [`send`] writes the answer and touches no desk, and
+//! [`serve_one`] is these two. Acts and answers in JSON are those of
 //! `office_json`, heads and the bytes of an answer those of `office_http`. [`serve_all`] serves connections
 //! over TCP, one after another, each within its time ([`LONGEST`]).
 #![tactic(auto)]
@@ -25,4 +26,4 @@ pub use importing::{ImportStop, import_records};
 pub use office_json::{Io, ReadFault, answer_value, read_act};
 pub use receiving::{Asked, Asking, ReceiveStop, Received, receive};
 pub use registers::{ExportStop, export_due, export_entries};
-pub use serving::serve_one;
+pub use serving::{Sending, answer_next, send, serve_one};

@@ -1,13 +1,16 @@
-//! One request is received, answered at the desk, and its answer written.
-ghost use Rattle.std.specs.Prelude.{◌≡◌, ◌⊎◌, IfOk, IfSome, IsSome, IsTrue, OnErr, false};
+//! One request is received, answered at the desk, and its answer written: in two halves, of which one has no
+//! writer and the other no desk.
+ghost use Rattle.std.specs.Prelude.{◌≡◌, ◌⊎◌, IfOk, IfSome, IsSome, IsTrue, OnErr, Option, Result, false};
 ghost use Rattle.sqlite.specs.Held.{state};
 ghost use Rattle.sqlite.specs.State.{HasCleanDisk};
 ghost use Rattle.office_rules.specs.State.{State};
 ghost use Rattle.office_desk.specs.Leaving.{StandsAt};
 ghost use Rattle.office_http.specs.Replies.{response};
+ghost use Rattle.office_plan.specs.declared.output.Io.{Io as AnyIo};
+ghost use Rattle.office_wire.specs.declared.serving.Sending.{Sending as AnySending};
 ghost use Rattle.office_wire.specs.Receiving.{asked_for};
 ghost use Rattle.office_wire.specs.Answering.{IsUnavailable};
-ghost use Rattle.office_wire.specs.Serving.{Breaks, GoneReplies, IsFailed, IsGoneServed, IsGoneToSend, IsSent, IsServed, IsToSend, LeavesServed, Replies, TellsUnavailable};
+ghost use Rattle.office_wire.specs.Serving.{Breaks, GoneReplies, IsFailed, IsGoneServed, IsGoneToSend, IsInHalves, IsSent, IsServed, IsToSend, LeavesServed, Replies, TellsUnavailable};
 
 use crate::answering::answer;
 use crate::receiving::{Asked, Asking, ReceiveStop, Received, receive};
@@ -34,10 +37,11 @@ fn served<S: Alter>(alloc: Global, desk: &mut Desk<S>, asking: &Asking) -> Reply
 
 /// An answer that is to be written.
 #[derive(Drop)]
-struct Sending {
-    reply: Reply,
+pub struct Sending {
+    /// The answer.
+    pub reply: Reply,
     /// Whether its head alone is written, as to HEAD.
-    is_head: bool,
+    pub is_head: bool,
 }
 
 /// An answer from fixed bytes.
@@ -64,8 +68,10 @@ fn answered<S: Alter>(alloc: Global, desk: &mut Desk<S>, asked: Asked) -> Sendin
     }
 }
 
-/// Reads a request, does what it asks for, and gives its answer; none where the connection had no byte.
-fn answer_next<R: Read, S: Alter>(
+/// The half of serving before a byte is written: reads a request, does what it asks for, and gives its answer;
+/// none where the connection had no byte. `Io` comes where the reader answered an error, of no writer, since none is
+/// here; and then nothing was done.
+pub fn answer_next<R: Read, S: Alter>(
     alloc: Global,
     desk: &mut Desk<S>,
     reader: &mut R,
@@ -88,8 +94,9 @@ fn answer_next<R: Read, S: Alter>(
     }
 }
 
-/// Writes an answer, if there is one. It gives its status, or 0.
-fn send<W: Write>(sending: Option<Sending>, writer: &mut W) -> Result<u16, Io>
+/// The half of serving after it: writes an answer, if there is one, and gives its status, or 0. `Io` comes where the
+/// writer answered an error; no desk is here, so it stands as if the answer had been written.
+pub fn send<W: Write>(sending: Option<Sending>, writer: &mut W) -> Result<u16, Io>
     ensures sent { IfOk result (λ status. IsSent sending status (W.contents writer.old) (W.contents writer.new)) }
     ensures some { OnErr result (IsSome sending) }
 {
@@ -103,9 +110,10 @@ fn send<W: Write>(sending: Option<Sending>, writer: &mut W) -> Result<u16, Io>
 /// written. It gives the status of the answer, or 0 where the connection had no byte. The answer does not
 /// depend on how the bytes were cut.
 ///
-/// `Io` comes where the reader answered an error, and then nothing was done; or where the writer did, and
-/// then the desk stands as if the answer had been written. Where the reader does not tell its bytes, as a
-/// socket's does not, the desk still stands where serving something leaves it.
+/// It is [`answer_next`] and then [`send`]. `Io` comes where the reader answered an error, and then nothing was
+/// done and nothing written; or where the writer did, and then the desk stands as if the answer had been
+/// written. Where the reader does not tell its bytes, as a socket's does not, the desk still stands where serving
+/// something leaves it.
 ///
 /// A desk that was given up stays as it is, and fault 32 is told in place of all that it would do or tell. Where
 /// it is given up here, the status is 503.
@@ -118,6 +126,7 @@ pub fn serve_one<R: Read, W: Write, S: Alter>(
     ensures clean { HasCleanDisk (state S.Store desk.new.held) → HasCleanDisk (state S.Store desk.old.held) }
     ensures ok { IfOk result (λ status. IfSome (R.remaining reader.old) (λ bytes. (t : State) → HasCleanDisk (state S.Store desk.new.held) → StandsAt S.Store t desk.old → Replies S.Store t bytes (reader.new ≡ reader.old) status (W.contents writer.old) (W.contents writer.new) desk.new)) }
     ensures leaves { (t : State) → HasCleanDisk (state S.Store desk.new.held) → StandsAt S.Store t desk.old → LeavesServed S.Store t desk.new }
+    ensures halves { (next : Result (Option AnySending) AnyIo) × IsInHalves S.Store (R.remaining reader.old) (reader.new ≡ reader.old) (writer.new ≡ writer.old) next result (W.contents writer.old) (W.contents writer.new) desk.old desk.new }
     ensures err { OnErr result (IfSome (R.remaining reader.old) (λ bytes. ((desk.new ≡ desk.old) × (writer.new ≡ writer.old)) ⊎ ((t : State) → HasCleanDisk (state S.Store desk.new.held) → StandsAt S.Store t desk.old → Breaks S.Store t bytes (reader.new ≡ reader.old) desk.new))) }
     ensures kept { IsTrue desk.old.is_given_up → desk.new ≡ desk.old }
     ensures gone { IfOk result (λ status. IfSome (R.remaining reader.old) (λ bytes. IsTrue desk.old.is_given_up → GoneReplies bytes (reader.new ≡ reader.old) status (W.contents writer.old) (W.contents writer.new))) }
