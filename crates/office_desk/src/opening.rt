@@ -54,6 +54,8 @@ impl<S: Alter> Desk<S> {
         ensures made { IfOk result (λ desk. HasCleanDisk (state S.Store desk.held) → IsBlank (state S.Store conn) → StandsAt S.Store empty_state desk) }
         ensures found { IfOk result (λ desk. HasCleanDisk (state S.Store desk.held) → IsAtRest (state S.Store conn) → (s : State) × StandFor (state S.Store conn).now.trees s × StandsAt S.Store s desk × ((state S.Store desk.held).now ≡ (state S.Store conn).now)) }
         ensures open { IfOk result (λ desk. desk.is_given_up ≡ false) }
+        ensures clean { IfOk result (λ desk. HasCleanDisk (state S.Store desk.held) → HasCleanDisk (state S.Store conn)) }
+        ensures clean_back { IfErr result (λ e. HasCleanDisk (state S.Store e.1) → HasCleanDisk (state S.Store conn)) }
         ensures version { IfErr result (λ e. HasCleanDisk (state S.Store e.1) → IsAtRest (state S.Store conn) → e.0 ≡ Fault.Version → IsOtherVersion (state S.Store conn).now.trees) }
         ensures damaged { IfErr result (λ e. HasCleanDisk (state S.Store e.1) → IsAtRest (state S.Store conn) → e.0 ≡ Fault.Damaged → StandForNone (state S.Store conn).now.trees) }
         ensures this_version { IfErr result (λ e. HasCleanDisk (state S.Store e.1) → IsAtRest (state S.Store conn) → e.0 ≡ Fault.Damaged → IsOtherVersion (state S.Store conn).now.trees → ⊥) }
@@ -75,6 +77,8 @@ impl<S: Alter> Desk<S> {
         requires { conn.in_transaction ≡ false }
         ensures made { IfOk result (λ desk. HasCleanDisk (state S.Store desk.held) → IsBlank (state S.Store conn) → StandsAt S.Store empty_state desk) }
         ensures open { IfOk result (λ desk. desk.is_given_up ≡ false) }
+        ensures clean { IfOk result (λ desk. HasCleanDisk (state S.Store desk.held) → HasCleanDisk (state S.Store conn)) }
+        ensures clean_back { IfErr result (λ e. HasCleanDisk (state S.Store e.1) → HasCleanDisk (state S.Store conn)) }
         ensures other_tables { IfErr result (λ e. e.0 ≡ Fault.Damaged → (has_other_table (state S.Store conn).now.schema ≡ true) × (e.1 ≡ conn)) }
         ensures leaves_first { IfErr result (λ e. HasCleanDisk (state S.Store e.1) → IsBlank (state S.Store conn) → LeavesFirst (state S.Store conn) (state S.Store e.1)) }
         ensures faults { IfErr result (λ e. e.0 ≢ Fault.Reopen) }
@@ -95,6 +99,8 @@ impl<S: Alter> Desk<S> {
         requires { conn.in_transaction ≡ false }
         ensures found { IfOk result (λ desk. HasCleanDisk (state S.Store desk.held) → IsAtRest (state S.Store conn) → (s : State) × StandFor (state S.Store conn).now.trees s × StandsAt S.Store s desk × ((state S.Store desk.held).now ≡ (state S.Store conn).now)) }
         ensures open { IfOk result (λ desk. desk.is_given_up ≡ false) }
+        ensures clean { IfOk result (λ desk. HasCleanDisk (state S.Store desk.held) → HasCleanDisk (state S.Store conn)) }
+        ensures clean_back { IfErr result (λ e. HasCleanDisk (state S.Store e.1) → HasCleanDisk (state S.Store conn)) }
         ensures version { IfErr result (λ e. HasCleanDisk (state S.Store e.1) → IsAtRest (state S.Store conn) → e.0 ≡ Fault.Version → IsOtherVersion (state S.Store conn).now.trees) }
         ensures damaged { IfErr result (λ e. HasCleanDisk (state S.Store e.1) → IsAtRest (state S.Store conn) → e.0 ≡ Fault.Damaged → StandForNone (state S.Store conn).now.trees) }
         ensures this_version { IfErr result (λ e. HasCleanDisk (state S.Store e.1) → IsAtRest (state S.Store conn) → e.0 ≡ Fault.Damaged → IsOtherVersion (state S.Store conn).now.trees → ⊥) }

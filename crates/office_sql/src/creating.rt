@@ -1,6 +1,7 @@
 //! A new office: its tables, and the one row that says so.
 ghost use Rattle.std.specs.Prelude.{◌≡◌, false};
 ghost use Rattle.sqlite.specs.Held.{state};
+ghost use Rattle.sqlite.specs.State.{HasCleanDisk};
 ghost use Rattle.office_sql.specs.Made.{MakesInside};
 ghost use Rattle.office_sql.specs.Office.{Creates, IsNewOffice};
 ghost use Rattle.office_sql.specs.Schema.{no_schema};
@@ -17,6 +18,7 @@ const FIRST_DAY: i32 = -719_162;
 pub fn create_all<S: Alter>(conn: &mut Connection<S>) -> Result<(), Error>
     requires { conn.old.in_transaction ≡ false }
     ensures creates { Creates (state S.Store conn.old) (state S.Store conn.new) result }
+    ensures clean { HasCleanDisk (state S.Store conn.new) → HasCleanDisk (state S.Store conn.old) }
     ensures ended { conn.new.in_transaction ≡ false }
 {
     let mut tx = conn.transaction();

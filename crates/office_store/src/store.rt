@@ -66,6 +66,8 @@ impl<S: Alter> Store<S> {
         ensures damaged { IfErr result (λ e. e.0 ≡ Fault.Damaged → (has_other_table (state S.Store conn).now.schema ≡ true) × (e.1 ≡ conn)) }
         ensures err { IfErr result (λ e. HasCleanDisk (state S.Store e.1) → IsBlank (state S.Store conn) → LeavesFirst (state S.Store conn) (state S.Store e.1)) }
         ensures undone { IfErr result (λ e. HasCleanDisk (state S.Store e.1) → IsBlank (state S.Store conn) → IsTrue (state S.Store e.1).is_open → IsBlank (state S.Store e.1) × ((state S.Store e.1).now ≡ (state S.Store conn).now)) }
+        ensures clean { IfOk result (λ store. HasCleanDisk (state S.Store store) → HasCleanDisk (state S.Store conn)) }
+        ensures clean_back { IfErr result (λ e. HasCleanDisk (state S.Store e.1) → HasCleanDisk (state S.Store conn)) }
         ensures faults { IfErr result (λ e. (e.0 ≡ Fault.Damaged) ⊎ (e.0 ≡ Fault.Store)) }
         ensures ended { IfErr result (λ e. e.1.in_transaction ≡ false) }
     {
@@ -93,6 +95,7 @@ impl<S: Alter> Store<S> {
         ensures bytes { IfOk result (λ p. HasCleanDisk (state S.Store p.0) → IsAtRest (state S.Store conn) → AreNumbersAndBytes (state S.Store conn).now.trees) }
         ensures this_version { IfErr result (λ e. HasCleanDisk (state S.Store e.1) → IsAtRest (state S.Store conn) → e.0 ≡ Fault.Damaged → IsOtherVersion (state S.Store conn).now.trees → ⊥) }
         ensures clean_read { IfOk result (λ p. HasCleanDisk (state S.Store p.0) → HasCleanDisk (state S.Store conn)) }
+        ensures clean_back { IfErr result (λ e. HasCleanDisk (state S.Store e.1) → HasCleanDisk (state S.Store conn)) }
         ensures version { IfErr result (λ e. HasCleanDisk (state S.Store e.1) → IsAtRest (state S.Store conn) → e.0 ≡ Fault.Version → IsOtherVersion (state S.Store conn).now.trees) }
         ensures leaves { IfErr result (λ e. HasCleanDisk (state S.Store e.1) → IsAtRest (state S.Store conn) → LeavesLess (state S.Store conn) (state S.Store e.1)) }
         ensures faults { IfErr result (λ e. e.0 ≢ Fault.Reopen) }

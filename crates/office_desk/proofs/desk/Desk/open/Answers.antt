@@ -55,3 +55,15 @@ returns-in-Ok-false-clause-leaves_first g c = rw c.found.ensures.same at c.begin
 
 pub returns-in-Ok-false-clause-other_tables : goal.returns-in-Ok-false-clause-other_tables
 returns-in-Ok-false-clause-other_tables g c = IfErr-weaker c.begin.result _ _ (λ e told none. told) (rw c.found.ensures.same at c.begin.ensures.other_tables)
+
+pub returns-in-Ok-true-clause-clean : goal.returns-in-Ok-true-clause-clean
+returns-in-Ok-true-clause-clean g c = rw c.found.ensures.same at c.take_over.ensures.clean
+
+pub returns-in-Ok-true-clause-clean_back : goal.returns-in-Ok-true-clause-clean_back
+returns-in-Ok-true-clause-clean_back g c = rw c.found.ensures.same at c.take_over.ensures.clean_back
+
+pub returns-in-Ok-false-clause-clean : goal.returns-in-Ok-false-clause-clean
+returns-in-Ok-false-clause-clean g c = rw c.found.ensures.same at c.begin.ensures.clean
+
+pub returns-in-Ok-false-clause-clean_back : goal.returns-in-Ok-false-clause-clean_back
+returns-in-Ok-false-clause-clean_back g c = rw c.found.ensures.same at c.begin.ensures.clean_back

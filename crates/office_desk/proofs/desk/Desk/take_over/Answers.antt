@@ -57,3 +57,8 @@ returns-in-Err-clause-damaged g c clean rest damaged s stands =
 pub returns-in-Err-clause-this_version : goal.returns-in-Err-clause-this_version
 returns-in-Err-clause-this_version g c clean rest damaged other =
     this_version (state g.S.Store c.args.conn).now.trees c.in_ok-store.tables.day (c.in_ok-store.ensures.read (rw c.release.ensures.same at clean) rest).office other
+
+pub returns-in_err-store-clause-clean_back : goal.returns-in_err-store-clause-clean_back
+returns-in_err-store-clause-clean_back g c =
+    let failed = err_from_is_err_and c.from_residual.result c.from_residual.ensures.1 in
+    rw (failed.1, failed.2) c.in_err-store.ensures.clean_back
