@@ -63,7 +63,8 @@ fn apply_text<W: Write, S: Alter>(
     out: &mut W,
 ) -> (Ending, Connection<S>)
     requires { conn.in_transaction ≡ false }
-    ensures { TextEnds text.now (state S.Store conn) (state S.Store result.1) (W.contents out.old) (W.contents out.new) result.0 }
+    ensures ends { TextEnds text.now (state S.Store conn) (state S.Store result.1) (W.contents out.old) (W.contents out.new) result.0 }
+    ensures clean { HasCleanDisk (state S.Store result.1) → HasCleanDisk (state S.Store conn) }
 {
     match Desk::open(alloc, conn) {
         Ok(mut desk) => {
@@ -82,7 +83,8 @@ pub fn apply_on<R: Read, W: Write, S: Alter>(
     out: &mut W,
 ) -> (Ending, Connection<S>)
     requires { conn.in_transaction ≡ false }
-    ensures { IfSome (R.remaining input.old) (λ text. ApplyEnds S.Store text conn result.1 (W.contents out.old) (W.contents out.new) result.0) }
+    ensures ends { IfSome (R.remaining input.old) (λ text. ApplyEnds S.Store text conn result.1 (W.contents out.old) (W.contents out.new) result.0) }
+    ensures clean { HasCleanDisk (state S.Store result.1) → HasCleanDisk (state S.Store conn) }
 {
     match read_whole(alloc, input) {
         Ok(text) => apply_text(alloc, conn, text.as_slice(), out),

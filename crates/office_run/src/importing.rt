@@ -38,7 +38,8 @@ pub fn import_on<R: Read, W: Write, S: Alter>(
     out: &mut W,
 ) -> (Ending, Connection<S>)
     requires { conn.in_transaction ≡ false }
-    ensures { ImportEnds day (R.remaining input.old) (state S.Store conn) (state S.Store result.1) (W.contents out.old) (W.contents out.new) result.0 }
+    ensures ends { ImportEnds day (R.remaining input.old) (state S.Store conn) (state S.Store result.1) (W.contents out.old) (W.contents out.new) result.0 }
+    ensures clean { HasCleanDisk (state S.Store result.1) → HasCleanDisk (state S.Store conn) }
 {
     match Desk::open(alloc, conn) {
         Ok(mut desk) => {

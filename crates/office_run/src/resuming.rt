@@ -67,7 +67,8 @@ pub fn resume_on<W: Write, S: Alter>(
     out: &mut W,
 ) -> (Ending, Connection<S>)
     requires { conn.in_transaction ≡ false }
-    ensures { ResumeEnds (state S.Store conn) (state S.Store result.1) (W.contents out.old) (W.contents out.new) result.0 }
+    ensures ends { ResumeEnds (state S.Store conn) (state S.Store result.1) (W.contents out.old) (W.contents out.new) result.0 }
+    ensures clean { HasCleanDisk (state S.Store result.1) → HasCleanDisk (state S.Store conn) }
 {
     match Desk::open(alloc, conn) {
         Ok(mut desk) => {

@@ -2,6 +2,7 @@
 ghost use Rattle.std.specs.Prelude.{◌≡◌, ◌⊎◌, false, OnOk};
 ghost use Rattle.std.specs.Io.KnownBytes.{Appends};
 ghost use Rattle.sqlite.specs.Held.{state};
+ghost use Rattle.sqlite.specs.State.{HasCleanDisk};
 ghost use Rattle.office_store.specs.declared.fault.Fault.{Fault as AnyFault};
 ghost use Rattle.office_words.specs.Orders.{ordered};
 ghost use Rattle.office_run.specs.Endings.{exit_status, line_said};
@@ -40,6 +41,7 @@ fn init_on<W: Write, S: Alter>(
 ) -> (Ending, Connection<S>)
     requires { conn.in_transaction ≡ false }
     ensures ends { InitEnds (state S.Store conn) (state S.Store result.1) (W.contents out.old) (W.contents out.new) result.0 }
+    ensures clean { HasCleanDisk (state S.Store result.1) → HasCleanDisk (state S.Store conn) }
     ensures untouched { (fault : AnyFault) → result.0 ≡ Ending.Fault fault → out.new ≡ out.old }
 {
     match Desk::open(alloc, conn) {
@@ -72,7 +74,8 @@ fn carry_out<R: Read, W: Write, S: Alter>(
     out: &mut W,
 ) -> (Ending, Connection<S>)
     requires { conn.in_transaction ≡ false }
-    ensures { RunEnds S.Store (ordered order.now) (R.remaining input.old) conn result.1 (W.contents out.old) (W.contents out.new) result.0 }
+    ensures ends { RunEnds S.Store (ordered order.now) (R.remaining input.old) conn result.1 (W.contents out.old) (W.contents out.new) result.0 }
+    ensures clean { HasCleanDisk (state S.Store result.1) → HasCleanDisk (state S.Store conn) }
 {
     match order {
         Order::Init { .. } => init_on(alloc, conn, out),
@@ -101,6 +104,7 @@ pub fn run_on<R: Read, W: Write, E: Write, S: Alter>(
 ) -> (u8, Connection<S>)
     requires { conn.in_transaction ≡ false }
     ensures runs { (ending : AnyEnding) × (result.0 ≡ exit_status ending) × RunEnds S.Store (ordered order.now) (R.remaining input.old) conn result.1 (W.contents out.old) (W.contents out.new) ending }
+    ensures clean { HasCleanDisk (state S.Store result.1) → HasCleanDisk (state S.Store conn) }
 {
     let (ending, conn) = carry_out(alloc, conn, order, input, out);
     let _ = tell(ending, err);

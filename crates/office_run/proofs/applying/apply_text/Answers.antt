@@ -7,8 +7,8 @@ use Rattle.office_run.specs.Opening.{IsOfOpened}
 use Rattle.office_run.proofs.Applications.{applies_of, closed_applies}
 use Rattle.office_run.proofs.applying.apply_text.Goals as goal
 
-pub returns-in-Ok : goal.returns-in-Ok
-returns-in-Ok g c =
+pub returns-in-Ok-clause-ends : goal.returns-in-Ok-clause-ends
+returns-in-Ok-clause-ends g c =
     let old = state g.S.Store c.args.conn in
     let new = state g.S.Store c.apply_at-ending.new.desk.held in
     let opened = c.in-Ok.ensures in
@@ -22,5 +22,5 @@ returns-in-Ok g c =
     })
     _ new _ _ _ ended.applies)
 
-pub returns-in-Err : goal.returns-in-Err
-returns-in-Err g c = inl (c.in-Err.fault, refl, search rules, refl)
+pub returns-in-Err-clause-ends : goal.returns-in-Err-clause-ends
+returns-in-Err-clause-ends g c = inl (c.in-Err.fault, refl, search rules, refl)

@@ -6,8 +6,8 @@ use Rattle.office_run.specs.Opening.{IsOfOpened, IsOpened}
 use Rattle.office_run.proofs.Exports.{closed_exports, exports_of}
 use Rattle.office_run.proofs.exporting.export_on.Goals as goal
 
-pub returns-in-Ok : goal.returns-in-Ok
-returns-in-Ok g c =
+pub returns-in-Ok-clause-ends : goal.returns-in-Ok-clause-ends
+returns-in-Ok-clause-ends g c =
     let old = state g.S.Store c.args.conn in
     let new = state g.S.Store c.in-Ok.desk.held in
     let it = c.in-Ok.ensures in
@@ -25,5 +25,5 @@ returns-in-Ok g c =
     })
     c.args.register _ _ _ c.export_at-ending.ensures.exports)
 
-pub returns-in-Err : goal.returns-in-Err
-returns-in-Err g c = inl (c.in-Err.fault, refl, search rules, refl)
+pub returns-in-Err-clause-ends : goal.returns-in-Err-clause-ends
+returns-in-Err-clause-ends g c = inl (c.in-Err.fault, refl, search rules, refl)

@@ -7,8 +7,8 @@ use Rattle.office_run.specs.Opening.{IsOfOpened}
 use Rattle.office_run.proofs.Imports.{closed_imports, imports_of}
 use Rattle.office_run.proofs.importing.import_on.Goals as goal
 
-pub returns-in-Ok : goal.returns-in-Ok
-returns-in-Ok g c =
+pub returns-in-Ok-clause-ends : goal.returns-in-Ok-clause-ends
+returns-in-Ok-clause-ends g c =
     let old = state g.S.Store c.args.conn in
     let new = state g.S.Store c.import_at-ending.new.desk.held in
     let opened = c.in-Ok.ensures in
@@ -22,5 +22,5 @@ returns-in-Ok g c =
     })
     c.args.day _ new _ _ _ ended.imports))
 
-pub returns-in-Err : goal.returns-in-Err
-returns-in-Err g c = inl (c.in-Err.fault, refl, search rules, refl)
+pub returns-in-Err-clause-ends : goal.returns-in-Err-clause-ends
+returns-in-Err-clause-ends g c = inl (c.in-Err.fault, refl, search rules, refl)
