@@ -1,21 +1,19 @@
 //! The program `office` of the records disposal office.
 //!
 //! Its words are read by `office_words`. The commands that open no office are done by `office_plan`;
-//! those on the office in a file by `office_run`, over a connection to it. `serve` opens the office in a file
-//! and answers requests as `office_wire` does, at a port that it binds first.
+//! those on the office in a file by `office_run`, which opens it. What is here joins the process's own streams, files and
+//! socket to them: for `serve` a port is bound first.
 #![tactic(auto)]
 
 use clap::error::ErrorKind;
-use office_desk::Desk;
 use office_plan::{PlanStop, due_to, plan_to, read_whole};
-use office_run::{Ending, run_on, tell, tell_listening};
+use office_run::{Ending, open_and_run, open_and_serve, tell};
 use office_store::Fault;
-use office_wire::serve_all;
 use office_words::{Order, Words, order_of, read_words};
-use sqlite::{Alter, Connection, Wary};
+use sqlite::Wary;
 use std::fs::File;
-use std::io::{Read, Write};
-use std::net::{Ipv4Addr, OpenListener, OpenStream, SocketAddr, TcpListener};
+use std::io::Read;
+use std::net::{Ipv4Addr, SocketAddr, TcpListener};
 use std::process::ExitCode;
 use std::{env, io};
 
@@ -49,15 +47,9 @@ fn bytes_of(rt: &HostRuntime, file: &str) -> Result<Vec<u8>, Ending> {
 /// order reads. A file that is no database's stays as it is. Where it is not closed, the file and its log still
 /// have every act.
 fn run_from<R: Read>(rt: &HostRuntime, file: &str, order: &Order<'_>, input: &mut R) -> u8 {
-    match Connection::open_from(rt, file, false, Wary) {
-        Ok(conn) => {
-            let (mut out, mut err) = (io::writer(rt), rt.stderr());
-            let (status, conn) = run_on(rt.alloc(), conn, order, input, &mut out, &mut err);
-            let _ = conn.close();
-            status
-        }
-        Err(_) => ended(rt, Ending::Fault(Fault::Store)),
-    }
+    let (mut out, mut err) = (io::writer(rt), rt.stderr());
+    let (status, _left) = open_and_run(rt, file, Wary, order, input, &mut out, &mut err);
+    status
 }
 
 /// The same, where the order reads a text.
@@ -82,60 +74,17 @@ fn import_in(rt: &HostRuntime, file: &str, csv: &str, order: &Order<'_>) -> u8 {
     }
 }
 
-/// Tells where an open office is served, and serves so many connections.
-fn serve_at<L: OpenListener, S: Alter>(
-    rt: &HostRuntime,
-    listener: &L,
-    port: u16,
-    count: u32,
-    desk: &mut Desk<S>,
-) -> Ending
-where
-    L::Stream: Read + Write + OpenStream,
-{
-    match tell_listening(port, &mut io::writer(rt)) {
-        Ok(()) => {
-            let service = serve_all(rt.alloc(), listener, rt, count, desk, &mut rt.stderr());
-            Ending::of_service(service.has_failed, service.is_given_up)
-        }
-        Err(_) => Ending::File,
-    }
-}
-
-/// Serves the office in a file, which is made where there is none, at a port that is bound.
-fn serve_bound<L: OpenListener>(
-    rt: &HostRuntime,
-    listener: &L,
-    file: &str,
-    port: u16,
-    count: u32,
-) -> Ending
-where
-    L::Stream: Read + Write + OpenStream,
-{
-    let Ok(conn) = Connection::open_from(rt, file, false, Wary) else {
-        return Ending::Fault(Fault::Store);
-    };
-    match Desk::open(rt.alloc(), conn) {
-        Ok(mut desk) => {
-            let ending = serve_at(rt, listener, port, count, &mut desk);
-            let _ = desk.close().close();
-            ending
-        }
-        Err((fault, conn)) => {
-            let _ = conn.close();
-            Ending::Fault(fault)
-        }
-    }
-}
-
-/// Serves the office in a file at a port of 127.0.0.1, which no other machine reaches. Where the port cannot
-/// be bound, the file stays as it is.
+/// Serves the office in a file, which is made where there is none, at a port of 127.0.0.1, which no other machine
+/// reaches. Where the port cannot be bound, the file stays as it is.
 fn serve_in(rt: &HostRuntime, file: &str, port: u16, count: u32) -> Ending {
-    match TcpListener::bind(rt, SocketAddr::from((Ipv4Addr::LOCALHOST, port))) {
-        Ok(listener) => serve_bound(rt, &listener, file, port, count),
-        Err(_) => Ending::Socket,
-    }
+    let Ok(listener) = TcpListener::bind(rt, SocketAddr::from((Ipv4Addr::LOCALHOST, port))) else {
+        return Ending::Socket;
+    };
+    let (mut out, mut err) = (io::writer(rt), rt.stderr());
+    let (ending, _left) = open_and_serve(
+        rt, &listener, port, count, file, Wary, &mut out, &mut err,
+    );
+    ending
 }
 
 /// Carries out an order.

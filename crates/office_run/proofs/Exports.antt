@@ -1,7 +1,6 @@
 -- How the writing of a register ends.
 use Rattle.std.proofs.Common.{◌≡◌, ◌⊎◌, inl, inr, ℕ, Bool, true, false, IsTrue, List, Option, Result, Ok, Err, IfErr, OnOk, refl, sym, subst}
 use Rattle.office_rules.specs.State.{Office, State}
-use Rattle.office_store.specs.declared.fault.Fault.{Fault}
 use Rattle.office_store.specs.declared.fault.Fault.TheVariants as fault
 use Rattle.sqlite.specs.Held.{Held, state}
 use Rattle.sqlite.specs.State.{State as FileState}

@@ -4,4 +4,6 @@ pub mod DeskActs
 pub mod Endings
 pub mod Exports
 pub mod Imports
+pub mod Openings
 pub mod Resumptions
+pub mod Services

@@ -2,7 +2,9 @@ pub mod Applying
 pub mod Certifying
 pub mod Endings
 pub mod Exporting
+pub mod Files
 pub mod Importing
 pub mod Opening
 pub mod Resuming
 pub mod Running
+pub mod Serving

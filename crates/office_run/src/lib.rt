@@ -2,7 +2,8 @@
 //!
 //! `running` carries out an order: it makes or opens the office, does acts (`applying`), takes up the open
 //! run (`resuming`), adds the records of a CSV file (`importing`), writes a register (`exporting`), or tells a certificate (`certifying`). `ending` says what the program tells the
-//! caller at the end: the exit status, and the line on standard error.
+//! caller at the end: the exit status, and the line on standard error. `opening` opens the office's file, has an
+//! order carried out, and closes it; `serving` does so for a service.
 #![tactic(auto)]
 
 mod applying;
@@ -10,8 +11,12 @@ mod certifying;
 mod ending;
 mod exporting;
 mod importing;
+mod opening;
 mod resuming;
 mod running;
+mod serving;
 
 pub use ending::Ending;
+pub use opening::{FilesLeft, open_and_run};
 pub use running::{run_on, tell, tell_listening};
+pub use serving::open_and_serve;

@@ -1,0 +1,70 @@
+-- What a connection is to files that were opened: at rest over the office that they held, or without a table.
+use Rattle.std.proofs.Common.{◌≡◌, ◌∙◌, ap, ap₂, sym, subst, refl, [], IsTrue}
+use Rattle.sqlite_catalog.specs.Listing.{Lists}
+use Rattle.sqlite_catalog.proofs.ReadLemmas.{lists_once}
+use Rattle.sqlite_disk.specs.declared.Disk.{Ghosts}
+use Rattle.sqlite.specs.Schema.{Schema}
+use Rattle.sqlite_store.specs.declared.store.FileStore.{FileStore}
+use Rattle.sqlite_trees.specs.Objects.{catalog_tree}
+use Rattle.sqlite_trees.specs.Sound.{is_sound_list}
+use Rattle.sqlite_trees.specs.Tree.{Trees}
+use Rattle.sqlite_wal.specs.Recovery.{Image}
+use Rattle.sqlite.specs.Effect.{Database, IsDatabase}
+use Rattle.sqlite.specs.Files.{IsEmpty, IsOpened, file_state}
+use Rattle.sqlite.specs.Held.{Held}
+use Rattle.sqlite.specs.Start.{FindsIn}
+use Rattle.sqlite.specs.State.{State, HasCleanDisk, IsLive, Opens}
+use Rattle.office_sql.specs.Office.{IsAtRest, IsBlank, IsOffice}
+use Rattle.office_sql.specs.Schema.{no_schema, office_schema}
+use Rattle.office_run.specs.Files.{IsOpenedFrom, office_over}
+
+-- no object is listed where no table is there
+none_listed : Lists [] no_schema
+unfolding is_sound_list
+none_listed = record { listed = record { tables = tt; indexes = tt; views = tt; owned = tt; named = tt; loads = refl }; guarded = tt }
+
+module _ (s : State) (opened : Opens s) (live : IsLive s) (only : (db : Trees) → s.may_leave db → db ≡ s.committed.trees) (stays : s.may_leave s.committed.trees) where
+  same_trees : s.now.trees ≡ s.committed.trees
+  same_trees = ap (λ (d : Database). d.trees) opened.clean
+
+  left_alone : (db : Trees) → s.may_leave db → db ≡ s.now.trees
+  left_alone db left = only db left ∙ sym same_trees
+
+  left_at_all : s.may_leave s.now.trees
+  left_at_all = subst s.may_leave (sym same_trees) stays
+
+  -- over the trees of an office
+  rests : (trees : Trees) → s.committed.trees ≡ trees → IsDatabase (office_over trees) → IsOffice (office_over trees) → IsAtRest s × (s.now.trees ≡ trees)
+  rests trees held database office =
+      let same : s.now.trees ≡ trees = same_trees ∙ held in
+      let schema : s.now.schema ≡ office_schema =
+      lists_once (trees catalog_tree) s.now.schema office_schema (subst (λ (t : Trees). Lists (t catalog_tree) s.now.schema) same (live opened.is_open).0.lists) database.lists in
+      let over : s.now ≡ office_over trees = ap₂ (λ (a : Schema) (b : Trees). let d : Database = record { schema = a; trees = b } in d) schema same in
+      (record { is_open = opened.is_open; autocommit = opened.autocommit; settled = opened.clean; office = subst IsOffice (sym over) office; only = left_alone; stays = left_at_all }, same)
+
+  -- over empty trees
+  blanks : IsEmpty s.now.trees → IsBlank s
+  blanks empty = record {
+    is_open = opened.is_open;
+    autocommit = opened.autocommit;
+    settled = opened.clean;
+    schema = lists_once [] s.now.schema no_schema (subst (λ rows. Lists rows s.now.schema) empty.1 (live opened.is_open).0.lists) none_listed;
+    only = left_alone;
+    stays = left_at_all;
+  }
+
+-- what an opening promises of a connection, in the words of the program
+pub opened_from :
+    {D : Type 0} {g : Ghosts D} (image : Image) (was last : Held (FileStore D g)) → (HasCleanDisk (file_state last) → HasCleanDisk (file_state was))
+    → (HasCleanDisk (file_state was) → IsOpened was) → (HasCleanDisk (file_state was) → FindsIn image (file_state was))
+    → (IsTrue (file_state was).is_open → (db : Trees) → (file_state was).may_leave db → db ≡ (file_state was).committed.trees)
+    → (IsTrue (file_state was).is_open → (file_state was).may_leave (file_state was).committed.trees)
+    → IsOpenedFrom image was last
+opened_from image was last clean opened found only stays = record {
+  found = λ so. let it = opened (clean so) in let at = found (clean so) in rw (same_trees (file_state was) it.0 it.1 (only it.0.is_open) (stays it.0.is_open)) at.reads;
+  rest = λ so trees held.
+      let it = opened (clean so) in
+      let at = found (clean so) in
+      rests (file_state was) it.0 it.1 (only it.0.is_open) (stays it.0.is_open) trees (at.holds trees held.held) held.database held.office;
+  blank = λ so. let it = opened (clean so) in blanks (file_state was) it.0 it.1 (only it.0.is_open) (stays it.0.is_open);
+}

@@ -1,0 +1,16 @@
+use Rattle.std.proofs.Common.{inl, inr, refl, rules}
+use Rattle.office_run.specs.Serving.{IsDeskOf}
+use Rattle.office_run.proofs.serving.serve_on.Goals as goal
+
+pub returns-in-Ok-clause-ends : goal.returns-in-Ok-clause-ends
+returns-in-Ok-clause-ends g c =
+    let it = c.in-Ok.ensures in
+    let opened : IsDeskOf g.S.Store c.args.conn c.in-Ok.desk = record {
+      is_open = it.open;
+      made = it.made;
+      found = λ clean rest. let f = it.found clean rest in (f.0, f.1, f.2);
+    } in
+    inr (c.in-Ok.desk, c.serve_at-ending.new.desk, opened, c.serve_at-ending.ensures.serves, c.close.ensures.same)
+
+pub returns-in-Err-clause-ends : goal.returns-in-Err-clause-ends
+returns-in-Err-clause-ends g c = inl (c.in-Err.fault, refl, search rules, refl)

@@ -1,0 +1,64 @@
+-- What is done with the office in a file, by what its two files held as they were opened. Source: own.
+use Rattle.std.specs.Prelude.{◌≡◌, ◌⊎◌, ℕ, List, Option}
+use Rattle.sqlite_disk.specs.declared.Disk.{Ghosts}
+use Rattle.sqlite_store.specs.declared.store.FileStore.{FileStore}
+use Rattle.sqlite_trees.specs.Tree.{Trees}
+use Rattle.sqlite_wal.specs.Reads.{AreClean}
+use Rattle.sqlite_wal.specs.Recovery.{Image}
+use Rattle.sqlite.specs.Closing.{IsCopied}
+use Rattle.sqlite.specs.Effect.{Database, IsDatabase}
+use Rattle.sqlite.specs.Files.{AreFoundIn, HoldsDatabase, IsClosed, IsEmpty, file_state, over_files}
+use Rattle.sqlite.specs.Held.{Held}
+use Rattle.sqlite.specs.State.{HasCleanDisk}
+use Rattle.office_sql.specs.Office.{IsAtRest, IsBlank, IsOffice}
+use Rattle.office_sql.specs.Schema.{office_schema}
+use Rattle.office_store.specs.declared.fault.Fault.TheVariants as fault
+use Rattle.office_words.specs.Orders.{Ordered}
+use Rattle.office_run.specs.Running.{RunEnds}
+use Rattle.office_run.specs.Serving.{ServiceEnds}
+use Rattle.office_run.specs.declared.ending.Ending.{Ending}
+use Rattle.office_run.specs.declared.ending.Ending.TheVariants as how
+use Rattle.office_run.specs.declared.opening.FilesLeft.{FilesLeft}
+use Rattle.office_run.specs.declared.opening.FilesLeft.TheVariants as files
+
+-- a database of the office's tables
+abbrev pub office_over : Trees → Database
+office_over trees = record { schema = office_schema; trees = trees }
+
+-- the two files held this database, which has the office's tables and nothing else
+pub record HeldOffice (image : Image) (trees : Trees) : Type 0 where
+  pub held : HoldsDatabase image trees
+  pub database : IsDatabase (office_over trees)
+  pub office : IsOffice (office_over trees)
+
+-- files that held this were opened as that connection, as far as a later one is clean: it is at rest over the office that they held, or has no table yet where it found nothing
+pub record IsOpenedFrom {D : Type 0} {g : Ghosts D} (image : Image) (was last : Held (FileStore D g)) : Type 0 where
+  pub found : HasCleanDisk (file_state last) → AreFoundIn image (file_state was).now.trees
+  pub rest : HasCleanDisk (file_state last) → (trees : Trees) → HeldOffice image trees → IsAtRest (file_state was) × ((file_state was).now.trees ≡ trees)
+  pub blank : HasCleanDisk (file_state last) → IsEmpty (file_state was).now.trees → IsBlank (file_state was)
+
+-- files that held this were opened, and so it ended over the connection, which is this one then
+pub record EndsOver {D : Type 0} {g : Ghosts D} (image : Image) (Ends : Held (FileStore D g) → Held (FileStore D g) → Type 0) (last : Held (FileStore D g)) : Type 0 where
+  pub was : Held (FileStore D g)
+  pub opened : IsOpenedFrom image was last
+  pub ends : Ends was last
+
+-- what a connection leaves of its files as it is closed: its last commit, in the database file alone; or, where that failed, no more than what a crash left before
+abbrev pub IsLeftOf : {D : Type 0} {g : Ghosts D} → Held (FileStore D g) → FilesLeft D g → Type 0
+IsLeftOf last files.Unopened = ⊥
+IsLeftOf {g = g} last (files.Closed it) = AreClean g it.log it.db → IsCopied last it
+IsLeftOf last (files.Unclosed store) = IsClosed last store
+
+-- files that held this were not opened, which is fault 31, with nothing written; or so it ended over their connection, which was closed
+abbrev pub EndsInFiles : {D : Type 0} {g : Ghosts D} → FilesLeft D g → Image → (Held (FileStore D g) → Held (FileStore D g) → Type 0) → Option (List ℕ) → Option (List ℕ) → Ending → Type 0
+EndsInFiles {D} {g} left image Ends written after ending =
+    ((ending ≡ how.Fault fault.Store) × (left ≡ files.Unopened) × (after ≡ written))
+    ⊎ ((last : Held (FileStore D g)) × EndsOver image Ends last × IsLeftOf last left)
+
+-- an order on the office in files that held this, where the reader tells the text that it reads
+abbrev pub RunsInFiles : {D : Type 0} {g : Ghosts D} → FilesLeft D g → Image → Ordered → Option (List ℕ) → Option (List ℕ) → Option (List ℕ) → Ending → Type 0
+RunsInFiles left image order text written after ending = EndsInFiles left image (λ was last. RunEnds over_files order text was last written after ending) written after ending
+
+-- a service of the office in files that held this, at a port and for so many connections
+abbrev pub ServesInFiles : {D : Type 0} {g : Ghosts D} → FilesLeft D g → Image → ℕ → ℕ → Option (List ℕ) → Option (List ℕ) → Ending → Type 0
+ServesInFiles left image port count written after ending = EndsInFiles left image (λ was last. ServiceEnds over_files port count was last written after ending) written after ending

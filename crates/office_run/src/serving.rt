@@ -1,0 +1,93 @@
+//! The office in a file, served over TCP.
+ghost use Rattle.std.specs.Prelude.{◌≡◌, false};
+ghost use Rattle.sqlite_wal.specs.Files.{image_at};
+ghost use Rattle.sqlite.specs.Held.{state};
+ghost use Rattle.sqlite.specs.State.{HasCleanDisk};
+ghost use Rattle.office_run.specs.Files.{ServesInFiles};
+ghost use Rattle.office_run.specs.Serving.{ServesAt, ServiceEnds};
+
+use crate::ending::Ending;
+use crate::opening::{FilesLeft, close, law_of_the_last_commit};
+use crate::running::tell_listening;
+use office_desk::Desk;
+use office_store::Fault;
+use office_wire::serve_all;
+use sqlite::{Alter, Connection, FileFrom, Start};
+use std::io::{Read, Write};
+use std::net::{OpenListener, OpenStream};
+
+/// Tells where an open office is served, and serves so many connections.
+fn serve_at<L: OpenListener, W: Write, E: Write, S: Alter>(
+    rt: &HostRuntime,
+    listener: &L,
+    port: u16,
+    count: u32,
+    desk: &mut Desk<S>,
+    out: &mut W,
+    err: &mut E,
+) -> Ending
+where
+    L::Stream: Read + Write + OpenStream,
+    ensures serves { ServesAt S.Store port count desk.old desk.new (W.contents out.old) (W.contents out.new) result }
+    ensures clean { HasCleanDisk (state S.Store desk.new.held) → HasCleanDisk (state S.Store desk.old.held) }
+{
+    match tell_listening(port, out) {
+        Ok(()) => {
+            let service = serve_all(rt.alloc(), listener, rt, count, desk, err);
+            Ending::of_service(service.has_failed, service.is_given_up)
+        }
+        Err(_) => Ending::File,
+    }
+}
+
+/// `serve FILE PORT COUNT` over a connection to the file.
+fn serve_on<L: OpenListener, W: Write, E: Write, S: Alter>(
+    rt: &HostRuntime,
+    listener: &L,
+    port: u16,
+    count: u32,
+    conn: Connection<S>,
+    out: &mut W,
+    err: &mut E,
+) -> (Ending, Connection<S>)
+where
+    L::Stream: Read + Write + OpenStream,
+    requires { conn.in_transaction ≡ false }
+    ensures ends { ServiceEnds S.Store port count conn result.1 (W.contents out.old) (W.contents out.new) result.0 }
+    ensures clean { HasCleanDisk (state S.Store result.1) → HasCleanDisk (state S.Store conn) }
+{
+    match Desk::open(rt.alloc(), conn) {
+        Ok(mut desk) => {
+            let ending = serve_at(rt, listener, port, count, &mut desk, out, err);
+            (ending, desk.close())
+        }
+        Err((fault, conn)) => (Ending::Fault(fault), conn),
+    }
+}
+
+/// Opens the office's file, which is made where there is none, tells on `out` where it is served, serves so many
+/// connections of a listener, and closes the file. It gives how that ends, which is not told yet, and what is left
+/// of the file, as [`crate::open_and_run`] does. The listener is bound to that port of this machine.
+pub fn open_and_serve<L: OpenListener, S: Start, W: Write, E: Write>(
+    rt: &HostRuntime,
+    listener: &L,
+    port: u16,
+    count: u32,
+    file: &str,
+    start: S,
+    out: &mut W,
+    err: &mut E,
+) -> (Ending, FilesLeft<FileFrom<S>>)
+where
+    L::Stream: Read + Write + OpenStream,
+    ensures { ServesInFiles result.1 (image_at S.Start) port count (W.contents out.old) (W.contents out.new) result.0 }
+{
+    match Connection::open_from(rt, file, false, start) {
+        Ok(conn) => {
+            law_of_the_last_commit(&conn);
+            let (ending, conn) = serve_on(rt, listener, port, count, conn, out, err);
+            (ending, close(conn))
+        }
+        Err(_) => (Ending::Fault(Fault::Store), FilesLeft::Unopened),
+    }
+}
