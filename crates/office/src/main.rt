@@ -12,7 +12,7 @@ use office_store::Fault;
 use office_words::{Order, Words, order_of, read_words};
 use sqlite::Wary;
 use std::fs::File;
-use std::io::Read;
+use std::io::{LineWriter, Read};
 use std::net::{Ipv4Addr, SocketAddr, TcpListener};
 use std::process::ExitCode;
 use std::{env, io};
@@ -47,9 +47,15 @@ fn bytes_of(rt: &HostRuntime, file: &str) -> Result<Vec<u8>, Ending> {
 /// order reads. A file that is no database's stays as it is. Where it is not closed, the file and its log still
 /// have every act.
 fn run_from<R: Read>(rt: &HostRuntime, file: &str, order: &Order<'_>, input: &mut R) -> u8 {
-    let (mut out, mut err) = (io::writer(rt), rt.stderr());
-    let (status, _left) = open_and_run(rt, file, Wary, order, input, &mut out, &mut err);
-    status
+    // a line goes out in one write
+    match LineWriter::new(rt.alloc(), io::writer(rt)) {
+        Ok(mut out) => {
+            let mut err = rt.stderr();
+            let (status, _left) = open_and_run(rt, file, Wary, order, input, &mut out, &mut err);
+            status
+        }
+        Err(_) => ended(rt, Ending::Fault(Fault::Memory)),
+    }
 }
 
 /// The same, where the order reads a text.
