@@ -12,10 +12,10 @@ use Rattle.office_holds.specs.declared.row.HoldRow.{HoldRow}
 use Rattle.office_proof.specs.Outcomes.{outcome_word}
 use Rattle.office_proof.specs.declared.entry.Entry.{Entry}
 use Rattle.office_rules.specs.declared.run.Run.{Run}
-use Rattle.office_sql.specs.Shown.{certificate_row}
+use Rattle.office_sql.specs.Shown.{certificate_row, content_row}
 use Rattle.office_store.specs.Encoded.{entry_shown}
 use Rattle.office_store.specs.Stored.{aggregation_pair, class_pair, hold_pair, number_row, run_pair, schedule_pair}
-use Rattle.office_store.proofs.OwnValues.{int_or_null_own, int_own, number_or_null_own, number_own, text_or_null_own, text_own}
+use Rattle.office_store.proofs.OwnValues.{bytes_own, int_or_null_own, int_own, number_or_null_own, number_own, text_or_null_own, text_own}
 use Rattle.office_store.proofs.OwnWords.{action_own, offset_own, outcome_own, trigger_own, unit_own}
 
 pub schedule_own : (a b : List ℕ × Schedule) → schedule_pair a ≡ schedule_pair b → a ≡ b
@@ -47,6 +47,12 @@ aggregation_own a b h =
 
 pub content_own : (a b : ℕ) → number_row a ≡ number_row b → a ≡ b
 content_own a b h = number_own a b (ap (λ r. column r 0) h)
+
+pub content_pair_own : (a b : ℕ × List ℕ) → content_row (pos a.0) a.1 ≡ content_row (pos b.0) b.1 → a ≡ b
+content_pair_own a b h =
+    let number = number_own a.0 b.0 (ap (λ r. column r 0) h) in
+    let bytes = bytes_own a.1 b.1 (ap (λ r. column r 1) h) in
+    λ i. (number i, bytes i)
 
 pub hold_own : (a b : List ℕ × HoldRow) → hold_pair a ≡ hold_pair b → a ≡ b
 hold_own a b h =

@@ -31,7 +31,7 @@ use Rattle.office_store.proofs.RisingRows.{by_columns, rise_by_two, rise_numbere
 use Rattle.office_store.proofs.RowsInOrder.{AreInOrder}
 
 -- entries that stand under their own run and record
-under_keys : (es : List ((ℕ × ℕ) × Entry)) → ((e : (ℕ × ℕ) × Entry) → IsIn es e → IsOwnKey e) → map (λ e. ((e.run, e.record_no), e)) (map (λ e. e.1) es) ≡ es
+pub under_keys : (es : List ((ℕ × ℕ) × Entry)) → ((e : (ℕ × ℕ) × Entry) → IsIn es e → IsOwnKey e) → map (λ e. ((e.run, e.record_no), e)) (map (λ e. e.1) es) ≡ es
 under_keys [] own = refl
 under_keys (e ∷ es) own = let key = own e (inl refl) in ap₂ (λ f l. f ∷ l) (λ i. (sym key i, e.1)) (under_keys es (λ f within. own f (inr within)))
 

@@ -39,3 +39,8 @@ pub fn law_of_found_rows()
     ensures stand { (s : State) (t : Tables) (db : Trees) → IsRead t db → StandsFor t s → HasContents db s.contents → Stands (rows_of s) db }
     ensures contents { (t : Tables) (db : Trees) (like : ByteMap) → IsRead t db → AreNumbersAndBytes db → HaveKeys like t.contents.items → (contents : ByteMap) × HaveKeys contents t.contents.items × HasContents db contents }
 {}
+
+/// The tables in one database stand for at most one sound state.
+pub fn law_of_one_database()
+    ensures one { (s u : State) (db : Trees) → IsSound s → IsSound u → Stands (rows_of s) db → Stands (rows_of u) db → s ≡ u }
+{}
