@@ -2,6 +2,7 @@ pub mod AllFates
 pub mod DecidedSteps
 pub mod Fronts
 pub mod LeftFates
+pub mod LeftOffices
 pub mod OneFates
 pub mod Opened
 pub mod RunSteps

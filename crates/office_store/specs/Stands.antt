@@ -1,9 +1,11 @@
 -- When the tables in the database stand for the rows of an office. Source: own.
 use Rattle.std.specs.Prelude.{◌≡◌, ◌⊎◌, ℕ, Bool, pos, List, [], ◌∷◌, map, IsPermutation}
-use Rattle.std.specs.List.{list_any}
+use Rattle.std.specs.List.{AllByRecursion, list_any}
 use Rattle.std.specs.FinMap as finmap
 use Rattle.sqlite_value.specs.Order.{Row}
 use Rattle.sqlite_trees.specs.Tree.{Trees}
+use Rattle.sqlite_trees.specs.View.{IsShaped}
+use Rattle.sqlite_trees.specs.declared.store.Shape.TheVariants as shape
 use Rattle.sqlite_schema.specs.declared.schema.Table.{Table}
 use Rattle.sqlite.specs.State.{State}
 use Rattle.office_holds.specs.Founding.{is_pair}
@@ -12,7 +14,7 @@ use Rattle.office_rules.specs.Rows.{TableRows, rows_of}
 use Rattle.office_rules.specs.State.{ByteMap, empty_state}
 use Rattle.office_sql.specs.Bags as bags
 use Rattle.office_sql.specs.Office.{IsAtRest}
-use Rattle.office_sql.specs.Schema.{at, aggregations, certificates, classes, contents, entries, holds, office, records, runs, schedules, targets}
+use Rattle.office_sql.specs.Schema.{at, aggregations, certificates, classes, contents, entries, holds, office, office_schema, records, runs, schedules, targets}
 use Rattle.office_sql.specs.Shown.{certificate_row, content_row, office_row}
 use Rattle.office_store.specs.Encoded.{aggregation_shown, class_shown, entry_shown, hold_shown, record_shown, run_shown, schedule_shown, target_shown}
 
@@ -49,10 +51,19 @@ pub record HoldsRows (t : TableRows) (s : State) : Type 0 where
   pub rest : IsAtRest s
   pub stands : Stands t s.now.trees
 
--- a crash leaves tables of these rows or of those
-abbrev pub LeavesWithin : TableRows → TableRows → State → Type 0
-LeavesWithin t u s = (db : Trees) → s.may_leave db → Stands t db ⊎ Stands u db
+-- the tables are such as opening asks of an office: in each of them the rowids rise
+abbrev pub AreOfficeTables : Trees → Type 0
+AreOfficeTables db = AllByRecursion (λ t. IsShaped shape.Table (db t.tree)) office_schema.tables
+
+-- whatever tables a crash leaves, they are an office's again
+abbrev pub LeavesOffices : State → Type 0
+LeavesOffices s = (db : Trees) → s.may_leave db → AreOfficeTables db
+
+-- a crash leaves an office's tables, of these rows or of those
+pub record LeavesWithin (t u : TableRows) (s : State) : Type 0 where
+  pub offices : LeavesOffices s
+  pub either : (db : Trees) → s.may_leave db → Stands t db ⊎ Stands u db
 
 -- a crash leaves what was there, or the tables of a new office
 abbrev pub LeavesFirst : State → State → Type 0
-LeavesFirst old new = (db : Trees) → new.may_leave db → (db ≡ old.now.trees) ⊎ Stands (rows_of empty_state) db
+LeavesFirst old new = (db : Trees) → new.may_leave db → (db ≡ old.now.trees) ⊎ (Stands (rows_of empty_state) db × AreOfficeTables db)

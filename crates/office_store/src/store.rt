@@ -12,7 +12,7 @@ ghost use Rattle.office_rules.specs.Writes.{all_writes};
 ghost use Rattle.office_sql.specs.Names.{has_other_table};
 ghost use Rattle.office_sql.specs.Office.{IsAtRest, IsBlank};
 ghost use Rattle.office_store.specs.Adopted.{AreNumbersAndBytes, IsOtherVersion, IsRead, LeavesLess};
-ghost use Rattle.office_store.specs.Stands.{HoldsRows, LeavesFirst, LeavesWithin};
+ghost use Rattle.office_store.specs.Stands.{HoldsRows, LeavesFirst, LeavesOffices, LeavesWithin};
 ghost use Rattle.office_store.specs.Stored.{AllReadable};
 
 use crate::Fault;
@@ -109,12 +109,14 @@ impl<S: Alter> Store<S> {
     }
 
     /// Saves a change in one transaction. At `Memory` nothing was done. At `Store` a crash leaves the
-    /// old tables or the next; where no fault has shut the connection, the old alone.
+    /// old tables or the next; where no fault has shut the connection, the old alone. Whatever is left is
+    /// an office's tables again.
     pub fn save(&mut self, alloc: Global, change: &Change) -> Result<(), Fault>
         ensures ok { (s : State) → IsSound s → CanBeMade s.office change.now → HasCleanDisk (state S.Store self.new) → HoldsRows (rows_of s) (state S.Store self.old) → OnOk result (HoldsRows (rows_of (all_writes change.now.writes.items s)) (state S.Store self.new)) }
         ensures memory { result ≡ Err Fault.Memory → self.new ≡ self.old }
         ensures err { (s : State) → IsSound s → CanBeMade s.office change.now → HasCleanDisk (state S.Store self.new) → HoldsRows (rows_of s) (state S.Store self.old) → OnErr result (LeavesWithin (rows_of s) (rows_of (all_writes change.now.writes.items s)) (state S.Store self.new)) }
         ensures undone { (s : State) → HasCleanDisk (state S.Store self.new) → HoldsRows (rows_of s) (state S.Store self.old) → IsTrue (state S.Store self.new).is_open → OnErr result (HoldsRows (rows_of s) (state S.Store self.new)) }
+        ensures offices { HasCleanDisk (state S.Store self.new) → IsAtRest (state S.Store self.old) → LeavesOffices (state S.Store self.new) }
         ensures clean { HasCleanDisk (state S.Store self.new) → HasCleanDisk (state S.Store self.old) }
         ensures faults { IfErr result (λ fault. (fault ≡ Fault.Memory) ⊎ (fault ≡ Fault.Store)) }
     {
