@@ -1,5 +1,6 @@
 pub mod AllFates
 pub mod DecidedSteps
+pub mod Found
 pub mod Fronts
 pub mod LeftFates
 pub mod LeftOffices
