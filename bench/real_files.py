@@ -1,0 +1,217 @@
+"""An office on real files, worked on and stopped: what `killed_programs` and `full_disks` share.
+
+The rows that stand after so many steps of a word's work are found by doing them one at a time, each by a run of the program of its own.
+"""
+import base64
+import http.client
+import json
+import os
+import pathlib
+import shutil
+import signal
+import socket
+import sqlite3
+import subprocess
+import tempfile
+import time
+
+OFFICE = os.environ.get("OFFICE") or str(pathlib.Path(__file__).resolve().parent.parent / "office")
+TABLES = ["office", "schedules", "classes", "aggregations", "records", "contents", "holds", "targets", "runs", "entries", "certificates"]
+RECORDS = 60
+FIRST, LAST = "2024-01-02", "2025-01-02"
+
+
+def run(*words, kill_after=None):
+    """What the program printed and its exit status; it is killed after so many seconds."""
+    with tempfile.TemporaryFile() as out:
+        started = subprocess.Popen([OFFICE, *map(str, words)], stdout=out, stderr=subprocess.DEVNULL, stdin=subprocess.DEVNULL)
+        if kill_after is not None:
+            time.sleep(kill_after)
+            started.send_signal(signal.SIGKILL)
+        status = started.wait()
+        out.seek(0)
+        return out.read().decode(), status
+
+
+def rows_of(file):
+    """All rows of an office's file that is closed, told as text."""
+    conn = sqlite3.connect(f"file:{file}?mode=ro&immutable=1", uri=True)
+    try:
+        return "\n".join(str(sorted(map(repr, conn.execute(f"SELECT * FROM {it}")))) for it in TABLES)
+    finally:
+        conn.close()
+
+
+def copied(file, to):
+    for end in ("", "-wal"):
+        (pathlib.Path(f"{to}{end}").unlink(missing_ok=True))
+        if os.path.exists(f"{file}{end}"):
+            shutil.copyfile(f"{file}{end}", f"{to}{end}")
+    return to
+
+
+def first_acts():
+    """An office with records that are due on the last day."""
+    yield {"act": "add-schedule", "day": FIRST, "code": "D1", "trigger": "added", "unit": "years", "count": 1, "offset": "none", "action": "destroy"}
+    yield {"act": "add-class", "day": FIRST, "code": "FIN", "title": "Finance", "schedule": "D1"}
+    yield {"act": "add-aggregation", "day": FIRST, "ref": "A", "title": "A", "class": "FIN"}
+    for n in range(RECORDS):
+        content = base64.b64encode(b"letter %d" % n * (1 + n % 7 * 100)).decode()
+        yield {"act": "add-record", "day": FIRST, "ref": f"r{n}", "title": f"r{n}", "originated": FIRST, "aggregation": 1, "content": content}
+
+
+def later_acts():
+    """Confirmations, holds and refusals, in turn."""
+    for n in range(1, RECORDS + 1):
+        yield {"act": "confirm", "day": LAST, "record": n, "action": "destroy", "by": "registrar"}
+        if n % 9 == 0:
+            yield {"act": "place-hold", "day": LAST, "code": f"H-{n}", "reason": "case", "by": "court"}
+            yield {"act": "hold-on", "day": LAST, "hold": f"H-{n}", "target": f"record:{n}"}
+            yield {"act": "add-class", "day": LAST, "code": "FIN", "title": "again", "schedule": "D1"}
+
+
+def rows_after_each(file, work, step):
+    """The rows at first, and after each of the steps, each done by a run of the program of its own."""
+    copied(file, work)
+    run("init", work)
+    found = [rows_of(work)]
+    for words in step:
+        run(*words(work))
+        found.append(rows_of(work))
+    return found
+
+
+class Trial:
+    """One word on an office: its rows after each step, and how long its whole work takes."""
+
+    def __init__(self, room, name, base, steps):
+        self.room, self.name, self.base = room, name, base
+        self.states = rows_after_each(base, room / f"{name}.steps", steps)
+        self.reached, self.lasted = [], None
+        began = time.time()
+        self.kill(copied(base, room / "whole"), None)
+        self.seconds = self.lasted or time.time() - began
+
+    def kill(self, file, after):
+        """Does the work, killed after so many seconds: how many steps were answered, and how many more may be done."""
+        raise NotImplementedError
+
+    def finish(self, file, done):
+        raise NotImplementedError
+
+    def once(self, at):
+        """What is not as it must be after a kill at that part of the work; none where all is."""
+        file = copied(self.base, self.room / "file")
+        return self.judge(file, *self.kill(file, at * self.seconds))
+
+    def judge(self, file, answered, more):
+        """The same of a file whose work was stopped after so many answered steps and at most so many more."""
+        told, status = run("init", file)
+        if (told, status) != ("version 1\n", 0):
+            return f"init: {told!r}, {status}"
+        rows = rows_of(file)
+        # rows that a refused act leaves are those before it, so there may be several numbers of steps
+        done = [n for n, it in enumerate(self.states) if it == rows and answered <= n <= answered + more]
+        if not done:
+            near = [n for n, it in enumerate(self.states) if it == rows]
+            return f"{answered} answered, the rows are those after {near or 'none'}"
+        self.reached.append(done[-1])
+        self.finish(file, done[0])
+        return None if rows_of(file) == self.states[-1] else "the rest leads elsewhere"
+
+
+class Apply(Trial):
+    acts = list(later_acts())
+
+    def kill(self, file, after):
+        listed = self.room / "acts.json"
+        listed.write_text(json.dumps(self.acts))
+        told, _ = run("apply", file, listed, kill_after=after)
+        answered = told.count("\n")
+        return (answered, len(self.acts) - answered)
+
+    def finish(self, file, done):
+        listed = self.room / "rest.json"
+        listed.write_text(json.dumps(self.acts[done:]))
+        run("apply", file, listed)
+
+
+class Serve(Apply):
+    def kill(self, file, after):
+        with socket.socket() as free:
+            free.bind(("127.0.0.1", 0))
+            port = free.getsockname()[1]
+        server = subprocess.Popen([OFFICE, "serve", str(file), str(port), str(len(self.acts))], stdout=subprocess.PIPE, stderr=subprocess.DEVNULL)
+        server.stdout.readline()
+        ready, answered = time.time(), 0
+        killer = None if after is None else subprocess.Popen(["sh", "-c", f"sleep {after:.4f}; kill -9 {server.pid}"])
+        try:
+            for act in self.acts:
+                conn = http.client.HTTPConnection("127.0.0.1", port, timeout=10)
+                conn.request("POST", "/acts", body=json.dumps([act]))
+                conn.getresponse().read()
+                conn.close()
+                answered += 1
+        except (OSError, http.client.HTTPException):
+            pass
+        self.lasted = time.time() - ready
+        if killer:
+            killer.wait()
+        server.wait()
+        server.stdout.close()
+        return (answered, 1)
+
+
+class Import(Trial):
+    lines = [f"i{n},letter {n},{FIRST},{1 if n % 8 else 9},,,{base64.b64encode(b'%d' % n * n * 20).decode()}" for n in range(RECORDS)]
+    header = "ref,title,originated,aggregation,class,schedule,content"
+
+    def text(self, lines):
+        file = self.room / "rows.csv"
+        file.write_text("\n".join([self.header, *lines, ""]))
+        return file
+
+    def kill(self, file, after):
+        told, _ = run("import", file, LAST, self.text(self.lines), kill_after=after)
+        return (told.count("\n"), 1)
+
+    def finish(self, file, done):
+        run("import", file, LAST, self.text(self.lines))
+
+
+class Resume(Trial):
+    def kill(self, file, after):
+        told, _ = run("resume", file, kill_after=after)
+        steps = len(self.states) - 1
+        return (steps, 0) if told == "certificate 1\n" else (0, steps)
+
+    def finish(self, file, done):
+        run("resume", file)
+
+
+def one_by_one(room, acts):
+    """A run of the program for each act."""
+    for n, act in enumerate(acts):
+        listed = room / f"act{n}.json"
+        listed.write_text(json.dumps([act]))
+        yield lambda file, listed=listed: ("apply", file, listed)
+
+
+def trials(room):
+    first = room / "first.json"
+    first.write_text(json.dumps(list(first_acts())))
+    base, opened = room / "base", room / "opened"
+    run("apply", base, first)
+    copied(base, opened)
+    listed = room / "open.json"
+    listed.write_text(json.dumps([*Apply.acts, {"act": "open-run", "day": LAST, "by": "registrar"}]))
+    run("apply", opened, listed)
+    yield Apply(room, "apply", base, list(one_by_one(room, Apply.acts)))
+    yield Serve(room, "serve", base, list(one_by_one(room, Apply.acts)))
+    rows = []
+    for n, line in enumerate(Import.lines):
+        file = room / f"row{n}.csv"
+        file.write_text("\n".join([Import.header, line, ""]))
+        rows.append(lambda work, file=file: ("import", work, LAST, file))
+    yield Import(room, "import", base, rows)
+    yield Resume(room, "resume", opened, list(one_by_one(room, [{"act": "run-step"}] * (RECORDS + 1))))
