@@ -6,7 +6,7 @@ use office_json::{answer_value, read_acts, text_of};
 use office_rules::{Act, Answer};
 use office_store::Fault;
 use sqlite::Alter;
-use std::alloc::Global;
+use std::alloc::{AllocError, Global};
 use std::test::Fail;
 
 /// Whether words ask for an act, or that the open run is taken up.
@@ -14,38 +14,51 @@ pub(crate) fn is_act(words: &str) -> bool {
     words == "resume" || words.starts_with('{') || words.starts_with('2')
 }
 
-/// The act that words ask for, in a list of its own.
+/// The acts that words ask for, which stand between ` & `.
 fn acts_of(alloc: Global, words: &str) -> Result<Vec<Act>, Fail> {
-    let json = json_of(alloc, words)?;
-    let list = format!(in alloc; "[{json}]")?;
+    let values = joined(alloc, words, ",")?;
+    let list = format!(in alloc; "[{values}]")?;
     match read_acts(alloc, list.as_bytes()) {
         Ok(acts) => Ok(acts),
         Err(_) => Err(failure("no act", words)),
     }
 }
 
-/// The answer to the last of the acts.
-fn performed<S: Alter>(
-    alloc: Global,
-    desk: &mut Desk<S>,
-    acts: &[Act],
-) -> Result<Option<Answer>, Fault> {
-    let mut answers = Vec::new(alloc);
-    desk.perform_all(acts, &mut answers)?;
-    Ok(answers.pop())
+/// The JSON of words that stand between ` & `, with that between them.
+fn joined(alloc: Global, words: &str, between: &str) -> Result<String, Fail> {
+    let mut text = String::new(alloc);
+    for part in words.split(" & ") {
+        if !text.is_empty() {
+            text.push_str(between)?;
+        }
+        text.push_str(json_of(alloc, part)?.as_str())?;
+    }
+    Ok(text)
 }
 
-/// The answer to what the words ask for, an act or that the open run is taken up.
+/// The JSON of answers that stand between ` & `, a line for each.
+pub(crate) fn lines_of(alloc: Global, answers: &str) -> Result<String, Fail> {
+    joined(alloc, answers, "\n")
+}
+
+/// The open run is taken up.
+fn resume<S: Alter>(desk: &mut Desk<S>, answers: &mut Vec<Answer>) -> Result<(), Fault> {
+    let answer = desk.resume()?;
+    answers.push(answer).or(Err(Fault::Memory))
+}
+
+/// What the words ask for is done, acts or that the open run is taken up.
 fn done<S: Alter>(
     alloc: Global,
     desk: &mut Desk<S>,
     words: &str,
-) -> Result<Result<Option<Answer>, Fault>, Fail> {
+    answers: &mut Vec<Answer>,
+) -> Result<Result<(), Fault>, Fail> {
     if words == "resume" {
-        return Ok(desk.resume().map(|answer| Some(answer)));
+        return Ok(resume(desk, answers));
     }
     let acts = acts_of(alloc, words)?;
-    Ok(performed(alloc, desk, acts.as_slice()))
+    Ok(desk.perform_all(acts.as_slice(), answers))
 }
 
 /// An answer in JSON.
@@ -59,17 +72,30 @@ fn fault_text(alloc: Global, fault: Fault) -> Result<String, Fail> {
     Ok(format!(in alloc; "{{\"fault\":{}}}", fault.number())?)
 }
 
-/// The answer to what the words ask for, in JSON.
+/// One line more.
+fn push_line(text: &mut String, line: &str) -> Result<(), AllocError> {
+    if !text.is_empty() {
+        text.push('\n')?;
+    }
+    text.push_str(line)
+}
+
+/// The answers to what the words ask for, in JSON, a line for each, and then the fault.
 pub(crate) fn answered<S: Alter>(
     alloc: Global,
     desk: &mut Desk<S>,
     words: &str,
 ) -> Result<String, Fail> {
-    match done(alloc, desk, words)? {
-        Ok(Some(answer)) => answer_text(alloc, &answer),
-        Ok(None) => Err(failure("no answer", words)),
-        Err(fault) => fault_text(alloc, fault),
+    let mut answers = Vec::new(alloc);
+    let ended = done(alloc, desk, words, &mut answers)?;
+    let mut text = String::new(alloc);
+    for answer in answers.iter() {
+        push_line(&mut text, answer_text(alloc, answer)?.as_str())?;
     }
+    if let Err(fault) = ended {
+        push_line(&mut text, fault_text(alloc, fault)?.as_str())?;
+    }
+    Ok(text)
 }
 
 /// What the words ask for is done at a desk, and must be answered so.
@@ -80,6 +106,6 @@ pub(crate) fn tell_act<S: Alter>(
     answer: &str,
 ) -> Result<(), Fail> {
     let told = answered(alloc, desk, words)?;
-    let wanted = json_of(alloc, answer)?;
+    let wanted = lines_of(alloc, answer)?;
     must(told.as_str() == wanted.as_str(), words, told.as_str())
 }

@@ -6,7 +6,7 @@ use crate::program::tell_program;
 use crate::readings::{fault_text, told};
 use crate::rows::{Way, tell_rows};
 use crate::sockets::{Meeting, serve};
-use crate::tables::{change, counts_text};
+use crate::tables::{change, counts_text, tables_text};
 use office_desk::Desk;
 use office_store::Fault;
 use sqlite::{Alter, Connection, FileStore, Files, Options};
@@ -30,6 +30,8 @@ pub(crate) enum Errand<'a> {
     Statements(&'a str),
     /// The rows of the tables are counted.
     Counts,
+    /// The rows of the tables are told.
+    Tables,
 }
 
 /// What is told of acts and readings, a line for each.
@@ -57,7 +59,7 @@ fn done_at<S: Alter>(
         Errand::Rows(way, rows) => tell_rows(alloc, desk, way, rows)?,
         Errand::Asks(asks) => return told_of(alloc, desk, asks),
         Errand::Meeting(rt, listener, meeting) => serve(rt, listener, desk, meeting)?,
-        Errand::Program(_) | Errand::Statements(_) | Errand::Counts => {}
+        Errand::Program(_) | Errand::Statements(_) | Errand::Counts | Errand::Tables => {}
     }
     Ok(String::new(alloc))
 }
@@ -90,6 +92,7 @@ fn done_over<S: Alter + Drop>(
         Errand::Program(row) => tell_program(alloc, conn, row),
         Errand::Statements(statements) => change(alloc, conn, statements),
         Errand::Counts => counts_text(alloc, conn),
+        Errand::Tables => tables_text(alloc, conn),
         _ => done_at_desk(alloc, conn, errand),
     }
 }

@@ -14,11 +14,11 @@
 //! | `## tried on the tables` | `opened after` or `fault 33 after` statements, each on the office as it is |
 //! | `## counts of the tables` | how many rows the ten tables have |
 //! | `## closed` | none: the database is closed, and its log goes back into its file |
-//! | `## resumed while the disks stop` | which disk stops, `log then db`, and how many stops there are |
-//! | `## done while the disks stop` | an act |
+//! | `## asked while a disk stops` | acts with their answers, or what is read, and how often a disk stops it at least |
+//! | `## resumed while a disk stops` | `by 11 steps = closed 1, at least 25`; `steps again` where each resumption is stopped once more |
 //!
 //! An act is a day, its word, its words, ` = ` and the answer, as `2025-01-02 confirm 1 destroy = refused 15`;
-//! `phrases` has them all. A title is the ref or the code, a reason is `court`, it is always the registrar
+//! `phrases` has them all; acts that are asked at once stand between ` & `, and so do their answers. A title is the ref or the code, a reason is `court`, it is always the registrar
 //! who acts, a record is originated on 2024-01-02, and a class, a schedule or a content written `-` is none.
 //! An act may be written in JSON too. `resume` takes up the open run.
 //!

@@ -1,104 +1,74 @@
-//! Runs whose disks stop at each of their calls in turn.
+//! Acts, the making of an office and runs, while a disk stops at each of its calls in turn.
 
-/// Runs of a few records.
-pub(crate) const SHORT_STOPS: &str = "
-# A run of three is stopped once
-## at the desk
-2024-01-02 add-schedule D1 added years 1 destroy = done
-2024-01-02 add-class FIN D1 = done
-2024-01-02 add-class LEG D1 = done
-2024-01-02 add-root A FIN = number 1
-2024-01-02 add-root B LEG = number 2
-2024-01-02 add-record r1 1 abc = number 1
-2024-01-02 add-record r2 2 abc = number 2
-2024-01-02 add-record r<n> 1 abc = number <n> for each <n> of 3 to 3
-2025-01-02 confirm <n> destroy = done for each <n> of 1 to 3
-2025-01-02 open-run = number 1
-## closed
-## resumed while the disks stop
-log, at least 25
-db, at least 25
-## done while the disks stop
-2025-01-03 add-record r4 1 abc
+/// Each kind of act, on an office in which it writes the most rows: each is of a later day.
+pub(crate) const STOPPED_ACTS: &str = "
+# An office is made
+## asked while a disk stops
+record 1 = none, at least 25
 
-# A run of three with a held record is stopped by one disk and then by the other
+# Each kind of act is done
 ## at the desk
-2024-01-02 add-schedule D1 added years 1 destroy = done
-2024-01-02 add-class FIN D1 = done
-2024-01-02 add-class LEG D1 = done
-2024-01-02 add-root A FIN = number 1
-2024-01-02 add-root B LEG = number 2
-2024-01-02 add-record r1 1 abc = number 1
-2024-01-02 add-record r2 2 abc = number 2
-2024-01-02 add-record r<n> 1 abc = number <n> for each <n> of 3 to 3
-2025-01-02 confirm <n> destroy = done for each <n> of 1 to 3
-2025-01-02 place-hold H = done
-2025-01-02 hold-on H class LEG = done
-2025-01-02 open-run = number 1
+record 1 is none
+## asked while a disk stops
+2024-01-02 add-schedule D1 added years 1 destroy = done, at least 25
+2024-01-03 add-class FIN D1 = done, at least 25
+2024-01-04 add-root A FIN = number 1, at least 25
+2024-01-05 add-record r1 1 abc = number 1, at least 25
+2024-01-06 add-record r2 1 abc & 2024-01-06 add-record r3 1 - & 2024-01-05 add-class LEG D1 & 2024-01-07 add-schedule T1 added years 1 transfer & 2024-01-07 add-schedule RV added years 1 review = number 2 & number 3 & refused 1 & done & done, at least 25
+2024-01-08 set-class-schedule FIN T1 = done, at least 25
+2024-01-09 set-record-schedule 2 D1 = done, at least 25
 ## closed
-## resumed while the disks stop
-log then db, at least 25
-db then log, at least 25
-
-# A run of four is stopped by either disk
 ## at the desk
-2024-01-02 add-schedule D1 added years 1 destroy = done
-2024-01-02 add-class FIN D1 = done
-2024-01-02 add-class LEG D1 = done
-2024-01-02 add-root A FIN = number 1
-2024-01-02 add-root B LEG = number 2
-2024-01-02 add-record r1 1 abc = number 1
-2024-01-02 add-record r2 2 abc = number 2
-2024-01-02 add-record r<n> 1 abc = number <n> for each <n> of 3 to 4
-2025-01-02 confirm <n> destroy = done for each <n> of 1 to 4
-2025-01-02 open-run = number 1
+2024-01-09 add-class LEG RV = done
+## asked while a disk stops
+2024-01-10 reclassify record 3 LEG = done, at least 25
+2024-01-11 place-hold H = done, at least 25
+2024-01-12 hold-on H record 2 = done, at least 25
+2024-01-13 hold-off H record 2 = done, at least 25
+2024-01-14 lift-hold H = done, at least 25
+2025-02-01 review 3 D1 = done, at least 25
+2025-02-02 confirm 1 transfer = done, at least 25
+2025-02-03 close-aggregation 1 = done, at least 25
 ## closed
-## resumed while the disks stop
-log, at least 25
-db, at least 25
+## at the desk
+2025-02-03 confirm 2 destroy = done
+## asked while a disk stops
+2025-02-04 open-run = number 1, at least 25
+2025-02-04 run-step = step 1 sent, at least 25
+2025-02-04 run-step = step 2 destroyed, at least 25
+2025-02-04 run-step = closed 1, at least 25
+2025-02-05 receipt 1 abc = done, at least 25
+## at the desk
+record 1 has \"status\":\"received\"
+content 2 is none
 ";
 
-/// Runs of ten records.
-pub(crate) const LONG_STOPS: &str = "
-# A run of ten with a held record is stopped once
-## at the desk
-2024-01-02 add-schedule D1 added years 1 destroy = done
-2024-01-02 add-class FIN D1 = done
-2024-01-02 add-class LEG D1 = done
-2024-01-02 add-root A FIN = number 1
-2024-01-02 add-root B LEG = number 2
-2024-01-02 add-record r1 1 abc = number 1
-2024-01-02 add-record r2 2 abc = number 2
-2024-01-02 add-record r<n> 1 abc = number <n> for each <n> of 3 to 10
+/// Runs of three, and of ten of which one is held.
+pub(crate) const STOPPED_RUNS: &str = "
+# A run of three is resumed
+## at the desk of the base office
+2025-01-02 confirm <n> destroy = done for each <n> of 1 to 3
+2025-01-02 open-run = number 1
+## resumed while a disk stops
+by 4 steps = closed 1, at least 25
+by 4 steps again = closed 1, at least 25
+
+# A run of ten with a held record is resumed
+## at the desk of the base office
+2024-01-02 add-record r<n> 1 abc = number <n> for each <n> of 4 to 10
 2025-01-02 confirm <n> destroy = done for each <n> of 1 to 10
 2025-01-02 place-hold H = done
-2025-01-02 hold-on H class LEG = done
+2025-01-02 hold-on H record 5 = done
 2025-01-02 open-run = number 1
 ## closed
-## resumed while the disks stop
-log, at least 25
-db, at least 25
+## resumed while a disk stops
+by 11 steps = closed 1, at least 25
+by 11 steps again = closed 1, at least 25
 ## at the desk
 resume = closed 1
-entries is run 1 record 1 destroyed; run 1 record 2 skipped; run 1 record 3 destroyed; run 1 record 4 destroyed; run 1 record 5 destroyed; run 1 record 6 destroyed; run 1 record 7 destroyed; run 1 record 8 destroyed; run 1 record 9 destroyed; run 1 record 10 destroyed;
+certificate 1 has ENDED 9
+certificate 1 has SENT 0
+certificate 1 has SKIPPED 1
+certificate 1 has SPENT 0
 resume = refused 18
-
-# A run of ten with a held record is stopped twice
-## at the desk
-2024-01-02 add-schedule D1 added years 1 destroy = done
-2024-01-02 add-class FIN D1 = done
-2024-01-02 add-class LEG D1 = done
-2024-01-02 add-root A FIN = number 1
-2024-01-02 add-root B LEG = number 2
-2024-01-02 add-record r1 1 abc = number 1
-2024-01-02 add-record r2 2 abc = number 2
-2024-01-02 add-record r<n> 1 abc = number <n> for each <n> of 3 to 10
-2025-01-02 confirm <n> destroy = done for each <n> of 1 to 10
-2025-01-02 place-hold H = done
-2025-01-02 hold-on H class LEG = done
-2025-01-02 open-run = number 1
-## closed
-## resumed while the disks stop
-log then log, at least 25
-db then db, at least 25
 ";

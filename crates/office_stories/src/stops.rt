@@ -1,161 +1,276 @@
-//! A run or an act whose disks stop, at each of their calls in turn.
+//! What is asked of an office while a disk stops, at each of its calls in turn.
+use crate::acts::{is_act, lines_of};
 use crate::disks::{Image, Stop};
-use crate::errands::{Errand, done};
-use crate::failures::failure;
-use crate::repeating::number;
+use crate::errands::{Errand, do_all, done};
+use crate::failures::{failure, must};
+use crate::repeating::{copies, number};
 use std::alloc::Global;
 use std::test::Fail;
 
-/// Whether what is told is that a disk stopped.
-fn tells_fault(told: &str) -> bool {
-    told.contains("fault")
+/// What is asked at once, and to what it leads where no disk stops.
+#[derive(Drop)]
+struct Trial<'a> {
+    /// Acts between ` & `, something that is read, or `resume`.
+    words: &'a str,
+    /// How it is answered, a line for each.
+    answers: String,
+    /// The same, asked one after another; of a run its steps.
+    steps: Vec<String>,
+    /// What the tables hold before the steps, and after each of them.
+    states: Vec<String>,
+    /// Whether each resumption of the run is stopped once more.
+    is_stopped_again: bool,
 }
 
-/// Whether the open run comes to its end before the disks stop so; then the machine crashes.
-fn is_resumed(alloc: Global, image: &mut Image, stop: Stop) -> Result<bool, Fail> {
-    let told = done(alloc, image, stop, Errand::Asks(&["resume"]))?;
-    Ok(!tells_fault(told.as_str()))
+/// What the tables hold, where the office is opened first.
+fn state_of(alloc: Global, image: &mut Image) -> Result<String, Fail> {
+    do_all(alloc, image, Errand::Asks(&[]))?;
+    done(alloc, image, Stop::never(), Errand::Tables)
 }
 
-/// The entries and the certificate of run 1, once it is resumed to its end with no stop.
-fn run_end(alloc: Global, image: &mut Image) -> Result<String, Fail> {
-    let asks = ["resume", "entries", "certificate 1"];
-    let told = done(alloc, image, Stop::never(), Errand::Asks(&asks))?;
-    match told.as_str().split_once('\n') {
-        Some((_, end)) if !tells_fault(told.as_str()) => Ok(String::from_str(alloc, end)?),
-        _ => Err(failure("not resumed", told.as_str())),
+/// What the tables hold before the steps, and after each of them.
+fn states_of(alloc: Global, image: &Image, steps: &[String]) -> Result<Vec<String>, Fail> {
+    let mut left = image.copy(alloc)?;
+    let mut states = Vec::new(alloc);
+    states.push(state_of(alloc, &mut left)?)?;
+    for step in steps {
+        done(alloc, &mut left, Stop::never(), Errand::Asks(&[step.as_str()]))?;
+        states.push(state_of(alloc, &mut left)?)?;
+    }
+    Ok(states)
+}
+
+/// What is asked at once, and then what a desk that was given up answers with fault 32: readings, and an act
+/// that is refused at every other desk.
+fn asks_of(words: &str) -> [&str; 7] {
+    [
+        words,
+        "record 1",
+        "content 1",
+        "certificate 1",
+        "due-list 2025-01-02",
+        "entries",
+        "2000-01-01 open-run",
+    ]
+}
+
+/// The answers before a fault.
+fn answers_before(told: &str) -> &str {
+    let Some((before, _)) = told.split_once("fault") else {
+        return told;
+    };
+    match before.rsplit_once('\n') {
+        Some((answers, _)) => answers,
+        None => "",
     }
 }
 
-/// The disk that stops, and the one that stops at the second time, where there is one.
-#[derive(Clone, Copy)]
-struct Stops<'a> {
-    first: &'a str,
-    second: Option<&'a str>,
-}
-
-/// The stops of a row.
-fn stops_of(words: &str) -> Stops<'_> {
-    match words.split_once(" then ") {
-        Some((first, second)) => Stops {
-            first,
-            second: Some(second),
-        },
-        None => Stops {
-            first: words,
-            second: None,
-        },
-    }
-}
-
-/// The run is stopped once more, where a second disk stops.
-fn stop_again(
-    alloc: Global,
-    image: &mut Image,
-    second: Option<&str>,
-    calls: u64,
-) -> Result<(), Fail> {
-    if let Some(disk) = second {
-        is_resumed(alloc, image, Stop::of(disk, calls)?)?;
+/// The answers before a fault must be those that are given where no disk stops.
+fn tell_answers(trial: &Trial<'_>, told: &str) -> Result<(), Fail> {
+    let answers = answers_before(told);
+    for (answer, wanted) in answers.lines().zip(trial.answers.as_str().lines()) {
+        must(answer == wanted, trial.words, told)?;
     }
     Ok(())
 }
 
-/// The run is stopped after so many calls and resumed to its end: whether it came to its end before the first
-/// stop. It must come to what the run that never stopped comes to.
+/// The first fault must be 31, and all that is asked afterwards must be answered with fault 32.
+fn tell_given_up(told: &str) -> Result<(), Fail> {
+    let Some((_, after)) = told.split_once("fault") else {
+        return Ok(());
+    };
+    let Some((fault, later)) = after.split_once('\n') else {
+        return must(after.contains("31"), "no stop of the store", told);
+    };
+    must(fault.contains("31"), "no stop of the store", told)?;
+    for line in later.lines() {
+        let is_given_up = line.contains("fault") && line.contains("32");
+        must(is_given_up, "a desk that was given up tells", told)?;
+    }
+    Ok(())
+}
+
+/// The first and the last place among the states at which the tables may be: that after all answered acts or the
+/// next one, that before the acts where the office was not opened, and of a run any.
+fn places_after(trial: &Trial<'_>, told: &str) -> (usize, usize) {
+    let all = trial.states.len().saturating_sub(1);
+    let answered = answers_before(told).lines().count();
+    if !told.contains('\n') {
+        return (0, 0);
+    }
+    if answered >= trial.answers.as_str().lines().count() {
+        return (all, all);
+    }
+    if trial.words == "resume" {
+        return (0, all);
+    }
+    (answered, answered.saturating_add(1))
+}
+
+/// The place among the states at which the tables are, where the office is opened again.
+fn place_of(
+    alloc: Global,
+    image: &mut Image,
+    trial: &Trial<'_>,
+    places: (usize, usize),
+) -> Result<usize, Fail> {
+    let state = state_of(alloc, image)?;
+    for (place, it) in trial.states.iter().enumerate() {
+        if places.0 <= place && place <= places.1 && it.as_str() == state.as_str() {
+            return Ok(place);
+        }
+    }
+    Err(Fail::new(format_args!("{}: another state", trial.words)))
+}
+
+/// The run is resumed once more while the disk stops, from that place among its states on.
+fn stop_again(
+    alloc: Global,
+    image: &mut Image,
+    trial: &Trial<'_>,
+    stop: Stop,
+    place: usize,
+) -> Result<(), Fail> {
+    if !trial.is_stopped_again {
+        return Ok(());
+    }
+    let told = done(alloc, image, stop, Errand::Asks(&["resume"]))?;
+    tell_given_up(told.as_str())?;
+    place_of(alloc, image, trial, (place, trial.states.len()))?;
+    Ok(())
+}
+
+/// The acts from that place on must be answered as they are where no disk stops; a run is resumed to its end.
+fn do_rest(
+    alloc: Global,
+    image: &mut Image,
+    trial: &Trial<'_>,
+    place: usize,
+) -> Result<(), Fail> {
+    if trial.words == "resume" {
+        done(alloc, image, Stop::never(), Errand::Asks(&["resume"]))?;
+        return Ok(());
+    }
+    let asked = trial.steps.iter().zip(trial.answers.as_str().lines());
+    for (number, (step, wanted)) in asked.enumerate() {
+        if number >= place {
+            let told = done(alloc, image, Stop::never(), Errand::Asks(&[step.as_str()]))?;
+            must(told.as_str().trim() == wanted, step.as_str(), told.as_str())?;
+        }
+    }
+    Ok(())
+}
+
+/// The tables must be at the last of the states.
+fn tell_end(alloc: Global, image: &mut Image, trial: &Trial<'_>) -> Result<(), Fail> {
+    let all = trial.states.len().saturating_sub(1);
+    place_of(alloc, image, trial, (all, all))?;
+    Ok(())
+}
+
+/// All is asked while a disk stops so, and the office is then brought to its end: whether nothing stopped.
 fn is_done_before(
     alloc: Global,
     image: &Image,
-    stops: Stops<'_>,
-    calls: u64,
-    whole: &str,
+    trial: &Trial<'_>,
+    stop: Stop,
 ) -> Result<bool, Fail> {
     let mut left = image.copy(alloc)?;
-    let is_done = is_resumed(alloc, &mut left, Stop::of(stops.first, calls)?)?;
-    stop_again(alloc, &mut left, stops.second, calls)?;
-    let end = run_end(alloc, &mut left)?;
-    if end.as_str() == whole {
-        return Ok(is_done);
-    }
-    Err(failure("another end of the run", end.as_str()))
+    let told = done(alloc, &mut left, stop, Errand::Asks(&asks_of(trial.words)))?;
+    let told = told.as_str();
+    tell_given_up(told)?;
+    tell_answers(trial, told)?;
+    let place = place_of(alloc, &mut left, trial, places_after(trial, told))?;
+    stop_again(alloc, &mut left, trial, stop, place)?;
+    let place = place_of(alloc, &mut left, trial, (place, trial.states.len()))?;
+    do_rest(alloc, &mut left, trial, place)?;
+    tell_end(alloc, &mut left, trial)?;
+    Ok(!told.contains("fault"))
 }
 
-/// The run in these files is stopped after each number of calls in turn, until it comes to its end with no stop.
-/// Tells how many stops there were.
-fn count_of_stops(alloc: Global, image: &Image, stops: Stops<'_>) -> Result<u64, Fail> {
-    let whole = run_end(alloc, &mut image.copy(alloc)?)?;
-    for calls in 0..5_000 {
-        if is_done_before(alloc, image, stops, calls, whole.as_str())? {
+/// How often the disk stops all that is asked, after each number of its calls in turn, until nothing stops.
+fn count_of_stops(
+    alloc: Global,
+    image: &Image,
+    trial: &Trial<'_>,
+    disk: &str,
+) -> Result<u64, Fail> {
+    for calls in 0..10_000 {
+        if is_done_before(alloc, image, trial, Stop::of(disk, calls)?)? {
             return Ok(calls);
         }
     }
-    Err(Fail::new("the run never ends"))
+    Err(failure("never done", trial.words))
 }
 
-/// The run is stopped as a row says, as often as it says or more.
-pub(crate) fn tell_stops(alloc: Global, image: &Image, row: &str) -> Result<(), Fail> {
-    let Some((words, least)) = row.split_once(", at least ") else {
-        return Err(failure("no number of stops", row));
+/// Each disk must stop it at least so often.
+fn tell_counts(alloc: Global, image: &Image, trial: &Trial<'_>, least: &str) -> Result<(), Fail> {
+    let least = number(least)? as u64;
+    for disk in ["log", "db"] {
+        let count = count_of_stops(alloc, image, trial, disk)?;
+        let told = format!(in alloc; "{count} stops of {disk}")?;
+        must(count >= least, trial.words, told.as_str())?;
+    }
+    Ok(())
+}
+
+/// The parts of a row: what is asked, how it is answered, and how often a disk stops it at least.
+fn parts(row: &str) -> Result<(&str, &str, &str), Fail> {
+    if let Some((rest, least)) = row.split_once(", at least ")
+        && let Some((words, answers)) = rest.split_once(" = ")
+    {
+        return Ok((words, answers, least));
+    }
+    Err(failure("no such row", row))
+}
+
+/// What is asked one after another.
+fn steps_of(alloc: Global, words: &str) -> Result<Vec<String>, Fail> {
+    let mut steps = Vec::new(alloc);
+    for step in words.split(" & ") {
+        steps.push(String::from_str(alloc, step)?)?;
+    }
+    Ok(steps)
+}
+
+/// Acts, or something that is read, are asked while each disk stops in turn, and then without a stop.
+pub(crate) fn tell_asked(alloc: Global, image: &mut Image, row: &str) -> Result<(), Fail> {
+    let (words, answers, least) = parts(row)?;
+    let steps = steps_of(alloc, words)?;
+    let states = states_of(alloc, image, steps.as_slice())?;
+    let answers = if is_act(words) {
+        lines_of(alloc, answers)?
+    } else {
+        String::from_str(alloc, answers)?
     };
-    let told = count_of_stops(alloc, image, stops_of(words))?;
-    if told >= number(least)? as u64 {
-        return Ok(());
-    }
-    Err(failure("fewer stops", row))
+    let trial = Trial {
+        words,
+        answers,
+        steps,
+        states,
+        is_stopped_again: false,
+    };
+    tell_counts(alloc, image, &trial, least)?;
+    done(alloc, image, Stop::never(), Errand::Asks(&[words]))?;
+    Ok(())
 }
 
-/// The first of the lines that are told.
-fn first_line(told: &str) -> &str {
-    match told.split_once('\n') {
-        Some((line, _)) => line,
-        None => told,
-    }
-}
-
-/// Whether the act is answered before the disks stop so; then the machine crashes. A desk that gave it up must
-/// tell nothing.
-fn is_answered(alloc: Global, image: &mut Image, act: &str, stop: Stop) -> Result<bool, Fail> {
-    let told = done(alloc, image, stop, Errand::Asks(&[act, "record 1"]))?;
-    let is_done = !tells_fault(first_line(told.as_str()));
-    if !is_done && told.as_str().contains("originated") {
-        return Err(failure("a desk that was given up tells", told.as_str()));
-    }
-    Ok(is_done)
-}
-
-/// Whether record 4 is there.
-fn has_fourth_record(alloc: Global, image: &mut Image) -> Result<bool, Fail> {
-    let told = done(alloc, image, Stop::never(), Errand::Asks(&["record 4"]))?;
-    if tells_fault(told.as_str()) {
-        return Err(failure("not opened after the crash", told.as_str()));
-    }
-    Ok(told.as_str() != "none\n")
-}
-
-/// Whether the act is answered before the disk stops so; record 4 must be there where it was.
-fn is_added(alloc: Global, image: &Image, act: &str, stop: Stop) -> Result<bool, Fail> {
-    let mut left = image.copy(alloc)?;
-    let is_done = is_answered(alloc, &mut left, act, stop)?;
-    if has_fourth_record(alloc, &mut left)? || !is_done {
-        return Ok(is_done);
-    }
-    Err(Fail::new("an answered act is lost"))
-}
-
-/// Whether the act is answered before the one disk stops, and before the other does.
-fn is_added_by_both(alloc: Global, image: &Image, act: &str, calls: u64) -> Result<bool, Fail> {
-    let by_log = is_added(alloc, image, act, Stop::of("log", calls)?)?;
-    let by_db = is_added(alloc, image, act, Stop::of("db", calls)?)?;
-    Ok(by_log && by_db)
-}
-
-/// The act of a row, which adds record 4, is done while the disks stop after each number of calls in turn,
-/// until it is answered with no stop.
-pub(crate) fn tell_stopped_act(alloc: Global, image: &Image, row: &str) -> Result<(), Fail> {
-    for calls in 0..1_000 {
-        if is_added_by_both(alloc, image, row, calls)? {
-            return Ok(());
-        }
-    }
-    Err(failure("never done", row))
+/// The open run is resumed while each disk stops in turn, as a row says: `by 11 steps = closed 1, at least 25`,
+/// or `by 11 steps again = ..` where each resumption is stopped again.
+pub(crate) fn tell_resumed(alloc: Global, image: &Image, row: &str) -> Result<(), Fail> {
+    let (words, answers, least) = parts(row)?;
+    let Some((count, rest)) = words.split_once(" steps") else {
+        return Err(failure("no number of steps", row));
+    };
+    let list = count.replace(alloc, "by", "1 to")?;
+    let steps = copies(alloc, "2000-01-01 run-step", list.as_str())?;
+    let states = states_of(alloc, image, steps.as_slice())?;
+    let trial = Trial {
+        words: "resume",
+        answers: lines_of(alloc, answers)?,
+        steps,
+        states,
+        is_stopped_again: rest == " again",
+    };
+    tell_counts(alloc, image, &trial, least)
 }

@@ -5,7 +5,7 @@ use crate::failures::{failure, must};
 use crate::readings::fault_text;
 use office_rules::Tables;
 use office_store::Store;
-use sqlite::{Alter, Connection};
+use sqlite::{Alter, Connection, Row};
 use std::alloc::Global;
 use std::test::Fail;
 
@@ -19,6 +19,69 @@ pub(crate) fn change<S: Alter>(
         Ok(()) => (Ok(String::new(alloc)), conn),
         Err(_) => (Err(failure("not done", statements)), conn),
     }
+}
+
+/// The eleven tables.
+const TABLES: [&str; 11] = [
+    "office",
+    "schedules",
+    "classes",
+    "aggregations",
+    "records",
+    "contents",
+    "holds",
+    "targets",
+    "runs",
+    "entries",
+    "certificates",
+];
+
+/// Tells the values of a row.
+fn push_row(alloc: Global, text: &mut String, row: &Row) -> Result<(), Fail> {
+    for at in 0..row.column_count() {
+        if let Ok(value) = row.get_ref(at) {
+            let told = format!(in alloc; "{value:?};")?;
+            text.push_str(told.as_str())?;
+        }
+    }
+    Ok(())
+}
+
+/// All rows of the table.
+fn rows_of<S: Alter>(
+    alloc: Global,
+    conn: &mut Connection<S>,
+    table: &str,
+) -> Result<Vec<Row>, Fail> {
+    let all = format!(in alloc; "SELECT * FROM {table}")?;
+    let Ok(statement) = conn.prepare(all.as_str()) else {
+        return Err(failure("no such table", table));
+    };
+    match statement.query_all(conn, &[]) {
+        Ok(rows) => Ok(rows),
+        Err(_) => Err(failure("not read", table)),
+    }
+}
+
+/// Tells all rows of the tables.
+fn told_rows<S: Alter>(alloc: Global, conn: &mut Connection<S>) -> Result<String, Fail> {
+    let mut text = String::new(alloc);
+    for table in TABLES {
+        text.push_str(table)?;
+        for row in rows_of(alloc, conn, table)?.iter() {
+            push_row(alloc, &mut text, row)?;
+        }
+    }
+    Ok(text)
+}
+
+/// All rows of the tables, as they are read by statements.
+pub(crate) fn tables_text<S: Alter>(
+    alloc: Global,
+    mut conn: Connection<S>,
+) -> (Result<String, Fail>, Connection<S>) {
+    let told = told_rows(alloc, &mut conn);
+    (told, conn)
 }
 
 /// How many rows the tables have.

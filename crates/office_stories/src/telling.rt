@@ -5,7 +5,7 @@ use crate::failures::failure;
 use crate::office::BASE;
 use crate::repeating::{FOR_EACH, copies, number};
 use crate::rows::Way;
-use crate::stops::{tell_stopped_act, tell_stops};
+use crate::stops::{tell_asked, tell_resumed};
 use crate::tables::{tell_counts, tell_opening};
 use std::alloc::Global;
 use std::test::Fail;
@@ -17,8 +17,8 @@ fn tell_apart(alloc: Global, image: &mut Image, place: &str, row: &str) -> Resul
         "in the tables" => do_all(alloc, image, Errand::Statements(row)),
         "tried on the tables" => tell_opening(alloc, image, row),
         "counts of the tables" => tell_counts(alloc, image, row),
-        "resumed while the disks stop" => tell_stops(alloc, image, row),
-        "done while the disks stop" => tell_stopped_act(alloc, image, row),
+        "asked while a disk stops" => tell_asked(alloc, image, row),
+        "resumed while a disk stops" => tell_resumed(alloc, image, row),
         _ => Err(failure("no such place", place)),
     }
 }

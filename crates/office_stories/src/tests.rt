@@ -10,7 +10,7 @@ use crate::request_stories::REQUESTS;
 use crate::run_stories::RUNS;
 use crate::socket_stories::{FAILED, GIVEN_UP, IN_TURN};
 use crate::sockets::meet;
-use crate::stop_stories::{LONG_STOPS, SHORT_STOPS};
+use crate::stop_stories::{STOPPED_ACTS, STOPPED_RUNS};
 use crate::table_stories::TABLES;
 use crate::telling::tell;
 use std::test::Fail;
@@ -45,13 +45,13 @@ fn a_city_archive_has_its_story(rt: HostRuntime) -> Result<(), Fail> {
 }
 
 #[test]
-fn short_runs_are_stopped(rt: HostRuntime) -> Result<(), Fail> {
-    tell(rt.alloc(), SHORT_STOPS)
+fn acts_are_stopped(rt: HostRuntime) -> Result<(), Fail> {
+    tell(rt.alloc(), STOPPED_ACTS)
 }
 
 #[test]
-fn long_runs_are_stopped(rt: HostRuntime) -> Result<(), Fail> {
-    tell(rt.alloc(), LONG_STOPS)
+fn runs_are_stopped(rt: HostRuntime) -> Result<(), Fail> {
+    tell(rt.alloc(), STOPPED_RUNS)
 }
 
 #[test]
