@@ -9,7 +9,7 @@
 //! | `## at the desk` | an act with its answer, or what is read |
 //! | `## at the desk of the base office` | the same, after the acts of the base office (`office`) |
 //! | `## clients in pieces of 7` | a request of HTTP, which comes in pieces of 7 bytes, with its whole answer |
-//! | `## by the program` | words of the program, and `STATUS;OUTPUT;LINE ON STANDARD ERROR` |
+//! | `## by the program` | words of the program, and `STATUS;OUTPUT;LINE ON STANDARD ERROR`; then the bytes after which its text or its output fails, ` while read up to 7`, ` while written up to 7`; an output `*` is any |
 //! | `## in the tables` | statements of SQL that change the tables |
 //! | `## tried on the tables` | `opened after` or `fault 33 after` statements, each on the office as it is |
 //! | `## counts of the tables` | how many rows the ten tables have |

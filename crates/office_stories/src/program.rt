@@ -1,6 +1,7 @@
 //! The program's words over a connection to an office.
 use crate::failures::failure;
-use crate::repeating::unescaped;
+use crate::peer::{Paper, Pieces};
+use crate::repeating::{number, unescaped};
 use office_days::Day;
 use office_run::run_on;
 use office_words::{Order, Register};
@@ -65,39 +66,92 @@ fn order_of(words: &str) -> (Order<'static>, &str) {
     }
 }
 
-/// Whether a status, an output and a line on standard error are those of a row's answer.
-fn is_ended_so(answer: &str, status: u8, out: &[u8], err: &[u8]) -> bool {
-    let Some((wanted, rest)) = answer.split_once(';') else {
-        return false;
-    };
-    let Some((written, line)) = rest.split_once(';') else {
-        return false;
-    };
-    wanted.parse() == Ok(status) && out == written.as_bytes() && err == line.as_bytes()
+/// How many bytes of its text the program reads, and how many it writes, before the line fails.
+#[derive(Clone, Copy)]
+struct Line {
+    read: usize,
+    written: usize,
 }
 
-/// Carries out the order of those words, and tells whether it is answered so.
+/// More bytes than any story has.
+const ALL: usize = 1_000_000_000;
+
+/// A row, and the line over which it is told.
+fn line_of(row: &str) -> Result<(&str, Line), Fail> {
+    if let Some((row, count)) = row.rsplit_once(" while read up to ") {
+        let read = number(count)? as usize;
+        return Ok((row, Line { read, written: ALL }));
+    }
+    if let Some((row, count)) = row.rsplit_once(" while written up to ") {
+        let written = number(count)? as usize;
+        return Ok((row, Line { read: ALL, written }));
+    }
+    let line = Line {
+        read: ALL,
+        written: ALL,
+    };
+    Ok((row, line))
+}
+
+/// The text as far as the line gives it; it fails where that is not all.
+fn text_over(text: &str, line: Line) -> Pieces<'_> {
+    let bytes = text.as_bytes();
+    let (front, rest) = bytes.split_at(line.read.min(bytes.len()));
+    Pieces {
+        bytes: front,
+        most: 4_096,
+        fails: !rest.is_empty(),
+    }
+}
+
+/// The status, the output and the line on standard error of a row's answer.
+fn parts(answer: &str) -> Option<(&str, &str, &str)> {
+    let (status, rest) = answer.split_once(';')?;
+    let (output, line) = rest.split_once(';')?;
+    Some((status, output, line))
+}
+
+/// Whether the paper has what was awaited, or was `*`, as far as it took it.
+fn is_written_so(paper: &Paper<'_>, output: &str) -> bool {
+    output == "*" || !paper.differs && (paper.room == 0 || paper.awaited.is_empty())
+}
+
+/// Carries out the order of those words over a line, and tells whether it is answered so.
 fn is_carried_out<S: Alter>(
     alloc: Global,
     conn: Connection<S>,
     words: &str,
     answer: &str,
+    line: Line,
 ) -> (bool, Connection<S>) {
+    let Some((wanted, output, said)) = parts(answer) else {
+        return (false, conn);
+    };
     if !conn.is_autocommit() {
         return (false, conn);
     }
     let (order, text) = order_of(words);
-    let mut input = text.as_bytes();
-    let mut out = Vec::new(alloc);
+    let mut input = text_over(text, line);
+    let mut out = Paper {
+        awaited: output.as_bytes(),
+        room: line.written,
+        differs: false,
+    };
     let mut err = Vec::new(alloc);
     let (status, conn) = run_on(alloc, conn, &order, &mut input, &mut out, &mut err);
-    (is_ended_so(answer, status, &out, &err), conn)
+    let is_so = wanted.parse() == Ok(status) && err.as_slice() == said.as_bytes();
+    (is_so && is_written_so(&out, output), conn)
 }
 
 /// Carries out a row, and tells whether it is answered so.
-fn is_told<S: Alter>(alloc: Global, conn: Connection<S>, row: &str) -> (bool, Connection<S>) {
+fn is_told<S: Alter>(
+    alloc: Global,
+    conn: Connection<S>,
+    row: &str,
+    line: Line,
+) -> (bool, Connection<S>) {
     match row.split_once(" = ") {
-        Some((words, answer)) => is_carried_out(alloc, conn, words, answer),
+        Some((words, answer)) => is_carried_out(alloc, conn, words, answer, line),
         None => (false, conn),
     }
 }
@@ -116,9 +170,13 @@ pub(crate) fn tell_program<S: Alter>(
     conn: Connection<S>,
     row: &str,
 ) -> (Result<String, Fail>, Connection<S>) {
-    match unescaped(alloc, row) {
+    let (words, line) = match line_of(row) {
+        Ok(parts) => parts,
+        Err(fail) => return (Err(fail), conn),
+    };
+    match unescaped(alloc, words) {
         Ok(text) => {
-            let (holds, conn) = is_told(alloc, conn, text.as_str());
+            let (holds, conn) = is_told(alloc, conn, text.as_str(), line);
             (told_of(alloc, row, holds), conn)
         }
         Err(_) => (Err(Fail::new("no memory")), conn),

@@ -155,3 +155,43 @@ export 2024-01-04 = 0;record,ref,class,schedule,action,due,held,confirmed\n;
 export 2024-01-05 = 0;record,ref,class,schedule,action,due,held,confirmed\n5,r6,LEG,D3,review,2024-01-05,,no\n;
 export 2999-12-31 = 0;record,ref,class,schedule,action,due,held,confirmed\n5,r6,LEG,D3,review,2024-01-05,,no\n1,r1,FIN,D1,destroy,2025-01-02,,no\n2,r2,LEG,D1,destroy,2025-01-02,,no\n3,r3,FIN,D1,destroy,2025-01-02,,no\n4,"a, ""b""",FIN,D1,destroy,2025-01-02,,no\n;
 "#;
+
+/// The program whose text or whose output fails at each byte in turn.
+pub(crate) const LOST_LINES: &str = r#"
+# An import whose text fails keeps its rows, and goes on where it stopped for each <n> of 0 to 101
+## at the desk of the base office
+## by the program
+import 2024-01-02 ref,title,originated,aggregation,class,schedule,content\nr4,x,2023-05-01,1,,,YWJj\nr5,x,2023-05-01,2,,,\n = 3;*;office: file\n while read up to <n>
+import 2024-01-02 ref,title,originated,aggregation,class,schedule,content\nr4,x,2023-05-01,1,,,YWJj\nr5,x,2023-05-01,2,,,\n = 0;*;
+import 2024-01-02 ref,title,originated,aggregation,class,schedule,content\nr4,x,2023-05-01,1,,,YWJj\nr5,x,2023-05-01,2,,,\n = 0;1 same 4\n2 same 5\n;
+
+# An import whose lines are lost keeps its rows for each <n> of 0 to 21
+## at the desk of the base office
+## by the program
+import 2024-01-02 ref,title,originated,aggregation,class,schedule,content\nr4,x,2023-05-01,1,,,YWJj\nr5,x,2023-05-01,2,,,\n = 3;1 number 4\n2 number 5\n;office: file\n while written up to <n>
+import 2024-01-02 ref,title,originated,aggregation,class,schedule,content\nr4,x,2023-05-01,1,,,YWJj\nr5,x,2023-05-01,2,,,\n = 0;*;
+import 2024-01-02 ref,title,originated,aggregation,class,schedule,content\nr4,x,2023-05-01,1,,,YWJj\nr5,x,2023-05-01,2,,,\n = 0;1 same 4\n2 same 5\n;
+
+# A due register that is lost leaves the office as it was for each <n> of 0 to 156
+## at the desk of the base office
+## by the program
+export 2025-01-02 = 3;record,ref,class,schedule,action,due,held,confirmed\n1,r1,FIN,D1,destroy,2025-01-02,,no\n2,r2,LEG,D1,destroy,2025-01-02,,no\n3,r3,FIN,D1,destroy,2025-01-02,,no\n;office: file\n while written up to <n>
+export 2025-01-02 = 0;record,ref,class,schedule,action,due,held,confirmed\n1,r1,FIN,D1,destroy,2025-01-02,,no\n2,r2,LEG,D1,destroy,2025-01-02,,no\n3,r3,FIN,D1,destroy,2025-01-02,,no\n;
+
+# A register of entries that is lost leaves the office as it was for each <n> of 0 to 186
+## at the desk of the base office
+2025-01-02 confirm 1 destroy = done
+2025-01-02 open-run = number 1
+2025-01-02 run-step = step 1 destroyed
+## by the program
+export entries = 3;run,record,ref,outcome,class,schedule,due,hold,confirmed_by,length,digest\n1,1,r1,destroyed,FIN,D1,2025-01-02,,registrar,3,ba7816bf8f01cfea414140de5dae2223b00361a396177a9cb410ff61f20015ad\n;office: file\n while written up to <n>
+export entries = 0;run,record,ref,outcome,class,schedule,due,hold,confirmed_by,length,digest\n1,1,r1,destroyed,FIN,D1,2025-01-02,,registrar,3,ba7816bf8f01cfea414140de5dae2223b00361a396177a9cb410ff61f20015ad\n;
+
+# Acts whose text is lost are not done for each <n> of 0 to 55
+## at the desk of the base office
+## by the program
+apply [{"act":"open-run","day":"2025-01-02","by":"registrar"}] = 3;;office: file\n while read up to <n>
+apply [{"act":"open-run","day":"2025-01-02","by":"registrar"}] = 0;{"number":1}\n;
+resume = 3;certificate 1\n;office: file\n while written up to 5
+resume = 1;;office: refused 18\n
+"#;

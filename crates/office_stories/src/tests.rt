@@ -5,7 +5,7 @@ use crate::endings::tell_endings;
 use crate::filing_stories::FILING;
 use crate::hold_stories::HOLDS;
 use crate::limit_stories::LIMITS;
-use crate::program_stories::PROGRAM;
+use crate::program_stories::{LOST_LINES, PROGRAM};
 use crate::request_stories::REQUESTS;
 use crate::run_stories::RUNS;
 use crate::socket_stories::{FAILED, GIVEN_UP, IN_TURN};
@@ -37,6 +37,11 @@ fn requests_are_answered(rt: HostRuntime) -> Result<(), Fail> {
 fn the_program_tells_what_it_did(rt: HostRuntime) -> Result<(), Fail> {
     tell(rt.alloc(), PROGRAM)?;
     tell_endings(rt.alloc())
+}
+
+#[test]
+fn lines_to_the_program_are_lost(rt: HostRuntime) -> Result<(), Fail> {
+    tell(rt.alloc(), LOST_LINES)
 }
 
 #[test]
