@@ -1,7 +1,7 @@
 //! What is asked of an office while a disk stops, at each of its calls in turn.
 use crate::acts::{is_act, lines_of};
 use crate::disks::{Image, Stop};
-use crate::errands::{Errand, do_all, done};
+use crate::errands::{Errand, done};
 use crate::failures::{failure, must};
 use crate::repeating::{copies, number};
 use std::alloc::Global;
@@ -22,9 +22,8 @@ struct Trial<'a> {
     is_stopped_again: bool,
 }
 
-/// What the tables hold, where the office is opened first.
+/// What the tables hold, once the office is opened.
 fn state_of(alloc: Global, image: &mut Image) -> Result<String, Fail> {
-    do_all(alloc, image, Errand::Asks(&[]))?;
     done(alloc, image, Stop::never(), Errand::Tables)
 }
 
@@ -123,21 +122,20 @@ fn place_of(
     Err(Fail::new(format_args!("{}: another state", trial.words)))
 }
 
-/// The run is resumed once more while the disk stops, from that place among its states on.
+/// The run is resumed once more while the disk stops, from that place among its states on. Gives the place to which it comes.
 fn stop_again(
     alloc: Global,
     image: &mut Image,
     trial: &Trial<'_>,
     stop: Stop,
     place: usize,
-) -> Result<(), Fail> {
+) -> Result<usize, Fail> {
     if !trial.is_stopped_again {
-        return Ok(());
+        return Ok(place);
     }
     let told = done(alloc, image, stop, Errand::Asks(&["resume"]))?;
     tell_given_up(told.as_str())?;
-    place_of(alloc, image, trial, (place, trial.states.len()))?;
-    Ok(())
+    place_of(alloc, image, trial, (place, trial.states.len()))
 }
 
 /// The acts from that place on must be answered as they are where no disk stops; a run is resumed to its end.
@@ -181,8 +179,7 @@ fn is_done_before(
     tell_given_up(told)?;
     tell_answers(trial, told)?;
     let place = place_of(alloc, &mut left, trial, places_after(trial, told))?;
-    stop_again(alloc, &mut left, trial, stop, place)?;
-    let place = place_of(alloc, &mut left, trial, (place, trial.states.len()))?;
+    let place = stop_again(alloc, &mut left, trial, stop, place)?;
     do_rest(alloc, &mut left, trial, place)?;
     tell_end(alloc, &mut left, trial)?;
     Ok(!told.contains("fault"))

@@ -3,6 +3,7 @@ use crate::disks::{Image, Stop};
 use crate::errands::{Errand, do_all, done};
 use crate::failures::{failure, must};
 use crate::readings::fault_text;
+use office_desk::Desk;
 use office_rules::Tables;
 use office_store::Store;
 use sqlite::{Alter, Connection, Row};
@@ -75,13 +76,21 @@ fn told_rows<S: Alter>(alloc: Global, conn: &mut Connection<S>) -> Result<String
     Ok(text)
 }
 
-/// All rows of the tables, as they are read by statements.
+/// All rows of the tables, as they are read by statements once the office is opened, or the fault.
 pub(crate) fn tables_text<S: Alter>(
     alloc: Global,
-    mut conn: Connection<S>,
+    conn: Connection<S>,
 ) -> (Result<String, Fail>, Connection<S>) {
-    let told = told_rows(alloc, &mut conn);
-    (told, conn)
+    if !conn.is_autocommit() {
+        return (Err(Fail::new("a transaction is under way")), conn);
+    }
+    match Desk::open(alloc, conn) {
+        Ok(desk) => {
+            let mut conn = desk.close();
+            (told_rows(alloc, &mut conn), conn)
+        }
+        Err((fault, conn)) => (fault_text(alloc, fault), conn),
+    }
 }
 
 /// How many rows the tables have.
