@@ -1,10 +1,13 @@
 //! Every story is told.
 use crate::archive_stories::ARCHIVE;
 use crate::content_stories::CONTENTS;
+use crate::damage_stories::{BASE_DAMAGE, BUSY_DAMAGE};
 use crate::endings::tell_endings;
 use crate::filing_stories::FILING;
 use crate::hold_stories::HOLDS;
+use crate::hostile_stories::{ELSEWHERE, HOSTILE};
 use crate::limit_stories::LIMITS;
+use crate::lost_stories::{LOST, UNHEARD};
 use crate::program_stories::PROGRAM;
 use crate::request_stories::REQUESTS;
 use crate::run_stories::RUNS;
@@ -31,6 +34,24 @@ fn an_office_has_limits(rt: HostRuntime) -> Result<(), Fail> {
 #[test]
 fn requests_are_answered(rt: HostRuntime) -> Result<(), Fail> {
     tell(rt.alloc(), REQUESTS)
+}
+
+#[test]
+fn hostile_requests_are_answered(rt: HostRuntime) -> Result<(), Fail> {
+    tell(rt.alloc(), HOSTILE)?;
+    tell(rt.alloc(), ELSEWHERE)
+}
+
+#[test]
+fn clients_are_lost(rt: HostRuntime) -> Result<(), Fail> {
+    tell(rt.alloc(), LOST)?;
+    tell(rt.alloc(), UNHEARD)
+}
+
+#[test]
+fn damaged_tables_are_told(rt: HostRuntime) -> Result<(), Fail> {
+    tell(rt.alloc(), BASE_DAMAGE)?;
+    tell(rt.alloc(), BUSY_DAMAGE)
 }
 
 #[test]
