@@ -27,7 +27,7 @@ fn ending_of(it: &Exchange) -> Result<u16, Io> {
 /// Whether a client is answered so, as far as it takes the answer; its bytes come in pieces of at most so many.
 fn is_answered<S: Alter>(alloc: Global, desk: &mut Desk<S>, it: &Exchange, most: usize) -> bool {
     let mut reader = Pieces {
-        bytes: it.sent.as_bytes(),
+        bytes: it.sent.as_slice(),
         most,
         fails: it.is_lost,
     };

@@ -8,6 +8,7 @@
 //! |---|---|
 //! | `## at the desk` | an act with its answer, or what is read |
 //! | `## at the desk of the base office` | the same, after the acts of the base office (`office`) |
+//! | `## at the desk of the busy office` | the same, after the acts of the busy office too (`office`) |
 //! | `## clients in pieces of 7` | a request of HTTP, which comes in pieces of 7 bytes, with its whole answer |
 //! | `## by the program` | words of the program, and `STATUS;OUTPUT;LINE ON STANDARD ERROR`; then the bytes after which its text or its output fails, ` while read up to 7`, ` while written up to 7`; an output `*` is any |
 //! | `## in the tables` | statements of SQL that change the tables |
@@ -27,10 +28,12 @@
 //! is [3, 1, 2]`, `entries is run 1 record 1 destroyed;`.
 //!
 //! A request is `GET /records/1`, or with its length and body `POST /acts 20 [{"act":"run-step"}]`; one that
-//! begins with `bytes` is sent as it is. An answer is its status, type, length and body, `404 Not Found,
-//! application/json, 16: {"error":"path"}`, of `in all` so many bytes. `nothing` is no byte. A client that is
-//! `lost` has no answer, and one that is `lost after` so many bytes hears only these. `\n`, `\r` and `\t` are
-//! written for the bytes that they name.
+//! begins with `bytes` is sent as it is, and of `first 12 of` another its first bytes alone. An answer is its
+//! status, type, length and body, `404 Not Found, application/json, 16: {"error":"path"}`, or begins with `bytes`
+//! too, of `in all` so many bytes. `nothing` is no byte. A client that is `lost` has no answer, and one that is
+//! `lost after` so many bytes hears only these. `\n`, `\r`, `\t`, `\x00`, `\x7f` and in a request `\xff` are
+//! written for the bytes that they name. What is sent as it is, and a body that is awaited, may be pieces between
+//! ` + `, each of them so often as it says: `GET / + a x 8000 +  HTTP/1.1`.
 //!
 //! ` for each <n> of 1 2 7` or ` for each <n> of 1 to 1000` after a row or a title repeats it. A row that is
 //! not so is named by the failure.
@@ -45,6 +48,8 @@ mod clients;
 #[cfg(test)]
 mod content_stories;
 #[cfg(test)]
+mod damage_stories;
+#[cfg(test)]
 mod disks;
 #[cfg(test)]
 mod endings;
@@ -57,7 +62,11 @@ mod filing_stories;
 #[cfg(test)]
 mod hold_stories;
 #[cfg(test)]
+mod hostile_stories;
+#[cfg(test)]
 mod limit_stories;
+#[cfg(test)]
+mod lost_stories;
 #[cfg(test)]
 mod office;
 #[cfg(test)]

@@ -1,4 +1,5 @@
-//! Rows and stories that are told for each of several numbers, and the bytes that are written by escapes.
+//! Rows and stories that are told for each of several numbers, and the bytes that are written by escapes or as
+//! pieces that stand many times.
 use crate::failures::failure;
 use std::alloc::{AllocError, Global};
 use std::test::Fail;
@@ -51,5 +52,25 @@ pub(crate) fn unescaped(alloc: Global, text: &str) -> Result<String, AllocError>
     let text = text.replace(alloc, "\\n", "\n")?;
     let text = text.as_str().replace(alloc, "\\r", "\r")?;
     let text = text.as_str().replace(alloc, "\\ufeff", "\u{feff}")?;
+    let text = text.as_str().replace(alloc, "\\x00", "\0")?;
+    let text = text.as_str().replace(alloc, "\\x7f", "\u{7f}")?;
     text.as_str().replace(alloc, "\\t", "\t")
+}
+
+/// Appends a piece, as often as it says.
+fn push_piece(alloc: Global, text: &mut String, piece: &str) -> Result<(), AllocError> {
+    let Some((once, times)) = piece.rsplit_once(" x ") else {
+        return text.push_str(piece);
+    };
+    let copies = once.repeat(alloc, times.parse().unwrap_or(0))?;
+    text.push_str(copies.as_str())
+}
+
+/// The text whose pieces stand between ` + `, each of them as often as it says after ` x `, and whose escapes name bytes.
+pub(crate) fn written(alloc: Global, text: &str) -> Result<String, AllocError> {
+    let mut whole = String::new(alloc);
+    for piece in text.split(" + ") {
+        push_piece(alloc, &mut whole, piece)?;
+    }
+    unescaped(alloc, whole.as_str())
 }

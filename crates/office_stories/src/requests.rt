@@ -1,13 +1,13 @@
 //! Requests of HTTP and their answers, byte for byte, of the words of a row.
 use crate::failures::failure;
-use crate::repeating::unescaped;
+use crate::repeating::written;
 use std::alloc::{AllocError, Global};
 use std::test::Fail;
 
 /// What a client sends and what it must be answered.
 #[derive(Drop)]
 pub(crate) struct Exchange {
-    pub(crate) sent: String,
+    pub(crate) sent: Vec<u8>,
     pub(crate) answer: String,
     /// How many bytes of the answer it takes.
     pub(crate) room: usize,
@@ -25,10 +25,10 @@ fn request_with_body(
     format!(in alloc; "POST {target} HTTP/1.1\r\nHost: h\r\nContent-Length: {length}\r\n\r\n{body}")
 }
 
-/// The bytes of a request.
+/// A request as a text.
 fn request(alloc: Global, words: &str) -> Result<String, AllocError> {
     if let Some(bytes) = words.strip_prefix("bytes ") {
-        return unescaped(alloc, bytes);
+        return written(alloc, bytes);
     }
     if words == "nothing" {
         return Ok(String::new(alloc));
@@ -42,6 +42,36 @@ fn request(alloc: Global, words: &str) -> Result<String, AllocError> {
     format!(in alloc; "{words} HTTP/1.1\r\nHost: h\r\n\r\n")
 }
 
+/// The bytes of a text, in which `\xff` stands for a byte that no text has.
+fn bytes_of(alloc: Global, text: &str) -> Result<Vec<u8>, AllocError> {
+    let mut bytes = Vec::new(alloc);
+    for (place, part) in text.split("\\xff").enumerate() {
+        if place > 0 {
+            bytes.push(0xff)?;
+        }
+        bytes.extend_from_slice(part.as_bytes())?;
+    }
+    Ok(bytes)
+}
+
+/// How many bytes of a request are sent, and its words.
+fn first_of(words: &str) -> (usize, &str) {
+    if let Some(rest) = words.strip_prefix("first ")
+        && let Some((count, words)) = rest.split_once(" of ")
+    {
+        return (count.parse().unwrap_or(0), words);
+    }
+    (usize::MAX, words)
+}
+
+/// The bytes that a client sends.
+fn sent(alloc: Global, words: &str) -> Result<Vec<u8>, AllocError> {
+    let (count, words) = first_of(words);
+    let mut bytes = bytes_of(alloc, request(alloc, words)?.as_str())?;
+    bytes.truncate(count);
+    Ok(bytes)
+}
+
 /// The bytes of an answer of that status and type, with the length that is told of its body.
 fn reply(
     alloc: Global,
@@ -50,7 +80,7 @@ fn reply(
     length: &str,
     body: &str,
 ) -> Result<String, AllocError> {
-    let body = unescaped(alloc, body)?;
+    let body = written(alloc, body)?;
     format!(in alloc;
         "HTTP/1.1 {status}\r\nContent-Type: {kind}\r\nContent-Length: {length}\r\nConnection: close\r\n\r\n{body}"
     )
@@ -58,6 +88,9 @@ fn reply(
 
 /// The bytes of an answer, none where it is none.
 fn answer(alloc: Global, words: &str) -> Result<String, AllocError> {
+    if let Some(bytes) = words.strip_prefix("bytes ") {
+        return written(alloc, bytes);
+    }
     if let Some((head, body)) = words.split_once(':')
         && let Some((status, rest)) = head.split_once(", ")
         && let Some((kind, length)) = rest.split_once(", ")
@@ -93,7 +126,7 @@ pub(crate) fn exchange_of(alloc: Global, row: &str) -> Result<Exchange, Fail> {
         return Err(failure("no answer", row));
     };
     let (told, room) = taken(told);
-    let sent = request(alloc, words)?;
+    let sent = sent(alloc, words)?;
     let answer = counted_answer(alloc, told)?;
     Ok(Exchange {
         sent,

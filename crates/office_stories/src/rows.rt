@@ -17,7 +17,7 @@ pub(crate) enum Way {
     Pieces(u32),
 }
 
-/// A row that is told once, at an open desk.
+/// An act or a reading, at an open desk.
 fn tell_row<S: Alter>(alloc: Global, desk: &mut Desk<S>, row: &str) -> Result<(), Fail> {
     match row.split_once(" = ") {
         Some((words, answer)) => tell_act(alloc, desk, words, answer),
@@ -25,23 +25,23 @@ fn tell_row<S: Alter>(alloc: Global, desk: &mut Desk<S>, row: &str) -> Result<()
     }
 }
 
-/// A row that may be told for each of several numbers.
-fn tell_each<S: Alter>(alloc: Global, desk: &mut Desk<S>, row: &str) -> Result<(), Fail> {
-    let Some((row, list)) = row.split_once(FOR_EACH) else {
-        return tell_row(alloc, desk, row);
-    };
-    for copy in copies(alloc, row, list)? {
-        tell_row(alloc, desk, copy.as_str())?;
-    }
-    Ok(())
-}
-
-/// A row at an open desk.
-fn tell_at<S: Alter>(alloc: Global, desk: &mut Desk<S>, way: Way, row: &str) -> Result<(), Fail> {
+/// A row that is told once, at an open desk.
+fn tell_once<S: Alter>(alloc: Global, desk: &mut Desk<S>, way: Way, row: &str) -> Result<(), Fail> {
     match way {
-        Way::Rows => tell_each(alloc, desk, row),
+        Way::Rows => tell_row(alloc, desk, row),
         Way::Pieces(most) => tell_client(alloc, desk, row, most as usize),
     }
+}
+
+/// A row that may be told for each of several numbers.
+fn tell_at<S: Alter>(alloc: Global, desk: &mut Desk<S>, way: Way, row: &str) -> Result<(), Fail> {
+    let Some((row, list)) = row.split_once(FOR_EACH) else {
+        return tell_once(alloc, desk, way, row);
+    };
+    for copy in copies(alloc, row, list)? {
+        tell_once(alloc, desk, way, copy.as_str())?;
+    }
+    Ok(())
 }
 
 /// All rows at an open desk.

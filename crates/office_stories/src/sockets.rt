@@ -36,9 +36,14 @@ struct Client {
 }
 
 /// A client that has connected and sent.
-fn stream_of(rt: &HostRuntime, addr: SocketAddr, sent: &str, waits: bool) -> io::Result<TcpStream> {
+fn stream_of(
+    rt: &HostRuntime,
+    addr: SocketAddr,
+    sent: &[u8],
+    waits: bool,
+) -> io::Result<TcpStream> {
     let mut stream = TcpStream::connect(rt, addr)?;
-    stream.write_all(sent.as_bytes())?;
+    stream.write_all(sent)?;
     if !waits {
         stream.shutdown(Shutdown::Write)?;
     }
@@ -49,7 +54,7 @@ fn stream_of(rt: &HostRuntime, addr: SocketAddr, sent: &str, waits: bool) -> io:
 fn client_of(rt: &HostRuntime, addr: SocketAddr, row: &str) -> Result<Client, Fail> {
     let (how, row) = row.split_once(' ').ok_or("no client")?;
     let it = exchange_of(rt.alloc(), row)?;
-    let stream = stream_of(rt, addr, it.sent.as_str(), how == "waits")?;
+    let stream = stream_of(rt, addr, it.sent.as_slice(), how == "waits")?;
     Ok(Client {
         stream,
         answer: it.answer,

@@ -1,12 +1,13 @@
-//! Acts, the making of an office and runs, while a disk stops at each of its calls in turn.
+//! Acts, the making of an office and runs, while a disk stops at each of its calls in turn. Each kind of act is done on an office in
+//! which it writes the most rows, and is of a later day.
 
-/// Each kind of act, on an office in which it writes the most rows: each is of a later day.
-pub(crate) const STOPPED_ACTS: &str = "
+/// The making of an office, and what is filed in it.
+pub(crate) const STOPPED_FILING: &str = "
 # An office is made
 ## asked while a disk stops
 record 1 = none, at least 25
 
-# Each kind of act is done
+# Acts of filing are done
 ## at the desk
 record 1 is none
 ## asked while a disk stops
@@ -17,16 +18,32 @@ record 1 is none
 2024-01-06 add-record r2 1 abc & 2024-01-06 add-record r3 1 - & 2024-01-05 add-class LEG D1 & 2024-01-07 add-schedule T1 added years 1 transfer & 2024-01-07 add-schedule RV added years 1 review = number 2 & number 3 & refused 1 & done & done, at least 25
 2024-01-08 set-class-schedule FIN T1 = done, at least 25
 2024-01-09 set-record-schedule 2 D1 = done, at least 25
+";
+
+/// Another class, and holds.
+pub(crate) const STOPPED_HOLDING: &str = "
+# Acts of classification and holding are done
+## at the desk of the base office
+2024-01-09 add-schedule RV added years 1 review = done
+2024-01-09 add-class NEW RV = done
 ## closed
-## at the desk
-2024-01-09 add-class LEG RV = done
 ## asked while a disk stops
-2024-01-10 reclassify record 3 LEG = done, at least 25
+2024-01-10 reclassify record 3 NEW = done, at least 25
 2024-01-11 place-hold H = done, at least 25
 2024-01-12 hold-on H record 2 = done, at least 25
 2024-01-13 hold-off H record 2 = done, at least 25
 2024-01-14 lift-hold H = done, at least 25
 2025-02-01 review 3 D1 = done, at least 25
+";
+
+/// A confirmation, and a run to its receipt.
+pub(crate) const STOPPED_DISPOSING: &str = "
+# Acts of disposal are done
+## at the desk of the base office
+2024-01-09 add-schedule T1 added years 1 transfer = done
+2024-01-09 set-record-schedule 1 T1 = done
+2024-01-10 set-record-schedule 3 T1 = done
+## asked while a disk stops
 2025-02-02 confirm 1 transfer = done, at least 25
 2025-02-03 close-aggregation 1 = done, at least 25
 ## closed
@@ -43,8 +60,8 @@ record 1 has \"status\":\"received\"
 content 2 is none
 ";
 
-/// Runs of three, and of ten of which one is held.
-pub(crate) const STOPPED_RUNS: &str = "
+/// A run of three.
+pub(crate) const STOPPED_SHORT_RUN: &str = "
 # A run of three is resumed
 ## at the desk of the base office
 2025-01-02 confirm <n> destroy = done for each <n> of 1 to 3
@@ -52,7 +69,10 @@ pub(crate) const STOPPED_RUNS: &str = "
 ## resumed while a disk stops
 by 4 steps = closed 1, at least 25
 by 4 steps again = closed 1, at least 25
+";
 
+/// A run of ten, of which one is held.
+pub(crate) const STOPPED_LONG_RUN: &str = "
 # A run of ten with a held record is resumed
 ## at the desk of the base office
 2024-01-02 add-record r<n> 1 abc = number <n> for each <n> of 4 to 10

@@ -33,7 +33,12 @@ fn states_of(alloc: Global, image: &Image, steps: &[String]) -> Result<Vec<Strin
     let mut states = Vec::new(alloc);
     states.push(state_of(alloc, &mut left)?)?;
     for step in steps {
-        done(alloc, &mut left, Stop::never(), Errand::Asks(&[step.as_str()]))?;
+        done(
+            alloc,
+            &mut left,
+            Stop::never(),
+            Errand::Asks(&[step.as_str()]),
+        )?;
         states.push(state_of(alloc, &mut left)?)?;
     }
     Ok(states)
@@ -139,12 +144,7 @@ fn stop_again(
 }
 
 /// The acts from that place on must be answered as they are where no disk stops; a run is resumed to its end.
-fn do_rest(
-    alloc: Global,
-    image: &mut Image,
-    trial: &Trial<'_>,
-    place: usize,
-) -> Result<(), Fail> {
+fn do_rest(alloc: Global, image: &mut Image, trial: &Trial<'_>, place: usize) -> Result<(), Fail> {
     if trial.words == "resume" {
         done(alloc, image, Stop::never(), Errand::Asks(&["resume"]))?;
         return Ok(());

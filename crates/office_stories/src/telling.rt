@@ -2,7 +2,7 @@
 use crate::disks::Image;
 use crate::errands::{Errand, close, do_all};
 use crate::failures::failure;
-use crate::office::BASE;
+use crate::office::{BASE, BUSY};
 use crate::repeating::{FOR_EACH, copies, number};
 use crate::rows::Way;
 use crate::stops::{tell_asked, tell_resumed};
@@ -44,15 +44,25 @@ fn way_of(place: &str) -> Result<Option<Way>, Fail> {
     Ok(None)
 }
 
+/// The acts of the base office or of the busy one, where the place is at its desk.
+fn make_office(alloc: Global, image: &mut Image, place: &str) -> Result<(), Fail> {
+    let is_busy = place.ends_with(" of the busy office");
+    if is_busy || place.ends_with(" of the base office") {
+        do_all(alloc, image, Errand::Rows(Way::Rows, BASE))?;
+    }
+    if is_busy {
+        do_all(alloc, image, Errand::Rows(Way::Rows, BUSY))?;
+    }
+    Ok(())
+}
+
 /// A part of a story: its place and its rows.
 fn tell_part(alloc: Global, image: &mut Image, part: &str) -> Result<(), Fail> {
     let (place, rows) = part.split_once('\n').ok_or("no rows")?;
     if place == "closed" {
         return close(alloc, image);
     }
-    if place.ends_with(" of the base office") {
-        do_all(alloc, image, Errand::Rows(Way::Rows, BASE))?;
-    }
+    make_office(alloc, image, place)?;
     match way_of(place)? {
         Some(way) => do_all(alloc, image, Errand::Rows(way, rows)),
         None => tell_all_apart(alloc, image, place, rows),

@@ -1,16 +1,21 @@
 //! Every story is told.
 use crate::archive_stories::ARCHIVE;
 use crate::content_stories::CONTENTS;
+use crate::damage_stories::{BASE_DAMAGE, BUSY_DAMAGE};
 use crate::endings::tell_endings;
 use crate::filing_stories::FILING;
 use crate::hold_stories::HOLDS;
+use crate::hostile_stories::{ELSEWHERE, HOSTILE};
 use crate::limit_stories::LIMITS;
+use crate::lost_stories::{LOST, UNHEARD};
 use crate::program_stories::{LOST_LINES, PROGRAM};
 use crate::request_stories::REQUESTS;
 use crate::run_stories::RUNS;
 use crate::socket_stories::{FAILED, GIVEN_UP, IN_TURN};
 use crate::sockets::meet;
-use crate::stop_stories::{STOPPED_ACTS, STOPPED_RUNS};
+use crate::stop_stories::{
+    STOPPED_DISPOSING, STOPPED_FILING, STOPPED_HOLDING, STOPPED_LONG_RUN, STOPPED_SHORT_RUN,
+};
 use crate::table_stories::TABLES;
 use crate::telling::tell;
 use std::test::Fail;
@@ -34,6 +39,28 @@ fn requests_are_answered(rt: HostRuntime) -> Result<(), Fail> {
 }
 
 #[test]
+fn hostile_requests_are_answered(rt: HostRuntime) -> Result<(), Fail> {
+    tell(rt.alloc(), HOSTILE)?;
+    tell(rt.alloc(), ELSEWHERE)
+}
+
+#[test]
+fn clients_are_lost(rt: HostRuntime) -> Result<(), Fail> {
+    tell(rt.alloc(), LOST)?;
+    tell(rt.alloc(), UNHEARD)
+}
+
+#[test]
+fn damaged_tables_are_told(rt: HostRuntime) -> Result<(), Fail> {
+    tell(rt.alloc(), BASE_DAMAGE)
+}
+
+#[test]
+fn damaged_tables_of_runs_are_told(rt: HostRuntime) -> Result<(), Fail> {
+    tell(rt.alloc(), BUSY_DAMAGE)
+}
+
+#[test]
 fn the_program_tells_what_it_did(rt: HostRuntime) -> Result<(), Fail> {
     tell(rt.alloc(), PROGRAM)?;
     tell_endings(rt.alloc())
@@ -50,13 +77,28 @@ fn a_city_archive_has_its_story(rt: HostRuntime) -> Result<(), Fail> {
 }
 
 #[test]
-fn acts_are_stopped(rt: HostRuntime) -> Result<(), Fail> {
-    tell(rt.alloc(), STOPPED_ACTS)
+fn filing_is_stopped(rt: HostRuntime) -> Result<(), Fail> {
+    tell(rt.alloc(), STOPPED_FILING)
 }
 
 #[test]
-fn runs_are_stopped(rt: HostRuntime) -> Result<(), Fail> {
-    tell(rt.alloc(), STOPPED_RUNS)
+fn holding_is_stopped(rt: HostRuntime) -> Result<(), Fail> {
+    tell(rt.alloc(), STOPPED_HOLDING)
+}
+
+#[test]
+fn disposing_is_stopped(rt: HostRuntime) -> Result<(), Fail> {
+    tell(rt.alloc(), STOPPED_DISPOSING)
+}
+
+#[test]
+fn a_short_run_is_stopped(rt: HostRuntime) -> Result<(), Fail> {
+    tell(rt.alloc(), STOPPED_SHORT_RUN)
+}
+
+#[test]
+fn a_long_run_is_stopped(rt: HostRuntime) -> Result<(), Fail> {
+    tell(rt.alloc(), STOPPED_LONG_RUN)
 }
 
 #[test]
