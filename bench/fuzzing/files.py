@@ -17,6 +17,7 @@ from fuzzing.sound import FORMS, Rows
 OPENED = (0, b"version 1\n", b"")
 FAULTS = {number: (3, b"", b"office: fault %d\n" % number) for number in (31, 33, 34)}
 PAGE = 4_096
+CONTENTS = [9, 27]
 MORE = [{"act": "receipt", "day": LAST, "record": 5, "digest": None, "by": "archive"},
         {"act": "place-hold", "day": LAST, "code": "H-9", "reason": "x", "by": "court"}, {"act": "open-run", "day": LAST, "by": "registrar"},
         {"act": "run-step"}]
@@ -257,7 +258,7 @@ class Case:
 
     def __init__(self, file, room, has_log, certificate, schema):
         self.file, self.room, self.has_log, self.certificate, self.schema = file, room, has_log, certificate, schema
-        self.problems = []
+        self.problems, self.contents = [], []
         self.work = copied(file, room / "work.db")
         self.tables, found = sqlite_reads(self.work, room)
         self.expected = None if has_log else expected_of(self.tables, found, schema)
@@ -285,7 +286,25 @@ class Case:
             self.problems.append("it has other rows once it was opened")
         if expected_of(tables, schema, self.schema) not in (None, OPENED):
             self.problems.append(f"it opens, and its rows stand for no office: {Rows(named(tables)).fault()}")
+        self.contents = [self.content(it) for it in CONTENTS]
         return self.certified(tables)
+
+    def content(self, number):
+        """The status of a content of the opened file, which a `serve` tells: it must be the one of its record."""
+        record, content = self.served(*(b"GET /records/%d%s HTTP/1.0\r\n\r\n" % (number, it) for it in (b"", b"/content")))
+        head, _, body = content.partition(b"\r\n\r\n")
+        status, digest = head[9:12].decode(), f'"digest":"{hashlib.sha256(body).hexdigest()}"'.encode()
+        is_its = status == "200" and digest in record
+        if not (is_its or status == "404" or status == "503" and body in (b'{"fault":31}', b'{"fault":33}')):
+            self.problems.append(f"content {number} is told as {content}, its record as {record}")
+        return status
+
+    def served(self, *requests):
+        try:
+            with Service(self.work, len(requests)) as service:
+                return [service.ask([it]) for it in requests]
+        except OSError as why:
+            return [str(why).encode()] * len(requests)
 
     def certified(self, tables):
         status, text, line = told_by(("certificate", self.work, 1))
@@ -333,6 +352,8 @@ def mutated_files(random, count, tally):
             kind, has_log = mutated(mutator, closed, killed, file)
             case = Case(file, room, has_log, certificate, schema)
             name = f"{kind}: {case.look(kind.startswith('rows'))}"
+            for status in case.contents:
+                tally.passed(f"a content of a mutated file: {status}")
             if not case.problems:
                 tally.passed(name)
                 continue
