@@ -279,32 +279,33 @@ class Case:
 
     def opened(self):
         """The name of what is told of the first certificate of a file that opened."""
-        if told_by(("init", self.work)) != OPENED:
-            self.problems.append("it does not open again")
         tables, schema = sqlite_reads(self.work, self.room)
         if not self.has_log and self.tables and "office" in self.tables and tables != self.tables:
             self.problems.append("it has other rows once it was opened")
         if expected_of(tables, schema, self.schema) not in (None, OPENED):
             self.problems.append(f"it opens, and its rows stand for no office: {Rows(named(tables)).fault()}")
-        self.contents = [self.content(it) for it in CONTENTS]
+        self.serve_contents()
         return self.certified(tables)
 
-    def content(self, number):
-        """The status of a content of the opened file, which a `serve` tells: it must be the one of its record."""
-        record, content = self.served(*(b"GET /records/%d%s HTTP/1.0\r\n\r\n" % (number, it) for it in (b"", b"/content")))
-        head, _, body = content.partition(b"\r\n\r\n")
-        status, digest = head[9:12].decode(), f'"digest":"{hashlib.sha256(body).hexdigest()}"'.encode()
-        is_its = status == "200" and digest in record
-        if not (is_its or status == "404" or status == "503" and body in (b'{"fault":31}', b'{"fault":33}')):
-            self.problems.append(f"content {number} is told as {content}, its record as {record}")
-        return status
-
-    def served(self, *requests):
+    def serve_contents(self):
+        """A `serve` opens the file again and tells some contents, each the one of its record; where the database fails it ends."""
         try:
-            with Service(self.work, len(requests)) as service:
-                return [service.ask([it]) for it in requests]
+            with Service(self.work, 2 * len(CONTENTS)) as service:
+                for number in CONTENTS:
+                    record, content = (service.ask([b"GET /records/%d%s HTTP/1.0\r\n\r\n" % (number, it)])[0] for it in (b"", b"/content"))
+                    self.contents.append(content[9:12].decode())
+                    if content.endswith(b'{"fault":31}'):
+                        return
+                    self.judge_content(number, record, content)
         except OSError as why:
-            return [str(why).encode()] * len(requests)
+            self.problems.append(f"serve: {why}")
+
+    def judge_content(self, number, record, content):
+        head, _, body = content.partition(b"\r\n\r\n")
+        status, digest = head[9:12], f'"digest":"{hashlib.sha256(body).hexdigest()}"'.encode()
+        is_its = status == b"200" and digest in record
+        if not (is_its or status == b"404" or status == b"503" and body == b'{"fault":33}'):
+            self.problems.append(f"content {number} is told as {content}, its record as {record}")
 
     def certified(self, tables):
         status, text, line = told_by(("certificate", self.work, 1))

@@ -104,8 +104,8 @@ class Service:
         return next(int(it.split()[1]) for it in lines if it.startswith("VmRSS:"))
 
     def ask(self, pieces):
-        """All bytes that answer those pieces, each of which is sent by itself; then no more is sent."""
-        told = []
+        """All bytes that answer those pieces, each of which is sent by itself; then no more is sent. And whether the connection was reset."""
+        told, is_reset = [], False
         with socket.socket() as conn:
             conn.settimeout(LONGEST_WAIT)
             conn.connect(("127.0.0.1", self.port))
@@ -114,14 +114,14 @@ class Service:
                 for piece in pieces:
                     conn.sendall(piece)
                 conn.shutdown(socket.SHUT_WR)
-            except (BrokenPipeError, ConnectionResetError):
-                pass
+            except OSError:
+                is_reset = True
             try:
                 while piece := conn.recv(65536):
                     told.append(piece)
             except ConnectionResetError:
-                pass
-        return b"".join(told)
+                is_reset = True
+        return b"".join(told), is_reset
 
     def ended(self):
         """Its status and what it wrote on standard error, once it has served its count."""

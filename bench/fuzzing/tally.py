@@ -5,8 +5,8 @@ import shutil
 MOST_KEPT = 200
 
 
-class TooMany(Exception):
-    pass
+class Stopped(Exception):
+    """Nothing more is to be tried."""
 
 
 class Tally:
@@ -30,7 +30,7 @@ class Tally:
                 shutil.copyfile(case, self.folder / f"{name}{ending}")
         print(f"{name}: {kind}: {told[:300]}", flush=True)
         if self.failed >= MOST_KEPT:
-            raise TooMany
+            raise Stopped
 
     def judge(self, kind, holds, told):
         """One fact, of which no bytes are kept."""

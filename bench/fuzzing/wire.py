@@ -299,11 +299,9 @@ class Asked:
             return f"{self.refused.status} {members['error']}" + (f" refused {members['refused']}" if "refused" in members else "")
         return self.request.name
 
-    def unread(self, data):
-        """How many bytes more came than are asked for."""
-        if self.request is None:
-            return len(data) - LONGEST_HEAD
-        return len(self.request.rest) - len(self.request.body)
+    def leaves_bytes(self):
+        """Whether more bytes may have come than are asked for."""
+        return self.request is None or len(self.request.rest) > len(self.request.body)
 
     def changes(self, office):
         """Whether something of it is accepted, so that the office is another one after it; a list of acts none of which is changes nothing."""
