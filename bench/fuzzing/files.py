@@ -236,6 +236,7 @@ class Mutator:
         finally:
             conn.close()
 
+
 # ---- what the program says
 
 
