@@ -172,11 +172,18 @@ export function label(table, words) {
   words.forEach((word, at) => table.style.setProperty(`--word-${at + 1}`, JSON.stringify(word)));
 }
 
-/** A table with a caption and a heading a column; each row is a list of cells, the first of which names the row. */
+const row = (...cells) => made("tr", { role: "row" }, ...cells);
+const heading = (word) => made("th", { scope: "col", role: "columnheader" }, word);
+const cell = (content, at) => (at === 0 ? made("th", { scope: "row", role: "rowheader" }, content) : made("td", { role: "cell" }, content));
+
+/**
+ * A table with a caption and a heading a column; each row is a list of cells, the first of which names the row. The roles stand
+ * there for browsers that forget what a table is once its rows are laid out as cards.
+ */
 export function tableOf(caption, words, rows, kind = "") {
-  const head = made("tr", {}, ...words.map((word) => made("th", { scope: "col" }, word)));
-  const body = rows.map((cells) => made("tr", {}, ...cells.map((cell, at) => (at === 0 ? made("th", { scope: "row" }, cell) : made("td", {}, cell)))));
-  const table = made("table", { class: `cards ${kind}` }, made("caption", {}, caption), made("thead", {}, head), made("tbody", {}, ...body));
+  const head = made("thead", { role: "rowgroup" }, row(...words.map(heading)));
+  const body = made("tbody", { role: "rowgroup" }, ...rows.map((cells) => row(...cells.map(cell))));
+  const table = made("table", { class: `cards ${kind}`, role: "table" }, made("caption", {}, caption), head, body);
   label(table, words);
   return table;
 }

@@ -6,7 +6,7 @@ import { COLUMNS, FILTERS, canBeConfirmed, choices, filtered, sorted, totals } f
 import { isDay, today } from "../plain/forms.js";
 import { fatesOf, jsonOf } from "../plain/outcomes.js";
 import { all, t } from "../texts.js";
-import { rowsOf, showRows, tellHead, tellOrder } from "./due_table.js";
+import { boxOf, recordOf, rowsOf, showRows, tellHead, tellOrder } from "./due_table.js";
 
 /** The list that is shown: its day, its rows, their nodes, the records that are marked, the filter and the order. */
 const list = { day: null, rows: [], shown: [], nodes: new Map(), marks: new Set(), filter: {}, column: "", down: false };
@@ -141,7 +141,7 @@ function tellMarks() {
 function markOnly(records) {
   list.marks = new Set(records);
   for (const [record, node] of list.nodes) {
-    const box = node.firstChild.querySelector("input");
+    const box = boxOf(node);
     if (box) box.checked = list.marks.has(record);
   }
   tellMarks();
@@ -154,8 +154,8 @@ function markShown() {
 
 function markOne({ target }) {
   if (target.type !== "checkbox") return;
-  if (target.checked) list.marks.add(Number(target.value));
-  else list.marks.delete(Number(target.value));
+  if (target.checked) list.marks.add(recordOf(target));
+  else list.marks.delete(recordOf(target));
   tellMarks();
 }
 
@@ -242,7 +242,7 @@ export function start() {
   byId("due-unmark").addEventListener("click", () => markOnly([]));
   byId("due-print").addEventListener("click", () => print());
   byId("due-skip").addEventListener("click", () => byId("due-confirm-day").focus());
-  byId("due-rows").addEventListener("change", markOne);
+  byId("due-table").addEventListener("change", markOne);
 }
 
 /** Shows the list that the address names; without a day the one that is here already. */
