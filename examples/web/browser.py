@@ -1,6 +1,6 @@
 """Debian's Chromium, headless, by its driver and Python's selenium, as somebody who looks at the page."""
+import base64
 import contextlib
-import json
 import time
 
 from selenium import webdriver
@@ -115,13 +115,13 @@ class Browser:
 
     def paper(self, file):
         """What is printed, as a PDF; its bytes."""
-        import base64
         pdf = base64.b64decode(self.driver.execute_cdp_cmd("Page.printToPDF", {"printBackground": False, "preferCSSPageSize": True})["data"])
         file.write_bytes(pdf)
         return pdf
 
-    def posts(self):
-        return json.loads(self.driver.execute_script("return JSON.stringify(performance.getEntriesByType('resource').map((it) => it.name))"))
+    def loaded(self):
+        """The addresses of all that the page asked for."""
+        return self.driver.execute_script("return performance.getEntriesByType('resource').map((it) => it.name)")
 
 
 @contextlib.contextmanager

@@ -2,6 +2,7 @@
 
 The configuration is the one of the repository; its ports, folders and files of its own are put in place of those that it names.
 """
+import base64
 import http.client
 import os
 import pathlib
@@ -26,6 +27,11 @@ def replaced(text, old, new):
     return text.replace(old, new)
 
 
+def full(file, more=100):
+    """Words of a shell: no file may become longer than this one and so many blocks of 512 bytes; a write beyond fails."""
+    return f"trap '' XFSZ; ulimit -f {file.stat().st_size // 512 + more};"
+
+
 class Office:
     """`office serve` over a file, which may be stopped and started again."""
 
@@ -46,6 +52,11 @@ class Office:
             self.process.kill()
             self.process.wait()
             self.process = None
+
+    def close(self):
+        """Stops it, and closes the file, so that it alone has every act."""
+        self.stop()
+        subprocess.run([OFFICE, "init", self.file], check=True, stdout=subprocess.DEVNULL)
 
     def ask(self, method, path, body=None):
         """The office itself, past nginx: status, media type, body."""
@@ -106,7 +117,6 @@ class Proxy:
 
     def ask(self, method, path, body=None, fields=None, named=True):
         """A program that is no browser asks nginx: status and body."""
-        import base64
         known = ssl.create_default_context(cafile=str(self.folder / "office.crt"))
         conn = http.client.HTTPSConnection("localhost", self.port, context=known, timeout=300)
         who = {"Authorization": "Basic " + base64.b64encode(f"{NAME}:{PASSWORD}".encode()).decode()} if named else {}

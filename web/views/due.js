@@ -227,8 +227,12 @@ function go({ "due-day": day }) {
   quiet(byId("due-panel-outcome"));
   quiet(byId("due-answer"));
   const address = addressOf(day);
-  if (location.hash === address) return open(day);
-  location.hash = address;
+  if (day !== list.day && location.hash !== address) {
+    location.hash = address;
+    return null;
+  }
+  history.replaceState(null, "", address);
+  return open(day);
 }
 
 export function start() {
