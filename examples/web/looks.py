@@ -165,16 +165,18 @@ def paper(browser, proxy, folder):
         judge(f"{name}: and nothing that is pressed", not any(it in text for it in not_wanted), text)
 
 
-def pictures(browser, proxy, place):
-    """A picture of each view, wide and narrow."""
+def pictures(browser, proxy, place, names):
+    """A picture of each of these views, wide and narrow, where a place for them is given."""
+    if place is None:
+        return
     place.mkdir(parents=True, exist_ok=True)
-    for name, address in VIEWS.items():
+    for name in names:
         for width in (1280, 400):
-            browser.open(proxy.page + address)
+            browser.open(proxy.page + VIEWS[name])
             if name == "due":
                 browser.press("#due-mark")
+                browser.write(due_confirm_by="R. Halloran, records manager")
             if name == "record":
                 browser.press("#record-save")
             browser.driver.execute_script("document.activeElement.blur(); scrollTo(0, 0)")
-            browser.picture(place / f"{name}-{width}.png", width, 1400 if width == 400 else 1700)
-
+            browser.picture(place / f"{name}-{width}.png", width, 1400 if width == 400 else 1900)

@@ -348,20 +348,21 @@ class Story:
         same("the list tells what was done", self.due_table(), self.due_cells(rows))
         print(f"of {sum(not row['confirmed'] for row in before)} that were not confirmed {len(rows)} are not now, after the answer was lost")
 
-    def tell(self, between):
-        """The whole story; `between` is done once the first run is closed."""
+    def tell(self, at):
+        """The whole story; what `at` has by a name is done where the story has come so far."""
         for name in ("1-schedule", "2-holdings", "3-lawsuit"):
             status, _ = self.proxy.ask("POST", "/acts", city(name), {"Origin": self.proxy.address})
             judge(f"a program posts {name} through nginx", status in (200, 409), str(status))
         self.browser.open(self.proxy.page)
         self.due()
+        at["due"]()
         self.wrong_input()
         looks.keyboard(self.browser, self.proxy)
         self.confirm()
         self.run(1, "2022-05-02")
         self.records()
         self.files()
-        between()
+        at["run"]()
         self.holds()
         self.run(2, "2023-11-20")
         self.damaged()
