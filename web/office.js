@@ -35,6 +35,21 @@ function skip(event) {
   byId("main").focus();
 }
 
+/** On paper a link leads nowhere; and of many links a browser that prints looks for each one's goal on each page, for minutes. */
+function withoutLinks() {
+  for (const link of document.querySelectorAll("main a[href]")) {
+    link.dataset.href = link.getAttribute("href");
+    link.removeAttribute("href");
+  }
+}
+
+function withLinks() {
+  for (const link of document.querySelectorAll("main a[data-href]")) {
+    link.setAttribute("href", link.dataset.href);
+    delete link.dataset.href;
+  }
+}
+
 async function begin() {
   await load(navigator.languages);
   document.documentElement.lang = all().lang;
@@ -43,6 +58,8 @@ async function begin() {
   for (const view of Object.values(VIEWS)) view.start();
   byId("skip").addEventListener("click", skip);
   addEventListener("hashchange", () => show(true));
+  addEventListener("beforeprint", withoutLinks);
+  addEventListener("afterprint", withLinks);
   byId("loading").remove();
   document.body.classList.add("ready");
   show(false);

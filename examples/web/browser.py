@@ -115,7 +115,7 @@ class Browser:
 
     def paper(self, file):
         """What is printed, as a PDF; its bytes."""
-        pdf = base64.b64decode(self.driver.execute_cdp_cmd("Page.printToPDF", {"printBackground": False, "preferCSSPageSize": True})["data"])
+        pdf = base64.b64decode(self.driver.execute_cdp_cmd("Page.printToPDF", {"printBackground": False, "preferCSSPageSize": True, "generateTaggedPDF": False})["data"])
         file.write_bytes(pdf)
         return pdf
 

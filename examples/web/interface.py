@@ -180,7 +180,7 @@ def is_read(office, act):
 
 def acts(office):
     """Whatever the schema takes the office reads, and whatever it refuses the office does not."""
-    rows = re.findall(r"^\| (`[a-z`, -]+) \| [^|]* \| (?:done|its|a step|their)", (TOP / "docs/ACTS.md").read_text(), re.M)
+    rows = re.findall(r"^\| (`[a-z`, -]+) \|[^|]*\| (?:done|its|a step|their)", (TOP / "docs/ACTS.md").read_text(), re.M)
     kinds = [kind for row in rows for kind in re.findall(r"`([a-z-]+)`", row)]
     mapping = DESCRIPTION["components"]["schemas"]["Act"]["discriminator"]["mapping"]
     same("there is a schema for each kind of act of docs/ACTS.md", sorted(mapping), sorted(kinds))

@@ -26,9 +26,9 @@ look();
 def acts():
     """An office with so many records that are due."""
     day = {"day": "2018-01-02"}
-    yield {"act": "add-schedule", **day, "code": "D1", "trigger": "added", "unit": "years", "count": 1, "offset": "none", "action": "destroy"}
-    yield {"act": "add-schedule", **day, "code": "T1", "trigger": "origin", "unit": "years", "count": 1, "offset": "none", "action": "transfer"}
-    for code, schedule in (("LETTERS", "D1"), ("NOTICES", "D1"), ("PERMITS", "T1")):
+    yield {"act": "add-schedule", **day, "code": "GO-1", "trigger": "added", "unit": "years", "count": 1, "offset": "none", "action": "destroy"}
+    yield {"act": "add-schedule", **day, "code": "SEND-1", "trigger": "origin", "unit": "years", "count": 1, "offset": "none", "action": "transfer"}
+    for code, schedule in (("LETTERS", "GO-1"), ("NOTICES", "GO-1"), ("PERMITS", "SEND-1")):
         yield {"act": "add-class", **day, "code": code, "title": code.title(), "schedule": schedule}
         yield {"act": "add-aggregation", **day, "ref": code, "title": code.title(), "class": code}
     for number in range(ROWS):
