@@ -55,6 +55,7 @@ async function begin() {
   document.documentElement.lang = all().lang;
   for (const place of document.querySelectorAll("[data-field]")) field(place);
   translate(document);
+  // the views come first, so that a list is whole before its links are left out
   for (const view of Object.values(VIEWS)) view.start();
   byId("skip").addEventListener("click", skip);
   addEventListener("hashchange", () => show(true));

@@ -54,7 +54,7 @@ class Browser:
 
     def settled(self):
         """Waits until the page asks nothing any more."""
-        self.wait(lambda: not self.all(".waiting") and not self.all("form[aria-busy]"), "the page goes on asking")
+        self.wait(lambda: not self.all(".waiting, [aria-busy]"), "the page goes on asking")
 
     def wait(self, holds, else_):
         end = time.time() + WAIT

@@ -6,10 +6,10 @@ import { COLUMNS, FILTERS, canBeConfirmed, choices, filtered, sorted, totals } f
 import { isDay, today } from "../plain/forms.js";
 import { fatesOf, jsonOf } from "../plain/outcomes.js";
 import { all, t } from "../texts.js";
-import { boxOf, recordOf, rowsOf, showRows, tellHead, tellOrder } from "./due_table.js";
+import { begin, finish, recordOf, showRows, tellHead, tellOrder, tick } from "./due_table.js";
 
-/** The list that is shown: its day, its rows, their nodes, the records that are marked, the filter and the order. */
-const list = { day: null, rows: [], shown: [], nodes: new Map(), marks: new Set(), filter: {}, column: "", down: false };
+/** The list that is shown: its day, its rows, those of them that are shown, the records that are marked, the filter and the order. */
+const list = { day: null, rows: [], shown: [], marks: new Set(), filter: {}, column: "", down: false };
 let asked = 0;
 
 const select = (name) => byId(`due-${name}`);
@@ -66,7 +66,7 @@ function tellChoices() {
 /** Shows the rows that the filter takes, in their order. */
 function draw() {
   list.shown = sorted(filtered(list.rows, list.filter), list.column, list.down);
-  showRows(list.shown, list.nodes);
+  showRows(list.shown);
   tellOrder(list.column || "due", list.down);
   tellTotals();
   tellMarks();
@@ -97,7 +97,7 @@ function take(day, rows) {
   list.day = day;
   list.rows = rows;
   list.marks = new Set();
-  list.nodes = rowsOf(rows, list.marks);
+  begin((record) => list.marks.has(record));
   tellChoices();
   draw();
   byId("due-list").hidden = rows.length === 0;
@@ -140,10 +140,7 @@ function tellMarks() {
 /** Marks these records and no others. */
 function markOnly(records) {
   list.marks = new Set(records);
-  for (const [record, node] of list.nodes) {
-    const box = boxOf(node);
-    if (box) box.checked = list.marks.has(record);
-  }
+  tick();
   tellMarks();
 }
 
@@ -247,6 +244,7 @@ export function start() {
   byId("due-print").addEventListener("click", () => print());
   byId("due-skip").addEventListener("click", () => byId("due-confirm-day").focus());
   byId("due-table").addEventListener("change", markOne);
+  addEventListener("beforeprint", finish);
 }
 
 /** Shows the list that the address names; without a day the one that is here already. */

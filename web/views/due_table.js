@@ -1,10 +1,19 @@
-// The table of the due list. Each row is made once and then put in order, left out and put in again.
+// The table of the due list. Each row is made once and then put in order, left out and put in again. Of a long list the rows that
+// are seen first come first, and the others at once after them, bit by bit, so that the page answers meanwhile.
 import { byId, label, made } from "../page.js";
 import { COLUMNS, canBeConfirmed } from "../plain/duelist.js";
 import { t } from "../texts.js";
 
 // So many rows stand in one group. A browser lays out only the groups that are in sight (office.css), and all of them to print.
 const GROUP = 100;
+// so many groups come before anything else, and so many at a time after them
+const FIRST = 2;
+const MORE = 30;
+
+/** The rows that are made, by record; which records are marked; the groups that still want their rows. */
+let nodes = new Map();
+let isMarked = () => false;
+let wanting = [];
 
 const cell = (name, ...children) => made(name, { role: name === "th" ? "rowheader" : "cell" }, ...children);
 
@@ -46,14 +55,31 @@ function fillRow(node, row, marked) {
   return node;
 }
 
-/** The box of a row, or null where it cannot be marked; and the record of a box. */
-export const boxOf = (row) => row.firstChild.querySelector("input");
+const boxOf = (row) => row.firstChild.querySelector("input");
+
+/** The record of a box. */
 export const recordOf = (box) => Number(box.closest("tr").cells[1].textContent);
 
-/** A row of the table for each row of the list, by its record. */
-export function rowsOf(rows, marks) {
-  const copied = pattern();
-  return new Map(rows.map((row) => [row.record, fillRow(copied.cloneNode(true), row, marks.has(row.record))]));
+const copied = pattern();
+
+function nodeOf(row) {
+  const { record } = row;
+  if (!nodes.has(record)) nodes.set(record, fillRow(copied.cloneNode(true), row, isMarked(record)));
+  return nodes.get(record);
+}
+
+/** Forgets the rows of the list before. Whether a record of the new one is marked is asked of `marked`. */
+export function begin(marked) {
+  nodes = new Map();
+  isMarked = marked;
+}
+
+/** Ticks the boxes of the records that are marked, and no others. */
+export function tick() {
+  for (const [record, node] of nodes) {
+    const box = boxOf(node);
+    if (box) box.checked = isMarked(record);
+  }
 }
 
 /** The headings, each with a button that sorts by its column. */
@@ -76,14 +102,30 @@ export function tellOrder(column, down) {
   }
 }
 
+/** Puts the rows into so many of the groups that want them. */
+function fill(count) {
+  for (const [group, rows] of wanting.splice(0, count)) group.append(...rows.map(nodeOf));
+  byId("due-table").toggleAttribute("aria-busy", wanting.length > 0);
+}
+
+/** Puts the other rows in, unless another list or order has come meanwhile. */
+function fillLater(these) {
+  if (these !== wanting || !these.length) return;
+  fill(MORE);
+  setTimeout(() => fillLater(these));
+}
+
+/** Puts in all rows at once, as to be printed. */
+export const finish = () => fill(wanting.length);
+
 /** Shows these rows, in this order, in their groups. */
-export function showRows(rows, nodes) {
-  const groups = document.createDocumentFragment();
-  for (let at = 0; at < rows.length; at += GROUP) {
-    const group = made("tbody", { role: "rowgroup" });
-    for (const row of rows.slice(at, at + GROUP)) group.append(nodes.get(row.record));
-    groups.append(group);
-  }
+export function showRows(rows) {
+  wanting = [];
+  for (let at = 0; at < rows.length; at += GROUP) wanting.push([made("tbody", { role: "rowgroup" }), rows.slice(at, at + GROUP)]);
   for (const group of [...byId("due-table").tBodies]) group.remove();
-  byId("due-table").append(groups);
+  byId("due-table").append(...wanting.map(([group]) => group));
+  fill(FIRST);
+  const these = wanting;
+  // once the first ones were drawn
+  requestAnimationFrame(() => setTimeout(() => fillLater(these)));
 }
