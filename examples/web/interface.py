@@ -1,7 +1,8 @@
 """docs/openapi.yaml: its form, each kind of act beside what a real office takes, and the answers of a real office."""
 import copy
-import importlib.resources
+import importlib.util
 import json
+import pathlib
 import re
 import socket
 
@@ -32,10 +33,10 @@ ACT = validator({"$ref": "#/components/schemas/Act"})
 
 def published_form():
     """The schema of OpenAPI 3.1 of python3-openapi-spec-validator, where that is installed."""
-    try:
-        return json.loads((importlib.resources.files("openapi_spec_validator") / "resources/schemas/v3.1/schema.json").read_text())
-    except ModuleNotFoundError:
+    package = importlib.util.find_spec("openapi_spec_validator")
+    if package is None:
         return None
+    return json.loads((pathlib.Path(package.origin).parent / "resources/schemas/v3.1/schema.json").read_text())
 
 
 def references(part):
