@@ -1,0 +1,182 @@
+"""How the page looks and is reached: contrast, names of fields, the keyboard, another language, paper, pictures."""
+import json
+import shutil
+import subprocess
+
+from judging import judge, same
+from place import TOP
+
+VIEWS = {"due": "#due?day=2022-05-02", "record": "#record?number=1", "certificate": "#certificate?number=1", "run": "#run?number=1", "holds": "#holds?code=Q-2020-17"}
+
+# the least contrast of any text that is seen with what is behind it, with that text
+CONTRAST = """
+const channel = (it) => { it /= 255; return it <= 0.03928 ? it / 12.92 : ((it + 0.055) / 1.055) ** 2.4; };
+const numbers = (color) => color.match(/[\\d.]+/g).map(Number);
+const light = (color) => { const [r, g, b] = numbers(color).map(channel); return 0.2126 * r + 0.7152 * g + 0.0722 * b; };
+const behind = (node) => { for (let it = node; it; it = it.parentElement) { const color = getComputedStyle(it).backgroundColor; const [, , , a] = numbers(color); if (a === undefined || a > 0) return color; } return "rgb(255, 255, 255)"; };
+let least = [21, ""];
+const walk = document.createTreeWalker(document.body, NodeFilter.SHOW_TEXT);
+while (walk.nextNode()) {
+  const node = walk.currentNode.parentElement;
+  if (!walk.currentNode.data.trim() || !node.checkVisibility({checkOpacity: true, checkVisibilityCSS: true}) || node.closest("script, option")) continue;
+  const [one, other] = [light(getComputedStyle(node).color), light(behind(node))].sort((a, b) => b - a);
+  const ratio = (one + 0.05) / (other + 0.05);
+  if (ratio < least[0]) least = [ratio, `${walk.currentNode.data.trim().slice(0, 40)} in ${node.tagName} ${node.className}`];
+}
+return least;
+"""
+# edges of fields against what is behind them
+EDGES = """
+const channel = (it) => { it /= 255; return it <= 0.03928 ? it / 12.92 : ((it + 0.055) / 1.055) ** 2.4; };
+const light = (color) => { const [r, g, b] = color.match(/[\\d.]+/g).map(Number).map(channel); return 0.2126 * r + 0.7152 * g + 0.0722 * b; };
+const at = (node) => { for (let it = node.parentElement; it; it = it.parentElement) { const color = getComputedStyle(it).backgroundColor; if (!/, 0\\)$/.test(color)) return color; } };
+return Math.min(21, ...Array.from(document.querySelectorAll("section:not([hidden]) input[type=text], section:not([hidden]) select"), (node) => {
+  const [one, other] = [light(getComputedStyle(node).borderTopColor), light(at(node))].sort((a, b) => b - a); return (one + 0.05) / (other + 0.05); }));
+"""
+NAMELESS = """
+return Array.from(document.querySelectorAll("section:not([hidden]) :is(input, select, button, a, table)"))
+  .filter((node) => node.checkVisibility() && !(node.labels?.length || node.getAttribute("aria-label") || node.caption || node.textContent.trim())).map((node) => node.outerHTML)
+"""
+SMALL = """
+return Array.from(document.querySelectorAll("section:not([hidden]) :is(input, select, button:not(.inner)), section:not([hidden]) :is(td, th) a, nav ul a"))
+  .filter((node) => node.checkVisibility()).filter((node) => { const it = node.getBoundingClientRect(); return it.width && (it.height < 24 || it.width < 24); }).map((node) => node.outerHTML)
+"""
+WIDE = "return [document.documentElement.scrollWidth, innerWidth]"
+
+
+def readable(browser, proxy):
+    for scheme in ("light", "dark"):
+        browser.light(scheme)
+        for name, address in VIEWS.items():
+            browser.open(proxy.page + address)
+            ratio, where = browser.driver.execute_script(CONTRAST)
+            judge(f"{name}, {scheme}: each text has a contrast of 4.5 at least, the least {ratio:.1f}", ratio >= 4.5, where)
+            edge = browser.driver.execute_script(EDGES)
+            judge(f"{name}, {scheme}: each field's edge has 3 at least, the least {edge:.1f}", edge >= 3)
+    browser.light("light")
+    for name, address in VIEWS.items():
+        for width in (1280, 400, 320):
+            browser.width(width)
+            browser.open(proxy.page + address)
+            there, wanted = browser.driver.execute_script(WIDE)
+            judge(f"{name}: nothing is wider than {width} pixels", there <= wanted, f"{there}")
+            same(f"{name}: nothing that is pressed is smaller than 24 pixels at {width}", browser.driver.execute_script(SMALL), [])
+        browser.width(1280)
+        same(f"{name}: each field, button, link and table has a name", browser.driver.execute_script(NAMELESS), [])
+        same(f"{name}: one heading of the first level is seen", len([it for it in browser.all("h1") if it.is_displayed()]), 1)
+    browser.width(400)
+    browser.open(proxy.page + VIEWS["due"])
+    roles = [node["role"]["value"] for node in browser.driver.execute_cdp_cmd("Accessibility.getFullAXTree", {})["nodes"] if not node["ignored"]]
+    rows = len(browser.table("#due-table"))
+    there = {role: roles.count(role) for role in ("table", "row", "columnheader", "rowheader", "cell")}
+    same("a narrow list is still a table for a screen reader", there, {"table": 1, "row": rows + 1, "columnheader": 9, "rowheader": rows, "cell": 8 * rows})
+    browser.width(1280)
+
+
+FOCUSED = """const it = document.activeElement; const style = getComputedStyle(it); const box = it.getBoundingClientRect();
+return [it.id || it.textContent || it.getAttribute("aria-label"), style.outlineStyle !== "none" && parseFloat(style.outlineWidth) >= 2, box.bottom > 0 && box.top < innerHeight, it.tagName]"""
+
+
+def keyboard(browser, proxy):
+    """The list is asked for, marked and left by the keyboard alone."""
+    from selenium.webdriver.common.keys import Keys
+    browser.open(proxy.page)
+    keys = lambda *them: browser.driver.switch_to.active_element.send_keys(*them)
+    focus = lambda: browser.driver.execute_script(FOCUSED)
+    keys(Keys.TAB)
+    same("keyboard: the first stop is the link over the heading", focus()[0], "skip")
+    keys(Keys.ENTER)
+    same("keyboard: it leads to the view", focus()[0], "main")
+    keys(Keys.TAB)
+    same("keyboard: then comes the day", focus()[0], "due-day")
+    keys(Keys.CONTROL, "a")
+    keys("2022-05-02", Keys.ENTER)
+    browser.settled()
+    same("keyboard: the list is shown", len(browser.table("#due-table")), 22)
+    stops, unseen, hidden = [], [], []
+    for _ in range(90):
+        keys(Keys.TAB)
+        name, outlined, inside, tag = focus()
+        if tag == "BODY" or name == "skip":
+            break
+        stops.append(name)
+        if not outlined:
+            unseen.append(name)
+        if not inside:
+            hidden.append(name)
+    wanted = ["due-class", "due-schedule", "due-action", "due-held", "due-confirmed", "due-all", "due-mark", "due-unmark", "due-print", "due-skip", "Mark record 19", "due-confirm-day", "due-confirm-by", "due-submit"]
+    same("keyboard: each part is reached, in the order of the page", [name for name in stops if name in wanted], wanted)
+    same("keyboard: each stop is outlined", unseen, [])
+    same("keyboard: and in sight", hidden, [])
+    browser.one("#due-skip").send_keys(Keys.ENTER)
+    same("keyboard: one stop leads past the rows", focus()[0], "due-confirm-day")
+    browser.driver.execute_script("document.querySelector('#due-table input').focus()")
+    keys(Keys.SPACE)
+    same("keyboard: the space bar marks a row", browser.text("#due-submit"), "Confirm 1")
+
+
+def written(part):
+    """All texts of a file in a language that nobody speaks: each between brackets."""
+    if isinstance(part, dict):
+        return {name: written(value) for name, value in part.items()}
+    if isinstance(part, list):
+        return [{**written(row), "status": row["status"], "body": row["body"]} for row in part]
+    return f"⟦{part}⟧" if part else part
+
+
+FOREIGN = """
+const found = []; const walk = document.createTreeWalker(document.body, NodeFilter.SHOW_TEXT);
+while (walk.nextNode()) { const it = walk.currentNode; if (/[a-z]{2}/i.test(it.data) && !it.parentElement.closest("td, th[scope=row], code, pre, dd, script, #loading")) found.push(it.parentElement.textContent); }
+for (const it of document.querySelectorAll("[aria-label], [title]")) found.push(it.getAttribute("aria-label") ?? it.title);
+return [document.documentElement.lang, document.title, found.filter((it) => !(it.includes("⟦") && it.includes("⟧")))]
+"""
+
+
+def languages(folder, proxy, open_browser):
+    """One more file in texts/ is one more language, and no text stands anywhere else."""
+    strange = written(json.loads((TOP / "web/texts/en.json").read_text())) | {"lang": "de"}
+    file = folder / "web/texts/de.json"
+    file.write_text(json.dumps(strange, ensure_ascii=False))
+    with open_browser(folder, "de-CH") as other:
+        other.know(proxy.page)
+        for name, address in VIEWS.items():
+            other.open(proxy.page + address)
+            lang, title, left = other.driver.execute_script(FOREIGN)
+            same(f"{name}: in another language no English text is left", (lang, "⟦" in title, left), ("de", True, []))
+    file.unlink()
+    with open_browser(folder, "fr-FR") as other:
+        other.know(proxy.page)
+        other.open(proxy.page)
+        same("a language without a file is told in English", other.driver.title, "Due · Records disposal office")
+
+
+def paper(browser, proxy, folder):
+    """What is printed of the list and of a certificate, read by Debian's pdftotext where it is there."""
+    for name, wanted, not_wanted in (("due", ["Records due by 2022-05-02", "EVT/2018-01/1", "EVT/2018-01/4", "Q-2020-17"], ["Show the list", "Confirm what is marked", "Mark"]),
+                                     ("certificate", ["agrees with its last line", "APP/18-07", "SHA256 c046fb1e"], ["Show the certificate", "Save the text"])):
+        browser.open(proxy.page + VIEWS[name])
+        file = folder / f"{name}.pdf"
+        browser.paper(file)
+        if not shutil.which("pdftotext"):
+            print(f"not done here, without pdftotext: reading what is printed of {name}")
+            continue
+        text = subprocess.run(["pdftotext", "-layout", file, "-"], stdout=subprocess.PIPE, check=True).stdout.decode()
+        judge(f"{name}: on paper is what is to be read", all(it in text for it in wanted), text)
+        judge(f"{name}: and nothing that is pressed", not any(it in text for it in not_wanted), text)
+
+
+def pictures(browser, proxy, place, names):
+    """A picture of each of these views, wide and narrow, where a place for them is given."""
+    if place is None:
+        return
+    place.mkdir(parents=True, exist_ok=True)
+    for name in names:
+        for width in (1280, 400):
+            browser.open(proxy.page + VIEWS[name])
+            if name == "due":
+                browser.press("#due-mark")
+                browser.write(due_confirm_by="R. Halloran, records manager")
+            if name == "record":
+                browser.press("#record-save")
+            browser.driver.execute_script("document.activeElement.blur(); scrollTo(0, 0)")
+            browser.picture(place / f"{name}-{width}.png", width, 1400 if width == 400 else 1900)

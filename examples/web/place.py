@@ -1,0 +1,126 @@
+"""A place to try the page in: an office that `office serve` serves, and nginx with examples/nginx/office.conf before it.
+
+The configuration is the one of the repository; its ports, folders and files of its own are put in place of those that it names.
+"""
+import base64
+import http.client
+import os
+import pathlib
+import socket
+import ssl
+import subprocess
+import time
+
+TOP = pathlib.Path(__file__).resolve().parent.parent.parent
+OFFICE = os.environ.get("OFFICE", str(TOP / "office"))
+NAME, PASSWORD = "registrar", "a long one"
+
+
+def free_port():
+    with socket.create_server(("127.0.0.1", 0)) as held:
+        return held.getsockname()[1]
+
+
+def replaced(text, old, new):
+    if old not in text:
+        raise SystemExit(f"examples/nginx/office.conf does not say {old!r}")
+    return text.replace(old, new)
+
+
+def full(file, more=100):
+    """Words of a shell: no file may become longer than this one and so many blocks of 512 bytes; a write beyond fails."""
+    return f"trap '' XFSZ; ulimit -f {file.stat().st_size // 512 + more};"
+
+
+class Office:
+    """`office serve` over a file, which may be stopped and started again."""
+
+    def __init__(self, file, port):
+        self.file, self.port, self.process = file, port, None
+
+    def start(self, before="", env=None):
+        """Starts it; `before` are words of a shell that run before it."""
+        call = f"{before} exec \"$0\" serve \"$1\" {self.port} 1000000"
+        self.process = subprocess.Popen(["sh", "-c", call, OFFICE, str(self.file)], stdin=subprocess.DEVNULL, stdout=subprocess.PIPE,
+                                        stderr=subprocess.DEVNULL, env={**os.environ, **(env or {})})
+        line = self.process.stdout.readline().decode()
+        if line != f"listening 127.0.0.1:{self.port}\n":
+            raise SystemExit(f"office serve said {line!r}")
+
+    def stop(self):
+        if self.process:
+            self.process.kill()
+            self.process.wait()
+            self.process = None
+
+    def close(self):
+        """Stops it, and closes the file, so that it alone has every act."""
+        self.stop()
+        subprocess.run([OFFICE, "init", self.file], check=True, stdout=subprocess.DEVNULL)
+
+    def ask(self, method, path, body=None):
+        """The office itself, past nginx: status, media type, body."""
+        conn = http.client.HTTPConnection("127.0.0.1", self.port, timeout=300)
+        conn.request(method, path, body)
+        reply = conn.getresponse()
+        return reply.status, reply.getheader("Content-Type"), reply.read()
+
+
+class Proxy:
+    """nginx, with a key, a name and a password of its own."""
+
+    def __init__(self, folder, office_port, conf="office.conf"):
+        self.folder, self.port = pathlib.Path(folder), free_port()
+        self.address = f"https://localhost:{self.port}"
+        self.page = f"{self.address}/web/"
+        self.keys()
+        self.conf = self.folder / conf
+        self.conf.write_text(self.configured((TOP / "examples/nginx" / conf).read_text(), office_port))
+        self.process = None
+
+    def keys(self):
+        subprocess.run(["openssl", "req", "-x509", "-newkey", "rsa:3072", "-nodes", "-days", "2", "-subj", "/CN=localhost", "-addext",
+                        "subjectAltName=DNS:localhost", "-keyout", self.folder / "office.key", "-out", self.folder / "office.crt"],
+                       check=True, stderr=subprocess.DEVNULL)
+        line = subprocess.run(["openssl", "passwd", "-6", PASSWORD], check=True, stdout=subprocess.PIPE).stdout.decode()
+        (self.folder / "office.htpasswd").write_text(f"{NAME}:{line}")
+
+    def configured(self, text, office_port):
+        self.web = self.folder / "web"
+        for old, new in [
+            ("listen 443 ssl;", f"listen 127.0.0.1:{self.port} ssl;"),
+            ("127.0.0.1:8080", f"127.0.0.1:{office_port}"),
+            ("/usr/local/share/office/web/", f"{self.web}/"),
+            ("pid /run/nginx-office.pid;", f"pid {self.folder}/nginx.pid;\ndaemon off;"),
+            ("/var/log/nginx/office.error.log", f"{self.folder}/error.log"),
+            ("/var/log/nginx/office.access.log", f"{self.folder}/access.log"),
+        ]:
+            text = replaced(text, old, new)
+        return text
+
+    def start(self):
+        subprocess.run(["nginx", "-q", "-t", "-c", self.conf], check=True)
+        self.process = subprocess.Popen(["nginx", "-c", self.conf], stdin=subprocess.DEVNULL)
+        for _ in range(100):
+            try:
+                with socket.create_connection(("127.0.0.1", self.port), timeout=1):
+                    return
+            except OSError:
+                time.sleep(0.1)
+        raise SystemExit("nginx does not listen")
+
+    def stop(self):
+        if self.process:
+            self.process.terminate()
+            self.process.wait()
+            self.process = None
+
+    def ask(self, method, path, body=None, fields=None, named=True):
+        """A program that is no browser asks nginx: status and body."""
+        known = ssl.create_default_context(cafile=str(self.folder / "office.crt"))
+        conn = http.client.HTTPSConnection("localhost", self.port, context=known, timeout=300)
+        who = {"Authorization": "Basic " + base64.b64encode(f"{NAME}:{PASSWORD}".encode()).decode()} if named else {}
+        conn.request(method, path, body, {**who, **(fields or {})})
+        reply = conn.getresponse()
+        self.head = dict(reply.getheaders())
+        return reply.status, reply.read()

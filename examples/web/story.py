@@ -1,0 +1,371 @@
+"""The city archive through the page: what its tables show is what the paths tell, and what is done by it is what stands beside the story."""
+import hashlib
+import json
+import pathlib
+import re
+import sqlite3
+import time
+
+import looks
+from interface import city
+from judging import judge, same
+from place import TOP, full
+
+WHO = "R. Halloran, records manager"
+TEXTS = json.loads((TOP / "web/texts/en.json").read_text())
+YES = {True: "yes", False: "no"}
+
+
+def certificate(run):
+    return (TOP / f"examples/city_archive/certificate-{run}.txt").read_bytes()
+
+
+def says(name, text, *words):
+    """A text has each of these words."""
+    judge(name, all(word in text for word in words), f"{text}\n-- has not all of --\n{words}")
+
+
+class Story:
+    def __init__(self, office, proxy, browser, folder):
+        self.office, self.proxy, self.browser, self.folder = office, proxy, browser, pathlib.Path(folder)
+
+    def told(self, path):
+        return json.loads(self.office.ask("GET", path)[2])
+
+    def posted(self):
+        """How many POSTs came to nginx with the password. (A browser learns only from a first answer, 401, that a path wants it.)"""
+        time.sleep(0.1)
+        return len(re.findall(r'"POST [^"]*" (?!401)', (self.folder / "access.log").read_text()))
+
+    # ---- what is due
+
+    def due_cells(self, rows):
+        review = TEXTS["due"]["noMark"]
+        return [[review if row["action"] == "review" else "", str(row["record"]), row["ref"], row["class"], row["schedule"], row["action"], row["due"], row["held"] or "", YES[row["confirmed"]]]
+                for row in rows]
+
+    def due_table(self):
+        return self.browser.table("#due-table")
+
+    def due(self):
+        it, rows = self.browser, self.told("/due/2022-05-02")
+        it.write(due_day="2022-05-02")
+        it.press("#due-form button")
+        same("due: the table is what GET /due tells", self.due_table(), self.due_cells(rows))
+        same("due: the totals", self.totals(), ["22", "21", "1", "0", "4", "0", "22"])
+        for column in ("record", "ref", "class", "schedule", "action", "due", "held", "confirmed"):
+            it.press(f"[data-column={column}] button")
+            wanted = sorted(rows, key=lambda row: row[column] or "")
+            same(f"due: sorted by {column}", self.due_table(), self.due_cells(wanted))
+            if column == "ref":
+                it.press(f"[data-column={column}] button")
+                same("due: and the other way round", self.due_table(), self.due_cells(wanted[::-1]))
+                same("due: which the heading tells", it.one("[data-column=ref]").get_attribute("aria-sort"), "descending")
+        it.press("[data-column=due] button")
+        for name, value, takes in (
+            ("class", "PER-APP", lambda row: row["class"] == "PER-APP"),
+            ("schedule", "CAM-30", lambda row: row["schedule"] == "CAM-30"),
+            ("action", "transfer", lambda row: row["action"] == "transfer"),
+            ("held", "*", lambda row: row["held"]),
+            ("held", "-", lambda row: not row["held"]),
+            ("held", "Q-2020-17", lambda row: row["held"] == "Q-2020-17"),
+            ("confirmed", "no", lambda row: not row["confirmed"]),
+        ):
+            it.choose(f"#due-{name}", value)
+            wanted = self.due_cells([row for row in rows if takes(row)])
+            same(f"due: filtered by {name} {value}", self.due_table(), wanted)
+            says("due: the caption tells how many", it.seen("#due-caption"), "Records due by 2022-05-02: 22.", f"Shown here: {len(wanted)}.")
+            it.press("#due-all")
+        it.choose("#due-class", "EVT-PER")
+        it.choose("#due-held", "-")
+        address, kept = it.driver.current_url, self.due_table()
+        it.open(address)
+        same("due: its address brings the same rows again, as a bookmark", self.due_table(), kept)
+        it.press("#due-all")
+
+    def totals(self):
+        return self.browser.driver.execute_script("return Array.from(document.querySelectorAll('#due-totals dd'), (it) => it.textContent)")
+
+    # ---- what is wrong before anything is sent
+
+    def wrong_input(self):
+        it, before = self.browser, (self.folder / "access.log").read_text().count("\n")
+        fields, texts = TEXTS["fields"], lambda css: it.text(css)
+        for view, form, wrong, word in (
+            ("#due", "due-form", {"due_day": "2023-02-29"}, ("due-day", "dayWrong")),
+            ("#record", "record-form", {"record_number": "01"}, ("record-number", "numberWrong")),
+            ("#certificate", "certificate-form", {"certificate_number": "4294967296"}, ("certificate-number", "numberWrong")),
+            ("#run", "run-form", {"run_number": "one"}, ("run-number", "numberWrong")),
+            ("#run", "run-open", {"run_open_day": "3000-01-01", "run_open_by": "x" * 201}, ("run-open-by", "textWrong")),
+            ("#run", "run-resume", {}, ("run-sure", "sureWrong")),
+            ("#holds", "hold-place", {"hold_place_code": "Q 1"}, ("hold-place-code", "codeWrong")),
+            ("#holds", "hold-on", {"hold_on_code": "Q-1", "hold_on_target": "Q 1"}, ("hold-on-target", "codeWrong")),
+            ("#holds", "hold-lift", {"hold_lift_code": "Q-1"}, ("hold-sure", "sureWrong")),
+        ):
+            it.go(view)
+            it.write(**wrong)
+            it.press(f"#{form} button")
+            field, text = word
+            same(f"{form}: a wrong value is told at its field", texts(f"#{field}-wrong"), fields[text])
+            judge(f"{form}: and the field is told as invalid", it.one(f"#{field}").get_attribute("aria-invalid") == "true")
+            first = it.driver.execute_script("return document.activeElement.getAttribute('aria-invalid')")
+            same(f"{form}: and the first such field has the focus", first, "true")
+        same("nothing of that was sent", (self.folder / "access.log").read_text().count("\n"), before)
+
+    # ---- confirmation
+
+    def mark(self, *records):
+        for record in records:
+            it = self.browser.one(f"#due-table input[aria-label='Mark record {record}']")
+            self.browser.driver.execute_script("arguments[0].scrollIntoView({block: 'center'})", it)
+            it.click()
+
+    def confirm(self):
+        it = self.browser
+        it.open(f"{self.proxy.page}#due?day=2022-05-02")
+        it.write(due_confirm_by=WHO, due_confirm_day="2021-12-31")
+        it.press("#due-submit")
+        same("confirm: where nothing is marked it says so", it.seen("#due-panel-outcome"), TEXTS["due"]["nothingMarked"])
+        self.mark(8, 15)
+        same("confirm: it says how many are marked", it.text("#due-submit"), "Confirm 2")
+        sent = self.posted()
+        it.press("#due-submit")
+        same("confirm: one request", self.posted() - sent, 1)
+        row = TEXTS["refusals"]["15"]
+        says("confirm: a 409 is told in words", it.seen("#due-answer"), "Confirmed: 1 of 2. Refused: 1.", '409 [{"done":true},{"refused":15}]', "Refusal 15, NotDue", row["meaning"], row["do"], "15")
+        same("confirm: the list is read anew", self.due_table(), self.due_cells(self.told("/due/2022-05-02")))
+        same("confirm: record 8 is confirmed", self.told("/records/8")["confirmed"], {"action": "destroy", "by": WHO, "day": "2021-12-31", "due": "2019-01-30"})
+        it.write(due_confirm_day="2022-05-02")
+        it.press("#due-mark")
+        same("confirm: all that is shown and not confirmed", it.seen("#due-marked"), "Marked: 21. Not shown among them: 0.")
+        it.choose("#due-held", "*")
+        same("confirm: what is marked and not shown is told", it.seen("#due-marked"), "Marked: 21. Not shown among them: 17.")
+        it.press("#due-all")
+        it.press("#due-submit")
+        says("confirm: done", it.seen("#due-answer"), "Confirmed: 21 of 21.", '200 [{"done":true}')
+        rows = self.told("/due/2022-05-02")
+        same("confirm: each of the list is confirmed", ([row["confirmed"] for row in rows], self.due_table()), ([True] * 22, self.due_cells(rows)))
+
+    # ---- a run and its certificate
+
+    def run(self, number, day):
+        it = self.browser
+        it.go("#run")
+        it.write(run_open_day=day, run_open_by=WHO)
+        it.press("#run-open button")
+        says(f"run {number}: it is open", it.seen("#run-open-outcome"), f"Run {number} is open.", f'200 [{{"number":{number}}}]')
+        it.press("#run-open button")
+        row = TEXTS["refusals"]["17"]
+        says(f"run {number}: a second one is refused in words", it.seen("#run-open-outcome"), '409 [{"refused":17}]', "Refusal 17, RunOpen", row["meaning"], row["do"])
+        it.write(run_number=str(number))
+        it.press("#run-form button")
+        says(f"run {number}: it has no certificate yet", it.seen("#run-outcome"), f"There is no certificate of run {number}", '404 {"error":"certificate"}')
+        it.press("#run-sure")
+        it.press("#run-resume button")
+        says(f"run {number}: it is closed", it.seen("#run-resume-outcome"), f"Run {number} was taken to its end.", f'200 {{"certificate":{number}}}')
+        it.press("#run-sure")
+        it.press("#run-resume button")
+        says(f"run {number}: nothing is open any more", it.seen("#run-resume-outcome"), '409 {"refused":18}', "Refusal 18, NoRun", TEXTS["refusals"]["18"]["meaning"])
+        it.open(f"{self.proxy.page}#run?number={number}")
+        says(f"run {number}: it is found by its number", it.seen("#run-outcome"), f"Run {number} is closed. It was opened on {day} by {WHO}")
+        it.press("#run-outcome a")
+        self.certificate(number)
+
+    def entries(self, text):
+        rows = [line.split("\t")[1:] for line in text.decode().splitlines() if line.startswith("ENTRY\t")]
+        return [["" if at == 6 and cell == "-" else cell for at, cell in enumerate(row)] for row in rows]
+
+    def certificate(self, number):
+        it, text = self.browser, self.office.ask("GET", f"/certificates/{number}")[2]
+        same(f"certificate {number}: it is the one that stands beside the story", text, certificate(number))
+        same(f"certificate {number}: the text", it.text("#certificate-text"), text.decode())
+        same(f"certificate {number}: its entries as a table", it.table("#certificate-tables .entries"), self.entries(text))
+        spent = [line.split("\t")[1:] for line in text.decode().splitlines() if line.startswith("AGGREGATION\t")]
+        same(f"certificate {number}: its spent aggregations", it.table("#certificate-tables .spent"), spent)
+        says(f"certificate {number}: agrees", it.seen("#certificate-verdict"), TEXTS["certificate"]["agrees"], TEXTS["certificate"]["wellFormed"])
+        sum_ = text.decode().split("SHA256 ")[1].strip()
+        same(f"certificate {number}: both sums", list(it.facts("#certificate-sums").values()), [sum_, sum_])
+
+    # ---- records
+
+    def records(self):
+        it = self.browser
+        for number in (1, 4, 8, 19, 20):
+            record = self.told(f"/records/{number}")
+            it.open(f"{self.proxy.page}#record?number={number}")
+            facts = it.facts("#record-facts")
+            plain = [str(record[name]) for name in ("ref", "title", "originated", "added", "aggregation", "class", "schedule")]
+            same(f"record {number}: its facts are what GET /records tells", list(facts.values()), [*plain, f"{record['length']} bytes", record["digest"]])
+        words = lambda number: (it.open(f"{self.proxy.page}#record?number={number}"), it.seen("#record-told"))[1]
+        says("record 1: held, in words", words(1), "It is here", "It is due on 2021-01-01.", "Hold Q-2020-17 covers it", f"Confirmed on 2022-05-02 by {WHO}: destroy")
+        says("record 4: kept, in words", words(4), "It has no due day", "No hold covers it.", "Nobody has confirmed")
+        says("record 8: destroyed, in words", words(8), "It was destroyed by run 1: its content is gone.", "It was due on 2019-01-30.")
+        judge("record 8: there is no content to save", not it.one("#record-save").is_displayed())
+        says("record 19: sent, in words", words(19), "It was sent to the archive")
+        it.write(record_number="99")
+        it.press("#record-form button")
+        says("record 99: there is none, in words", it.seen("#record-outcome"), '404 {"error":"record"}', "there is none, or the content is gone")
+        words(1)
+        it.press("#record-save")
+        says("record 1: its content is saved", it.seen("#record-saved"), "Saved as record-1.", "agrees with that of the record")
+        saved = self.folder / "record-1"
+        it.wait(saved.exists, "no file was saved")
+        same("record 1: and is that of the office", saved.read_bytes(), self.office.ask("GET", "/records/1/content")[2])
+
+    # ---- a certificate in a file
+
+    def check(self, name, content):
+        file = self.folder / name
+        file.write_bytes(content)
+        it = self.browser
+        it.open(f"{self.proxy.page}#certificate")
+        it.press("#certificate-check summary")
+        it.one("#certificate-file").send_keys(str(file))
+        it.press("#certificate-check button")
+        it.wait(lambda: it.one("#certificate-told").is_displayed() and name in it.text("#certificate-heading"), "the file is not shown")
+        time.sleep(0.3)
+        return it.seen("#certificate-verdict")
+
+    def files(self):
+        it, words, text = self.browser, TEXTS["certificate"], certificate(1)
+        it.open(f"{self.proxy.page}#certificate?number=1")
+        it.press("#certificate-save")
+        it.wait((self.folder / "certificate-1.txt").exists, "no certificate was saved")
+        same("a saved certificate has the office's bytes", (self.folder / "certificate-1.txt").read_bytes(), text)
+        says("a file with the certificate agrees", self.check("right.txt", text), words["agrees"], words["sameAsOffice"].format(number=1))
+        says("one with a changed byte does not", self.check("byte.txt", text.replace(b"APP/18-07", b"APP/18-08")), words["differs"], words["otherThanOffice"].format(number=1))
+        body = text[:-72].replace(b"ENDED 17", b"ENDED 16")
+        forged = body + b"SHA256 " + hashlib.sha256(body).hexdigest().encode() + b"\n"
+        says("one with another sum agrees with itself, and is not the office's", self.check("forged.txt", forged), words["agrees"], words["otherThanOffice"].format(number=1), "ENDED says 16, and its lines are 17.")
+        says("one that is cut off has no sum", self.check("short.txt", text[:-1]), words["noSum"])
+
+    # ---- holds
+
+    def hold(self, form, outcome, *words, **fields):
+        it = self.browser
+        it.go("#holds")
+        it.write(**{f"hold_{form}_{name}": value for name, value in fields.items()})
+        if form == "lift":
+            it.press("#hold-sure")
+        it.press(f"#hold-{form} button")
+        says(f"holds: {form}: {outcome}", it.seen(f"#hold-{form}-outcome"), *words)
+
+    def holds(self):
+        it = self.browser
+        refused = lambda number: (f'409 [{{"refused":{number}}}]', f"Refusal {number}, ", TEXTS["refusals"][str(number)]["meaning"], TEXTS["refusals"][str(number)]["do"])
+        self.hold("place", "done", "Hold H-2 is placed.", day="2022-06-01", code="H-2", reason="A second lawsuit", by="Legal office")
+        self.hold("place", "refused", *refused(4))
+        it.choose("#hold-on-kind", "record")
+        self.hold("on", "done", "record:20 is on hold H-2.", day="2022-06-01", code="H-2", target="20")
+        self.hold("on", "refused", *refused(4))
+        it.open(f"{self.proxy.page}#record?number=20")
+        says("holds: the record is held by it", it.seen("#record-words"), "Hold H-2 covers it")
+        it.press("#record-words a[href*=holds]")
+        same("holds: its link brings the code along", [it.one(f"#hold-{form}-code").get_attribute("value") for form in ("on", "off", "lift")], ["H-2"] * 3)
+        it.choose("#hold-off-kind", "record")
+        self.hold("off", "done", "record:20 is off hold H-2.", day="2022-06-01", target="20")
+        self.hold("off", "refused", *refused(5))
+        self.hold("lift", "done", "Hold H-2 is lifted.", day="2022-06-02")
+        self.hold("lift", "refused", *refused(12))
+        same("holds: the record is free again", self.told("/records/20")["held"], None)
+        self.hold("place", "a day before the office's", *refused(1), day="2022-06-01", code="H-3", reason="Too late", by="Legal office")
+        self.hold("lift", "the lawsuit's", "Hold Q-2020-17 is lifted.", day="2023-11-20", code="Q-2020-17")
+
+    # ---- a damaged office
+
+    def damaged(self):
+        """One byte of a certificate and one of a content are changed in FILE, by Python's sqlite3, while nobody serves."""
+        it = self.browser
+        self.office.close()
+        kept = self.office.file.read_bytes()
+        base = sqlite3.connect(self.office.file)
+        base.execute("UPDATE certificates SET body = replace(body, 'APP/18-07', 'APP/18-08') WHERE run = 1")
+        base.execute("UPDATE contents SET bytes = CAST('Another permit.' AS BLOB) WHERE record = 20")
+        base.commit()
+        base.close()
+        self.office.start()
+        it.open(f"{self.proxy.page}#certificate?number=1")
+        says("a certificate with one changed byte in FILE does not agree", it.seen("#certificate-verdict"), TEXTS["certificate"]["differs"])
+        it.open(f"{self.proxy.page}#record?number=20")
+        it.press("#record-save")
+        row = TEXTS["faults"]["33"]
+        says("a content that is not its record's is a 503 that is told in words", it.seen("#record-saved"), '503 {"fault":33}', "Fault 33", row["meaning"], row["do"])
+        self.content_503 = self.office.ask("GET", "/records/20/content")
+        self.office.stop()
+        for end in ("", "-wal", "-shm"):
+            pathlib.Path(f"{self.office.file}{end}").unlink(missing_ok=True)
+        self.office.file.write_bytes(kept)
+        self.office.start()
+
+    # ---- an office that fails, and answers that are lost
+
+    def more(self, count):
+        """Records that are due, to be confirmed."""
+        record = {"act": "add-record", "day": "2023-11-21", "title": "Notice", "originated": "2023-11-21", "aggregation": 11, "content": "YWJj"}
+        self.office.ask("POST", "/acts", json.dumps([{**record, "ref": f"MORE/{number}"} for number in range(count)]))
+        self.browser.open(f"{self.proxy.page}#due?day=2024-12-31&confirmed=no&class=TRA-PARK")
+        self.browser.write(due_confirm_by=WHO, due_confirm_day="2024-12-31")
+        self.browser.press("#due-mark")
+
+    def full(self):
+        """The office may write no more than so much of a file: the acts stop with fault 31, and `serve` ends."""
+        it = self.browser
+        self.more(300)
+        self.office.close()
+        self.office.start(before=full(self.office.file))
+        sent = self.posted()
+        it.press("#due-submit")
+        told, row = it.seen("#due-answer"), TEXTS["faults"]["31"]
+        says("a fault that stops the acts is a 503 that is told in words", told, "503 ", "Fault 31", row["meaning"], row["do"], "A fault stopped it.", "is unknown", "were not begun")
+        says("then the office has ended, which the list tells", it.seen("#due-outcome"), "502", TEXTS["proxy"]["502"]["meaning"])
+        says("and that the list is older", told, TEXTS["due"]["stale"])
+        same("nothing was sent a second time", self.posted() - sent, 1)
+        self.office.stop()
+        self.office.start()
+        it.press("#due-form button")
+        rows = [row for row in self.told("/due/2024-12-31") if row["class"] == "TRA-PARK" and not row["confirmed"]]
+        judge("some are confirmed and some are not", 0 < len(rows) < 300, str(len(rows)))
+        same("the list tells which, once the office serves again", self.due_table(), self.due_cells(rows))
+
+    def lost(self):
+        """The answer to a confirmation does not come: nginx ends while the office stands still."""
+        it = self.browser
+        it.press("#due-mark")
+        before = self.told("/due/2024-12-31")
+        sent = self.posted()
+        self.office.process.send_signal(19)
+        it.one("#due-submit").click()
+        time.sleep(1)
+        self.proxy.stop()
+        self.office.process.send_signal(18)
+        it.settled()
+        says("an answer that is lost is told as unknown", it.seen("#due-answer"), "no answer", TEXTS["due"]["lost"], TEXTS["due"]["stale"])
+        self.proxy.start()
+        time.sleep(3)
+        judge("nothing was sent a second time by itself", self.posted() - sent <= 1)
+        it.press("#due-form button")
+        rows = [row for row in self.told("/due/2024-12-31") if row["class"] == "TRA-PARK" and not row["confirmed"]]
+        same("the list tells what was done", self.due_table(), self.due_cells(rows))
+        print(f"of {sum(not row['confirmed'] for row in before)} that were not confirmed {len(rows)} are not now, after the answer was lost")
+
+    def tell(self, at):
+        """The whole story; what `at` has by a name is done where the story has come so far."""
+        for name in ("1-schedule", "2-holdings", "3-lawsuit"):
+            status, _ = self.proxy.ask("POST", "/acts", city(name), {"Origin": self.proxy.address})
+            judge(f"a program posts {name} through nginx", status in (200, 409), str(status))
+        self.browser.open(self.proxy.page)
+        self.due()
+        at["due"]()
+        self.wrong_input()
+        looks.keyboard(self.browser, self.proxy)
+        self.confirm()
+        self.run(1, "2022-05-02")
+        self.records()
+        self.files()
+        at["run"]()
+        self.holds()
+        self.run(2, "2023-11-20")
+        self.damaged()
+        self.full()
+        self.lost()
+        same("the browser's console complains of nothing", self.browser.complaints(), [])

@@ -1,0 +1,68 @@
+"""The words of refusals, faults, statuses and answers of the proxy stand in web/texts, for the page. docs/ERRORS.md says the same."""
+import json
+import re
+
+from judging import judge, same
+from place import TOP
+
+# the tables of docs/ERRORS.md that the page shares, and what their columns are called in the file of texts
+TABLES = {
+    "refusals": ("Refusals", ["name", "meaning", "do"]),
+    "faults": ("Faults", ["meaning", "do"]),
+    "statuses": ("Statuses of HTTP", ["status", "body", "meaning", "do"]),
+    "proxy": ("Answers of the proxy", ["meaning", "do"]),
+}
+
+
+def plain(cell):
+    """A cell of a page without what only its form needs: marks of code, and the addresses of links."""
+    return re.sub(r"\[([^\]]*)\]\([^)]*\)", r"\1", cell).replace("`", "").strip()
+
+
+def table(page, heading):
+    """The rows of the first table below a heading."""
+    part = page.split(f"\n## {heading}\n")[1].split("\n## ")[0]
+    rows = [line for line in part.split("\n") if line.startswith("|")]
+    return [[plain(cell) for cell in row.strip()[1:-1].split("|")] for row in rows[2:]]
+
+
+def shared(page, name):
+    heading, columns = TABLES[name]
+    rows = table(page, heading)
+    if name == "statuses":
+        return [dict(zip(columns, row, strict=True)) for row in rows]
+    return {row[0]: dict(zip(columns, row[1:], strict=True)) for row in rows}
+
+
+def keys(part, before=""):
+    """The names of all texts of a file."""
+    pairs = part.items() if isinstance(part, dict) else enumerate(part) if isinstance(part, list) else ()
+    return {before} if not pairs else set().union(*(keys(value, f"{before}.{name}") for name, value in pairs))
+
+
+def named(page):
+    """The texts that the page's HTML and modules name outright."""
+    found = set(re.findall(r'data-(?:text|label)="([a-z][A-Za-z.]+)"', (page / "index.html").read_text()))
+    for module in page.rglob("*.js"):
+        found |= set(re.findall(r'"([a-z]+\.[A-Za-z.]+[A-Za-z])"', module.read_text()))
+    return found
+
+
+def there(texts, key):
+    part = texts
+    for name in key.split("."):
+        part = part.get(name) if isinstance(part, dict) else None
+    return part is not None
+
+
+def tell():
+    page = (TOP / "docs/ERRORS.md").read_text()
+    english = json.loads((TOP / "web/texts/en.json").read_text())
+    for name, (heading, _) in TABLES.items():
+        same(f"docs/ERRORS.md and web/texts/en.json say the same: {heading}", english[name], shared(page, name))
+    for file in sorted((TOP / "web/texts").glob("*.json")):
+        other = json.loads(file.read_text())
+        same(f"web/texts/{file.name} has each text", keys(other) ^ keys(english), set())
+        same(f"web/texts/{file.name} names its language", other["lang"], file.stem)
+    missing = sorted(key for key in named(TOP / "web") if not there(english, key) and not key.endswith(".js"))
+    judge("each text that the page names is there", not missing, str(missing))

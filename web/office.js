@@ -1,0 +1,69 @@
+// The page: it reads its words, starts its views, and shows the one that the address names, as #record?number=8.
+import { byId, field, translate } from "./page.js";
+import { all, load, t } from "./texts.js";
+import * as certificate from "./views/certificate.js";
+import * as due from "./views/due.js";
+import * as holds from "./views/holds.js";
+import * as record from "./views/record.js";
+import * as run from "./views/run.js";
+
+const VIEWS = { due, record, certificate, run, holds };
+
+/** The view and the words that an address names; due, where it names none. */
+function named(hash) {
+  const [name, words] = hash.replace(/^#/, "").split("?");
+  return [name in VIEWS ? name : "due", new URLSearchParams(words)];
+}
+
+function show(focus) {
+  const [name, words] = named(location.hash);
+  for (const other of Object.keys(VIEWS)) byId(other).hidden = other !== name;
+  for (const link of document.querySelectorAll("nav a")) {
+    if (link.hash === `#${name}`) link.setAttribute("aria-current", "page");
+    else link.removeAttribute("aria-current");
+  }
+  document.title = t("page.title", { view: t(`${name}.title`) });
+  VIEWS[name].show(words);
+  if (!focus) return;
+  scrollTo(0, 0);
+  byId(name).querySelector("h1").focus({ preventScroll: true });
+}
+
+/** The link over the heading goes to the view without changing the address. */
+function skip(event) {
+  event.preventDefault();
+  byId("main").focus();
+}
+
+/** On paper a link leads nowhere; and of many links a browser that prints looks for each one's goal on each page, for minutes. */
+function withoutLinks() {
+  for (const link of document.querySelectorAll("main a[href]")) {
+    link.dataset.href = link.getAttribute("href");
+    link.removeAttribute("href");
+  }
+}
+
+function withLinks() {
+  for (const link of document.querySelectorAll("main a[data-href]")) {
+    link.setAttribute("href", link.dataset.href);
+    delete link.dataset.href;
+  }
+}
+
+async function begin() {
+  await load(navigator.languages);
+  document.documentElement.lang = all().lang;
+  for (const place of document.querySelectorAll("[data-field]")) field(place);
+  translate(document);
+  // the views come first, so that a list is whole before its links are left out
+  for (const view of Object.values(VIEWS)) view.start();
+  byId("skip").addEventListener("click", skip);
+  addEventListener("hashchange", () => show(true));
+  addEventListener("beforeprint", withoutLinks);
+  addEventListener("afterprint", withLinks);
+  byId("loading").remove();
+  document.body.classList.add("ready");
+  show(false);
+}
+
+begin();

@@ -1,0 +1,128 @@
+// A certificate, of the office or of a file: whether its sum agrees, what it tells, and its text.
+import { get } from "../ask.js";
+import { asking, byId, factsOf, failed, link, made, onSubmit, paragraph, quiet, save, say, tableOf, told } from "../page.js";
+import { judged, read, sameBytes } from "../plain/certificates.js";
+import { isNumber } from "../plain/forms.js";
+import { jsonOf } from "../plain/outcomes.js";
+import { all, t } from "../texts.js";
+
+let shown = null;
+let asked = 0;
+
+const code = (text) => made("code", {}, text);
+const LAST_NUMBER = 4294967295;
+
+function wrongLine(wrong) {
+  if (wrong.line) return paragraph(t("certificate.badLine", wrong));
+  return paragraph(t("certificate.badCount", wrong));
+}
+
+/** Says in words whether the sum agrees, and then whether the lines are a certificate's. */
+function tellVerdict(seal, certificate) {
+  const kind = { agrees: "done", differs: "wrong", noSum: "wrong", noCrypto: "unknown" }[seal.verdict];
+  const form = certificate.wrong.length ? certificate.wrong.slice(0, 10).map(wrongLine) : [paragraph(t("certificate.wellFormed"))];
+  const verdict = made("p", { class: "verdict" }, t(`certificate.${seal.verdict}`));
+  say(byId("certificate-verdict"), kind === "done" && certificate.wrong.length ? "wrong" : kind, verdict, ...form);
+  const sums = [["computed", seal.computed], ["written", seal.written]].filter(([, sum]) => sum);
+  byId("certificate-sums").replaceChildren(factsOf(sums.map(([name, sum]) => [t(`certificate.${name}`), code(sum)])));
+}
+
+function tellFacts(certificate) {
+  const facts = Object.entries(all().certificate.facts).filter(([name]) => certificate[name] !== undefined);
+  byId("certificate-facts").replaceChildren(factsOf(facts.map(([name, word]) => [word, certificate[name]])));
+}
+
+function entryCells(entry) {
+  const hold = entry.hold === null ? "" : link(`#holds?code=${entry.hold}`, entry.hold);
+  return [link(`#record?number=${entry.record}`, entry.record), t(`outcomes.${entry.outcome}`), entry.ref, entry.class, entry.schedule, entry.due, hold, entry.by, entry.length, code(entry.digest)];
+}
+
+function tellTables(certificate) {
+  const { columns, aggregationColumns } = all().certificate;
+  const { run, entries, aggregations } = certificate;
+  const tables = [tableOf(t("certificate.entries", { number: run ?? "-", count: entries.length }), Object.values(columns), entries.map(entryCells), "entries")];
+  const spent = aggregations.map((it) => [it.number, it.ref]);
+  if (spent.length) tables.push(tableOf(t("certificate.aggregations", { count: spent.length }), Object.values(aggregationColumns), spent, "spent"));
+  byId("certificate-tables").replaceChildren(...tables);
+}
+
+/** Links to the certificates of the runs before and after. */
+function tellOthers(number) {
+  const to = (other, key) => link(`#certificate?number=${other}`, t(key, { number: other }));
+  const before = number > 1 ? [to(number - 1, "certificate.before")] : [];
+  const after = number < LAST_NUMBER ? [to(number + 1, "certificate.after")] : [];
+  byId("certificate-others").replaceChildren(...before, ...after);
+}
+
+async function tell(heading, bytes, name) {
+  const text = new TextDecoder().decode(bytes);
+  const certificate = read(text);
+  shown = { bytes, name };
+  byId("certificate-heading").textContent = heading;
+  tellVerdict(await judged(bytes), certificate);
+  tellFacts(certificate);
+  tellTables(certificate);
+  byId("certificate-others").replaceChildren();
+  byId("certificate-text").textContent = text;
+  byId("certificate-told").hidden = false;
+  return certificate;
+}
+
+/** Asks for a certificate, and shows it. */
+async function open(number) {
+  const mine = ++asked;
+  const place = byId("certificate-outcome");
+  byId("certificate-number").value = number;
+  byId("certificate-told").hidden = true;
+  asking(place);
+  const answer = await get(`certificates/${number}`);
+  if (mine !== asked) return;
+  if (answer.status !== 200) {
+    const more = answer.status === 404 && jsonOf(answer) ? [paragraph(t("run.notClosed", { number }))] : [];
+    return failed(place, answer, ...more);
+  }
+  quiet(place);
+  await tell(t("certificate.heading", { number }), answer.bytes, t("certificate.file", { number }));
+  tellOthers(Number(number));
+}
+
+/** Says whether the bytes of a file are those of the office's certificate of that run. */
+async function compare(bytes, run) {
+  const verdict = byId("certificate-verdict");
+  const answer = await get(`certificates/${run}`);
+  if (answer.status === 200) {
+    const same = sameBytes(bytes, answer.bytes);
+    if (!same) verdict.className = "outcome wrong";
+    verdict.append(paragraph(t(same ? "certificate.sameAsOffice" : "certificate.otherThanOffice", { number: run })));
+  } else if (answer.status === 404 && jsonOf(answer)) verdict.append(paragraph(t("certificate.noneAtOffice", { number: run })));
+  else verdict.append(paragraph(t("certificate.notCompared")), ...told(answer));
+}
+
+/** Checks a certificate in a file. */
+async function check() {
+  const file = byId("certificate-file").files[0];
+  const bytes = new Uint8Array(await file.arrayBuffer());
+  quiet(byId("certificate-outcome"));
+  const certificate = await tell(t("certificate.headingFile", { name: file.name }), bytes, file.name);
+  if (isNumber(certificate.run ?? "")) await compare(bytes, certificate.run);
+}
+
+export function start() {
+  byId("certificate-save").addEventListener("click", () => save(shown.name, shown.bytes, "text/plain"));
+  byId("certificate-print").addEventListener("click", () => print());
+  onSubmit(byId("certificate-file-form"), check);
+  onSubmit(byId("certificate-form"), (values) => {
+    const address = `#certificate?number=${values["certificate-number"]}`;
+    if (location.hash === address) return open(values["certificate-number"]);
+    location.hash = address;
+  });
+}
+
+/** Shows the certificate that the address names. */
+export function show(words) {
+  const number = words.get("number");
+  if (number === null) return;
+  if (isNumber(number)) return open(number);
+  byId("certificate-told").hidden = true;
+  say(byId("certificate-outcome"), "wrong", paragraph(t("fields.numberWrong")));
+}

@@ -1,0 +1,65 @@
+// Holds: place one, put a target on, take one off, lift it. No path tells a hold, so each act's answer is all that is known.
+import { post } from "../ask.js";
+import { asking, byId, failed, made, onSubmit, paragraph, say, told } from "../page.js";
+import { bodyOf, holdOff, holdOn, liftHold, placeHold } from "../plain/acts.js";
+import { isCode, today } from "../plain/forms.js";
+import { fatesOf } from "../plain/outcomes.js";
+import { t } from "../texts.js";
+
+const targetOf = (values, form) => `${byId(`${form}-kind`).value}:${values[`${form}-target`]}`;
+
+/** The four forms: the act that each asks for, what is said once it is done, and what where that is unknown. */
+const FORMS = {
+  "hold-place": {
+    act: (values) => placeHold(values["hold-place-day"], values["hold-place-code"], values["hold-place-reason"], values["hold-place-by"]),
+    done: (act) => t("holds.placed", { hold: act.code }),
+    lost: "holds.lostPlace",
+  },
+  "hold-on": {
+    act: (values) => holdOn(values["hold-on-day"], values["hold-on-code"], targetOf(values, "hold-on")),
+    done: (act) => t("holds.isOn", act),
+    lost: "holds.lostOn",
+  },
+  "hold-off": {
+    act: (values) => holdOff(values["hold-off-day"], values["hold-off-code"], targetOf(values, "hold-off")),
+    done: (act) => t("holds.isOff", act),
+    lost: "holds.lostOff",
+  },
+  "hold-lift": {
+    act: (values) => liftHold(values["hold-lift-day"], values["hold-lift-code"]),
+    done: (act) => t("holds.lifted", act),
+    lost: "holds.lostLift",
+  },
+};
+
+/** Asks for one act, and says what came of it. */
+async function ask(name, values) {
+  const place = byId(`${name}-outcome`);
+  const { act, done, lost } = FORMS[name];
+  const asked = act(values);
+  asking(place);
+  byId("hold-sure").checked = false;
+  const answer = await post("acts", bodyOf([asked]));
+  const { answers, end } = fatesOf(answer, 1);
+  if (end === "unknown") say(place, "unknown", ...told(answer), paragraph(t(lost)));
+  else if (answers[0]?.done) say(place, "done", paragraph(done(asked)), ...told(answer));
+  else failed(place, answer);
+}
+
+export function start() {
+  for (const name of Object.keys(FORMS)) {
+    byId(`${name}-day`).value = today();
+    onSubmit(byId(name), (values) => ask(name, values));
+  }
+  for (const form of ["hold-on", "hold-off"]) {
+    const kinds = ["class", "aggregation", "record"].map((kind) => made("option", { value: kind }, t(`fields.kinds.${kind}`)));
+    byId(`${form}-kind`).append(...kinds);
+  }
+}
+
+/** Writes the code that the address names into the forms for a hold that is there. */
+export function show(words) {
+  const code = words.get("code");
+  if (code === null || !isCode(code)) return;
+  for (const form of ["hold-on", "hold-off", "hold-lift"]) byId(`${form}-code`).value = code;
+}

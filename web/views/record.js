@@ -1,0 +1,103 @@
+// One record, by its number: what is told of it in sentences and in facts, and its content to save.
+import { get } from "../ask.js";
+import { asking, byId, factsOf, failed, link, made, onSubmit, paragraph, quiet, save, say, sentence } from "../page.js";
+import { digestOf } from "../plain/certificates.js";
+import { isNumber, today } from "../plain/forms.js";
+import { jsonOf } from "../plain/outcomes.js";
+import { t } from "../texts.js";
+
+let shown = null;
+let asked = 0;
+
+const line = (key, parts) => made("p", {}, ...sentence(key, parts));
+const certificateLink = (run) => link(`#certificate?number=${run}`, run);
+
+function ofStatus(record) {
+  const { status, ended } = record;
+  return line(`record.status.${ended ? ended.outcome : status}`, ended ? { run: certificateLink(ended.run) } : {});
+}
+
+function ofDue(record) {
+  if (record.due === null) return paragraph(t("record.noDue"));
+  return paragraph(t(record.status === "ended" ? "record.dueWas" : "record.due", record));
+}
+
+function ofHold(record) {
+  if (record.held === null) return paragraph(t("record.free"));
+  return line(record.status === "ended" ? "record.heldEnded" : "record.held", { hold: link(`#holds?code=${record.held}`, record.held) });
+}
+
+/** The last confirmation. Of a record that is here only the due list tells whether it counts. */
+function ofConfirmation(record) {
+  const { confirmed, due, status } = record;
+  if (confirmed === null) return [paragraph(t("record.unconfirmed"))];
+  const said = paragraph(t("record.confirmed", { ...confirmed, action: t(`actions.${confirmed.action}`) }));
+  if (status !== "here") return [said];
+  if (confirmed.due !== due) return [said, paragraph(t("record.confirmedOther"))];
+  const day = due > today() ? due : today();
+  return [said, line("record.confirmedAsk", { list: link(`#due?day=${day}`, t("record.dueList")) })];
+}
+
+function factsTold(record) {
+  const word = (name) => t(`record.facts.${name}`);
+  const plain = ["ref", "title", "originated", "added", "aggregation", "class", "schedule"].map((name) => [word(name), String(record[name])]);
+  return factsOf([...plain, [word("length"), t("record.bytes", { count: record.length })], [word("digest"), made("code", {}, record.digest)]]);
+}
+
+function tell(record) {
+  shown = record;
+  byId("record-heading").textContent = t("record.heading", record);
+  byId("record-words").replaceChildren(ofStatus(record), ofDue(record), ofHold(record), ...ofConfirmation(record));
+  byId("record-facts").replaceChildren(factsTold(record));
+  byId("record-content").hidden = record.status === "ended";
+  quiet(byId("record-saved"));
+  byId("record-told").hidden = false;
+}
+
+/** Asks for a record, and shows it. */
+async function open(number) {
+  const mine = ++asked;
+  const place = byId("record-outcome");
+  byId("record-number").value = number;
+  byId("record-told").hidden = true;
+  asking(place);
+  const answer = await get(`records/${number}`);
+  if (mine !== asked) return;
+  const record = jsonOf(answer);
+  if (answer.status !== 200 || !record) return failed(place, answer);
+  quiet(place);
+  tell(record);
+}
+
+/** Asks for the content of the record that is shown, compares its digest, and gives it to be saved. */
+async function saveContent() {
+  const place = byId("record-saved");
+  const record = shown;
+  asking(place);
+  const answer = await get(`records/${record.number}/content`);
+  if (answer.status !== 200) return failed(place, answer);
+  const name = t("record.file", record);
+  const digest = await digestOf(answer.bytes);
+  save(name, answer.bytes, "application/octet-stream");
+  const agrees = digest === record.digest;
+  const key = digest === null ? "record.savedUnseen" : agrees ? "record.saved" : "record.savedOther";
+  say(place, digest !== null && !agrees ? "wrong" : "done", paragraph(t(key, { name, count: answer.bytes.length })));
+}
+
+export function start() {
+  byId("record-save").addEventListener("click", saveContent);
+  onSubmit(byId("record-form"), (values) => {
+    const address = `#record?number=${values["record-number"]}`;
+    if (location.hash === address) return open(values["record-number"]);
+    location.hash = address;
+  });
+}
+
+/** Shows the record that the address names. */
+export function show(words) {
+  const number = words.get("number");
+  if (number === null) return;
+  if (isNumber(number)) return open(number);
+  byId("record-told").hidden = true;
+  say(byId("record-outcome"), "wrong", paragraph(t("fields.numberWrong")));
+}
