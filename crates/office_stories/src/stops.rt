@@ -54,7 +54,7 @@ fn asks_of(words: &str) -> [&str; 7] {
         "certificate 1",
         "due-list 2025-01-02",
         "entries",
-        "2000-01-01 open-run",
+        "2000-01-01 lift-hold NONE",
     ]
 }
 
