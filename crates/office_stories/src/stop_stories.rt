@@ -13,9 +13,15 @@ record 1 is none
 ## asked while a disk stops
 2024-01-02 add-schedule D1 added years 1 destroy = done, at least 8
 2024-01-03 add-class FIN D1 = done, at least 8
+## closed
+## asked while a disk stops
 2024-01-04 add-root A FIN = number 1, at least 8
 2024-01-05 add-record r1 1 abc = number 1, at least 8
+## closed
+## asked while a disk stops
 2024-01-06 add-record r2 1 abc & 2024-01-06 add-record r3 1 - & 2024-01-05 add-class LEG D1 & 2024-01-07 add-schedule T1 added years 1 transfer & 2024-01-07 add-schedule RV added years 1 review = number 2 & number 3 & refused 1 & done & done, at least 8
+## closed
+## asked while a disk stops
 2024-01-08 set-class-schedule FIN T1 = done, at least 8
 2024-01-09 set-record-schedule 2 D1 = done, at least 8
 ";
@@ -43,6 +49,7 @@ pub(crate) const STOPPED_DISPOSING: &str = "
 2024-01-09 add-schedule T1 added years 1 transfer = done
 2024-01-09 set-record-schedule 1 T1 = done
 2024-01-10 set-record-schedule 3 T1 = done
+## closed
 ## asked while a disk stops
 2025-02-02 confirm 1 transfer = done, at least 8
 2025-02-03 close-aggregation 1 = done, at least 8
@@ -66,6 +73,7 @@ pub(crate) const STOPPED_SHORT_RUN: &str = "
 ## at the desk of the base office
 2025-01-02 confirm <n> destroy = done for each <n> of 1 to 3
 2025-01-02 open-run = number 1
+## closed
 ## resumed while a disk stops
 by 4 steps = closed 1, at least 8
 by 4 steps again = closed 1, at least 8
