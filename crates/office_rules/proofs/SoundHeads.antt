@@ -4,12 +4,12 @@ use Rattle.std.specs.Prelude.{IsSome, IfSome, int_le, not, ◌&&◌, slice_get}
 use Rattle.std.specs.Int.Signed.{≤ℤ_refl}
 use Rattle.std.specs.Option.{option_and_then, option_map}
 use Rattle.office_days.specs.Limits.{IsDayNumber}
-use Rattle.office_tree.specs.Conditions.{first_of, conditions_of_set_record_schedule, conditions_of_reclassify, conditions_of_confirm, conditions_of_review, conditions_of_receipt, has_other_action}
+use Rattle.office_tree.specs.Conditions.{first_of, conditions_of_set_record_schedule, conditions_of_confirm, conditions_of_review, conditions_of_receipt, has_other_action}
 use Rattle.office_tree.specs.Disposal.{is_disposal, is_sent, same_action}
-use Rattle.office_tree.specs.Effects.{with_head, reclassified, receipted}
-use Rattle.office_tree.specs.Forms.{IsCode, IsText, IsFormedTree}
+use Rattle.office_tree.specs.Effects.{with_head, reclassified, confirmed, receipted}
+use Rattle.office_tree.specs.Forms.{IsCode, IsText}
 use Rattle.office_tree.specs.Lists.{numbered, edited, edited_at, holds_of, or_else}
-use Rattle.office_tree.specs.Sound as tree
+use Rattle.office_tree.specs.Sound.{NamesStand}
 use Rattle.office_tree.specs.Tree.{action_of, due_of, due_by, has_record, is_keep, schedule_of, start_in}
 use Rattle.office_tree.specs.declared.action.Action.{Action}
 use Rattle.office_tree.specs.declared.action.Action.TheVariants as action
@@ -26,63 +26,80 @@ use Rattle.office_tree.proofs.Amending.{IsSound-set_record_schedule, IsSound-rec
 use Rattle.office_tree.proofs.DueNumbers.{due_of-number}
 use Rattle.office_tree.proofs.Forming.{IsFormed-set_record_schedule, IsFormed-reclassify, IsFormed-confirm, IsFormed-review, IsFormed-receipt}
 use Rattle.office_tree.proofs.Refs.{RefsDiffer-with_head, RefsDiffer-reclassify}
-use Rattle.office_tree.proofs.Places.{numbered_edited, length-edited}
-use Rattle.office_rules.specs.Conditions.{refusals_of_set_record_schedule, refusals_of_reclassify, refusals_of_confirm, refusals_of_review, refusals_of_receipt}
-use Rattle.office_rules.specs.Effects.{with_tree, after_set_record_schedule, after_reclassify, after_confirm, after_review, after_receipt}
+use Rattle.office_tree.proofs.Places.{numbered_edited}
+use Rattle.office_rules.specs.Conditions.{conditions_of_reclassifying, refusals_of_set_record_schedule, refusals_of_reclassify, refusals_of_confirm, refusals_of_review, refusals_of_receipt}
+use Rattle.office_rules.specs.Effects.{after_set_record_schedule, after_reclassify, after_confirm, after_review, after_receipt}
 use Rattle.office_rules.specs.Meanings.{IsAccepted}
-use Rattle.office_rules.specs.Sound.{IsSound, ContentsStand, PapersStand, EntriesStand}
+use Rattle.office_rules.specs.Sound.{IsSound, AllNamesStand, ContentsStand, PapersStand, EntriesStand, NoDayIsAfter}
 use Rattle.office_rules.specs.State.{State, EntryMap, ByteMap, with_office}
 use Rattle.office_rules.specs.declared.run.Run.{Run}
-use Rattle.office_rules.proofs.Accepted.{tree_sound, not_back, dated_accepted, accepted_of}
-use Rattle.office_rules.proofs.SoundParts.{IsHeadBy, closed_by, heads_by, each_edited, NamesDisposal, as_many, no_fewer, sound_after}
+use Rattle.office_rules.proofs.Accepted.{tree_sound, dated_accepted, accepted_by_tree}
+use Rattle.office_rules.proofs.SoundParts.{IsClosedBy, IsHeadBy, closed_by, heads_by, each_edited, as_many, no_fewer_edited, NamesDisposal, limits_after, names_after, days_after}
 
 -- ---- a change of a head
 
--- a change that leaves the ref, takes no confirmation and no receipt away, and confirms only transfer and destruction
+-- a change that takes no confirmation and no receipt away, and confirms only transfer and destruction
 record KeepsPapers (change : Record → Record) : Type 0 where
-  ref_text : (head : Record) → (change head).ref_text ≡ head.ref_text
   confirmed : (head : Record) → IsSome head.confirmation → IsSome (change head).confirmation
   disposal : (head : Record) → NamesDisposal head.confirmation → NamesDisposal (change head).confirmation
   receipt : (head : Record) → IsSome head.receipt → IsSome (change head).receipt
 
-papers_edited : (records : List Record) (statuses : List Status) (entries : EntryMap) (r : ℕ) (change : Record → Record) → PapersStand records statuses entries → KeepsPapers change → PapersStand (edited records r change) statuses entries
-papers_edited records statuses entries r change papers keeps = record {
+-- papers: the change keeps them
+papers_with_head : (s : State) (r : ℕ) (change : Record → Record) → IsSound s → KeepsPapers change → PapersStand (edited s.office.tree.records r change) s.office.tree.statuses s.office.entries
+papers_with_head s r change sound keeps = record {
   confirmed = λ n head status e at away.
-      let came = numbered_edited records r change head n e in
-      let old = papers.confirmed n came.0 status came.1 at away in
+      let came = numbered_edited s.office.tree.records r change head n e in
+      let old = sound.papers.confirmed n came.0 status came.1 at away in
       elim came.2 [ inl same ↦ subst (λ (k : Record). IsSome k.confirmation) (sym same) old | inr changed ↦ subst (λ (k : Record). IsSome k.confirmation) (sym changed.1) (keeps.confirmed came.0 old) ];
   disposal = λ n head e.
-      let came = numbered_edited records r change head n e in
-      let old = papers.disposal n came.0 came.1 in
+      let came = numbered_edited s.office.tree.records r change head n e in
+      let old = sound.papers.disposal n came.0 came.1 in
       elim came.2 [ inl same ↦ subst (λ (k : Record). NamesDisposal k.confirmation) (sym same) old | inr changed ↦ subst (λ (k : Record). NamesDisposal k.confirmation) (sym changed.1) (keeps.disposal came.0 old) ];
   received = λ n head e at.
-      let came = numbered_edited records r change head n e in
-      let old = papers.received n came.0 came.1 at in
+      let came = numbered_edited s.office.tree.records r change head n e in
+      let old = sound.papers.received n came.0 came.1 at in
       elim came.2 [ inl same ↦ subst (λ (k : Record). IsSome k.receipt) (sym same) old | inr changed ↦ subst (λ (k : Record). IsSome k.receipt) (sym changed.1) (keeps.receipt came.0 old) ];
   transferred = λ run n entry head there is e.
-      let came = numbered_edited records r change head n e in
-      let old = papers.transferred run n entry came.0 there is came.1 in
+      let came = numbered_edited s.office.tree.records r change head n e in
+      let old = sound.papers.transferred run n entry came.0 there is came.1 in
       elim came.2 [ inl same ↦ subst (λ (k : Record). IsSome k.receipt) (sym same) old | inr changed ↦ subst (λ (k : Record). IsSome k.receipt) (sym changed.1) (keeps.receipt came.0 old) ];
 }
 
--- a change of a head within a sound and formed tree, by the day and with the papers kept
-sound_with_head : (s : State) (day : ℤ) (r : ℕ) (change : Record → Record) → IsSound s → IsDayNumber day → s.office.day ≤ℤ day → tree.IsSound (with_head s.office.tree r change) → IsFormedTree (with_head s.office.tree r change)
-    → ((head : Record) → IsHeadBy day head → IsHeadBy day (change head)) → KeepsPapers change → IsSound (with_office s (with_tree s.office day (with_head s.office.tree r change)))
-sound_with_head s day r change sound day_formed up new_sound formed by_day keeps =
+-- names: those of the tree with the changed head stand
+names_with_head : (s : State) (r : ℕ) (change : Record → Record) → IsSound s → NamesStand s.office.tree.schedules s.office.tree.classes s.office.tree.aggregations (edited s.office.tree.records r change)
+    → AllNamesStand (with_head s.office.tree r change) s.office.holds s.office.runs s.office.entries
+names_with_head s r change sound names =
     let t = s.office.tree in
-    sound_after s day (with_head t r change) s.contents sound day_formed up new_sound formed
-    (record { schedules = λ c there. there; classes = λ c there. there; aggregations = as_many (length t.aggregations); records = no_fewer (length (edited t.records r change)) (length t.records) (length-edited t.records r change) })
-    (closed_by s day sound up) (each_edited (IsHeadBy day) t.records r change (heads_by s day sound up) by_day)
-    sound.contents (papers_edited t.records t.statuses s.office.entries r change sound.papers keeps) sound.entries (RefsDiffer-with_head t r change keeps.ref_text sound.refs)
+    names_after s (with_head t r change) sound names
+    (record { schedules = λ c there. there; classes = λ c there. there; aggregations = as_many (length t.aggregations); records = no_fewer_edited t.records r change })
+
+-- days: the change keeps those of a head by the day
+days_with_head : (s : State) (day : ℤ) (r : ℕ) (change : Record → Record) → IsSound s → s.office.day ≤ℤ day → ((head : Record) → IsHeadBy day head → IsHeadBy day (change head))
+    → NoDayIsAfter s.office.tree.aggregations (edited s.office.tree.records r change) s.office.holds s.office.runs day
+days_with_head s day r change sound up by_day =
+    let t = s.office.tree in
+    days_after s day (with_head t r change) sound up (closed_by s day sound up) (each_edited (IsHeadBy day) t.records r change (heads_by s day sound up) by_day)
+
+-- ---- an own schedule
 
 pub sound_set_record_schedule : (s : State) (day : ℤ) (r : ℕ) (schedule : Option (List ℕ)) → IsSound s → IsDayNumber day → IfSome schedule IsCode → IsAccepted (refusals_of_set_record_schedule s.office day r schedule) → IsSound (with_office s (after_set_record_schedule s.office day r schedule))
 sound_set_record_schedule s day r schedule sound day_formed schedule_formed accepted =
     let t = s.office.tree in
     let no = dated_accepted s.office day (conditions_of_set_record_schedule t r schedule) accepted in
-    sound_with_head s day r (λ head. record head { schedule = schedule }) sound day_formed no.0
-    (IsSound-set_record_schedule t r schedule (tree_sound s sound) no.1) (IsFormed-set_record_schedule t r schedule sound.limits.tree_forms schedule_formed)
-    (λ head old. record { added = old.added; reviewed = old.reviewed; confirmed = old.confirmed; receipted = old.receipted })
-    (record { ref_text = λ head. refl; confirmed = λ head there. there; disposal = λ head old. old; receipt = λ head there. there })
+    let change : Record → Record = λ head. record head { schedule = schedule } in
+    let of_tree = IsSound-set_record_schedule t r schedule (tree_sound s sound) no.1 in
+    record {
+      limits = limits_after s day (with_head t r change) sound of_tree.limits of_tree.statuses (IsFormed-set_record_schedule t r schedule sound.limits.tree_forms schedule_formed) day_formed;
+      forest = sound.forest;
+      names = names_with_head s r change sound of_tree.names;
+      closed = sound.closed;
+      contents = sound.contents;
+      papers = papers_with_head s r change sound (record { confirmed = λ head there. there; disposal = λ head old. old; receipt = λ head there. there });
+      entries = sound.entries;
+      runs = sound.runs;
+      days = days_with_head s day r change sound no.0 (λ head old. record { added = old.added; reviewed = old.reviewed; confirmed = old.confirmed; receipted = old.receipted });
+      refs = RefsDiffer-with_head t r change (λ head. refl) sound.refs;
+    }
 
 -- ---- an own class
 
@@ -90,25 +107,40 @@ pub sound_reclassify : (s : State) (day : ℤ) (what : Classified) (class : Opti
 sound_reclassify s day (classified.Aggregation a) class sound day_formed class_formed accepted =
     let t = s.office.tree in
     let what = classified.Aggregation a in
-    let no = none_holds (refusals_of_reclassify s.office day what class) accepted in
-    let up = not_back day s.office.day no.0 in
-    let below : first_of (conditions_of_reclassify t what class) ≡ None = accepted_of (conditions_of_reclassify t what class) (no.1.0, (no.1.1.0, (no.1.1.1.1.0, (no.1.1.1.1.1.0, tt)))) in
+    let up = (dated_accepted s.office day (conditions_of_reclassifying s.office what class) accepted).0 in
     let change : Aggregation → Aggregation = λ it. record it { class = class } in
-    sound_after s day (reclassified t what class) s.contents sound day_formed up
-    (IsSound-reclassify t what class (tree_sound s sound) below) (IsFormed-reclassify t what class sound.limits.tree_forms class_formed)
-    (record { schedules = λ c there. there; classes = λ c there. there; aggregations = no_fewer (length (edited t.aggregations a change)) (length t.aggregations) (length-edited t.aggregations a change); records = as_many (length t.records) })
-    (each_edited _ t.aggregations a change (closed_by s day sound up) (λ it old. old)) (heads_by s day sound up)
-    sound.contents sound.papers sound.entries (RefsDiffer-reclassify t what class sound.refs)
+    let new = reclassified t what class in
+    let of_tree = IsSound-reclassify t what class (tree_sound s sound) (accepted_by_tree s.office day what class accepted) in
+    record {
+      limits = limits_after s day new sound of_tree.limits of_tree.statuses (IsFormed-reclassify t what class sound.limits.tree_forms class_formed) day_formed;
+      forest = of_tree.forest;
+      names = names_after s new sound of_tree.names (record { schedules = λ c there. there; classes = λ c there. there; aggregations = no_fewer_edited t.aggregations a change; records = as_many (length t.records) });
+      closed = of_tree.closed;
+      contents = sound.contents;
+      papers = sound.papers;
+      entries = sound.entries;
+      runs = sound.runs;
+      days = days_after s day new sound up (each_edited (IsClosedBy day) t.aggregations a change (closed_by s day sound up) (λ it old. old)) (heads_by s day sound up);
+      refs = RefsDiffer-reclassify t what class sound.refs;
+    }
 sound_reclassify s day (classified.Record r) class sound day_formed class_formed accepted =
     let t = s.office.tree in
     let what = classified.Record r in
-    let no = none_holds (refusals_of_reclassify s.office day what class) accepted in
-    let up = not_back day s.office.day no.0 in
-    let below : first_of (conditions_of_reclassify t what class) ≡ None = accepted_of (conditions_of_reclassify t what class) (no.1.0, (no.1.1.0, (no.1.1.1.1.0, (no.1.1.1.1.1.0, tt)))) in
-    sound_with_head s day r (λ head. record head { class = class }) sound day_formed up
-    (IsSound-reclassify t what class (tree_sound s sound) below) (IsFormed-reclassify t what class sound.limits.tree_forms class_formed)
-    (λ head old. record { added = old.added; reviewed = old.reviewed; confirmed = old.confirmed; receipted = old.receipted })
-    (record { ref_text = λ head. refl; confirmed = λ head there. there; disposal = λ head old. old; receipt = λ head there. there })
+    let up = (dated_accepted s.office day (conditions_of_reclassifying s.office what class) accepted).0 in
+    let change : Record → Record = λ head. record head { class = class } in
+    let of_tree = IsSound-reclassify t what class (tree_sound s sound) (accepted_by_tree s.office day what class accepted) in
+    record {
+      limits = limits_after s day (with_head t r change) sound of_tree.limits of_tree.statuses (IsFormed-reclassify t what class sound.limits.tree_forms class_formed) day_formed;
+      forest = sound.forest;
+      names = names_with_head s r change sound of_tree.names;
+      closed = sound.closed;
+      contents = sound.contents;
+      papers = papers_with_head s r change sound (record { confirmed = λ head there. there; disposal = λ head old. old; receipt = λ head there. there });
+      entries = sound.entries;
+      runs = sound.runs;
+      days = days_with_head s day r change sound up (λ head old. record { added = old.added; reviewed = old.reviewed; confirmed = old.confirmed; receipted = old.receipted });
+      refs = RefsDiffer-reclassify t what class sound.refs;
+    }
 
 -- ---- a confirmation
 
@@ -158,20 +190,38 @@ confirms_by : (day : ℤ) (named : Action) (by : List ℕ) (due : Option ℤ) �
 confirms_by day named by None = tt
 confirms_by day named by (Some due) = ≤ℤ_refl day
 
-pub sound_confirm : (s : State) (day : ℤ) (r : ℕ) (named : Action) (by : List ℕ) → IsSound s → IsDayNumber day → IsText by → IsAccepted (refusals_of_confirm s.office day r named) → IsSound (with_office s (after_confirm s.office day r named by))
-sound_confirm s day r named by sound day_formed by_formed accepted =
+-- papers: the confirmation is there, as the record is due, and names its plan's action, which is a disposal
+confirm_papers : (s : State) (day : ℤ) (r : ℕ) (named : Action) (by : List ℕ) → IsSound s → first_of (conditions_of_confirm s.office.tree day r named) ≡ None
+    → PapersStand (confirmed s.office.tree day r named by).records s.office.tree.statuses s.office.entries
+confirm_papers s day r named by sound accepted =
     let t = s.office.tree in
-    let no = dated_accepted s.office day (conditions_of_confirm t day r named) accepted in
-    let none = none_holds (conditions_of_confirm t day r named) no.1 in
+    let none = none_holds (conditions_of_confirm t day r named) accepted in
     let there = not_false (has_record t r) none.0 in
     let is_due = held_some (due_of t r) _ (not_other (has_record t r) (holds_of (due_of t r) (λ due. int_le due day)) there none.1.1.1.0) in
     let actions = neither (has_other_action t r named) (same_action named action.Review) none.1.1.1.1.0 in
     let same = not_other (has_record t r) (holds_of (action_of t r) (same_action named)) there actions.0 in
     let disposal = disposal_of (schedule_of t r) (λ schedule. start_in t.aggregations t.records schedule r) named is_due same actions.1 in
-    sound_with_head s day r (λ head. record head { confirmation = confirmation_for day named by (due_of t r) }) sound day_formed no.0
-    (IsSound-confirm t day r named by (tree_sound s sound) no.1) (IsFormed-confirm t day r named by sound.limits.tree_forms day_formed by_formed (due_of-number t r sound.limits.tree_forms))
-    (λ head old. record { added = old.added; reviewed = old.reviewed; confirmed = confirms_by day named by (due_of t r); receipted = old.receipted })
-    (record { ref_text = λ head. refl; confirmed = λ head old. confirms day named by (due_of t r) is_due; disposal = λ head old. confirms_disposal day named by (due_of t r) disposal; receipt = λ head receipt. receipt })
+    papers_with_head s r (λ head. record head { confirmation = confirmation_for day named by (due_of t r) }) sound
+    (record { confirmed = λ head old. confirms day named by (due_of t r) is_due; disposal = λ head old. confirms_disposal day named by (due_of t r) disposal; receipt = λ head receipt. receipt })
+
+pub sound_confirm : (s : State) (day : ℤ) (r : ℕ) (named : Action) (by : List ℕ) → IsSound s → IsDayNumber day → IsText by → IsAccepted (refusals_of_confirm s.office day r named) → IsSound (with_office s (after_confirm s.office day r named by))
+sound_confirm s day r named by sound day_formed by_formed accepted =
+    let t = s.office.tree in
+    let no = dated_accepted s.office day (conditions_of_confirm t day r named) accepted in
+    let change : Record → Record = λ head. record head { confirmation = confirmation_for day named by (due_of t r) } in
+    let of_tree = IsSound-confirm t day r named by (tree_sound s sound) no.1 in
+    record {
+      limits = limits_after s day (with_head t r change) sound of_tree.limits of_tree.statuses (IsFormed-confirm t day r named by sound.limits.tree_forms day_formed by_formed (due_of-number t r sound.limits.tree_forms)) day_formed;
+      forest = sound.forest;
+      names = names_with_head s r change sound of_tree.names;
+      closed = sound.closed;
+      contents = sound.contents;
+      papers = confirm_papers s day r named by sound no.1;
+      entries = sound.entries;
+      runs = sound.runs;
+      days = days_with_head s day r change sound no.0 (λ head old. record { added = old.added; reviewed = old.reviewed; confirmed = confirms_by day named by (due_of t r); receipted = old.receipted });
+      refs = RefsDiffer-with_head t r change (λ head. refl) sound.refs;
+    }
 
 -- ---- a review
 
@@ -179,10 +229,20 @@ pub sound_review : (s : State) (day : ℤ) (r : ℕ) (schedule : Option (List �
 sound_review s day r schedule by sound day_formed schedule_formed by_formed accepted =
     let t = s.office.tree in
     let no = dated_accepted s.office day (conditions_of_review t day r schedule) accepted in
-    sound_with_head s day r (λ head. record head { review = Some (record { day = day; by = by }); schedule = or_else schedule head.schedule }) sound day_formed no.0
-    (IsSound-review t day r schedule by (tree_sound s sound) no.1) (IsFormed-review t day r schedule by sound.limits.tree_forms day_formed schedule_formed by_formed)
-    (λ head old. record { added = old.added; reviewed = ≤ℤ_refl day; confirmed = old.confirmed; receipted = old.receipted })
-    (record { ref_text = λ head. refl; confirmed = λ head there. there; disposal = λ head old. old; receipt = λ head there. there })
+    let change : Record → Record = λ head. record head { review = Some (record { day = day; by = by }); schedule = or_else schedule head.schedule } in
+    let of_tree = IsSound-review t day r schedule by (tree_sound s sound) no.1 in
+    record {
+      limits = limits_after s day (with_head t r change) sound of_tree.limits of_tree.statuses (IsFormed-review t day r schedule by sound.limits.tree_forms day_formed schedule_formed by_formed) day_formed;
+      forest = sound.forest;
+      names = names_with_head s r change sound of_tree.names;
+      closed = sound.closed;
+      contents = sound.contents;
+      papers = papers_with_head s r change sound (record { confirmed = λ head there. there; disposal = λ head old. old; receipt = λ head there. there });
+      entries = sound.entries;
+      runs = sound.runs;
+      days = days_with_head s day r change sound no.0 (λ head old. record { added = old.added; reviewed = ≤ℤ_refl day; confirmed = old.confirmed; receipted = old.receipted });
+      refs = RefsDiffer-with_head t r change (λ head. refl) sound.refs;
+    }
 
 -- ---- a receipt
 
@@ -278,13 +338,18 @@ sound_receipt s day r digest by sound day_formed by_formed accepted =
     let none = none_holds (conditions_of_receipt t r digest) no.1 in
     let sent = sent_at t.statuses r none.1.1.0 in
     let change : Record → Record = λ head. record head { receipt = Some (record { day = day; by = by }) } in
-    let papers = papers_edited t.records t.statuses s.office.entries r change sound.papers (record { ref_text = λ head. refl; confirmed = λ head there. there; disposal = λ head old. old; receipt = λ head there. refl }) in
-    sound_after s day (receipted t day r by) s.contents sound day_formed no.0
-    (IsSound-receipt t day r digest by (tree_sound s sound) no.1) (IsFormed-receipt t day r by sound.limits.tree_forms day_formed by_formed)
-    (record { schedules = λ c there. there; classes = λ c there. there; aggregations = as_many (length t.aggregations); records = no_fewer (length (edited t.records r change)) (length t.records) (length-edited t.records r change) })
-    (closed_by s day sound no.0)
-    (each_edited (IsHeadBy day) t.records r change (heads_by s day sound no.0) (λ head old. record { added = old.added; reviewed = old.reviewed; confirmed = old.confirmed; receipted = ≤ℤ_refl day }))
-    (contents_received t.statuses r sent s.contents sound.contents)
-    (papers_received t.statuses r sent t.records s.office.entries change papers (λ head. refl))
-    (entries_received t.statuses r sent s.office.runs s.office.entries sound.entries)
-    (RefsDiffer-with_head t r change (λ head. refl) sound.refs)
+    let new = receipted t day r by in
+    let of_tree = IsSound-receipt t day r digest by (tree_sound s sound) no.1 in
+    record {
+      limits = limits_after s day new sound of_tree.limits of_tree.statuses (IsFormed-receipt t day r by sound.limits.tree_forms day_formed by_formed) day_formed;
+      forest = sound.forest;
+      names = names_after s new sound of_tree.names (record { schedules = λ c there. there; classes = λ c there. there; aggregations = as_many (length t.aggregations); records = no_fewer_edited t.records r change });
+      closed = sound.closed;
+      contents = contents_received t.statuses r sent s.contents sound.contents;
+      papers = papers_received t.statuses r sent t.records s.office.entries change
+          (papers_with_head s r change sound (record { confirmed = λ head there. there; disposal = λ head old. old; receipt = λ head there. refl })) (λ head. refl);
+      entries = entries_received t.statuses r sent s.office.runs s.office.entries sound.entries;
+      runs = sound.runs;
+      days = days_with_head s day r change sound no.0 (λ head old. record { added = old.added; reviewed = old.reviewed; confirmed = old.confirmed; receipted = ≤ℤ_refl day });
+      refs = RefsDiffer-with_head t r change (λ head. refl) sound.refs;
+    }

@@ -21,19 +21,27 @@ use Rattle.office_rules.specs.Meanings.{IsAccepted}
 use Rattle.office_rules.specs.Sound.{IsSound}
 use Rattle.office_rules.specs.State.{State, with_office}
 use Rattle.office_rules.proofs.Accepted.{not_back, dated_accepted, accepted_of}
-use Rattle.office_rules.proofs.SoundParts.{sound_holding}
+use Rattle.office_rules.proofs.SoundParts.{limits_holding, names_holding, days_holding}
 
 pub sound_place_hold : (s : State) (day : ℤ) (code reason by : List ℕ) → IsSound s → IsDayNumber day → IsCode code → IsText reason → IsText by → IsAccepted (refusals_of_place_hold s.office day code) → IsSound (with_office s (after_place_hold s.office day code reason by))
 sound_place_hold s day code reason by sound day_formed code_formed reason_formed by_formed accepted =
     let t = s.office.tree in
     let holds = s.office.holds in
     let no = dated_accepted s.office day (conditions_of_place_hold holds code) accepted in
-    sound_holding s day (placed_hold holds day code reason by) sound day_formed no.0
-    (FitsHoldLimits-placed_hold holds sound.limits.holds_few day code reason by no.1)
-    (AreFormedHolds-placed_hold holds sound.limits.hold_forms day code reason by code_formed reason_formed by_formed day_formed)
-    (TargetsStand-placed_hold holds t.classes (length t.aggregations) (length t.records) sound.names.of_holds day code reason by)
-    (NoHoldIsAfter-placed_hold holds s.office.day day sound.days.held no.0 code reason by)
-    (insert_keeps holds code (new_hold day reason by))
+    let new = placed_hold holds day code reason by in
+    record {
+      limits = limits_holding s day new sound (FitsHoldLimits-placed_hold holds sound.limits.holds_few day code reason by no.1)
+          (AreFormedHolds-placed_hold holds sound.limits.hold_forms day code reason by code_formed reason_formed by_formed day_formed) day_formed;
+      forest = sound.forest;
+      names = names_holding s new sound (TargetsStand-placed_hold holds t.classes (length t.aggregations) (length t.records) sound.names.of_holds day code reason by) (insert_keeps holds code (new_hold day reason by));
+      closed = sound.closed;
+      contents = sound.contents;
+      papers = sound.papers;
+      entries = sound.entries;
+      runs = sound.runs;
+      days = days_holding s day new sound no.0 (NoHoldIsAfter-placed_hold holds s.office.day day sound.days.held no.0 code reason by);
+      refs = sound.refs;
+    }
 
 -- a target that is not lacked is there
 target_there : (t : TreeState) (target : Target) → lacks_target t target ≡ false → TargetIsThere t.classes (length t.aggregations) (length t.records) target
@@ -49,33 +57,57 @@ sound_hold_on s day code target sound day_formed target_formed accepted =
     let up = not_back day s.office.day no.0 in
     let lacks = neither (is_none (get holds code)) (lacks_target t target) no.1.1.0 in
     let below : first_of (conditions_of_hold_on holds code target) ≡ None = accepted_of (conditions_of_hold_on holds code target) (no.1.0, (lacks.0, (no.1.1.1.0, (no.1.1.1.1.0, tt)))) in
-    sound_holding s day (held_on holds code target) sound day_formed up
-    (FitsHoldLimits-held_on holds sound.limits.holds_few code target below)
-    (AreFormedHolds-held_on holds sound.limits.hold_forms code target target_formed)
-    (TargetsStand-held_on holds t.classes (length t.aggregations) (length t.records) sound.names.of_holds code target (target_there t target lacks.1))
-    (NoHoldIsAfter-held_on holds s.office.day day sound.days.held up code target)
-    (amended_keeps holds code (with_target target))
+    let new = held_on holds code target in
+    record {
+      limits = limits_holding s day new sound (FitsHoldLimits-held_on holds sound.limits.holds_few code target below)
+          (AreFormedHolds-held_on holds sound.limits.hold_forms code target target_formed) day_formed;
+      forest = sound.forest;
+      names = names_holding s new sound (TargetsStand-held_on holds t.classes (length t.aggregations) (length t.records) sound.names.of_holds code target (target_there t target lacks.1)) (amended_keeps holds code (with_target target));
+      closed = sound.closed;
+      contents = sound.contents;
+      papers = sound.papers;
+      entries = sound.entries;
+      runs = sound.runs;
+      days = days_holding s day new sound up (NoHoldIsAfter-held_on holds s.office.day day sound.days.held up code target);
+      refs = sound.refs;
+    }
 
 pub sound_hold_off : (s : State) (day : ℤ) (code : List ℕ) (target : Target) → IsSound s → IsDayNumber day → IsAccepted (refusals_of_hold_off s.office day code target) → IsSound (with_office s (after_hold_off s.office day code target))
 sound_hold_off s day code target sound day_formed accepted =
     let t = s.office.tree in
     let holds = s.office.holds in
     let up = (dated_accepted s.office day (conditions_of_hold_off holds code target) accepted).0 in
-    sound_holding s day (held_off holds code target) sound day_formed up
-    (FitsHoldLimits-held_off holds sound.limits.holds_few code target)
-    (AreFormedHolds-held_off holds sound.limits.hold_forms code target)
-    (TargetsStand-held_off holds t.classes (length t.aggregations) (length t.records) sound.names.of_holds code target)
-    (NoHoldIsAfter-held_off holds s.office.day day sound.days.held up code target)
-    (amended_keeps holds code (without_target target))
+    let new = held_off holds code target in
+    record {
+      limits = limits_holding s day new sound (FitsHoldLimits-held_off holds sound.limits.holds_few code target)
+          (AreFormedHolds-held_off holds sound.limits.hold_forms code target) day_formed;
+      forest = sound.forest;
+      names = names_holding s new sound (TargetsStand-held_off holds t.classes (length t.aggregations) (length t.records) sound.names.of_holds code target) (amended_keeps holds code (without_target target));
+      closed = sound.closed;
+      contents = sound.contents;
+      papers = sound.papers;
+      entries = sound.entries;
+      runs = sound.runs;
+      days = days_holding s day new sound up (NoHoldIsAfter-held_off holds s.office.day day sound.days.held up code target);
+      refs = sound.refs;
+    }
 
 pub sound_lift_hold : (s : State) (day : ℤ) (code : List ℕ) → IsSound s → IsDayNumber day → IsAccepted (refusals_of_lift_hold s.office day code) → IsSound (with_office s (after_lift_hold s.office day code))
 sound_lift_hold s day code sound day_formed accepted =
     let t = s.office.tree in
     let holds = s.office.holds in
     let up = (dated_accepted s.office day (conditions_of_lift_hold holds code) accepted).0 in
-    sound_holding s day (lifted_hold holds day code) sound day_formed up
-    (FitsHoldLimits-lifted_hold holds sound.limits.holds_few day code)
-    (AreFormedHolds-lifted_hold holds sound.limits.hold_forms day code day_formed)
-    (TargetsStand-lifted_hold holds t.classes (length t.aggregations) (length t.records) sound.names.of_holds day code)
-    (NoHoldIsAfter-lifted_hold holds s.office.day day sound.days.held up code)
-    (amended_keeps holds code (λ hold. record hold { lifted = Some day }))
+    let new = lifted_hold holds day code in
+    record {
+      limits = limits_holding s day new sound (FitsHoldLimits-lifted_hold holds sound.limits.holds_few day code)
+          (AreFormedHolds-lifted_hold holds sound.limits.hold_forms day code day_formed) day_formed;
+      forest = sound.forest;
+      names = names_holding s new sound (TargetsStand-lifted_hold holds t.classes (length t.aggregations) (length t.records) sound.names.of_holds day code) (amended_keeps holds code (λ hold. record hold { lifted = Some day }));
+      closed = sound.closed;
+      contents = sound.contents;
+      papers = sound.papers;
+      entries = sound.entries;
+      runs = sound.runs;
+      days = days_holding s day new sound up (NoHoldIsAfter-lifted_hold holds s.office.day day sound.days.held up code);
+      refs = sound.refs;
+    }

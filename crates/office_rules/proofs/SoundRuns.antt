@@ -1,52 +1,26 @@
 -- An office stays sound where a run is opened, and where one is closed.
 use Rattle.std.proofs.Common.{◌≡◌, ◌↔◌, ℕ, ◌<◌, ◌≤◌, ◌≤ℤ◌, ℤ, List, [], ◌∷◌, ◌++◌, length, length-append, Option, Some, None, refl, sym, ap, ◌∙◌, subst, cond, Bool, true, false, inl, inr, arith}
-use Rattle.std.specs.Prelude.{int_lt, IsSome, IfSome}
+use Rattle.std.specs.Prelude.{IsSome}
 use Rattle.std.specs.Option.{is_some}
 use Rattle.std.specs.Cmp.{nat_cmp_total}
 use Rattle.std.specs.FinMap.{get, insert, nat_cmp-IsAntisymmetric}
 use Rattle.std.specs.Int.Signed.{≤ℤ_refl}
-use Rattle.std.proofs.lemmas.Int.{ints}
 use Rattle.office_days.specs.Limits.{IsDayNumber}
 use Rattle.office_tree.specs.Forms.{IsText}
 use Rattle.office_tree.specs.Lists.{numbered}
-use Rattle.office_tree.specs.declared.aggregation.Aggregation.{Aggregation}
-use Rattle.office_tree.specs.declared.head.Record.{Record}
 use Rattle.office_tree.proofs.Accepting.{none_holds, below}
 use Rattle.office_tree.proofs.Places.{numbered_push, numbered_edited, length-edited}
-use Rattle.office_holds.specs.Holds.{HoldMap}
 use Rattle.office_proof.specs.declared.entry.Entry.{Entry}
-use Rattle.office_rules.specs.Conditions.{refusals_of_open_run}
+use Rattle.office_rules.specs.Conditions.{conditions_of_open_run, refusals_of_open_run}
 use Rattle.office_rules.specs.Effects.{after_open_run, new_run}
 use Rattle.office_rules.specs.Meanings.{IsAccepted}
 use Rattle.office_rules.specs.Runs.{open_run, open_by, closed, closed_runs, certificate_of}
 use Rattle.office_rules.specs.Sound.{IsSound, IsWithinLimits, IsFormedRun, AllNamesStand, IsNamedEntry, EntriesStand, RunsStand, NoDayIsAfter}
 use Rattle.office_rules.specs.State.{State, Office, with_office}
 use Rattle.office_rules.specs.declared.run.Run.{Run}
+use Rattle.office_rules.proofs.Accepted.{dated_accepted}
 use Rattle.office_rules.proofs.SoundMaps.{put_here, put_elsewhere, same_or_not, pushed_keeps, pushed_all, edited_here, edited_elsewhere}
-
--- ---- days
-
-later_day : (a b c : ℤ) → a ≤ℤ b → b ≤ℤ c → a ≤ℤ c
-later_day a b c h k = omega (arith, ints)
-
-not_back : (day now : ℤ) → int_lt day now ≡ false → now ≤ℤ day
-not_back day now e = grind (arith, ints)
-
-IfSome-later : {A : Type 0} (o : Option A) (day_in : A → ℤ) (now day : ℤ) → now ≤ℤ day → IfSome o (λ x. day_in x ≤ℤ now) → IfSome o (λ x. day_in x ≤ℤ day)
-IfSome-later None day_in now day later h = tt
-IfSome-later (Some x) day_in now day later h = later_day (day_in x) now day h later
-
--- what is not after a day is not after a later one
-pub NoDayIsAfter-later : (aggregations : List Aggregation) (records : List Record) (holds : HoldMap) (runs : List Run) (now day : ℤ) → now ≤ℤ day → NoDayIsAfter aggregations records holds runs now → NoDayIsAfter aggregations records holds runs day
-NoDayIsAfter-later aggregations records holds runs now day later days = record {
-  closed = λ a it e. IfSome-later it.closed (λ closed. closed) now day later (days.closed a it e);
-  added = λ r head e. later_day head.added now day (days.added r head e) later;
-  reviewed = λ r head e. IfSome-later head.review (λ review. review.day) now day later (days.reviewed r head e);
-  confirmed = λ r head e. IfSome-later head.confirmation (λ confirmation. confirmation.day) now day later (days.confirmed r head e);
-  receipted = λ r head e. IfSome-later head.receipt (λ receipt. receipt.day) now day later (days.receipted r head e);
-  held = λ code hold e. let held = days.held code hold e in (later_day hold.placed now day held.0 later, IfSome-later hold.lifted (λ lifted. lifted) now day later held.1);
-  run_days = λ run it e. later_day it.day now day (days.run_days run it e) later;
-}
+use Rattle.office_rules.proofs.SoundParts.{days_later}
 
 -- ---- the open run
 
@@ -132,8 +106,8 @@ open_run_runs s day by sound none = record {
 }
 
 open_run_days : (s : State) (day : ℤ) (by : List ℕ) → IsSound s → s.office.day ≤ℤ day → NoDayIsAfter s.office.tree.aggregations s.office.tree.records s.office.holds (s.office.runs ++ new_run day by ∷ []) day
-open_run_days s day by sound later =
-    let days = NoDayIsAfter-later s.office.tree.aggregations s.office.tree.records s.office.holds s.office.runs s.office.day day later sound.days in
+open_run_days s day by sound up =
+    let days = days_later s day sound up in
     record {
       closed = days.closed;
       added = days.added;
@@ -146,17 +120,18 @@ open_run_days s day by sound later =
 
 pub sound_open_run : (s : State) (day : ℤ) (by : List ℕ) → IsSound s → IsDayNumber day → IsText by → IsAccepted (refusals_of_open_run s.office day) → IsSound (with_office s (after_open_run s.office day by))
 sound_open_run s day by sound form text accepted =
-    let no = none_holds (refusals_of_open_run s.office day) accepted in
+    let no = dated_accepted s.office day (conditions_of_open_run s.office) accepted in
+    let none = none_holds (conditions_of_open_run s.office) no.1 in
     record {
-      limits = open_run_limits s day by sound form text (below (length s.office.runs) 10_000 no.1.0);
+      limits = open_run_limits s day by sound form text (below (length s.office.runs) 10_000 none.0);
       forest = sound.forest;
       names = open_run_names s (new_run day by) sound;
       closed = sound.closed;
       contents = sound.contents;
       papers = sound.papers;
       entries = open_run_entries s (new_run day by) sound;
-      runs = open_run_runs s day by sound no.1.1.0;
-      days = open_run_days s day by sound (not_back day s.office.day no.0);
+      runs = open_run_runs s day by sound none.1.0;
+      days = open_run_days s day by sound no.0;
       refs = sound.refs;
     }
 

@@ -16,31 +16,61 @@ use Rattle.office_rules.specs.Meanings.{IsAccepted}
 use Rattle.office_rules.specs.Sound.{IsSound}
 use Rattle.office_rules.specs.State.{State, with_office}
 use Rattle.office_rules.proofs.Accepted.{tree_sound, dated_accepted}
-use Rattle.office_rules.proofs.SoundParts.{closed_by, heads_by, as_many, sound_after}
+use Rattle.office_rules.proofs.SoundParts.{days_later, as_many, limits_after, names_after}
 
 pub sound_add_schedule : (s : State) (day : ℤ) (code : List ℕ) (schedule : Schedule) → IsSound s → IsDayNumber day → IsCode code → IsFormedSchedule schedule → IsAccepted (refusals_of_add_schedule s.office day code) → IsSound (with_office s (after_add_schedule s.office day code schedule))
 sound_add_schedule s day code schedule sound day_formed code_formed schedule_formed accepted =
     let t = s.office.tree in
+    let new = added_schedule t code schedule in
     let no = dated_accepted s.office day (conditions_of_add_schedule t code) accepted in
-    sound_after s day (added_schedule t code schedule) s.contents sound day_formed no.0
-    (IsSound-add_schedule t code schedule (tree_sound s sound) no.1) (IsFormed-add_schedule t code schedule sound.limits.tree_forms code_formed schedule_formed)
-    (record { schedules = insert_keeps t.schedules code schedule; classes = λ c there. there; aggregations = as_many (length t.aggregations); records = as_many (length t.records) })
-    (closed_by s day sound no.0) (heads_by s day sound no.0) sound.contents sound.papers sound.entries sound.refs
+    let of_tree = IsSound-add_schedule t code schedule (tree_sound s sound) no.1 in
+    record {
+      limits = limits_after s day new sound of_tree.limits of_tree.statuses (IsFormed-add_schedule t code schedule sound.limits.tree_forms code_formed schedule_formed) day_formed;
+      forest = sound.forest;
+      names = names_after s new sound of_tree.names (record { schedules = insert_keeps t.schedules code schedule; classes = λ c there. there; aggregations = as_many (length t.aggregations); records = as_many (length t.records) });
+      closed = sound.closed;
+      contents = sound.contents;
+      papers = sound.papers;
+      entries = sound.entries;
+      runs = sound.runs;
+      days = days_later s day sound no.0;
+      refs = sound.refs;
+    }
 
 pub sound_add_class : (s : State) (day : ℤ) (code : List ℕ) (class : Class) → IsSound s → IsDayNumber day → IsCode code → IsFormedClass class → IsAccepted (refusals_of_add_class s.office day code class) → IsSound (with_office s (after_add_class s.office day code class))
 sound_add_class s day code class sound day_formed code_formed class_formed accepted =
     let t = s.office.tree in
+    let new = added_class t code class in
     let no = dated_accepted s.office day (conditions_of_add_class t code class.schedule) accepted in
-    sound_after s day (added_class t code class) s.contents sound day_formed no.0
-    (IsSound-add_class t code class (tree_sound s sound) no.1) (IsFormed-add_class t code class sound.limits.tree_forms code_formed class_formed)
-    (record { schedules = λ c there. there; classes = insert_keeps t.classes code class; aggregations = as_many (length t.aggregations); records = as_many (length t.records) })
-    (closed_by s day sound no.0) (heads_by s day sound no.0) sound.contents sound.papers sound.entries sound.refs
+    let of_tree = IsSound-add_class t code class (tree_sound s sound) no.1 in
+    record {
+      limits = limits_after s day new sound of_tree.limits of_tree.statuses (IsFormed-add_class t code class sound.limits.tree_forms code_formed class_formed) day_formed;
+      forest = sound.forest;
+      names = names_after s new sound of_tree.names (record { schedules = λ c there. there; classes = insert_keeps t.classes code class; aggregations = as_many (length t.aggregations); records = as_many (length t.records) });
+      closed = sound.closed;
+      contents = sound.contents;
+      papers = sound.papers;
+      entries = sound.entries;
+      runs = sound.runs;
+      days = days_later s day sound no.0;
+      refs = sound.refs;
+    }
 
 pub sound_set_class_schedule : (s : State) (day : ℤ) (class schedule : List ℕ) → IsSound s → IsDayNumber day → IsCode schedule → IsAccepted (refusals_of_set_class_schedule s.office day class schedule) → IsSound (with_office s (after_set_class_schedule s.office day class schedule))
 sound_set_class_schedule s day class schedule sound day_formed schedule_formed accepted =
     let t = s.office.tree in
+    let new = with_class_schedule t class schedule in
     let no = dated_accepted s.office day (conditions_of_set_class_schedule t class schedule) accepted in
-    sound_after s day (with_class_schedule t class schedule) s.contents sound day_formed no.0
-    (IsSound-set_class_schedule t class schedule (tree_sound s sound) no.1) (IsFormed-set_class_schedule t class schedule sound.limits.tree_forms schedule_formed)
-    (record { schedules = λ c there. there; classes = amended_keeps t.classes class (λ it. record it { schedule = schedule }); aggregations = as_many (length t.aggregations); records = as_many (length t.records) })
-    (closed_by s day sound no.0) (heads_by s day sound no.0) sound.contents sound.papers sound.entries sound.refs
+    let of_tree = IsSound-set_class_schedule t class schedule (tree_sound s sound) no.1 in
+    record {
+      limits = limits_after s day new sound of_tree.limits of_tree.statuses (IsFormed-set_class_schedule t class schedule sound.limits.tree_forms schedule_formed) day_formed;
+      forest = sound.forest;
+      names = names_after s new sound of_tree.names (record { schedules = λ c there. there; classes = amended_keeps t.classes class (λ it. record it { schedule = schedule }); aggregations = as_many (length t.aggregations); records = as_many (length t.records) });
+      closed = sound.closed;
+      contents = sound.contents;
+      papers = sound.papers;
+      entries = sound.entries;
+      runs = sound.runs;
+      days = days_later s day sound no.0;
+      refs = sound.refs;
+    }

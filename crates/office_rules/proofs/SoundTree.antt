@@ -1,5 +1,5 @@
 -- An act on aggregations, and a new record, keep a state sound.
-use Rattle.std.proofs.Common.{◌≡◌, ◌≢◌, ℕ, zero, suc, ◌+◌, ◌≤◌, ℤ, List, [], ◌∷◌, ◌++◌, length, Option, Some, None, refl, sym, ap, subst, ◌∙◌, cond, Bool, true, false, inl, inr, arith, length-append}
+use Rattle.std.proofs.Common.{◌≡◌, ◌≢◌, ℕ, zero, suc, ◌+◌, ◌≤◌, ℤ, List, [], ◌∷◌, ◌++◌, length, Option, Some, None, refl, sym, ap, subst, ◌∙◌, cond, Bool, true, false, inl, inr, arith}
 use Rattle.std.specs.Prelude.{IsSome, IfSome, slice_get}
 use Rattle.std.specs.Cmp.{Equal-is, eq_by_cmp_equiv, nat_cmp_total}
 use Rattle.std.specs.FinMap.{get, insert, get-insert, nat_cmp-IsAntisymmetric}
@@ -9,7 +9,7 @@ use Rattle.office_days.specs.Limits.{IsDayNumber}
 use Rattle.office_tree.specs.Conditions.{conditions_of_add_aggregation, conditions_of_close_aggregation, conditions_of_add_record}
 use Rattle.office_tree.specs.Effects.{added_aggregation, closed_aggregation, added_record}
 use Rattle.office_tree.specs.Forms.{IsCode, IsText, IsFormedRecord}
-use Rattle.office_tree.specs.Lists.{numbered, edited}
+use Rattle.office_tree.specs.Lists.{numbered}
 use Rattle.office_tree.specs.declared.aggregation.Aggregation.{Aggregation}
 use Rattle.office_tree.specs.declared.head.Record.{Record}
 use Rattle.office_tree.specs.declared.status.Status.{Status}
@@ -17,7 +17,7 @@ use Rattle.office_tree.specs.declared.status.Status.TheVariants.{Here, Received,
 use Rattle.office_tree.proofs.Forming.{IsFormed-add_aggregation, IsFormed-close_aggregation, IsFormed-add_record}
 use Rattle.office_tree.proofs.Keeping.{IsSound-add_aggregation, IsSound-close_aggregation, IsSound-add_record}
 use Rattle.office_tree.proofs.Refs.{RefsDiffer-add_aggregation, RefsDiffer-close_aggregation, RefsDiffer-add_record}
-use Rattle.office_tree.proofs.Places.{numbered_push, numbered_within, length-edited}
+use Rattle.office_tree.proofs.Places.{numbered_push, numbered_within}
 use Rattle.office_rules.specs.Conditions.{refusals_of_add_aggregation, refusals_of_close_aggregation, refusals_of_add_record}
 use Rattle.office_rules.specs.Effects.{after_add_aggregation, after_close_aggregation, new_head, with_new_record}
 use Rattle.office_rules.specs.Meanings.{IsAccepted, IsFormedNewRecord}
@@ -28,10 +28,7 @@ use Rattle.office_rules.specs.declared.run.Run.{Run}
 use Rattle.office_proof.specs.declared.entry.Entry.{Entry}
 use Rattle.office_proof.proofs.Digests.{IsDigest-sha256}
 use Rattle.office_rules.proofs.Accepted.{tree_sound, dated_accepted}
-use Rattle.office_rules.proofs.SoundParts.{IsClosedBy, IsHeadBy, closed_by, heads_by, each_push, each_edited, NamesDisposal, as_many, no_fewer, sound_after}
-
-more_pushed : {A : Type 0} (xs : List A) (x : A) → length xs ≤ length (xs ++ x ∷ [])
-more_pushed xs x = omega (arith, length-append xs (x ∷ []))
+use Rattle.office_rules.proofs.SoundParts.{IsClosedBy, IsHeadBy, closed_by, heads_by, each_push, each_edited, as_many, more_pushed, no_fewer_edited, NamesDisposal, limits_after, names_after, days_after}
 
 -- ---- aggregations
 
@@ -40,22 +37,40 @@ sound_add_aggregation s day ref_text title parent class sound day_formed ref_for
     let t = s.office.tree in
     let no = dated_accepted s.office day (conditions_of_add_aggregation t ref_text parent class) accepted in
     let it : Aggregation = record { ref_text = ref_text; title = title; parent = parent; class = class; closed = None } in
-    sound_after s day (added_aggregation t ref_text title parent class) s.contents sound day_formed no.0
-    (IsSound-add_aggregation t ref_text title parent class (tree_sound s sound) no.1) (IsFormed-add_aggregation t ref_text title parent class sound.limits.tree_forms ref_formed title_formed class_formed)
-    (record { schedules = λ c there. there; classes = λ c there. there; aggregations = more_pushed t.aggregations it; records = as_many (length t.records) })
-    (each_push (IsClosedBy day) t.aggregations it (closed_by s day sound no.0) tt) (heads_by s day sound no.0) sound.contents sound.papers sound.entries
-    (RefsDiffer-add_aggregation t ref_text title parent class sound.refs no.1)
+    let new = added_aggregation t ref_text title parent class in
+    let of_tree = IsSound-add_aggregation t ref_text title parent class (tree_sound s sound) no.1 in
+    record {
+      limits = limits_after s day new sound of_tree.limits of_tree.statuses (IsFormed-add_aggregation t ref_text title parent class sound.limits.tree_forms ref_formed title_formed class_formed) day_formed;
+      forest = of_tree.forest;
+      names = names_after s new sound of_tree.names (record { schedules = λ c there. there; classes = λ c there. there; aggregations = more_pushed t.aggregations it; records = as_many (length t.records) });
+      closed = of_tree.closed;
+      contents = sound.contents;
+      papers = sound.papers;
+      entries = sound.entries;
+      runs = sound.runs;
+      days = days_after s day new sound no.0 (each_push (IsClosedBy day) t.aggregations it (closed_by s day sound no.0) tt) (heads_by s day sound no.0);
+      refs = RefsDiffer-add_aggregation t ref_text title parent class sound.refs no.1;
+    }
 
 pub sound_close_aggregation : (s : State) (day : ℤ) (a : ℕ) → IsSound s → IsDayNumber day → IsAccepted (refusals_of_close_aggregation s.office day a) → IsSound (with_office s (after_close_aggregation s.office day a))
 sound_close_aggregation s day a sound day_formed accepted =
     let t = s.office.tree in
     let no = dated_accepted s.office day (conditions_of_close_aggregation t a) accepted in
     let close : Aggregation → Aggregation = λ it. record it { closed = Some day } in
-    sound_after s day (closed_aggregation t a day) s.contents sound day_formed no.0
-    (IsSound-close_aggregation t a day (tree_sound s sound) no.1) (IsFormed-close_aggregation t a day sound.limits.tree_forms day_formed)
-    (record { schedules = λ c there. there; classes = λ c there. there; aggregations = no_fewer (length (edited t.aggregations a close)) (length t.aggregations) (length-edited t.aggregations a close); records = as_many (length t.records) })
-    (each_edited (IsClosedBy day) t.aggregations a close (closed_by s day sound no.0) (λ it old. ≤ℤ_refl day)) (heads_by s day sound no.0) sound.contents sound.papers sound.entries
-    (RefsDiffer-close_aggregation t a day sound.refs)
+    let new = closed_aggregation t a day in
+    let of_tree = IsSound-close_aggregation t a day (tree_sound s sound) no.1 in
+    record {
+      limits = limits_after s day new sound of_tree.limits of_tree.statuses (IsFormed-close_aggregation t a day sound.limits.tree_forms day_formed) day_formed;
+      forest = of_tree.forest;
+      names = names_after s new sound of_tree.names (record { schedules = λ c there. there; classes = λ c there. there; aggregations = no_fewer_edited t.aggregations a close; records = as_many (length t.records) });
+      closed = of_tree.closed;
+      contents = sound.contents;
+      papers = sound.papers;
+      entries = sound.entries;
+      runs = sound.runs;
+      days = days_after s day new sound no.0 (each_edited (IsClosedBy day) t.aggregations a close (closed_by s day sound no.0) (λ it old. ≤ℤ_refl day)) (heads_by s day sound no.0);
+      refs = RefsDiffer-close_aggregation t a day sound.refs;
+    }
 
 -- ---- a new record
 
@@ -171,12 +186,17 @@ sound_add_record s day new sound day_formed formed accepted =
     let no = dated_accepted s.office day (conditions_of_add_record t new.ref_text new.aggregation new.class new.schedule) accepted in
     let head = new_head day new in
     let few = sound.limits.statuses in
-    sound_after s day (added_record t head) (insert s.contents (suc (length t.records)) new.content.items) sound day_formed no.0
-    (IsSound-add_record t head (tree_sound s sound) no.1) (IsFormed-add_record t head sound.limits.tree_forms (head_formed day new day_formed formed))
-    (record { schedules = λ c there. there; classes = λ c there. there; aggregations = as_many (length t.aggregations); records = more_pushed t.records head })
-    (closed_by s day sound no.0)
-    (each_push (IsHeadBy day) t.records head (heads_by s day sound no.0) (record { added = ≤ℤ_refl day; reviewed = tt; confirmed = tt; receipted = tt }))
-    (contents_pushed t.statuses (length t.records) few s.contents new.content.items sound.contents)
-    (papers_pushed t.records t.statuses s.office.entries head few tt sound.papers (λ run r e there. (sound.names.of_entries run r e there).record_there.1))
-    (entries_pushed t.statuses (length t.records) few s.office.runs s.office.entries sound.entries)
-    (RefsDiffer-add_record t head sound.refs no.1)
+    let of_tree = IsSound-add_record t head (tree_sound s sound) no.1 in
+    record {
+      limits = limits_after s day (added_record t head) sound of_tree.limits of_tree.statuses (IsFormed-add_record t head sound.limits.tree_forms (head_formed day new day_formed formed)) day_formed;
+      forest = sound.forest;
+      names = names_after s (added_record t head) sound of_tree.names (record { schedules = λ c there. there; classes = λ c there. there; aggregations = as_many (length t.aggregations); records = more_pushed t.records head });
+      closed = sound.closed;
+      contents = contents_pushed t.statuses (length t.records) few s.contents new.content.items sound.contents;
+      papers = papers_pushed t.records t.statuses s.office.entries head few tt sound.papers (λ run r e there. (sound.names.of_entries run r e there).record_there.1);
+      entries = entries_pushed t.statuses (length t.records) few s.office.runs s.office.entries sound.entries;
+      runs = sound.runs;
+      days = days_after s day (added_record t head) sound no.0 (closed_by s day sound no.0)
+          (each_push (IsHeadBy day) t.records head (heads_by s day sound no.0) (record { added = ≤ℤ_refl day; reviewed = tt; confirmed = tt; receipted = tt }));
+      refs = RefsDiffer-add_record t head sound.refs no.1;
+    }

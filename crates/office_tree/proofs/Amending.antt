@@ -1,12 +1,12 @@
--- What an act of which no condition holds makes of a sound tree is sound: the acts that change what is there.
+-- What an act of which no condition holds makes of a sound tree is sound, each item apart from the others: the acts that change what is there.
 use Rattle.std.proofs.Common.{◌≡◌, ℕ, ◌-◌, ◌<◌, ◌≤◌, List, length, get_or, set, Option, Some, None, refl, sym, ap, ◌∙◌, subst, Bool, true, false, arith, inl, inr, ℤ}
 use Rattle.std.specs.Prelude.{IsSome, IsNone, not, ◌&&◌}
 use Rattle.std.specs.Option.{is_none, option_map}
 use Rattle.std.specs.FinMap.{get, contains_key}
 use Rattle.office_tree.specs.Conditions.{first_of, conditions_of_set_class_schedule, conditions_of_set_record_schedule, conditions_of_reclassify, conditions_of_confirm, conditions_of_review, conditions_of_receipt, lacks_class, lacks_classified, lacks_schedule, is_root}
 use Rattle.office_tree.specs.Effects.{with_class_schedule, with_head, with_record_schedule, reclassified, confirmed, reviewed, receipted}
-use Rattle.office_tree.specs.Lists.{numbered, edited, holds_of, or_else}
-use Rattle.office_tree.specs.Sound.{IsSound, RootsHaveClasses, NoneIsOpenUnderClosed, NamesStand, Names}
+use Rattle.office_tree.specs.Lists.{numbered, edited, amended, holds_of, or_else}
+use Rattle.office_tree.specs.Sound.{IsSound, FitsLimits, RootsHaveClasses, NoneIsOpenUnderClosed, NamesStand, Names}
 use Rattle.office_tree.specs.Tree.{TreeState, due_of, has_aggregation, has_record}
 use Rattle.office_tree.specs.declared.action.Action.{Action}
 use Rattle.office_tree.specs.declared.aggregation.Aggregation.{Aggregation}
@@ -17,7 +17,7 @@ use Rattle.office_tree.specs.declared.head.Record.{Record}
 use Rattle.office_tree.specs.declared.status.Status.TheVariants.{Received}
 use Rattle.office_tree.proofs.Inserting.{Names-amended, amended_cases, len-amended}
 use Rattle.office_tree.proofs.Accepting.{none_holds, not_false, neither}
-use Rattle.office_tree.proofs.Keeping.{names_of, IsForest-edited}
+use Rattle.office_tree.proofs.Keeping.{names_of, FitsLimits-edited, IsForest-edited, NamesStand-edited}
 use Rattle.office_tree.proofs.Places.{numbered_edited, length-edited, edited_put, edited_same}
 use Rattle.office_tree.proofs.Reading.{aggregation_within, record_within}
 
@@ -26,33 +26,37 @@ use Rattle.office_tree.proofs.Reading.{aggregation_within, record_within}
 abbrev pub as_scheduled : List ℕ → Class → Class
 as_scheduled schedule it = record it { schedule = schedule }
 
+FitsLimits-set_class_schedule : (tree : TreeState) (class schedule : List ℕ) → IsSound tree → FitsLimits tree.schedules (amended tree.classes class (as_scheduled schedule)) tree.aggregations tree.records
+FitsLimits-set_class_schedule tree class schedule sound = record {
+  schedules_few = sound.limits.schedules_few;
+  classes_few = omega (arith, sound.limits.classes_few, len-amended tree.classes class (as_scheduled schedule));
+  aggregations_few = sound.limits.aggregations_few;
+  records_few = sound.limits.records_few;
+}
+
+NamesStand-set_class_schedule : (tree : TreeState) (class schedule : List ℕ) → IsSound tree → IsSome (get tree.schedules schedule) → NamesStand tree.schedules (amended tree.classes class (as_scheduled schedule)) tree.aggregations tree.records
+NamesStand-set_class_schedule tree class schedule sound there = record {
+  class_schedules = λ c it e.
+      let came = amended_cases tree.classes class (as_scheduled schedule) c it e in
+      elim came.2 [
+        | inl same ↦ subst (λ (k : Class). IsSome (get tree.schedules k.schedule)) (sym same) (sound.names.class_schedules c came.0 came.1)
+        | inr changed ↦ subst (λ (k : Class). IsSome (get tree.schedules k.schedule)) (sym changed.1) there
+      ];
+  aggregation_classes = λ a it e. Names-amended tree.classes class (as_scheduled schedule) it.class (sound.names.aggregation_classes a it e);
+  root_classes = sound.names.root_classes;
+  homes = sound.names.homes;
+  record_classes = λ r head e. Names-amended tree.classes class (as_scheduled schedule) head.class (sound.names.record_classes r head e);
+  record_schedules = sound.names.record_schedules;
+}
+
 pub IsSound-set_class_schedule : (tree : TreeState) (class schedule : List ℕ) → IsSound tree → first_of (conditions_of_set_class_schedule tree class schedule) ≡ None → IsSound (with_class_schedule tree class schedule)
 IsSound-set_class_schedule tree class schedule sound accepted =
     let no = none_holds (conditions_of_set_class_schedule tree class schedule) accepted in
     let lacks = neither (not (contains_key tree.classes class)) (not (contains_key tree.schedules schedule)) no.0 in
-    let there : IsSome (get tree.schedules schedule) = not_false (contains_key tree.schedules schedule) lacks.1 in
-    let same = len-amended tree.classes class (as_scheduled schedule) in
     record {
-      limits = record {
-        schedules_few = sound.limits.schedules_few;
-        classes_few = omega (arith, sound.limits.classes_few, same);
-        aggregations_few = sound.limits.aggregations_few;
-        records_few = sound.limits.records_few;
-      };
+      limits = FitsLimits-set_class_schedule tree class schedule sound;
       forest = sound.forest;
-      names = record {
-        class_schedules = λ c it e.
-            let came = amended_cases tree.classes class (as_scheduled schedule) c it e in
-            elim came.2 [
-              | inl same ↦ subst (λ (k : Class). IsSome (get tree.schedules k.schedule)) (sym same) (sound.names.class_schedules c came.0 came.1)
-              | inr changed ↦ subst (λ (k : Class). IsSome (get tree.schedules k.schedule)) (sym changed.1) there
-            ];
-        aggregation_classes = λ a it e. Names-amended tree.classes class (as_scheduled schedule) it.class (sound.names.aggregation_classes a it e);
-        root_classes = sound.names.root_classes;
-        homes = sound.names.homes;
-        record_classes = λ r head e. Names-amended tree.classes class (as_scheduled schedule) head.class (sound.names.record_classes r head e);
-        record_schedules = sound.names.record_schedules;
-      };
+      names = NamesStand-set_class_schedule tree class schedule sound (not_false (contains_key tree.schedules schedule) lacks.1);
       closed = sound.closed;
       statuses = sound.statuses;
     }
@@ -78,8 +82,16 @@ pub record IsFit (tree : TreeState) (r : ℕ) (change : Record → Record) : Typ
   pub class : (head : Record) → numbered tree.records r ≡ Some head → Names tree.classes (change head).class
   pub schedule : (head : Record) → numbered tree.records r ≡ Some head → Names tree.schedules (change head).schedule
 
-names_changed : (tree : TreeState) (r : ℕ) (change : Record → Record) → IsSound tree → IsFit tree r change → NamesStand tree.schedules tree.classes tree.aggregations (edited tree.records r change)
-names_changed tree r change sound fit = record {
+FitsLimits-with_head : (tree : TreeState) (r : ℕ) (change : Record → Record) → IsSound tree → FitsLimits tree.schedules tree.classes tree.aggregations (edited tree.records r change)
+FitsLimits-with_head tree r change sound = record {
+  schedules_few = sound.limits.schedules_few;
+  classes_few = sound.limits.classes_few;
+  aggregations_few = sound.limits.aggregations_few;
+  records_few = omega (arith, sound.limits.records_few, length-edited tree.records r change);
+}
+
+NamesStand-with_head : (tree : TreeState) (r : ℕ) (change : Record → Record) → IsSound tree → IsFit tree r change → NamesStand tree.schedules tree.classes tree.aggregations (edited tree.records r change)
+NamesStand-with_head tree r change sound fit = record {
   class_schedules = sound.names.class_schedules;
   aggregation_classes = sound.names.aggregation_classes;
   root_classes = sound.names.root_classes;
@@ -106,21 +118,17 @@ names_changed tree r change sound fit = record {
       ];
 }
 
+statuses-with_head : (tree : TreeState) (r : ℕ) (change : Record → Record) → IsSound tree → length tree.statuses ≡ length (edited tree.records r change)
+statuses-with_head tree r change sound = sound.statuses ∙ sym (length-edited tree.records r change)
+
 pub IsSound-with_head : (tree : TreeState) (r : ℕ) (change : Record → Record) → IsSound tree → IsFit tree r change → IsSound (with_head tree r change)
-IsSound-with_head tree r change sound fit =
-    let same = length-edited tree.records r change in
-    record {
-      limits = record {
-        schedules_few = sound.limits.schedules_few;
-        classes_few = sound.limits.classes_few;
-        aggregations_few = sound.limits.aggregations_few;
-        records_few = omega (arith, sound.limits.records_few, same);
-      };
-      forest = sound.forest;
-      names = names_changed tree r change sound fit;
-      closed = sound.closed;
-      statuses = sound.statuses ∙ sym same;
-    }
+IsSound-with_head tree r change sound fit = record {
+  limits = FitsLimits-with_head tree r change sound;
+  forest = sound.forest;
+  names = NamesStand-with_head tree r change sound fit;
+  closed = sound.closed;
+  statuses = statuses-with_head tree r change sound;
+}
 
 names_else : (tree : TreeState) (given own : Option (List ℕ)) → Names tree.schedules given → Names tree.schedules own → Names tree.schedules (or_else given own)
 names_else tree None own given_there own_there = own_there
@@ -170,17 +178,13 @@ reviews_record tree day r schedule accepted =
 
 pub IsSound-receipt : (tree : TreeState) (day : ℤ) (r : ℕ) (digest by : List ℕ) → IsSound tree → first_of (conditions_of_receipt tree r digest) ≡ None → IsSound (receipted tree day r by)
 IsSound-receipt tree day r digest by sound accepted =
-    let kept = IsSound-with_head tree r (λ head. record head { receipt = Some (record { day = day; by = by }) }) sound (record {
-      home = λ head. refl;
-      class = λ head e. sound.names.record_classes r head e;
-      schedule = λ head e. sound.names.record_schedules r head e;
-    }) in
+    let change : Record → Record = λ head. record head { receipt = Some (record { day = day; by = by }) } in
     record {
-      limits = kept.limits;
-      forest = kept.forest;
-      names = kept.names;
-      closed = kept.closed;
-      statuses = length-edited tree.statuses r (λ _. Received) ∙ kept.statuses;
+      limits = FitsLimits-with_head tree r change sound;
+      forest = sound.forest;
+      names = NamesStand-with_head tree r change sound (record { home = λ head. refl; class = λ head e. sound.names.record_classes r head e; schedule = λ head e. sound.names.record_schedules r head e });
+      closed = sound.closed;
+      statuses = length-edited tree.statuses r (λ _. Received) ∙ statuses-with_head tree r change sound;
     }
 
 -- a record of which a receipt may be told is there
@@ -238,32 +242,13 @@ roots_classed tree a class roots some b it e root =
     ]
 
 aggregation_reclassified : (tree : TreeState) (a : ℕ) (class : Option (List ℕ)) → IsSound tree → Names tree.classes class → (is_root tree (classified.Aggregation a) && is_none class) ≡ false → IsSound (reclassified tree (classified.Aggregation a) class)
-aggregation_reclassified tree a class sound there some =
-    let same = length-edited tree.aggregations a (as_classed class) in
-    record {
-      limits = record {
-        schedules_few = sound.limits.schedules_few;
-        classes_few = sound.limits.classes_few;
-        aggregations_few = omega (arith, sound.limits.aggregations_few, same);
-        records_few = sound.limits.records_few;
-      };
-      forest = IsForest-edited tree.aggregations a (as_classed class) (λ it. refl) sound.forest;
-      names = record {
-        class_schedules = sound.names.class_schedules;
-        aggregation_classes = λ b it e.
-            let came = numbered_edited tree.aggregations a (as_classed class) it b e in
-            elim came.2 [
-              | inl same ↦ subst (λ (k : Aggregation). Names tree.classes k.class) (sym same) (sound.names.aggregation_classes b came.0 came.1)
-              | inr changed ↦ subst (λ (k : Aggregation). Names tree.classes k.class) (sym changed.1) there
-            ];
-        root_classes = roots_classed tree a class sound.names.root_classes some;
-        homes = λ r head e. let home = sound.names.homes r head e in (home.0, omega (arith, home.1, same));
-        record_classes = sound.names.record_classes;
-        record_schedules = sound.names.record_schedules;
-      };
-      closed = closed_edited tree.aggregations a (as_classed class) (λ it. refl) (λ it. refl) sound.closed;
-      statuses = sound.statuses;
-    }
+aggregation_reclassified tree a class sound there some = record {
+  limits = FitsLimits-edited tree a (as_classed class) sound;
+  forest = IsForest-edited tree.aggregations a (as_classed class) (λ it. refl) sound.forest;
+  names = NamesStand-edited tree a (as_classed class) sound (λ it named. there) (roots_classed tree a class sound.names.root_classes some);
+  closed = closed_edited tree.aggregations a (as_classed class) (λ it. refl) (λ it. refl) sound.closed;
+  statuses = sound.statuses;
+}
 
 pub IsSound-reclassify : (tree : TreeState) (what : Classified) (class : Option (List ℕ)) → IsSound tree → first_of (conditions_of_reclassify tree what class) ≡ None → IsSound (reclassified tree what class)
 IsSound-reclassify tree (classified.Aggregation a) class sound accepted =

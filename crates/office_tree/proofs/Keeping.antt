@@ -1,14 +1,14 @@
--- What an act of which no condition holds makes of a sound tree is sound.
+-- What an act of which no condition holds makes of a sound tree is sound, each item apart from the others.
 use Rattle.std.proofs.Common.{◌≡◌, ℕ, zero, suc, ◌+◌, ◌<◌, ◌≤◌, List, [], ◌∷◌, ◌++◌, length, Option, Some, None, refl, sym, ap, ◌∙◌, subst, true, false, arith, inl, inr, length-append, ℤ}
 use Rattle.std.specs.Prelude.{IsSome, IsNone, IfSome, not, nat_le, ◌&&◌, ◌||◌}
 use Rattle.std.specs.Option.{is_some, is_none}
 use Rattle.std.specs.List.{list_any}
-use Rattle.std.specs.FinMap.{FinMap, get, contains_key, len, empty, len-empty, get-empty}
+use Rattle.std.specs.FinMap.{FinMap, get, insert, contains_key, len, empty, len-empty, get-empty}
 use Rattle.std.proofs.lemmas.Bool.Decides.{nat_tests}
 use Rattle.office_tree.specs.Conditions.{first_of, conditions_of_add_schedule, conditions_of_add_class, conditions_of_add_aggregation, conditions_of_close_aggregation, conditions_of_add_record, lacks_class, lacks_schedule, lacks_parent, is_closed, is_child_of}
 use Rattle.office_tree.specs.Effects.{added_schedule, added_class, added_aggregation, closed_aggregation, added_record}
 use Rattle.office_tree.specs.Lists.{numbered, edited, holds_of}
-use Rattle.office_tree.specs.Sound.{IsSound, IsForest, RootsHaveClasses, NoneIsOpenUnderClosed, Names}
+use Rattle.office_tree.specs.Sound.{IsSound, FitsLimits, IsForest, RootsHaveClasses, NamesStand, NoneIsOpenUnderClosed, Names}
 use Rattle.office_tree.specs.Tree.{TreeState, code_cmp, empty_tree, has_aggregation, chain_of, chain}
 use Rattle.office_tree.specs.declared.aggregation.Aggregation.{Aggregation}
 use Rattle.office_tree.specs.declared.class.Class.{Class}
@@ -30,54 +30,65 @@ names_of m (Some code) e = not_false (contains_key m code) e
 
 -- ---- schedules and classes
 
+FitsLimits-add_schedule : (tree : TreeState) (code : List ℕ) (schedule : Schedule) → IsSound tree → contains_key tree.schedules code ≡ false → len tree.schedules < 1_000
+    → FitsLimits (insert tree.schedules code schedule) tree.classes tree.aggregations tree.records
+FitsLimits-add_schedule tree code schedule sound free few = record {
+  schedules_few = omega (arith, few, len-insert_free tree.schedules code schedule free);
+  classes_few = sound.limits.classes_few;
+  aggregations_few = sound.limits.aggregations_few;
+  records_few = sound.limits.records_few;
+}
+
+NamesStand-add_schedule : (tree : TreeState) (code : List ℕ) (schedule : Schedule) → IsSound tree → NamesStand (insert tree.schedules code schedule) tree.classes tree.aggregations tree.records
+NamesStand-add_schedule tree code schedule sound = record {
+  class_schedules = λ c class e. insert_keeps tree.schedules code schedule class.schedule (sound.names.class_schedules c class e);
+  aggregation_classes = sound.names.aggregation_classes;
+  root_classes = sound.names.root_classes;
+  homes = sound.names.homes;
+  record_classes = sound.names.record_classes;
+  record_schedules = λ r head e. Names-insert tree.schedules code schedule head.schedule (sound.names.record_schedules r head e);
+}
+
 pub IsSound-add_schedule : (tree : TreeState) (code : List ℕ) (schedule : Schedule) → IsSound tree → first_of (conditions_of_add_schedule tree code) ≡ None → IsSound (added_schedule tree code schedule)
 IsSound-add_schedule tree code schedule sound accepted =
     let no = none_holds (conditions_of_add_schedule tree code) accepted in
-    let few : len tree.schedules < 1_000 = below (len tree.schedules) 1_000 no.1.0 in
     record {
-      limits = record {
-        schedules_few = omega (arith, few, len-insert_free tree.schedules code schedule no.0);
-        classes_few = sound.limits.classes_few;
-        aggregations_few = sound.limits.aggregations_few;
-        records_few = sound.limits.records_few;
-      };
+      limits = FitsLimits-add_schedule tree code schedule sound no.0 (below (len tree.schedules) 1_000 no.1.0);
       forest = sound.forest;
-      names = record {
-        class_schedules = λ c class e. insert_keeps tree.schedules code schedule class.schedule (sound.names.class_schedules c class e);
-        aggregation_classes = sound.names.aggregation_classes;
-        root_classes = sound.names.root_classes;
-        homes = sound.names.homes;
-        record_classes = sound.names.record_classes;
-        record_schedules = λ r head e. Names-insert tree.schedules code schedule head.schedule (sound.names.record_schedules r head e);
-      };
+      names = NamesStand-add_schedule tree code schedule sound;
       closed = sound.closed;
       statuses = sound.statuses;
     }
 
+FitsLimits-add_class : (tree : TreeState) (code : List ℕ) (class : Class) → IsSound tree → contains_key tree.classes code ≡ false → len tree.classes < 1_000
+    → FitsLimits tree.schedules (insert tree.classes code class) tree.aggregations tree.records
+FitsLimits-add_class tree code class sound free few = record {
+  schedules_few = sound.limits.schedules_few;
+  classes_few = omega (arith, few, len-insert_free tree.classes code class free);
+  aggregations_few = sound.limits.aggregations_few;
+  records_few = sound.limits.records_few;
+}
+
+NamesStand-add_class : (tree : TreeState) (code : List ℕ) (class : Class) → IsSound tree → IsSome (get tree.schedules class.schedule) → NamesStand tree.schedules (insert tree.classes code class) tree.aggregations tree.records
+NamesStand-add_class tree code class sound there = record {
+  class_schedules = λ c it e. elim (insert_cases tree.classes code class c it e) [
+    | inl new ↦ subst (λ (k : Class). IsSome (get tree.schedules k.schedule)) new.1 there
+    | inr old ↦ sound.names.class_schedules c it old
+  ];
+  aggregation_classes = λ a it e. Names-insert tree.classes code class it.class (sound.names.aggregation_classes a it e);
+  root_classes = sound.names.root_classes;
+  homes = sound.names.homes;
+  record_classes = λ r head e. Names-insert tree.classes code class head.class (sound.names.record_classes r head e);
+  record_schedules = sound.names.record_schedules;
+}
+
 pub IsSound-add_class : (tree : TreeState) (code : List ℕ) (class : Class) → IsSound tree → first_of (conditions_of_add_class tree code class.schedule) ≡ None → IsSound (added_class tree code class)
 IsSound-add_class tree code class sound accepted =
     let no = none_holds (conditions_of_add_class tree code class.schedule) accepted in
-    let few : len tree.classes < 1_000 = below (len tree.classes) 1_000 no.1.1.0 in
-    let there : IsSome (get tree.schedules class.schedule) = not_false (contains_key tree.schedules class.schedule) no.1.0 in
     record {
-      limits = record {
-        schedules_few = sound.limits.schedules_few;
-        classes_few = omega (arith, few, len-insert_free tree.classes code class no.0);
-        aggregations_few = sound.limits.aggregations_few;
-        records_few = sound.limits.records_few;
-      };
+      limits = FitsLimits-add_class tree code class sound no.0 (below (len tree.classes) 1_000 no.1.1.0);
       forest = sound.forest;
-      names = record {
-        class_schedules = λ c it e. elim (insert_cases tree.classes code class c it e) [
-          | inl new ↦ subst (λ (k : Class). IsSome (get tree.schedules k.schedule)) new.1 there
-          | inr old ↦ sound.names.class_schedules c it old
-        ];
-        aggregation_classes = λ a it e. Names-insert tree.classes code class it.class (sound.names.aggregation_classes a it e);
-        root_classes = sound.names.root_classes;
-        homes = sound.names.homes;
-        record_classes = λ r head e. Names-insert tree.classes code class head.class (sound.names.record_classes r head e);
-        record_schedules = sound.names.record_schedules;
-      };
+      names = NamesStand-add_class tree code class sound (not_false (contains_key tree.schedules class.schedule) no.1.0);
       closed = sound.closed;
       statuses = sound.statuses;
     }
@@ -144,34 +155,38 @@ closed_push xs x forest closed fits parents a p it parent e up above is_open = e
       parent_open xs x.parent p parent up_new (was_there xs x parent p (parent_in (length xs) p x.parent up_new fits.1).1 above) parents
 ]
 
+FitsLimits-add_aggregation : (tree : TreeState) (x : Aggregation) → IsSound tree → length tree.aggregations < 50_000 → FitsLimits tree.schedules tree.classes (tree.aggregations ++ x ∷ []) tree.records
+FitsLimits-add_aggregation tree x sound few = record {
+  schedules_few = sound.limits.schedules_few;
+  classes_few = sound.limits.classes_few;
+  aggregations_few = omega (arith, few, length-append tree.aggregations (x ∷ []));
+  records_few = sound.limits.records_few;
+}
+
+NamesStand-add_aggregation : (tree : TreeState) (x : Aggregation) → IsSound tree → Names tree.classes x.class → (x.parent ≡ None → IsSome x.class) → NamesStand tree.schedules tree.classes (tree.aggregations ++ x ∷ []) tree.records
+NamesStand-add_aggregation tree x sound named own = record {
+  class_schedules = sound.names.class_schedules;
+  aggregation_classes = λ a it e. elim (numbered_push tree.aggregations x it a e) [
+    | inl old ↦ sound.names.aggregation_classes a it old
+    | inr new ↦ subst (λ (k : Aggregation). Names tree.classes k.class) new.1 named
+  ];
+  root_classes = roots_push tree.aggregations x sound.names.root_classes own;
+  homes = λ r head e. let home = sound.names.homes r head e in (home.0, omega (arith, home.1, length-append tree.aggregations (x ∷ [])));
+  record_classes = sound.names.record_classes;
+  record_schedules = sound.names.record_schedules;
+}
+
 pub IsSound-add_aggregation : (tree : TreeState) (ref_text title : List ℕ) (parent : Option ℕ) (class : Option (List ℕ)) → IsSound tree → first_of (conditions_of_add_aggregation tree ref_text parent class) ≡ None → IsSound (added_aggregation tree ref_text title parent class)
 IsSound-add_aggregation tree ref_text title parent class sound accepted =
     let x : Aggregation = record { ref_text = ref_text; title = title; parent = parent; class = class; closed = None } in
     let no = none_holds (conditions_of_add_aggregation tree ref_text parent class) accepted in
     let lacks = neither (lacks_parent tree parent) (lacks_class tree class) no.1.0 in
-    let few : length tree.aggregations < 50_000 = below (length tree.aggregations) 50_000 no.1.1.0 in
-    let within = has_its_parent tree parent lacks.0 in
-    let more = length-append tree.aggregations (x ∷ []) in
+    let fits : FitsIn tree.aggregations parent = (shallow tree.aggregations parent no.1.1.1.1.0, has_its_parent tree parent lacks.0) in
     record {
-      limits = record {
-        schedules_few = sound.limits.schedules_few;
-        classes_few = sound.limits.classes_few;
-        aggregations_few = omega (arith, few, more);
-        records_few = sound.limits.records_few;
-      };
-      forest = IsForest-push tree.aggregations x sound.forest sound.names.root_classes (shallow tree.aggregations parent no.1.1.1.1.0, within);
-      names = record {
-        class_schedules = sound.names.class_schedules;
-        aggregation_classes = λ a it e. elim (numbered_push tree.aggregations x it a e) [
-          | inl old ↦ sound.names.aggregation_classes a it old
-          | inr new ↦ subst (λ (k : Aggregation). Names tree.classes k.class) new.1 (names_of tree.classes class lacks.1)
-        ];
-        root_classes = roots_push tree.aggregations x sound.names.root_classes (root_has_class parent class no.1.1.1.1.1.0);
-        homes = λ r head e. let home = sound.names.homes r head e in (home.0, omega (arith, home.1, more));
-        record_classes = sound.names.record_classes;
-        record_schedules = sound.names.record_schedules;
-      };
-      closed = closed_push tree.aggregations x sound.forest sound.closed (shallow tree.aggregations parent no.1.1.1.1.0, within) no.1.1.1.0;
+      limits = FitsLimits-add_aggregation tree x sound (below (length tree.aggregations) 50_000 no.1.1.0);
+      forest = IsForest-push tree.aggregations x sound.forest sound.names.root_classes fits;
+      names = NamesStand-add_aggregation tree x sound (names_of tree.classes class lacks.1) (root_has_class parent class no.1.1.1.1.1.0);
+      closed = closed_push tree.aggregations x sound.forest sound.closed fits no.1.1.1.0;
       statuses = sound.statuses;
     }
 
@@ -204,6 +219,15 @@ closed_close xs a day closed none b p it parent e up above is_open =
       | inr changed ↦ absurd (open_unchanged day it child.0 changed.1 is_open)
     ]
 
+-- a change of an aggregation leaves as many as there were
+pub FitsLimits-edited : (tree : TreeState) (a : ℕ) (f : Aggregation → Aggregation) → IsSound tree → FitsLimits tree.schedules tree.classes (edited tree.aggregations a f) tree.records
+FitsLimits-edited tree a f sound = record {
+  schedules_few = sound.limits.schedules_few;
+  classes_few = sound.limits.classes_few;
+  aggregations_few = omega (arith, sound.limits.aggregations_few, length-edited tree.aggregations a f);
+  records_few = sound.limits.records_few;
+}
+
 -- a change that keeps the parent leaves a forest
 pub IsForest-edited : (xs : List Aggregation) (a : ℕ) (f : Aggregation → Aggregation) → ((it : Aggregation) → (f it).parent ≡ it.parent) → IsForest xs → IsForest (edited xs a f)
 IsForest-edited xs a f keeps forest = record {
@@ -224,31 +248,31 @@ roots_close xs a day roots b it e root =
       | inr changed ↦ subst (λ (k : Aggregation). IsSome k.class) (sym changed.1) (roots b came.0 came.1 (ap (λ (k : Aggregation). k.parent) (sym changed.1) ∙ root))
     ]
 
+-- a change that gives only a class that is there, after which each root has a class, leaves every named thing there
+pub NamesStand-edited : (tree : TreeState) (a : ℕ) (f : Aggregation → Aggregation) → IsSound tree → ((it : Aggregation) → Names tree.classes it.class → Names tree.classes (f it).class) → RootsHaveClasses (edited tree.aggregations a f)
+    → NamesStand tree.schedules tree.classes (edited tree.aggregations a f) tree.records
+NamesStand-edited tree a f sound named roots = record {
+  class_schedules = sound.names.class_schedules;
+  aggregation_classes = λ b it e.
+      let came = numbered_edited tree.aggregations a f it b e in
+      let old = sound.names.aggregation_classes b came.0 came.1 in
+      elim came.2 [
+        | inl same ↦ subst (λ (k : Aggregation). Names tree.classes k.class) (sym same) old
+        | inr changed ↦ subst (λ (k : Aggregation). Names tree.classes k.class) (sym changed.1) (named came.0 old)
+      ];
+  root_classes = roots;
+  homes = λ r head e. let home = sound.names.homes r head e in (home.0, omega (arith, home.1, length-edited tree.aggregations a f));
+  record_classes = sound.names.record_classes;
+  record_schedules = sound.names.record_schedules;
+}
+
 pub IsSound-close_aggregation : (tree : TreeState) (a : ℕ) (day : ℤ) → IsSound tree → first_of (conditions_of_close_aggregation tree a) ≡ None → IsSound (closed_aggregation tree a day)
 IsSound-close_aggregation tree a day sound accepted =
     let no = none_holds (conditions_of_close_aggregation tree a) accepted in
-    let same = length-edited tree.aggregations a (as_closed day) in
     record {
-      limits = record {
-        schedules_few = sound.limits.schedules_few;
-        classes_few = sound.limits.classes_few;
-        aggregations_few = omega (arith, sound.limits.aggregations_few, same);
-        records_few = sound.limits.records_few;
-      };
+      limits = FitsLimits-edited tree a (as_closed day) sound;
       forest = IsForest-edited tree.aggregations a (as_closed day) (λ it. refl) sound.forest;
-      names = record {
-        class_schedules = sound.names.class_schedules;
-        aggregation_classes = λ b it e.
-            let came = numbered_edited tree.aggregations a (as_closed day) it b e in
-            elim came.2 [
-              | inl same ↦ subst (λ (k : Aggregation). Names tree.classes k.class) (sym same) (sound.names.aggregation_classes b came.0 came.1)
-              | inr changed ↦ subst (λ (k : Aggregation). Names tree.classes k.class) (sym changed.1) (sound.names.aggregation_classes b came.0 came.1)
-            ];
-        root_classes = roots_close tree.aggregations a day sound.names.root_classes;
-        homes = λ r head e. let home = sound.names.homes r head e in (home.0, omega (arith, home.1, same));
-        record_classes = sound.names.record_classes;
-        record_schedules = sound.names.record_schedules;
-      };
+      names = NamesStand-edited tree a (as_closed day) sound (λ it named. named) (roots_close tree.aggregations a day sound.names.root_classes);
       closed = closed_close tree.aggregations a day sound.closed no.1.1.0;
       statuses = sound.statuses;
     }
@@ -259,41 +283,49 @@ closes_within tree a accepted = aggregation_within tree a (not_false (has_aggreg
 
 -- ---- a new record
 
+FitsLimits-add_record : (tree : TreeState) (head : Record) → IsSound tree → length tree.records < 200_000 → FitsLimits tree.schedules tree.classes tree.aggregations (tree.records ++ head ∷ [])
+FitsLimits-add_record tree head sound few = record {
+  schedules_few = sound.limits.schedules_few;
+  classes_few = sound.limits.classes_few;
+  aggregations_few = sound.limits.aggregations_few;
+  records_few = omega (arith, few, length-append tree.records (head ∷ []));
+}
+
+NamesStand-add_record : (tree : TreeState) (head : Record) → IsSound tree → (0 < head.aggregation) × (head.aggregation ≤ length tree.aggregations) → Names tree.classes head.class → Names tree.schedules head.schedule
+    → NamesStand tree.schedules tree.classes tree.aggregations (tree.records ++ head ∷ [])
+NamesStand-add_record tree head sound home class schedule = record {
+  class_schedules = sound.names.class_schedules;
+  aggregation_classes = sound.names.aggregation_classes;
+  root_classes = sound.names.root_classes;
+  homes = λ r it e. elim (numbered_push tree.records head it r e) [
+    | inl old ↦ sound.names.homes r it old
+    | inr new ↦ subst (λ (k : Record). (0 < k.aggregation) × (k.aggregation ≤ length tree.aggregations)) new.1 home
+  ];
+  record_classes = λ r it e. elim (numbered_push tree.records head it r e) [
+    | inl old ↦ sound.names.record_classes r it old
+    | inr new ↦ subst (λ (k : Record). Names tree.classes k.class) new.1 class
+  ];
+  record_schedules = λ r it e. elim (numbered_push tree.records head it r e) [
+    | inl old ↦ sound.names.record_schedules r it old
+    | inr new ↦ subst (λ (k : Record). Names tree.schedules k.schedule) new.1 schedule
+  ];
+}
+
+statuses-add_record : (tree : TreeState) (head : Record) → IsSound tree → length (tree.statuses ++ Here ∷ []) ≡ length (tree.records ++ head ∷ [])
+statuses-add_record tree head sound = omega (arith, sound.statuses, length-append tree.records (head ∷ []), length-append tree.statuses (Here ∷ []))
+
 pub IsSound-add_record : (tree : TreeState) (head : Record) → IsSound tree → first_of (conditions_of_add_record tree head.ref_text head.aggregation head.class head.schedule) ≡ None → IsSound (added_record tree head)
 IsSound-add_record tree head sound accepted =
     let no = none_holds (conditions_of_add_record tree head.ref_text head.aggregation head.class head.schedule) accepted in
     let lacks = neither (not (has_aggregation tree head.aggregation) || lacks_class tree head.class) (lacks_schedule tree head.schedule) no.1.0 in
     let home_or_class = neither (not (has_aggregation tree head.aggregation)) (lacks_class tree head.class) lacks.0 in
     let home = aggregation_within tree head.aggregation (not_false (has_aggregation tree head.aggregation) home_or_class.0) in
-    let few : length tree.records < 200_000 = below (length tree.records) 200_000 no.1.1.0 in
-    let more = length-append tree.records (head ∷ []) in
     record {
-      limits = record {
-        schedules_few = sound.limits.schedules_few;
-        classes_few = sound.limits.classes_few;
-        aggregations_few = sound.limits.aggregations_few;
-        records_few = omega (arith, few, more);
-      };
+      limits = FitsLimits-add_record tree head sound (below (length tree.records) 200_000 no.1.1.0);
       forest = sound.forest;
-      names = record {
-        class_schedules = sound.names.class_schedules;
-        aggregation_classes = sound.names.aggregation_classes;
-        root_classes = sound.names.root_classes;
-        homes = λ r it e. elim (numbered_push tree.records head it r e) [
-          | inl old ↦ sound.names.homes r it old
-          | inr new ↦ subst (λ (k : Record). (0 < k.aggregation) × (k.aggregation ≤ length tree.aggregations)) new.1 home
-        ];
-        record_classes = λ r it e. elim (numbered_push tree.records head it r e) [
-          | inl old ↦ sound.names.record_classes r it old
-          | inr new ↦ subst (λ (k : Record). Names tree.classes k.class) new.1 (names_of tree.classes head.class home_or_class.1)
-        ];
-        record_schedules = λ r it e. elim (numbered_push tree.records head it r e) [
-          | inl old ↦ sound.names.record_schedules r it old
-          | inr new ↦ subst (λ (k : Record). Names tree.schedules k.schedule) new.1 (names_of tree.schedules head.schedule lacks.1)
-        ];
-      };
+      names = NamesStand-add_record tree head sound home (names_of tree.classes head.class home_or_class.1) (names_of tree.schedules head.schedule lacks.1);
       closed = sound.closed;
-      statuses = let same : length tree.statuses ≡ length tree.records = sound.statuses in omega (arith, more, length-append tree.statuses (Here ∷ []));
+      statuses = statuses-add_record tree head sound;
     }
 
 -- ---- the empty tree
