@@ -3,4 +3,3 @@ pub mod DuePairs
 pub mod EntryPlaces
 pub mod Lesser
 pub mod RunWrites
-pub mod TreeRows

@@ -5,7 +5,6 @@
 #![tactic(auto)]
 
 mod applying;
-mod certificate;
 mod closing;
 mod decide;
 mod deciding;

@@ -2,8 +2,8 @@ ghost use Rattle.std.specs.Prelude.{◌≡◌};
 ghost use Rattle.office_rules.specs.State.{empty_office};
 
 use crate::Run;
-use crate::certificate::Certificate;
 use office_days::Day;
+use office_founding::Certificate;
 use office_holds::Holds;
 use office_proof::{Entry, RunNo};
 use office_tree::{RecordNo, Tree};

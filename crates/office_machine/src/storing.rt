@@ -4,7 +4,7 @@ ghost use Rattle.std.specs.Ordering.{nat_cmp};
 ghost use Rattle.std.specs.String.{string_bytes};
 ghost use Rattle.office_rules.specs.State.{entry_cmp};
 
-use crate::certificate::Certificate;
+use office_founding::Certificate;
 use office_proof::{Entry, RunNo};
 use office_tree::{Memory, RecordNo};
 use std::collections::BTreeMap;

@@ -1,5 +1,5 @@
 -- What an index of refs finds is there, and what it does not find is not.
-use Rattle.std.proofs.Common.{◌≡◌, ◌≢◌, ℕ, zero, suc, ◌+◌, ◌<◌, ◌≤◌, List, [], ◌∷◌, length, map, arith, Bool, true, false, Option, Some, None, refl, sym, ap, ◌∙◌}
+use Rattle.std.proofs.Common.{◌≡◌, ℕ, zero, suc, ◌+◌, ◌<◌, ◌≤◌, List, [], ◌∷◌, length, map, arith, Bool, true, false, Option, Some, None, refl, sym, ap, ◌∙◌}
 use Rattle.std.specs.Prelude.{IsNone, IfSome, slice_get, ◌||◌}
 use Rattle.std.specs.FinMap.{get}
 use Rattle.std.specs.List.{list_any}

@@ -1,5 +1,5 @@
 -- Indexes of refs: under each ref the number of a thing that has it, so that a ref is found without going through all things. Source: own.
-use Rattle.std.specs.Prelude.{◌≡◌, ℕ, List, length, map, Option, Some, IsSome}
+use Rattle.std.specs.Prelude.{◌≡◌, ℕ, List, length, map, Some, IsSome}
 use Rattle.std.specs.FinMap.{FinMap, get}
 use Rattle.office_tree.specs.Lists.{numbered, put}
 use Rattle.office_tree.specs.Sound.{IsSound}

@@ -1,12 +1,16 @@
 ghost use Rattle.std.specs.Prelude.{◌≡◌, ◌+◌, ◌<◌, ◌≤◌, OnOk, OnErr, IsOk, IsTrue, length, vec_len, vec_capacity};
-ghost use Rattle.std.specs.FinMap.{contains_key};
-ghost use Rattle.office_tree.specs.Indexes.{KeepsRef, aggregation_refs, record_refs};
+ghost use Rattle.std.specs.FinMap.{contains_key, from_entries};
+ghost use Rattle.office_tree.specs.Indexes.{IsRowIndexed, KeepsRef, aggregation_refs, record_refs};
 ghost use Rattle.office_tree.specs.Lists.{put};
 ghost use Rattle.office_tree.specs.Rows.{put_aggregation, put_class, put_record, put_schedule};
 ghost use Rattle.office_tree.specs.Sound.{IsSound};
+ghost use Rattle.office_tree.specs.Tree.{code_cmp};
 
 use crate::indexing::index_row;
-use crate::{AggNo, Aggregation, Class, Code, Memory, Record, RecordNo, Schedule, Status, Tree};
+use crate::{
+    AggNo, Aggregation, Class, Code, Memory, Record, RecordNo, Schedule, Status, Text, Tree,
+};
+use std::collections::BTreeMap;
 
 /// Puts a row in place of the one with that number, which needs no memory, or as the next. Rows are
 /// numbered 1, 2, ..
@@ -49,6 +53,50 @@ fn place_row<T: Drop>(rows: &mut Vec<T>, number: u32, row: T)
     }
 }
 
+/// Makes room for an aggregation of that number, if it is the next, and puts its ref into the index.
+fn make_aggregation_room(
+    aggregations: &mut Vec<Aggregation>,
+    index: &mut BTreeMap<Text, AggNo>,
+    aggregation: AggNo,
+    ref_text: &Text,
+) -> Result<(), Memory>
+    requires number { (0 < aggregation) × (aggregation ≤ length aggregations.old.items + 1) }
+    ensures same { aggregations.new.items ≡ aggregations.old.items }
+    ensures room { OnOk result (vec_len aggregations.old < aggregation → vec_len aggregations.new < vec_capacity aggregations.new) }
+    ensures indexed { OnOk result (IsRowIndexed (from_entries {R = code_cmp} index.old.entries) (from_entries index.new.entries) (length aggregations.old.items) aggregation ref_text.now) }
+    ensures err { OnErr result (from_entries {R = code_cmp} index.new.entries ≡ from_entries index.old.entries) }
+    ensures in_place { aggregation ≤ length aggregations.old.items → IsOk result }
+{
+    make_room(aggregations, aggregation)?;
+    let alloc = *aggregations.allocator();
+    let count = aggregations.len();
+    index_row(index, alloc, count, aggregation, ref_text)
+}
+
+/// Makes room for a record of that number, if it is the next, and puts its ref into the index.
+fn make_record_room(
+    records: &mut Vec<Record>,
+    statuses: &mut Vec<Status>,
+    index: &mut BTreeMap<Text, RecordNo>,
+    record_no: RecordNo,
+    ref_text: &Text,
+) -> Result<(), Memory>
+    requires number { (0 < record_no) × (record_no ≤ length records.old.items + 1) }
+    ensures heads { records.new.items ≡ records.old.items }
+    ensures statuses { statuses.new.items ≡ statuses.old.items }
+    ensures head_room { OnOk result (vec_len records.old < record_no → vec_len records.new < vec_capacity records.new) }
+    ensures status_room { OnOk result (vec_len statuses.old < record_no → vec_len statuses.new < vec_capacity statuses.new) }
+    ensures indexed { OnOk result (IsRowIndexed (from_entries {R = code_cmp} index.old.entries) (from_entries index.new.entries) (length records.old.items) record_no ref_text.now) }
+    ensures err { OnErr result (from_entries {R = code_cmp} index.new.entries ≡ from_entries index.old.entries) }
+    ensures in_place { record_no ≤ length records.old.items → record_no ≤ length statuses.old.items → IsOk result }
+{
+    make_room(records, record_no)?;
+    make_room(statuses, record_no)?;
+    let alloc = *records.allocator();
+    let count = records.len();
+    index_row(index, alloc, count, record_no, ref_text)
+}
+
 impl Tree {
     /// Puts a schedule under its code, in place of what was there, which needs no memory, or as a
     /// new one.
@@ -84,13 +132,9 @@ impl Tree {
         ensures err { OnErr result (self.new ≡ self.old) }
         ensures in_place { aggregation ≤ length self.old.aggregations → IsOk result }
     {
-        make_room(&mut self.aggregations, aggregation)?;
-        let alloc = *self.aggregations.allocator();
-        let count = self.aggregations.len();
-        index_row(
+        make_aggregation_room(
+            &mut self.aggregations,
             &mut self.by_aggregation_ref,
-            alloc,
-            count,
             aggregation,
             &it.ref_text,
         )?;
@@ -113,14 +157,10 @@ impl Tree {
         ensures err { OnErr result (self.new ≡ self.old) }
         ensures in_place { record_no ≤ length self.old.records → IsOk result }
     {
-        make_room(&mut self.records, record_no)?;
-        make_room(&mut self.statuses, record_no)?;
-        let alloc = *self.records.allocator();
-        let count = self.records.len();
-        index_row(
+        make_record_room(
+            &mut self.records,
+            &mut self.statuses,
             &mut self.by_record_ref,
-            alloc,
-            count,
             record_no,
             &head.ref_text,
         )?;

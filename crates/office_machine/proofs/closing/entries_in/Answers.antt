@@ -1,6 +1,6 @@
 use Rattle.std.proofs.Common.{◌≡◌, ◌==◌, ◌++◌, [], filter, map, sym, ap, ◌∙◌, append-nil}
 use Rattle.office_proof.specs.declared.entry.Entry.{Entry}
-use Rattle.office_machine.proofs.RunEntries.{of_run_ordered}
+use Rattle.office_founding.proofs.RunEntries.{of_run_ordered}
 use Rattle.office_machine.proofs.closing.entries_in.Goals as goal
 
 pub returns : goal.returns

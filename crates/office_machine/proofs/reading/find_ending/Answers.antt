@@ -2,7 +2,7 @@ use Rattle.std.proofs.Common.{ℕ, ◌==◌, ◌&&◌, Bool, Some, cond, sym, ap
 use Rattle.std.specs.List.{find}
 use Rattle.office_proof.specs.Outcomes.{is_ending}
 use Rattle.office_proof.specs.declared.entry.Entry.{Entry}
-use Rattle.office_machine.proofs.RunEntries.{values_ordered}
+use Rattle.office_founding.proofs.RunEntries.{values_ordered}
 use Rattle.office_machine.proofs.reading.find_ending.Goals as goal
 
 -- the entry ended the record

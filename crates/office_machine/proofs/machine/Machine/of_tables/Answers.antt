@@ -1,24 +1,10 @@
-use Rattle.std.proofs.Common.{◌≡◌, ◌∙◌, Ok, true, false, length, subst, sym}
-use Rattle.office_rules.specs.Sound.{IsSoundOffice}
-use Rattle.office_rules.specs.State.{Office}
-use Rattle.office_machine.proofs.FoundSound.{entries_keyed, found_state}
+use Rattle.std.proofs.Common.{subst, sym}
+use Rattle.office_rules.specs.Sound.{IsSound, IsSoundOffice}
+use Rattle.office_rules.specs.State.{Office, with_contents}
 use Rattle.office_machine.proofs.machine.Machine.of_tables.Goals as goal
-
-pub is_sound-requires-clause-keyed : goal.is_sound-requires-clause-keyed
-is_sound-requires-clause-keyed c =
-    let some = c.in_ok-parts.ensures.keys in
-    entries_keyed c.args.tables c.in_ok-parts.parts some.0 c.in_ok-parts.ensures.parts some.1
 
 pub invariant_of-result : goal.invariant_of-result
 unfolding IsSoundOffice
 invariant_of-result c =
-    let some = c.in_ok-parts.ensures.keys in
-    let told : c.is_sound.result ≡ Ok true = cc (c.in-Ok-true.is, c.in-Ok-true.field-0-test) in
-    (some.0, c.is_sound.ensures.yes told some.0 (some.1 ∙ sym c.in_ok-parts.ensures.marks))
-
-pub returns-in-Ok-false-clause-damaged : goal.returns-in-Ok-false-clause-damaged
-returns-in-Ok-false-clause-damaged c = λ is u stands sound.
-    let told : c.is_sound.result ≡ Ok false = cc (c.in-Ok-false.is, c.in-Ok-false.field-0-test) in
-    let many = subst (λ (o : Office). length o.tree.statuses ≡ length o.tree.records) c.parts.view_is c.sound.ensures.statuses in
-    let found = found_state c.args.tables c.in_ok-parts.parts u many c.in_ok-parts.ensures.parts stands sound in
-    c.is_sound.ensures.no told u.contents (found.0 ∙ sym c.in_ok-parts.ensures.marks) found.1
+    let some = c.in_ok-office.ensures.keys in
+    (some.0, subst (λ (o : Office). IsSound (with_contents o some.0)) (sym c.office.view_is) (c.in_ok-office.ensures.sound some.0 some.1))

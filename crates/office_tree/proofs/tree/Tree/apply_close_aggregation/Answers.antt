@@ -2,7 +2,6 @@ use Rattle.std.proofs.Common.{◌≡◌, ◌∙◌, ◌-◌, None, List, length,
 use Rattle.office_tree.specs.Conditions.{first_of, conditions_of_close_aggregation}
 use Rattle.office_tree.specs.Effects.{closed_aggregation}
 use Rattle.office_tree.specs.Lists.{edited}
-use Rattle.office_tree.specs.Sound.{IsSound}
 use Rattle.office_tree.specs.Tree.{TreeState}
 use Rattle.office_tree.specs.contracts.tree.Tree.{the_view}
 use Rattle.office_tree.specs.declared.aggregation.Aggregation.{Aggregation}

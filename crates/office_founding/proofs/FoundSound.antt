@@ -1,0 +1,164 @@
+-- An office whose parts pass what is examined is sound with contents of the keys, and the parts of a sound one pass.
+use Rattle.std.proofs.Common.{◌≡◌, ℕ, List, [], ◌∷◌, map, length, Option, Some, Bool, false, cond, refl, sym, ap, subst, ◌∙◌}
+use Rattle.std.specs.Prelude.{true, nat_le}
+use Rattle.std.specs.FinMap.{FinMap, entries, get-entries, values}
+use Rattle.std.specs.FinMap.Entries.{find}
+use Rattle.std.specs.List.{list_any}
+use Rattle.std.specs.Ordering.{eq_by_cmp, is_eq, nat_cmp}
+use Rattle.std.specs.declared.cmp.Ordering.{Ordering}
+use Rattle.std.specs.declared.cmp.Ordering.TheVariants.{Less, Equal, Greater}
+use Rattle.std.proofs.lemmas.Map.Lookups.{CmpEqualImpliesEq, exact_pairs, exact_unsigned}
+use Rattle.office_tree.specs.Sound as tree
+use Rattle.office_tree.specs.declared.head.Record.{Record}
+use Rattle.office_tree.proofs.Bridge.{from_numbers}
+use Rattle.office_tree.proofs.Named.{le_to}
+use Rattle.office_holds.specs.Founding.{is_pair}
+use Rattle.office_proof.specs.declared.entry.Entry.{Entry}
+use Rattle.office_rules.specs.Copies.{HaveSameRows}
+use Rattle.office_rules.specs.Founding.{AreEntriesKeyed, AreTablesOf, DoPartsAgree, EachHasOneEnding, HaveKeys, IsFormedOffice, entry_rows}
+use Rattle.office_rules.specs.Rows.{rows_of}
+use Rattle.office_rules.specs.Sound.{IsSound}
+use Rattle.office_rules.specs.State.{ByteMap, entry_cmp, Office, State, with_contents}
+use Rattle.office_rules.specs.Tables.{StandsFor}
+use Rattle.office_rules.specs.declared.tables.Tables.{Tables}
+use Rattle.office_rules.proofs.OneState.{one_office}
+use Rattle.office_founding.proofs.EntryTests.{AreEntriesSound, entries_sound, entries_tested}
+use Rattle.office_founding.proofs.PartsTests.{contents_stand, days_sound, days_tested, keys_of_live, papers_sound, papers_tested}
+
+pub found_sound : {V : Type 0} (s : Office) (marks : FinMap nat_cmp V) (contents : ByteMap) → IsFormedOffice s → AreEntriesKeyed s.entries → DoPartsAgree s marks
+    → EachHasOneEnding s.tree.statuses (values s.entries) → tree.RefsDiffer s.tree.aggregations s.tree.records → map (λ e. e.0) (entries contents) ≡ map (λ e. e.0) (entries marks)
+    → IsSound (with_contents s contents)
+found_sound s marks contents formed keyed agree endings refs same =
+    let them : AreEntriesSound s = entries_sound s keyed agree.stand.entries endings in
+    record {
+      limits = record {
+        tree_few = formed.tree_sound.limits;
+        tree_forms = formed.tree_forms;
+        statuses = formed.tree_sound.statuses;
+        holds_few = formed.holds_few;
+        hold_forms = formed.hold_forms;
+        runs_few = agree.runs_few;
+        run_forms = formed.run_forms;
+        entry_forms = formed.entry_forms;
+        day_form = formed.day_form;
+      };
+      forest = formed.tree_sound.forest;
+      names = record { of_tree = formed.tree_sound.names; of_holds = agree.stand.targets; of_entries = them.named };
+      closed = formed.tree_sound.closed;
+      contents = contents_stand s.tree.statuses contents marks same agree.stand.live;
+      papers = papers_sound s.tree.records s.tree.statuses s.entries formed.tree_sound.statuses agree.papers them.transferred;
+      entries = them.stand;
+      runs = agree.stand.runs;
+      days = days_sound s.tree.aggregations s.tree.records s.holds s.runs s.day agree.by.tree_by agree.by.holds_by agree.by.runs_by;
+      refs = refs;
+    }
+
+-- what soundness says of entries
+sound_entries : (s : Office) (contents : ByteMap) → IsSound (with_contents s contents) → AreEntriesSound s
+sound_entries s contents sound = record { stand = sound.entries; named = sound.names.of_entries; transferred = sound.papers.transferred }
+
+-- the parts of a sound office agree
+pub sound_parts : {V : Type 0} (s : Office) (marks : FinMap nat_cmp V) (contents : ByteMap) → map (λ e. e.0) (entries contents) ≡ map (λ e. e.0) (entries marks) → IsSound (with_contents s contents) → DoPartsAgree s marks
+sound_parts s marks contents same sound =
+    let days = days_tested s.tree.aggregations s.tree.records s.holds s.runs s.day sound.days in
+    record {
+      runs_few = sound.limits.runs_few;
+      short = from_numbers (λ (head : Record). nat_le head.length 262_144 ≡ true) s.tree.records (λ r head at. le_to head.length 262_144 (sound.limits.tree_forms.records r head at).length_few);
+      papers = papers_tested s.tree.records s.tree.statuses s.entries sound.papers;
+      by = record { tree_by = days.0; holds_by = days.1; runs_by = days.2 };
+      stand = record {
+        targets = sound.names.of_holds;
+        runs = sound.runs;
+        live = keys_of_live s.tree.statuses contents marks same sound.contents;
+        entries = (entries_tested s sound.limits.statuses (sound_entries s contents sound)).0;
+      };
+    }
+
+-- and each of its ended records has one entry that ended it
+pub sound_endings : (s : Office) (contents : ByteMap) → IsSound (with_contents s contents) → EachHasOneEnding s.tree.statuses (values s.entries)
+sound_endings s contents sound = (entries_tested s sound.limits.statuses (sound_entries s contents sound)).1
+
+-- ---- an office whose rows the tables have
+
+is_equal : (o : Ordering) → is_eq o ≡ true → o ≡ Equal
+is_equal Less e = absurd cc
+is_equal Equal e = refl
+is_equal Greater e = absurd cc
+
+entry_exact : CmpEqualImpliesEq entry_cmp
+entry_exact = exact_pairs nat_cmp nat_cmp exact_unsigned exact_unsigned
+
+-- the entry is that of the key
+abbrev IsOf : ℕ × ℕ → Entry → Type 0
+IsOf key e = (e.run ≡ key.0) × (e.record_no ≡ key.1)
+
+first_is : (key : ℕ × ℕ) (x e : Entry) (rest : Option Entry) (tied : Bool) → eq_by_cmp entry_cmp key (x.run, x.record_no) ≡ tied → cond tied (Some x) rest ≡ Some e → (rest ≡ Some e → IsOf key e) → IsOf key e
+first_is key x e rest true tie found later =
+    let same : x ≡ e = cc found in
+    let at : key ≡ (x.run, x.record_no) = entry_exact key (x.run, x.record_no) (is_equal (entry_cmp key (x.run, x.record_no)) tie) in
+    subst (λ (it : Entry). IsOf key it) same (sym (ap (λ (k : ℕ × ℕ). k.0) at), sym (ap (λ (k : ℕ × ℕ). k.1) at))
+first_is key x e rest false tie found later = later found
+
+-- what is found under a key among entries under their own keys is that key's
+found_is_of : (key : ℕ × ℕ) (es : List Entry) (e : Entry) → find entry_cmp key (entry_rows es) ≡ Some e → IsOf key e
+found_is_of key [] e found = absurd cc
+found_is_of key (x ∷ es) e found = first_is key x e (find entry_cmp key (entry_rows es)) (eq_by_cmp entry_cmp key (x.run, x.record_no)) refl found (found_is_of key es e)
+
+module _ (t : Tables) (s : State) (stand : StandsFor t s) where
+  tables_keyed : AreEntriesKeyed s.office.entries
+  unfolding rows_of
+  tables_keyed = λ run r e at. found_is_of (run, r) t.entries.items e (ap (find entry_cmp (run, r)) stand.entries ∙ sym (get-entries s.office.entries (run, r)) ∙ at)
+
+  tables_keys : HaveKeys s.contents t.contents.items
+  unfolding rows_of
+  tables_keys = sym stand.contents
+
+-- entries that were read stand each under its own run and record
+pub entries_keyed : (t : Tables) (s : Office) (contents : ByteMap) → AreTablesOf t s → HaveKeys contents t.contents.items → AreEntriesKeyed s.entries
+entries_keyed t s contents stand have = tables_keyed t (with_contents s contents) (stand contents have)
+
+-- a sound state of the tables is the office with its contents
+pub found_state : (t : Tables) (s : Office) (u : State) → length s.tree.statuses ≡ length s.tree.records → AreTablesOf t s → StandsFor t u → IsSound u
+    → HaveKeys u.contents t.contents.items × IsSound (with_contents s u.contents)
+found_state t s u many stand for sound =
+    let have : HaveKeys u.contents t.contents.items = tables_keys t u for in
+    let same : s ≡ u.office = one_office t (with_contents s u.contents) u many sound.limits.statuses (stand u.contents have) for in
+    (have, subst (λ (o : Office). IsSound (with_contents o u.contents)) (sym same) sound)
+
+-- ---- tables with the same rows
+
+turned : (t u : Tables) → HaveSameRows t u → HaveSameRows u t
+turned t u same = record {
+  day = sym same.day;
+  schedules = sym same.schedules;
+  classes = sym same.classes;
+  aggregations = sym same.aggregations;
+  records = sym same.records;
+  contents = sym same.contents;
+  holds = sym same.holds;
+  targets = sym same.targets;
+  runs = sym same.runs;
+  entries = sym same.entries;
+  certificates = sym same.certificates;
+}
+
+pub same_stand : (t u : Tables) (s : State) → HaveSameRows t u → StandsFor t s → StandsFor u s
+same_stand t u s same stand = record {
+  day = sym same.day ∙ stand.day;
+  schedules = sym same.schedules ∙ stand.schedules;
+  classes = sym same.classes ∙ stand.classes;
+  aggregations = sym same.aggregations ∙ stand.aggregations;
+  records = sym same.records ∙ stand.records;
+  contents = sym same.contents ∙ stand.contents;
+  holds = sym same.holds ∙ stand.holds;
+  targets = λ code target. ap (list_any (λ e. is_pair e.0 e.1 code target)) (sym same.targets) ∙ stand.targets code target;
+  runs = sym same.runs ∙ stand.runs;
+  entries = ap entry_rows (sym same.entries) ∙ stand.entries;
+  certificates = sym same.certificates ∙ stand.certificates;
+}
+
+pub same_tables : (t u : Tables) (s : Office) → HaveSameRows t u → AreTablesOf t s → AreTablesOf u s
+same_tables t u s same stand = λ contents have. same_stand t u (with_contents s contents) same (stand contents (have ∙ sym same.contents))
+
+pub none_stand : (t u : Tables) → HaveSameRows t u → ((s : State) → StandsFor t s → IsSound s → ⊥) → (s : State) → StandsFor u s → IsSound s → ⊥
+none_stand t u same none s stand sound = none s (same_stand u t s (turned t u same) stand) sound

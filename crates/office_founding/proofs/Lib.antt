@@ -1,0 +1,12 @@
+pub mod Endings
+pub mod EntryTests
+pub mod FoundSound
+pub mod FoundTables
+pub mod FoundTree
+pub mod MapRows
+pub mod PartsTests
+pub mod Passing
+pub mod RecordRows
+pub mod RunEntries
+pub mod RunTests
+pub mod Stored

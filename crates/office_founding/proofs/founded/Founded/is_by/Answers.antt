@@ -1,0 +1,15 @@
+use Rattle.std.proofs.Common.{subst, sym}
+use Rattle.office_tree.specs.Examined.{IsTreeBy}
+use Rattle.office_holds.specs.Sound.{NoHoldIsAfter}
+use Rattle.office_rules.specs.State.{Office}
+use Rattle.office_founding.proofs.founded.Founded.is_by.Goals as goal
+
+pub returns-then-not-are_by-clause-no : goal.returns-then-not-are_by-clause-no
+returns-then-not-are_by-clause-no c = λ told by. c.are_by.ensures.no c.if-not-are_by.true (subst (λ (o : Office). NoHoldIsAfter o.holds o.day) (sym c.self.view_is) by.holds_by)
+
+pub returns-clause-yes : goal.returns-clause-yes
+returns-clause-yes c = λ told. record {
+  tree_by = subst (λ (o : Office). IsTreeBy o.tree.aggregations o.tree.records o.day) c.self.view_is (c.is_by.ensures.yes c.if-not-is_by.false);
+  holds_by = subst (λ (o : Office). NoHoldIsAfter o.holds o.day) c.self.view_is (c.are_by.ensures.yes c.if-not-are_by.false);
+  runs_by = c.are_runs_by.ensures.yes told;
+}

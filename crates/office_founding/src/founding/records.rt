@@ -1,0 +1,119 @@
+//! The rows whose columns are not the fields of what they stand for.
+ghost use Rattle.std.specs.Prelude.{◌≡◌, ◌≢◌, IfOk, List, MatchOption, Option, length};
+ghost use Rattle.std.specs.Option.{option_map};
+ghost use Rattle.office_rows.specs.Rows.{OnDamaged, numbered_rows};
+ghost use Rattle.office_tree.specs.declared.head.Confirmation.{Confirmation};
+ghost use Rattle.office_tree.specs.declared.head.Receipt.{Receipt};
+ghost use Rattle.office_tree.specs.declared.head.Record.{Record};
+ghost use Rattle.office_tree.specs.declared.head.Review.{Review};
+ghost use Rattle.office_tree.specs.declared.status.Status.{Status};
+ghost use Rattle.office_rules.specs.Rows.{record_row, record_rows};
+
+use office_days::{Day, DueDay};
+use office_rows::{Rebuild, push_numbered};
+use office_rules::RecordRow;
+use office_tree::{Action, Confirmation, Receipt, Record, RecordNo, Review, Status, Text};
+use std::alloc::Global;
+
+/// The review, if there is one, of which these are the columns; `None` where one of them is there alone.
+fn review_of(day: Option<Day>, by: Option<Text>) -> Option<Option<Review>>
+    ensures { MatchOption result
+        ((it : Option Review) → option_map (λ review. review.day) it ≡ day → option_map (λ review. review.by) it ≢ by)
+        (λ it. (option_map (λ review. review.day) it ≡ day) × (option_map (λ review. review.by) it ≡ by)) }
+{
+    match (day, by) {
+        (Some(day), Some(by)) => Some(Some(Review { day, by })),
+        (None, None) => Some(None),
+        _ => None,
+    }
+}
+
+/// The confirmation, if there is one, of which these are the columns; `None` where some of them are there
+/// and some are not.
+fn confirmation_of(
+    action: Option<Action>,
+    due: Option<DueDay>,
+    day: Option<Day>,
+    by: Option<Text>,
+) -> Option<Option<Confirmation>>
+    ensures { MatchOption result
+        ((it : Option Confirmation) → option_map (λ confirmation. confirmation.action) it ≡ action → option_map (λ confirmation. confirmation.due) it ≡ due
+        → option_map (λ confirmation. confirmation.day) it ≡ day → option_map (λ confirmation. confirmation.by) it ≢ by)
+        (λ it. (option_map (λ confirmation. confirmation.action) it ≡ action) × (option_map (λ confirmation. confirmation.due) it ≡ due)
+        × (option_map (λ confirmation. confirmation.day) it ≡ day) × (option_map (λ confirmation. confirmation.by) it ≡ by)) }
+{
+    match (action, due, day, by) {
+        (Some(action), Some(due), Some(day), Some(by)) => Some(Some(Confirmation {
+            action,
+            due,
+            day,
+            by,
+        })),
+        (None, None, None, None) => Some(None),
+        _ => None,
+    }
+}
+
+/// The receipt, if there is one, of which these are the columns; `None` where one of them is there alone.
+fn receipt_of(day: Option<Day>, by: Option<Text>) -> Option<Option<Receipt>>
+    ensures { MatchOption result
+        ((it : Option Receipt) → option_map (λ receipt. receipt.day) it ≡ day → option_map (λ receipt. receipt.by) it ≢ by)
+        (λ it. (option_map (λ receipt. receipt.day) it ≡ day) × (option_map (λ receipt. receipt.by) it ≡ by)) }
+{
+    match (day, by) {
+        (Some(day), Some(by)) => Some(Some(Receipt { day, by })),
+        (None, None) => Some(None),
+        _ => None,
+    }
+}
+
+/// The head and the status of which these are the columns; `None` where there are none.
+pub(crate) fn record_of(row: RecordRow) -> Option<(Record, Status)>
+    ensures { MatchOption result ((head : Record) (status : Status) → record_row head status ≢ row) (λ p. record_row p.0 p.1 ≡ row) }
+{
+    let review = review_of(row.reviewed, row.reviewed_by);
+    let confirmation = confirmation_of(row.conf_action, row.conf_due, row.conf_day, row.conf_by);
+    let receipt = receipt_of(row.receipt_day, row.receipt_by);
+    let (Some(review), Some(confirmation), Some(receipt)) = (review, confirmation, receipt) else {
+        return None;
+    };
+    let digest = row.digest;
+    let head = Record {
+        ref_text: row.ref_text,
+        title: row.title,
+        originated: row.originated,
+        added: row.added,
+        aggregation: row.aggregation,
+        class: row.class,
+        schedule: row.schedule,
+        length: row.size,
+        digest,
+        review,
+        confirmation,
+        receipt,
+    };
+    Some((head, row.status))
+}
+
+/// The heads and statuses of which these are the rows; damaged where there are none.
+pub(crate) fn records_of(
+    alloc: Global,
+    rows: Vec<(RecordNo, RecordRow)>,
+) -> Result<(Vec<Record>, Vec<Status>), Rebuild>
+    ensures ok { IfOk result (λ p. numbered_rows (record_rows p.0.items p.1.items) ≡ rows.items) }
+    ensures long { IfOk result (λ p. length p.1.items ≡ length p.0.items) }
+    ensures damaged { OnDamaged result ((heads : List Record) (statuses : List Status) → numbered_rows (record_rows heads statuses) ≢ rows.items) }
+{
+    let mut heads = Vec::new(alloc);
+    let mut statuses = Vec::new(alloc);
+    for (number, row) in rows {
+        let Some((head, status)) = record_of(row) else {
+            return Err(Rebuild::Damaged);
+        };
+        push_numbered(&mut heads, number, head)?;
+        if statuses.push(status).is_err() {
+            return Err(Rebuild::Memory);
+        }
+    }
+    Ok((heads, statuses))
+}
