@@ -57,17 +57,19 @@ def add(conn, number):
     conn.execute("INSERT OR REPLACE INTO office VALUES (1, 1, ?)", (DAY,))
 
 
-def acts(path, count):
+def acts(count):
+    """The acts that lead to the rows of so many records."""
     day = "2024-01-02"
-    asked = [
-        {"act": "add-schedule", "day": day, "code": "D1", "trigger": "added", "unit": "years", "count": 1, "offset": "none", "action": "destroy"},
-        {"act": "add-class", "day": day, "code": "FIN", "title": "Finance", "schedule": "D1"},
-        {"act": "add-aggregation", "day": day, "ref": "A", "title": "A", "parent": None, "class": "FIN"},
-    ]
+    yield {"act": "add-schedule", "day": day, "code": "D1", "trigger": "added", "unit": "years", "count": 1, "offset": "none", "action": "destroy"}
+    yield {"act": "add-class", "day": day, "code": "FIN", "title": "Finance", "schedule": "D1"}
+    yield {"act": "add-aggregation", "day": day, "ref": "A", "title": "A", "parent": None, "class": "FIN"}
     for name in (f"r{number}" for number in range(count)):
-        asked.append({"act": "add-record", "day": day, "ref": name, "title": name, "originated": day, "aggregation": 1, "content": "YWJj"})
+        yield {"act": "add-record", "day": day, "ref": name, "title": name, "originated": day, "aggregation": 1, "content": "YWJj"}
+
+
+def listed(path, count):
     with open(path, "w", encoding="utf-8") as out:
-        json.dump(asked, out)
+        json.dump(list(acts(count)), out)
 
 
 def table(path, count):
@@ -103,33 +105,37 @@ def scan(conn, count):
             sys.exit("another number of records")
 
 
-how, path = sys.argv[1], sys.argv[2]
-count = 0 if how in ("import", "import-twice") else int(sys.argv[3])
-if how in ("acts", "csv"):
-    (acts if how == "acts" else table)(path, count)
-    sys.exit(0)
-conn = sqlite3.connect(path, isolation_level=None)
-if how == "scan":
-    scan(conn, count)
-    sys.exit(0)
-conn.execute("PRAGMA journal_mode = WAL")
-conn.execute("PRAGMA synchronous = FULL")
-begin(conn)
-if how in ("import", "import-twice"):
-    count = bring(conn, sys.argv[3], 2 if how == "import-twice" else 1)
+def main(how, path, word):
+    if how in ("acts", "csv"):
+        (listed if how == "acts" else table)(path, int(word))
+        return
+    conn = sqlite3.connect(path, isolation_level=None)
+    if how == "scan":
+        scan(conn, int(word))
+        return
+    conn.execute("PRAGMA journal_mode = WAL")
+    conn.execute("PRAGMA synchronous = FULL")
+    begin(conn)
+    if how in ("import", "import-twice"):
+        count = bring(conn, word, 2 if how == "import-twice" else 1)
+        conn.close()
+        print(count, "records")
+        return
+    count = int(word)
+    if how == "whole":
+        conn.execute("BEGIN")
+    for number in range(1, count + 1):
+        if how == "each":
+            conn.execute("BEGIN")
+        add(conn, number)
+        if how == "each":
+            conn.execute("COMMIT")
+    if how == "whole":
+        conn.execute("COMMIT")
+        conn.execute("PRAGMA journal_mode = DELETE")
     conn.close()
     print(count, "records")
-    sys.exit(0)
-if how == "whole":
-    conn.execute("BEGIN")
-for number in range(1, count + 1):
-    if how == "each":
-        conn.execute("BEGIN")
-    add(conn, number)
-    if how == "each":
-        conn.execute("COMMIT")
-if how == "whole":
-    conn.execute("COMMIT")
-    conn.execute("PRAGMA journal_mode = DELETE")
-conn.close()
-print(count, "records")
+
+
+if __name__ == "__main__":
+    main(*sys.argv[1:4])
