@@ -16,8 +16,8 @@ use Rattle.office_sql.specs.Bags as bags
 use Rattle.office_sql.specs.Reads.{IsByKey}
 use Rattle.office_sql.specs.Schema.{at, aggregations, certificates, classes, contents, entries as entries_table, holds, office, records, runs, schedules, targets}
 use Rattle.office_sql.specs.Shown.{certificate_row, content_row, office_row}
+use Rattle.office_saving.specs.Encoded.{entry_shown}
 use Rattle.office_store.specs.Adopted.{IsRead}
-use Rattle.office_store.specs.Encoded.{entry_shown}
 use Rattle.office_store.specs.Stands.{Has, HasContents, Stands}
 use Rattle.office_store.specs.Stored.{aggregation_pair, class_pair, hold_pair, record_pair, run_pair, schedule_pair, target_pair}
 

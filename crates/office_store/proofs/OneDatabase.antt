@@ -17,7 +17,7 @@ use Rattle.office_rules.proofs.OneState.{one_state}
 use Rattle.office_sql.specs.Bags as bags
 use Rattle.office_sql.specs.Schema.{at, aggregations, certificates, classes, contents, entries, holds, records, runs, schedules, targets}
 use Rattle.office_sql.specs.Shown.{office_row}
-use Rattle.office_store.specs.Encoded.{entry_shown}
+use Rattle.office_saving.specs.Encoded.{entry_shown}
 use Rattle.office_store.specs.Stands.{Stands}
 use Rattle.office_store.specs.Stored.{aggregation_pair, class_pair, hold_pair, record_pair, run_pair, schedule_pair, target_pair}
 use Rattle.office_store.proofs.FormedRows.{formed_records, own_entries, short_in_rows}

@@ -10,7 +10,7 @@ use Rattle.office_sql.specs.Bags.{shown}
 use Rattle.office_sql.specs.Schema as schema
 use Rattle.office_sql.specs.Schema.{at, office_schema}
 use Rattle.office_sql.specs.Shown.{certificate_row, content_row, office_row}
-use Rattle.office_store.specs.Encoded.{aggregation_shown, class_shown, entry_shown, hold_shown, record_shown, run_shown, schedule_shown}
+use Rattle.office_saving.specs.Encoded.{aggregation_shown, class_shown, entry_shown, hold_shown, record_shown, run_shown, schedule_shown}
 use Rattle.office_store.specs.Stands.{Has, HasTargets, Stands}
 
 pub data TableName : Type 0 where

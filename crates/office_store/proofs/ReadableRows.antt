@@ -15,7 +15,7 @@ use Rattle.office_rules.specs.State.{State}
 use Rattle.office_sql.specs.Bags as bags
 use Rattle.office_sql.specs.Schema.{at, aggregations, certificates, classes, contents, entries, holds, records, runs, schedules, targets}
 use Rattle.office_sql.specs.Shown.{certificate_row, content_row}
-use Rattle.office_store.specs.Encoded.{entry_shown}
+use Rattle.office_saving.specs.Encoded.{entry_shown}
 use Rattle.office_store.specs.Stands.{Stands}
 use Rattle.office_store.specs.Stored.{AllReadable, IsAggregationPair, IsCertificateRow, IsClassPair, IsEntryOfForm, IsHoldPair, IsNumber, IsRecordPair, IsRowOf, IsRunPair, IsSchedulePair, IsTargetPair, aggregation_pair, class_pair, hold_pair, number_row, record_pair, run_pair, schedule_pair, target_pair}
 use Rattle.office_store.proofs.FormedRows.{day_in_rows, formed_aggregations, formed_certificates, formed_classes, formed_contents, formed_entries, formed_holds, formed_records, formed_runs, formed_schedules, formed_targets, got_certificates}

@@ -14,9 +14,9 @@ use Rattle.office_rules.specs.declared.rows.RowWrite.{RowWrite}
 use Rattle.office_rules.specs.declared.rows.RowWrite.TheVariants as row_write
 use Rattle.office_sql.specs.Bags.{IsPut}
 use Rattle.office_sql.specs.Shown.{certificate_row, content_row, office_row}
-use Rattle.office_store.specs.Encoded.{aggregation_shown, class_shown, hold_shown, record_shown, run_shown, schedule_shown}
+use Rattle.office_saving.specs.Encoded.{aggregation_shown, class_shown, hold_shown, record_shown, run_shown, schedule_shown}
+use Rattle.office_saving.specs.Written.{IsWritten}
 use Rattle.office_store.specs.Stands.{Stands}
-use Rattle.office_store.specs.Written.{IsWritten}
 use Rattle.office_store.proofs.KeyedTables.{IsOwnKey, put_coded, put_entry, put_numbered, put_unique, removed_numbered}
 use Rattle.office_store.proofs.KeyTests.{share_number}
 use Rattle.office_store.proofs.OtherTables.{StandsAt, TableName, others_stand, stands_from, office, schedules, classes, aggregations, records, contents, holds, targets, runs, entries, certificates}

@@ -10,7 +10,7 @@ use Rattle.office_sql.specs.Office.{IsAtRest}
 use Rattle.office_sql.specs.Reads.{IsByKey}
 use Rattle.office_sql.specs.Schema.{at, aggregations, certificates, classes, contents, entries, holds, office, records, runs, schedules, targets}
 use Rattle.office_sql.specs.Shown.{content_row, office_row}
-use Rattle.office_store.specs.Encoded.{entry_shown}
+use Rattle.office_saving.specs.Encoded.{entry_shown}
 use Rattle.office_store.specs.Stored.{AllReadable, aggregation_pair, certificate_pair, class_pair, hold_pair, number_row, record_pair, run_pair, schedule_pair, target_pair}
 use Rattle.office_store.specs.declared.adopting.Holding.{Holding}
 use Rattle.office_store.specs.declared.adopting.Plans.{Plans}

@@ -16,7 +16,7 @@ use Rattle.office_sql.specs.Bags as bags
 use Rattle.office_sql.specs.Office.{IsAtRest}
 use Rattle.office_sql.specs.Schema.{at, aggregations, certificates, classes, contents, entries, holds, office, office_schema, records, runs, schedules, targets}
 use Rattle.office_sql.specs.Shown.{certificate_row, content_row, office_row}
-use Rattle.office_store.specs.Encoded.{aggregation_shown, class_shown, entry_shown, hold_shown, record_shown, run_shown, schedule_shown, target_shown}
+use Rattle.office_saving.specs.Encoded.{aggregation_shown, class_shown, entry_shown, hold_shown, record_shown, run_shown, schedule_shown, target_shown}
 
 -- the table has these rows and no others, in any order
 abbrev pub Has : Table → Trees → List Row → Type 0

@@ -23,7 +23,7 @@ use Rattle.office_sql.specs.Bags.{rows_of}
 use Rattle.office_sql.specs.Schema.{at, aggregations, certificates, classes, contents, entries, holds, office, records, runs, schedules, targets}
 use Rattle.office_sql.specs.Shown.{certificate_row, office_row}
 use Rattle.office_sql.specs.Values.{Has}
-use Rattle.office_store.specs.Encoded.{aggregation_shown, class_shown, entry_shown, hold_shown, record_shown, run_shown, schedule_shown, target_shown}
+use Rattle.office_saving.specs.Encoded.{aggregation_shown, class_shown, entry_shown, hold_shown, record_shown, run_shown, schedule_shown, target_shown}
 
 -- a number of a thing or of bytes
 abbrev pub IsNumber : ℕ → Type 0

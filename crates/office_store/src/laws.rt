@@ -13,10 +13,10 @@ ghost use Rattle.office_rules.specs.Tables.{StandsFor};
 ghost use Rattle.office_rules.specs.Writes.{all_writes};
 ghost use Rattle.office_rules.specs.declared.change.Change.{Change};
 ghost use Rattle.office_rules.specs.declared.tables.Tables.{Tables};
+ghost use Rattle.office_saving.specs.Written.{AreWritten};
 ghost use Rattle.office_store.specs.Adopted.{AreNumbersAndBytes, IsRead};
 ghost use Rattle.office_store.specs.Stands.{HasContents, Stands};
 ghost use Rattle.office_store.specs.Stored.{AllReadable};
-ghost use Rattle.office_store.specs.Written.{AreWritten};
 
 /// The writes of a change that can be made, done to tables that stand for the rows of a sound state,
 /// make them stand for those of the next.

@@ -6,12 +6,9 @@ mod columns;
 mod content;
 mod fault;
 pub mod laws;
-mod saving;
 mod store;
 mod stored;
 mod tables;
-mod texts;
-mod writing;
 
 pub use fault::Fault;
 pub use store::Store;

@@ -4,8 +4,8 @@ ghost use Rattle.sqlite.specs.Held.{state};
 ghost use Rattle.office_sql.specs.Bags.{rows_of};
 ghost use Rattle.office_sql.specs.Reads.{IsByKey};
 ghost use Rattle.office_sql.specs.Schema.{aggregations, at, certificates, classes, contents, entries, holds, records, runs, schedules, targets};
+ghost use Rattle.office_saving.specs.Encoded.{entry_shown};
 ghost use Rattle.office_store.specs.Adopted.{ReadsTables};
-ghost use Rattle.office_store.specs.Encoded.{entry_shown};
 ghost use Rattle.office_store.specs.Stored.{aggregation_pair, certificate_pair, class_pair, hold_pair, number_row, record_pair, run_pair, schedule_pair, target_pair};
 
 use crate::Fault;

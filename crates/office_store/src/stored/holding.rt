@@ -3,7 +3,7 @@ ghost use Rattle.std.specs.Prelude.{◌≡◌, ℕ, IfOk};
 ghost use Rattle.std.specs.Fmt.{decimal};
 ghost use Rattle.office_holds.specs.declared.target.Target.{Target};
 ghost use Rattle.office_sql.specs.Values.{OnDamaged};
-ghost use Rattle.office_store.specs.Encoded.{target_kind, target_text};
+ghost use Rattle.office_saving.specs.Encoded.{target_kind, target_text};
 ghost use Rattle.office_store.specs.Stored.{IsFormedTargetText, IsHoldPair, IsNumber, IsRowOf, IsTargetPair, hold_pair, number_row, target_pair};
 
 use crate::columns::{code, code_of, day, has_columns, optional_day, words};

@@ -1,5 +1,5 @@
 //! The rows of runs, entries and certificates.
-ghost use Rattle.office_store.specs.Encoded.{entry_shown};
+ghost use Rattle.office_saving.specs.Encoded.{entry_shown};
 ghost use Rattle.office_store.specs.Stored.{IsCertificateRow, IsEntryOfForm, IsRowOf, IsRunPair, certificate_pair, run_pair};
 
 use crate::columns::{code, day, due_day, has_columns, optional_code, outcome, words};

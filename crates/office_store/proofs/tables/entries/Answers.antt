@@ -2,7 +2,7 @@ use Rattle.std.proofs.Common.{rules, [], ◌∷◌}
 use Rattle.sqlite.specs.Held.{state}
 use Rattle.office_sql.specs.Bags.{rows_of}
 use Rattle.office_sql.specs.Schema.{at, entries}
-use Rattle.office_store.specs.Encoded.{entry_shown}
+use Rattle.office_saving.specs.Encoded.{entry_shown}
 use Rattle.office_store.specs.Stored.{IsEntryOfForm, IsRowOf}
 use Rattle.office_store.proofs.ThingsRead.{table_read}
 use Rattle.office_store.proofs.tables.entries.Goals as goal

@@ -11,7 +11,7 @@ use Rattle.office_rules.specs.declared.rows.RowWrite.TheVariants as row_write
 use Rattle.office_sql.specs.Office.{AreDone, IsAtRest, Removed, Wrote}
 use Rattle.office_sql.specs.Schema.{at, aggregations, certificates, classes, contents, entries, holds, office, records, runs, schedules, targets}
 use Rattle.office_sql.specs.Shown.{certificate_row, content_row, office_row}
-use Rattle.office_store.specs.Encoded.{aggregation_shown, class_shown, entry_shown, hold_shown, record_shown, run_shown, schedule_shown, target_shown, target_text}
+use Rattle.office_saving.specs.Encoded.{aggregation_shown, class_shown, entry_shown, hold_shown, record_shown, run_shown, schedule_shown, target_shown, target_text}
 
 -- a row write, done to the tables
 abbrev pub IsWritten : RowWrite → Database → Database → Type 0

@@ -6,7 +6,7 @@ ghost use Rattle.sqlite.specs.Held.{state};
 ghost use Rattle.office_sql.specs.Office.{GoesInside};
 ghost use Rattle.office_tree.specs.Words.{action_word, status_word};
 ghost use Rattle.office_rules.specs.declared.rows.RowWrite.TheVariants as row_write;
-ghost use Rattle.office_store.specs.Written.{AreWritten, IsWritten, needed_text};
+ghost use Rattle.office_saving.specs.Written.{AreWritten, IsWritten, needed_text};
 
 use crate::texts::target_kind;
 use office_holds::HoldRow;
