@@ -10,6 +10,8 @@ from fuzzing.rules import Office
 from fuzzing.wire import Asked
 
 ROUND = 10_000
+# at one `serve`, which takes 1,000,000 connections at most
+AT_ONCE = 500_000
 SAMPLE = 71
 
 
@@ -73,26 +75,34 @@ def told_memory(count, before, service):
     print(f"memory of serve before and after {count:,} requests: {before:,} and {service.memory():,} KB", flush=True)
 
 
+def refused_at_once(random, file, maker, count, tally):
+    """So many requests of which none can change the office, at one `serve`: file and log before and after them. What the acts among them were answered."""
+    with Service(file, count + SAMPLE) as service:
+        client = Client(random, tally, service, maker.office)
+        before, memory = bytes_of(file), service.memory()
+        for _ in range(count):
+            data = maker.request()
+            while Asked(data).changes(maker.office):
+                data = maker.request()
+            client.ask(data)
+        told_memory(count, memory, service)
+        tally.judge("file and log after requests that change nothing", bytes_of(file) == before, "they are not as they were")
+        sampled(random, client)
+    return client.answers
+
+
 def only_refused(random, count, tally):
-    """So many requests of which none can change the office: its file and its log before and after them. What the acts among them were answered."""
+    """So many of them at one office: its file before and after them. What the acts among them were answered."""
+    answers = collections.Counter()
     with tempfile.TemporaryDirectory() as name:
         file, office = begun(pathlib.Path(name), tally)
         closed = bytes_of(file)[0]
         maker = Maker(random, office)
-        with Service(file, count + SAMPLE) as service:
-            client = Client(random, tally, service, office)
-            before, memory = bytes_of(file), service.memory()
-            for _ in range(count):
-                data = maker.request()
-                while Asked(data).changes(office):
-                    data = maker.request()
-                client.ask(data)
-            told_memory(count, memory, service)
-            tally.judge("file and log after requests that change nothing", bytes_of(file) == before, "they are not as they were")
-            sampled(random, client)
-        tally.judge("the file at the end", bytes_of(file)[0] == closed, "it is not as it was")
+        for done in range(0, count, AT_ONCE):
+            answers += refused_at_once(random, file, maker, min(AT_ONCE, count - done), tally)
+            tally.judge("the file at the end", bytes_of(file)[0] == closed, "it is not as it was")
         tally.judge("init at the end", run("init", file) == (0, b"version 1\n", b""), "it does not open")
-        return client.answers
+    return answers
 
 
 def sampled(random, client):
