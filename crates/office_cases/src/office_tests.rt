@@ -9,8 +9,8 @@ use office_days::Day;
 use office_json::{due_row_value, due_value, record_value, text_of};
 use office_machine::{DueRows, Machine};
 use office_proof::{Entry, RunNo, entry_line};
-use office_rules::RecordView;
-use office_tree::{Memory, RecordNo, Status};
+use office_rules::{Act, NewRecord, RecordView};
+use office_tree::{Memory, RecordNo, Status, Text};
 use serde_json::Value;
 use std::alloc::Global;
 use std::io::Write;
@@ -96,6 +96,28 @@ pub(crate) const RUN: &str = r"
     next = none
 ";
 
+/// Of many records that are due, the candidates alone are looked at: each step looks at one, and the last at none.
+pub(crate) const FEW_OF_MANY: &str = "
+    2024-01-02 add-schedule D1 added years 1 none destroy = Done
+    2024-01-02 add-class FIN D1 = Done
+    2024-01-02 add-root A FIN = Number(1)
+    add-records 20000 = Number(20000)
+    2025-01-02 confirm 7 destroy = Done
+    2025-01-02 confirm 9000 destroy = Done
+    2025-01-02 confirm 20000 destroy = Done
+    next-counted = none of 0
+    2025-01-02 open-run = Number(1)
+    next-counted = 7 of 1
+    2025-01-02 run-step = Step(7, Destroyed)
+    next-counted = 9000 of 1
+    2025-01-02 run-step = Step(9000, Destroyed)
+    next-counted = 20000 of 1
+    2025-01-02 run-step = Step(20000, Destroyed)
+    next-counted = none of 0
+    2025-01-02 run-step = RunClosed(1)
+    next-counted = none of 0
+";
+
 /// What is told of records that are here. The digests are those of `abc`, an example of FIPS 180-4, and of
 /// nothing, by `sha256sum`; what is told of record 1 has 293 bytes.
 pub(crate) const HERE: &str = r#"
@@ -172,12 +194,19 @@ fn tell_spent(office: &Machine, out: &mut Vec<u8>) -> Option<()> {
     Some(())
 }
 
-/// The record that the next step of a run would take.
-fn tell_next(office: &Machine, out: &mut Vec<u8>) -> Option<()> {
-    match office.next_in_run() {
+/// A record that the next step of a run would take.
+fn push_next(next: Option<RecordNo>, out: &mut Vec<u8>) -> Option<()> {
+    match next {
         Some(record_no) => write!(out, "{record_no}").ok(),
         None => push(out, "none"),
     }
+}
+
+/// The record that the next step of a run would take, and how many candidates were looked at.
+fn tell_counted(office: &Machine, out: &mut Vec<u8>) -> Option<()> {
+    let (next, count) = office.next_counted();
+    push_next(next, out)?;
+    write!(out, " of {count}").ok()
 }
 
 /// The certificate of a run.
@@ -284,9 +313,31 @@ fn tell_due(office: &Machine, day: Day, out: &mut Vec<u8>) -> Option<()> {
     push(out, text.as_str())
 }
 
-/// What is told of the thing of that number.
-fn tell_thing(office: &Machine, word: &str, number: u32, out: &mut Vec<u8>) -> Option<()> {
+/// The addition of a record without content to aggregation 1.
+fn addition(alloc: Global, day: Day, name: &str) -> Option<Act> {
+    let ref_text = Text::read(alloc, name).ok()??;
+    let title = Text::read(alloc, name).ok()??;
+    let record = NewRecord::new(ref_text, title, day, 1, None, None, Vec::new(alloc))?;
+    Some(Act::AddRecord { day, record })
+}
+
+/// Adds so many records to aggregation 1, and tells what is answered to the last.
+fn add_records(office: &mut Machine, count: u32, out: &mut Vec<u8>) -> Option<()> {
+    let alloc = *out.allocator();
+    let day = Day::read("2024-01-02")?;
+    for place in 0..count {
+        let name = format!(in alloc; "r{place}").ok()?;
+        let act = addition(alloc, day, name.as_str())?;
+        out.clear();
+        perform(office, &act, out)?;
+    }
+    Some(())
+}
+
+/// What is told of the thing of that number, or so many records are added.
+fn tell_thing(office: &mut Machine, word: &str, number: u32, out: &mut Vec<u8>) -> Option<()> {
     match word {
+        "add-records" => add_records(office, number, out),
         "certificate" => tell_certificate(office, number, out),
         "record" => tell_record(office, number, out),
         "record-ended-as-3" => tell_ended(office, number, out),
@@ -304,7 +355,8 @@ fn tell_act(office: &mut Machine, word: &str, text: &str, out: &mut Vec<u8>) -> 
 fn tell_office(office: &mut Machine, word: &str, text: &str, out: &mut Vec<u8>) -> Option<()> {
     match word {
         "spent" => tell_spent(office, out),
-        "next" => tell_next(office, out),
+        "next" => push_next(office.next_in_run(), out),
+        "next-counted" => tell_counted(office, out),
         "today" => out.extend_from_slice(&office.day().text()).ok(),
         "last-entry" => tell_last_entry(office, false, out),
         "last-entry-without-hold" => tell_last_entry(office, true, out),

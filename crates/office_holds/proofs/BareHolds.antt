@@ -39,7 +39,7 @@ bare_length : (rows : List (List ℕ × HoldRow)) → length (bare_holds rows) �
 bare_length [] = refl
 bare_length (e ∷ es) = ap suc (bare_length es)
 
-bare_none : (row : HoldRow) (t : Target) → has_target (hold_from row None) t ≡ false
+pub bare_none : (row : HoldRow) (t : Target) → has_target (hold_from row None) t ≡ false
 bare_none row (target.Class q) = set.contains-empty code_cmp q
 bare_none row (target.Aggregation q) = set.contains-empty nat_cmp q
 bare_none row (target.Record q) = set.contains-empty nat_cmp q

@@ -25,10 +25,10 @@ pub codes_apart : IsAntisymmetric code_cmp
 codes_apart = slice_cmp-IsAntisymmetric nat_cmp-IsAntisymmetric
 
 -- the test of codes by their order is that by their bytes
-tied_code : (q k : List ℕ) → eq_by_cmp code_cmp q k ≡ bytes_eq k q
+pub tied_code : (q k : List ℕ) → eq_by_cmp code_cmp q k ≡ bytes_eq k q
 tied_code q k = (eq_by_cmp_equiv nat_list_cmp_total).symm q k ∙ is_eq-slice_cmp k q
 
-tied_number : (q k : ℕ) → eq_by_cmp nat_cmp q k ≡ (k == q)
+pub tied_number : (q k : ℕ) → eq_by_cmp nat_cmp q k ≡ (k == q)
 tied_number q k = (eq_by_cmp_equiv nat_cmp_total).symm q k ∙ unsigned_tied k q
 
 pub code_itself : (code : List ℕ) → bytes_eq code code ≡ true

@@ -47,7 +47,7 @@ found_next {V} q e es v P found here later = by_tie (eq_by_cmp code_cmp q e.0) r
     by_tie false tie is = later is
 
 -- what is found among entries after a code has a later code
-found_after : {V : Type 0} (k q : List ℕ) (v : V) (es : List (List ℕ × V)) → AllByRecursion (λ f. code_cmp k f.0 ≡ Less) es → find code_cmp q es ≡ Some v → code_cmp k q ≡ Less
+pub found_after : {V : Type 0} (k q : List ℕ) (v : V) (es : List (List ℕ × V)) → AllByRecursion (λ f. code_cmp k f.0 ≡ Less) es → find code_cmp q es ≡ Some v → code_cmp k q ≡ Less
 found_after k q v [] after found = absurd cc
 found_after k q v (e ∷ es) after found =
     found_next q e es v (code_cmp k q ≡ Less) found (λ tie _. alike_right nat_list_cmp_total q e.0 k tie ∙ after.0) (found_after k q v es after.1)
@@ -104,10 +104,10 @@ IsLeastPassing test es code = Passes test es code × ((q : List ℕ) → Passes 
 abbrev first_by : {V : Type 0} → (V → Bool) → Bool → List ℕ × V → List (List ℕ × V) → Option (List ℕ)
 first_by test b e es = slice_get (map (λ f. f.0) (cond b (e ∷ filter (λ f. test f.1) es) (filter (λ f. test f.1) es))) 0
 
-not_after : (o : Ordering) → o ≡ Equal → o ≢ Greater
+pub not_after : (o : Ordering) → o ≡ Equal → o ≢ Greater
 not_after o same after = absurd cc
 
-not_after_less : (o : Ordering) → o ≡ Less → o ≢ Greater
+pub not_after_less : (o : Ordering) → o ≡ Less → o ≢ Greater
 not_after_less o before after = absurd cc
 
 first_least_by : {V : Type 0} (test : V → Bool) (e : List ℕ × V) (es : List (List ℕ × V)) (code : List ℕ) (b : Bool) → Rises (e ∷ es) → test e.1 ≡ b → first_by test b e es ≡ Some code

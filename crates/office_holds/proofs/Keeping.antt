@@ -23,7 +23,7 @@ use Rattle.office_holds.specs.Conditions.{target_count, has_all_targets, conditi
 use Rattle.office_holds.specs.Effects.{new_hold, placed_hold, with_target, without_target, held_on, held_off, lifted_hold}
 use Rattle.office_holds.specs.Forms.{IsFormedHold, AreFormedHolds, FitsHoldLimits, IsFormedTarget}
 use Rattle.office_holds.specs.Holds.{HoldMap, HoldState}
-use Rattle.office_holds.specs.Rows.{hold_from, put_hold}
+use Rattle.office_holds.specs.Rows.{StaysLifted, hold_from, put_hold}
 use Rattle.office_holds.specs.declared.row.HoldRow.{HoldRow}
 use Rattle.office_holds.specs.Sound.{TargetsAreThere, TargetsStand, NoHoldIsAfter}
 use Rattle.office_holds.specs.declared.target.Target.{Target}
@@ -266,6 +266,10 @@ placed_row day reason by = record { reason = reason; placed = day; placed_by = b
 pub placed_by_put : (holds : HoldMap) (day : ℤ) (code reason by : List ℕ) → first_of (conditions_of_place_hold holds code) ≡ None → put_hold holds code (placed_row day reason by) ≡ placed_hold holds day code reason by
 placed_by_put holds day code reason by none =
     ap (λ o. insert holds code (hold_from (placed_row day reason by) o)) (none_of (get holds code) (none_holds (conditions_of_place_hold holds code) none).0)
+
+-- and no hold that is lifted is under such a code
+pub StaysLifted-free : (holds : HoldMap) (code : List ℕ) (row : HoldRow) → first_of (conditions_of_place_hold holds code) ≡ None → StaysLifted holds code row
+StaysLifted-free holds code row none hold is lifted = let free = none_of (get holds code) (none_holds (conditions_of_place_hold holds code) none).0 in absurd cc
 
 -- ---- the days
 

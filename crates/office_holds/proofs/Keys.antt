@@ -1,5 +1,5 @@
 -- Sets and maps of the code, and those of the model.
-use Rattle.std.proofs.Common.{◌≡◌, ℕ, suc, ◌+◌, arith, List, [], ◌∷◌, length, Bool, true, false, cond, not, ◌||◌, ◌&&◌, None, refl, sym, ap, ◌∙◌}
+use Rattle.std.proofs.Common.{◌≡◌, ℕ, suc, ◌+◌, ◌-◌, arith, List, [], ◌∷◌, length, Bool, true, false, cond, not, ◌||◌, ◌&&◌, None, refl, sym, ap, ◌∙◌}
 use Rattle.std.proofs.Common.{Result, Ok, Err}
 use Rattle.std.specs.Prelude.{OnOk, OnErr}
 use Rattle.std.specs.declared.cmp.Ordering.{Ordering}
@@ -9,6 +9,8 @@ use Rattle.std.specs.Cmp.{IsTotalOrder, eq_by_cmp_equiv}
 use Rattle.std.specs.List.{list_any, AllByRecursion}
 use Rattle.std.specs.List.Sorted.{IsStrictlySortedBy}
 use Rattle.std.specs.Map.{lookup}
+use Rattle.std.proofs.lemmas.Map.Keys.{sorted_head}
+use Rattle.std.proofs.lemmas.Map.Steps.{list_any_congr}
 use Rattle.std.specs.BTreeMap.{is_at}
 use Rattle.std.specs.BTreeSet as tree_set
 use Rattle.std.specs.BTreeSet.{BTreeSet}
@@ -18,6 +20,7 @@ use Rattle.std.specs.FinSet.{contains, from_list, contains-from_list, contains-i
 use Rattle.office_tree.specs.Lists.{amended, amended_by}
 use Rattle.office_tree.specs.Tree.{code_cmp}
 use Rattle.office_tree.proofs.Plan.{get_is}
+use Rattle.office_holds.specs.Numbers.{one_if}
 
 either_true : (b c : Bool) → cond b true c ≡ (b || c)
 either_true true c = refl
@@ -60,6 +63,22 @@ module _ {K : Type 0} {R : K → K → Ordering} (o : IsTotalOrder R) where
       ∙ ap (λ b. cond b (set.len (from_list {R = R} ks)) (set.len (from_list {R = R} ks) + 1)) (contains-from_list o ks k ∙ none_less k ks h.0)
       ∙ one_more (set.len (from_list {R = R} ks)) (length ks) (key_count ks h.1)
 
+  -- what is equal to the first of keys in order is equal to none after it
+  apart_after : (k q : K) (ks : List K) → IsStrictlySortedBy R (k ∷ ks) → eq_by_cmp R q k ≡ true → list_any (eq_by_cmp R q) ks ≡ false
+  apart_after k q ks sorted tie = list_any_congr (eq_by_cmp_equiv o) q k ks tie ∙ none_less k ks (sorted_head R k ks sorted)
+
+  counted_by : (k q : K) (ks : List K) (n : ℕ) (b : Bool) → eq_by_cmp R q k ≡ b → (b ≡ true → list_any (eq_by_cmp R q) ks ≡ false) → (n - one_if (eq_by_cmp R k q)) - one_if (list_any (eq_by_cmp R q) ks) ≡ n - one_if (b || list_any (eq_by_cmp R q) ks)
+  counted_by k q ks n true tie none = let one = ap one_if ((eq_by_cmp_equiv o).symm k q ∙ tie) in let rest = ap one_if (none refl) in omega (arith, one, rest)
+  counted_by k q ks n false tie none = let one = ap one_if ((eq_by_cmp_equiv o).symm k q ∙ tie) in omega (arith, one)
+
+  -- a number that is counted off for the first of keys in order, and then for the others, is counted off for all of them
+  pub counted_off : (k q : K) (ks all : List K) (before after : ℕ) → all ≡ k ∷ ks → IsStrictlySortedBy R (k ∷ ks) → after ≡ before - one_if (eq_by_cmp R k q)
+      → after - one_if (list_any (eq_by_cmp R q) ks) ≡ before - one_if (list_any (eq_by_cmp R q) all)
+  counted_off k q ks all before after first sorted down =
+      ap (λ n. n - one_if (list_any (eq_by_cmp R q) ks)) down
+      ∙ counted_by k q ks before (eq_by_cmp R q k) refl (apart_after k q ks sorted)
+      ∙ sym (ap (λ (them : List K). before - one_if (list_any (eq_by_cmp R q) them)) first)
+
 -- where nothing is found there is nothing to change
 pub unchanged : {V : Type 0} (es : List (List ℕ × V)) (k : List ℕ) (f : V → V) → lookup (is_at (code_cmp k)) es ≡ None → amended (from_entries {R = code_cmp} es) k f ≡ from_entries es
 unchanged es k f none = ap (amended_by (from_entries es) k f) (get_is es k ∙ none)
@@ -68,6 +87,11 @@ unchanged es k f none = ap (amended_by (from_entries es) k f) (get_is es k ∙ n
 pub on_ok : {A E : Type 0} {P Q : Type 0} (r : Result A E) → (P → Q) → OnOk r P → OnOk r Q
 on_ok (Ok x) less h = less h
 on_ok (Err e) less h = h
+
+-- what follows from the good answer and from the bad one follows
+pub either_way : {A E : Type 0} {P Q G : Type 0} (r : Result A E) → (P → G) → (Q → G) → OnOk r P → OnErr r Q → G
+either_way (Ok x) good bad h k = good h
+either_way (Err e) good bad h k = bad k
 
 pub on_err : {A E : Type 0} {P Q : Type 0} (r : Result A E) → (P → Q) → OnErr r P → OnErr r Q
 on_err (Ok x) less h = h

@@ -1,10 +1,14 @@
 pub mod Amending
 pub mod BareHolds
+pub mod BindingCounts
 pub mod Classes
+pub mod CountedTargets
 pub mod Covering
 pub mod CoveringRows
 pub mod Entries
+pub mod FirstCovering
 pub mod Keeping
+pub mod Kept
 pub mod Keys
 pub mod Lasting
 pub mod Reclassifying

@@ -2,7 +2,9 @@ pub mod Conditions
 pub mod Effects
 pub mod Forms
 pub mod Founding
+pub mod HoldCounts
 pub mod Holds
 pub mod Meanings
+pub mod Numbers
 pub mod Rows
 pub mod Sound

@@ -1,5 +1,5 @@
 -- The columns of a hold, and the holds with the columns of one put in by its code. Source: own.
-use Rattle.std.specs.Prelude.{List, ℕ, Option, Some, None}
+use Rattle.std.specs.Prelude.{◌≡◌, List, ℕ, Option, Some, None, IsSome}
 use Rattle.std.specs.FinMap.{get, insert}
 use Rattle.std.specs.FinSet as set
 use Rattle.office_holds.specs.Holds.{HoldMap, HoldState}
@@ -17,3 +17,7 @@ hold_from row (Some hold) = record hold { reason = row.reason; placed = row.plac
 -- the columns put in under a code; the targets of a hold that is there stay
 abbrev pub put_hold : HoldMap → List ℕ → HoldRow → HoldMap
 put_hold holds code row = insert holds code (hold_from row (get holds code))
+
+-- a hold under that code that is lifted has a lifted row put in
+abbrev pub StaysLifted : HoldMap → List ℕ → HoldRow → Type 0
+StaysLifted holds code row = (hold : HoldState) → get holds code ≡ Some hold → IsSome hold.lifted → IsSome row.lifted

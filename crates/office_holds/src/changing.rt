@@ -4,9 +4,9 @@ ghost use Rattle.office_tree.specs.Conditions.{first_of};
 ghost use Rattle.office_holds.specs.Conditions.{conditions_of_hold_off, conditions_of_hold_on, conditions_of_lift_hold, conditions_of_place_hold};
 ghost use Rattle.office_holds.specs.Effects.{held_off, held_on, lifted_hold, placed_hold};
 ghost use Rattle.office_holds.specs.Forms.{FitsHoldLimits};
-ghost use Rattle.office_holds.specs.Rows.{put_hold};
+ghost use Rattle.office_holds.specs.Rows.{StaysLifted, put_hold};
 
-use crate::storing::{lift_in, put_in, put_target_in, take_target_in};
+use crate::storing::{put_target_in, take_target_in};
 use crate::{HoldRow, Holds, Target};
 use office_days::Day;
 use office_tree::{Code, Memory, Text};
@@ -51,18 +51,23 @@ impl Holds {
         requires { first_of (conditions_of_lift_hold self.old code.now) ≡ None }
         ensures { self.new ≡ lifted_hold self.old day code.now }
     {
-        lift_in(&mut self.by_code, code, day);
+        self.set_lifted(code, day);
     }
 
     /// Puts the columns of a hold in under its code, in place of what was there or as a new hold; the
     /// targets of a hold that is there stay, and then it takes no memory.
     pub fn put(&mut self, code: Code, row: HoldRow) -> Result<(), Memory>
-        requires { FitsHoldLimits (put_hold self.old code row) }
+        requires fits { FitsHoldLimits (put_hold self.old code row) }
+        requires stays_lifted { StaysLifted self.old code row }
         ensures ok { OnOk result (self.new ≡ put_hold self.old code row) }
         ensures err { OnErr result (self.new ≡ self.old) }
         ensures in_place { IsTrue (contains_key self.old code) → IsOk result }
     {
-        put_in(&mut self.by_code, self.alloc, code, row)
+        if self.hold(&code).is_some() {
+            self.replace(&code, row);
+            return Ok(());
+        }
+        self.add(code, row)
     }
 
     /// Puts a target on the hold of that code, if it is there.
@@ -71,6 +76,9 @@ impl Holds {
         ensures ok { OnOk result (self.new ≡ held_on self.old code.now target) }
         ensures err { OnErr result (self.new ≡ self.old) }
     {
+        if self.may_gain(code, &target) {
+            return self.put_counted(code, target);
+        }
         put_target_in(&mut self.by_code, code, target)
     }
 
@@ -78,6 +86,10 @@ impl Holds {
     pub fn take_target(&mut self, code: &Code, target: &Target)
         ensures { self.new ≡ held_off self.old code.now target.now }
     {
+        if self.binds(code, target) {
+            self.take_counted(code, target);
+            return;
+        }
         take_target_in(&mut self.by_code, code, target);
     }
 }

@@ -1,4 +1,6 @@
-ghost use Rattle.std.specs.Prelude.{◌≡◌, true, false, List, [], IfOk, OnOk};
+ghost use Rattle.std.specs.Prelude.{◌≡◌, true, false, ℕ, List, [], IsTrue, IfOk, OnOk};
+ghost use Rattle.std.specs.FinMap.{from_entries};
+ghost use Rattle.std.specs.FinSet.{contains, from_list};
 ghost use Rattle.std.specs.BTreeMap.{IsOrdered};
 ghost use Rattle.std.specs.List.Sorted.{IsStrictlySortedBy};
 ghost use Rattle.std.specs.Map.{keys_of};
@@ -7,13 +9,16 @@ ghost use Rattle.office_tree.specs.Tree.{code_cmp};
 ghost use Rattle.office_holds.specs.Effects.{held_on};
 ghost use Rattle.office_holds.specs.Forms.{FitsHoldLimits};
 ghost use Rattle.office_holds.specs.Founding.{AreRowsOf, bare_holds, hold_rows, takes_target};
-ghost use Rattle.office_holds.specs.Holds.{HoldMap};
+ghost use Rattle.office_holds.specs.HoldCounts.{HasInForce};
+ghost use Rattle.office_holds.specs.Holds.{HoldMap, is_in_force};
 
+use crate::counts::HoldCounts;
+use crate::sets::put_code;
 use crate::{Hold, HoldRow, Holds, Target};
 use office_rows::{Rebuild, push_keyed};
-use office_tree::Code;
+use office_tree::{Code, Memory};
 use std::alloc::Global;
-use std::collections::BTreeMap;
+use std::collections::{BTreeMap, BTreeSet};
 
 /// Holds of these columns under their codes, without targets; damaged where the codes do not ascend.
 fn bare(alloc: Global, rows: Vec<(Code, HoldRow)>) -> Result<BTreeMap<Code, Hold>, Rebuild>
@@ -26,6 +31,33 @@ fn bare(alloc: Global, rows: Vec<(Code, HoldRow)>) -> Result<BTreeMap<Code, Hold
         push_keyed(&mut holds, code, Hold::new(alloc, row))?;
     }
     Ok(holds)
+}
+
+/// Puts the code of a hold in, if that is in force.
+fn put_if_in_force(
+    alloc: Global,
+    codes: &mut BTreeSet<Code>,
+    code: &Code,
+    hold: &Hold,
+) -> Result<(), Memory>
+    ensures there { OnOk result (IsTrue (is_in_force hold.now) → IsTrue (contains (from_list {R = code_cmp} codes.new.keys) code.now)) }
+    ensures more { OnOk result ((q : List ℕ) → IsTrue (contains (from_list {R = code_cmp} codes.old.keys) q) → IsTrue (contains (from_list {R = code_cmp} codes.new.keys) q)) }
+{
+    if hold.is_lifted() {
+        return Ok(());
+    }
+    put_code(codes, code.copy(alloc)?)
+}
+
+/// The codes of the holds in force.
+fn codes_in_force(alloc: Global, holds: &BTreeMap<Code, Hold>) -> Result<BTreeSet<Code>, Memory>
+    ensures { IfOk result (λ codes. HasInForce (from_entries holds.now.entries) (from_list codes.keys)) }
+{
+    let mut codes = BTreeSet::new(alloc);
+    for (code, hold) in holds.iter() {
+        put_if_in_force(alloc, &mut codes, code, hold)?;
+    }
+    Ok(codes)
 }
 
 impl Holds {
@@ -56,7 +88,15 @@ impl Holds {
         if by_code.len() > 1_000 {
             return Err(Rebuild::Damaged);
         }
-        Ok(Holds { by_code, alloc })
+        let Ok(in_force) = codes_in_force(alloc, &by_code) else {
+            return Err(Rebuild::Memory);
+        };
+        Ok(Holds {
+            by_code,
+            counts: HoldCounts::new(alloc),
+            in_force,
+            alloc,
+        })
     }
 
     /// Puts a target on the hold of that code; damaged where that is not there or would have more than

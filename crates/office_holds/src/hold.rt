@@ -1,14 +1,16 @@
-ghost use Rattle.std.specs.Prelude.{◌≡◌, ◌↔◌, ◌≤ℤ◌, ◌&&◌, IfSome, IsTrue, nat_le, length, Some, None, OnOk, OnErr};
-ghost use Rattle.std.specs.FinSet.{contains};
+ghost use Rattle.std.specs.Prelude.{◌≡◌, ◌↔◌, ◌≤ℤ◌, IfSome, IsTrue, nat_le, length, Some, None, OnOk, OnErr};
 ghost use Rattle.std.specs.Option.{is_some};
 ghost use Rattle.office_days.specs.Limits.{IsDayNumber};
 ghost use Rattle.office_holds.specs.Conditions.{target_count};
 ghost use Rattle.office_holds.specs.Effects.{with_target, without_target};
 ghost use Rattle.office_holds.specs.Forms.{IsFormedHold};
-ghost use Rattle.office_holds.specs.Holds.{has_target, hold_covers, is_in_force};
+ghost use Rattle.office_holds.specs.HoldCounts.{CountsDown};
+ghost use Rattle.office_holds.specs.Holds.{has_target, hold_covers};
 ghost use Rattle.office_holds.specs.Rows.{hold_from, hold_row};
 ghost use Rattle.office_holds.specs.Sound.{TargetsAreThere};
 
+use crate::counts::HoldCounts;
+use crate::numbers::count_each_down;
 use crate::sets::{
     are_aggregations, are_classes, are_records, count_codes, count_numbers, formed_codes, has_any,
     has_code, has_number, put_code, put_number, take_code, take_number,
@@ -144,11 +146,13 @@ impl Hold {
         }
     }
 
-    /// Whether it is in force and has the class as a target.
-    pub(crate) fn binds_class(&self, class: &Code) -> bool
-        ensures { result ≡ (is_in_force self.now && contains self.now.classes class.now) }
+    /// Counts each of its targets down by one.
+    pub(crate) fn count_off(&self, counts: &mut HoldCounts)
+        ensures { CountsDown counts.old counts.new (has_target self.now) }
     {
-        !self.is_lifted() && has_code(&self.classes, class)
+        count_each_down(&mut counts.classes, &self.classes);
+        count_each_down(&mut counts.aggregations, &self.aggregations);
+        count_each_down(&mut counts.records, &self.records);
     }
 
     /// Whether it covers a record that these aggregations contain and that has this class.

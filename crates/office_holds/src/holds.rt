@@ -6,10 +6,11 @@ ghost use Rattle.office_holds.specs.Forms.{FitsHoldLimits};
 ghost use Rattle.office_holds.specs.Holds.{is_held, least_covering};
 
 use crate::Hold;
-use crate::finding::{any_covers, first_covering};
+use crate::counts::HoldCounts;
+use crate::finding::first_covering;
 use office_tree::{Code, RecordNo, Tree};
 use std::alloc::Global;
-use std::collections::BTreeMap;
+use std::collections::{BTreeMap, BTreeSet};
 use std::marker::Model;
 
 /// The register of holds by their codes, in which lifted holds stay. Contracts see a `HoldMap`, which
@@ -17,13 +18,19 @@ use std::marker::Model;
 #[derive(Drop)]
 pub struct Holds {
     pub(crate) by_code: BTreeMap<Code, Hold>,
+    /// How many holds in force have each target.
+    pub(crate) counts: HoldCounts,
+    /// The codes of the holds in force; a code more does no harm.
+    pub(crate) in_force: BTreeSet<Code>,
     pub(crate) alloc: Global,
 }
 
 impl Model for Holds {
     ghost use Rattle.std.specs.Coded.{codes};
     ghost use Rattle.std.specs.FinMap as map;
+    ghost use Rattle.std.specs.FinSet.{from_list};
     ghost use Rattle.office_holds.specs.Forms.{FitsHoldLimits};
+    ghost use Rattle.office_holds.specs.HoldCounts.{IsKept};
     ghost use Rattle.office_holds.specs.Holds.{HoldMap};
 
     ghost Value = { HoldMap };
@@ -32,7 +39,7 @@ impl Model for Holds {
 
     ghost view = { λ h. map.from_entries h.by_code.entries };
 
-    ghost invariant = { λ h. FitsHoldLimits (map.from_entries h.by_code.entries) };
+    ghost invariant = { λ h. FitsHoldLimits (map.from_entries h.by_code.entries) × IsKept (map.from_entries h.by_code.entries) h.counts (from_list h.in_force.keys) };
 }
 
 impl Holds {
@@ -42,6 +49,8 @@ impl Holds {
     {
         Holds {
             by_code: BTreeMap::new(alloc),
+            counts: HoldCounts::new(alloc),
+            in_force: BTreeSet::new(alloc),
             alloc,
         }
     }
@@ -59,7 +68,8 @@ impl Holds {
         ensures { result ≡ is_held self.now tree.now record_no }
     {
         let above = tree.above(record_no);
-        any_covers(&self.by_code, record_no, &above, tree.class_of(record_no))
+        self.counts
+            .bind(record_no, &above, tree.class_of(record_no))
     }
 
     /// The least code, in byte order, of the holds that cover the record; `None` where it is not held.
@@ -68,7 +78,13 @@ impl Holds {
         ensures { option_copied result ≡ least_covering self.now tree.now record_no }
     {
         let above = tree.above(record_no);
-        first_covering(&self.by_code, record_no, &above, tree.class_of(record_no))
+        first_covering(
+            &self.by_code,
+            &self.in_force,
+            record_no,
+            &above,
+            tree.class_of(record_no),
+        )
     }
 
     /// Tells in proofs that the holds are within their limits; a call does nothing.

@@ -1,5 +1,4 @@
 ghost use Rattle.std.specs.Prelude.{◌≡◌, ◌&&◌, not, IsTrue, Some, None};
-ghost use Rattle.std.specs.FinMap.{from_entries};
 ghost use Rattle.std.specs.Option.{option_copied};
 ghost use Rattle.std.specs.Str.{bytes_eq};
 ghost use Rattle.office_tree.specs.Effects.{reclassified};
@@ -9,10 +8,8 @@ ghost use Rattle.office_tree.specs.declared.classified.Classified.TheVariants as
 ghost use Rattle.office_holds.specs.Conditions.{would_leave_held_class};
 ghost use Rattle.office_holds.specs.Holds.{is_held_class};
 
-use crate::finding::any_binds_class;
-use crate::{Hold, Holds};
+use crate::Holds;
 use office_tree::{AggNo, Classified, Code, RecordNo, Tree};
-use std::collections::BTreeMap;
 
 /// The class of a record's aggregation, which is the record's where it has none of its own.
 fn class_of_home(tree: &Tree, record_no: RecordNo) -> &Code
@@ -73,17 +70,24 @@ fn is_class(class: Option<&Code>, this: &Code) -> bool
     }
 }
 
-/// Whether a class is left for another, or for none, and a hold in force has it as a target.
-fn leaves(holds: &BTreeMap<Code, Hold>, old: &Code, new: Option<&Code>) -> bool
-    ensures { result ≡ (not (holds_of (option_copied new.entry) (bytes_eq old.now)) && is_held_class (from_entries holds.now.entries) old.now) }
-{
-    if is_class(new, old) {
-        return false;
-    }
-    any_binds_class(holds, old)
-}
-
 impl Holds {
+    /// Whether a hold in force has the class as a target.
+    fn is_held_class(&self, class: &Code) -> bool
+        ensures { result ≡ is_held_class self.now class.now }
+    {
+        self.counts.bind_class(class)
+    }
+
+    /// Whether a class is left for another, or for none, and a hold in force has it as a target.
+    fn leaves(&self, old: &Code, new: Option<&Code>) -> bool
+        ensures { result ≡ (not (holds_of (option_copied new.entry) (bytes_eq old.now)) && is_held_class self.now old.now) }
+    {
+        if is_class(new, old) {
+            return false;
+        }
+        self.is_held_class(old)
+    }
+
     /// Whether the aggregation is there and would leave a held class.
     fn aggregation_leaves(&self, tree: &Tree, aggregation: AggNo, class: Option<&Code>) -> bool
         ensures { result ≡ would_leave_held_class self.now tree.now (classified.Aggregation aggregation) (option_copied class.entry) }
@@ -92,7 +96,7 @@ impl Holds {
             return false;
         }
         let after = aggregation_class_after(tree, aggregation, class);
-        leaves(&self.by_code, tree.aggregation_class_of(aggregation), after)
+        self.leaves(tree.aggregation_class_of(aggregation), after)
     }
 
     /// Whether the record is there and would leave a held class.
@@ -103,7 +107,7 @@ impl Holds {
             return false;
         }
         let after = record_class_after(tree, record_no, class);
-        leaves(&self.by_code, tree.class_of(record_no), Some(after))
+        self.leaves(tree.class_of(record_no), Some(after))
     }
 
     /// Whether what is named is there and would leave a held class.

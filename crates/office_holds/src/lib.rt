@@ -5,10 +5,15 @@
 //! where one of its targets is the record, an aggregation that contains it at any height, or the
 //! record's class. A record is **held** while at least one hold covers it. A hold blocks destruction,
 //! and not the sending of a copy.
+//!
+//! While a hold is in force it is counted for each of its targets, so that three counts tell whether a
+//! record is held, however many holds there are.
 #![tactic(auto)]
 
 mod changing;
 mod checking;
+mod counting;
+mod counts;
 mod examining;
 mod finding;
 mod founding;
@@ -16,6 +21,7 @@ mod hold;
 mod holds;
 pub mod laws;
 mod leaving;
+mod numbers;
 mod row;
 mod sets;
 mod storing;

@@ -1,14 +1,28 @@
-ghost use Rattle.std.specs.Prelude.{◌≡◌, OnOk, OnErr, IsOk, IsTrue, Some};
-ghost use Rattle.std.specs.FinMap.{contains_key, from_entries};
+ghost use Rattle.std.specs.Prelude.{◌≡◌, OnOk, OnErr, None, Some};
+ghost use Rattle.std.specs.FinMap.{contains_key, from_entries, get, insert};
+ghost use Rattle.office_tree.specs.Lists.{amended};
 ghost use Rattle.office_tree.specs.Tree.{code_cmp};
 ghost use Rattle.office_holds.specs.Effects.{held_off, held_on, lifted_hold};
-ghost use Rattle.office_holds.specs.Rows.{put_hold};
+ghost use Rattle.office_holds.specs.HoldCounts.{CountsDown, binds_at};
+ghost use Rattle.office_holds.specs.Rows.{hold_from};
 
+use crate::counts::HoldCounts;
 use crate::{Hold, HoldRow, Target};
 use office_days::Day;
 use office_tree::{Code, Memory};
 use std::alloc::Global;
 use std::collections::BTreeMap;
+
+/// Counts each target of the hold of that code down by one, if the hold is there and in force.
+pub(crate) fn count_off(holds: &BTreeMap<Code, Hold>, code: &Code, counts: &mut HoldCounts)
+    ensures { CountsDown counts.old counts.new (binds_at (from_entries holds.now.entries) code.now) }
+{
+    if let Some(hold) = holds.get(code) {
+        if !hold.is_lifted() {
+            hold.count_off(counts);
+        }
+    }
+}
 
 /// Lifts the hold of that code, if it is there.
 pub(crate) fn lift_in(holds: &mut BTreeMap<Code, Hold>, code: &Code, day: Day)
@@ -19,21 +33,25 @@ pub(crate) fn lift_in(holds: &mut BTreeMap<Code, Hold>, code: &Code, day: Day)
     }
 }
 
-/// Puts the columns in under the code, in place of what was there or as a new hold.
-pub(crate) fn put_in(
+/// Gives the hold of that code other columns, if it is there; its targets stay.
+pub(crate) fn set_row_in(holds: &mut BTreeMap<Code, Hold>, code: &Code, row: HoldRow)
+    ensures { from_entries {R = code_cmp} holds.new.entries ≡ amended (from_entries holds.old.entries) code.now (λ hold. hold_from row (Some hold)) }
+{
+    if let Some(hold) = holds.get_mut(code) {
+        hold.set_row(row);
+    }
+}
+
+/// Adds a hold without targets.
+pub(crate) fn add_in(
     holds: &mut BTreeMap<Code, Hold>,
     alloc: Global,
     code: Code,
     row: HoldRow,
 ) -> Result<(), Memory>
-    ensures ok { OnOk result (from_entries {R = code_cmp} holds.new.entries ≡ put_hold (from_entries holds.old.entries) code row) }
+    ensures ok { OnOk result (from_entries {R = code_cmp} holds.new.entries ≡ insert (from_entries holds.old.entries) code (hold_from row None)) }
     ensures err { OnErr result (holds.new.entries ≡ holds.old.entries) }
-    ensures in_place { IsTrue (contains_key (from_entries {R = code_cmp} holds.old.entries) code) → IsOk result }
 {
-    if let Some(hold) = holds.get_mut(&code) {
-        hold.set_row(row);
-        return Ok(());
-    }
     let hold = Hold::new(alloc, row);
     holds.insert(code, hold)?;
     Ok(())

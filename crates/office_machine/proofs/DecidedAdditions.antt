@@ -10,7 +10,7 @@ use Rattle.office_tree.specs.Sound as tree
 use Rattle.office_tree.specs.Tree.{TreeState}
 use Rattle.office_tree.specs.declared.head.Record.{Record}
 use Rattle.office_tree.specs.declared.status.Status.TheVariants.{Here}
-use Rattle.office_tree.proofs.FoundRefs.{keeps_next}
+use Rattle.office_tree.proofs.LastingRows.{keeps_next_head}
 use Rattle.office_tree.proofs.Keeping.{IsSound-add_record}
 use Rattle.office_tree.proofs.Putting.{put_next}
 use Rattle.office_rules.specs.Acts.{IsChangeTo}
@@ -66,7 +66,7 @@ record_added s t day new r head bytes change same none table sound next is copie
     let puts = next_put s.tree r head (new_head day new) number sound_now.statuses is in
     let low : 0 < r = omega (arith, number) in
     let last : r ≤ length s.tree.records + 1 = omega (arith, number) in
-    let fits : CanWrite s (addition_writes s r head bytes day) = ((low, last, subst tree.IsSound (sym puts) kept, keeps_next (λ (it : Record). it.ref_text) s.tree.records r head.ref_text number), (tt, days_follow s (write_office (row_write.Record r head Here) s) day)) in
+    let fits : CanWrite s (addition_writes s r head bytes day) = ((low, last, subst tree.IsSound (sym puts) kept, keeps_next_head s.tree.records r head number), (tt, days_follow s (write_office (row_write.Record r head Here) s) day)) in
     let days = few_days s day in
     let few : length change.writes.items ≤ 6 = rw written (omega (arith, days)) in
     subst (λ (o : Option ℕ). IsChangeTo s (λ contents. by_same_record o (with_contents s contents) day new) change) (sym none)

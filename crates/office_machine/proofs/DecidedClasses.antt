@@ -2,6 +2,7 @@
 use Rattle.std.proofs.Common.{◌≡◌, ℕ, List, ◌∷◌, Option, Some, None, ℤ, refl, sym, ap, subst, ◌∙◌, arith}
 use Rattle.office_tree.specs.Conditions.{first_of}
 use Rattle.office_tree.specs.Effects.{reclassified}
+use Rattle.office_tree.specs.Lasting.{AggregationStays, HeadStays}
 use Rattle.office_tree.specs.Lists.{numbered, edited, put}
 use Rattle.office_tree.specs.Sound as tree
 use Rattle.office_tree.specs.declared.aggregation.Aggregation.{Aggregation}
@@ -10,7 +11,7 @@ use Rattle.office_tree.specs.declared.classified.Classified.TheVariants as class
 use Rattle.office_tree.specs.declared.head.Record.{Record}
 use Rattle.office_tree.specs.declared.status.Status.{Status}
 use Rattle.office_tree.proofs.Amending.{IsSound-reclassify}
-use Rattle.office_tree.proofs.FoundRefs.{keeps_there}
+use Rattle.office_tree.proofs.LastingRows.{keeps_aggregation, keeps_head}
 use Rattle.office_tree.proofs.Places.{numbered_within}
 use Rattle.office_tree.proofs.Putting.{put-edited, put_same}
 use Rattle.office_rules.specs.Acts.{IsChangeTo}
@@ -40,7 +41,7 @@ aggregation_reclassified s day a class old it change sound accepted there is sam
       within.0,
       omega (arith, within.1),
       subst (λ (aggregations : List Aggregation). tree.IsSound (record s.tree { aggregations = aggregations })) (sym puts) (kept s day what class accepted sound),
-      keeps_there (λ (x : Aggregation). x.ref_text) s.tree.aggregations a old it there (ap (λ (x : Aggregation). x.ref_text) is),
+      keeps_aggregation s.tree.aggregations a old it there (subst (AggregationStays old) (sym is) (record { ref_text = refl; parent = refl })),
     )
     (λ contents. ap (λ (aggregations : List Aggregation). with_contents (record s { tree = record s.tree { aggregations = aggregations } }) contents) puts)
 
@@ -54,5 +55,5 @@ record_reclassified s day r class old head status change sound accepted there st
     let puts : record s.tree { records = put s.tree.records r head; statuses = put s.tree.statuses r status } ≡ reclassified s.tree what class = λ i. record s.tree { records = heads i; statuses = statuses i } in
     let within = numbered_within s.tree.records r old there in
     put_change s day (conditions_of_reclassifying s what class) Done (reclassified s.tree what class) (row_write.Record r head status) change accepted same refl writes
-    (within.0, omega (arith, within.1), subst tree.IsSound (sym puts) (kept s day what class accepted sound), keeps_there (λ (x : Record). x.ref_text) s.tree.records r old head there (ap (λ (x : Record). x.ref_text) is))
+    (within.0, omega (arith, within.1), subst tree.IsSound (sym puts) (kept s day what class accepted sound), keeps_head s.tree.records r old head there (subst (HeadStays old) (sym is) (record { ref_text = refl; aggregation = refl; added = refl })))
     (λ contents. ap (λ t. with_contents (record s { tree = t }) contents) puts)

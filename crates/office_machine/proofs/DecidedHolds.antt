@@ -14,7 +14,7 @@ use Rattle.office_holds.specs.Holds.{HoldMap, HoldState}
 use Rattle.office_holds.specs.Rows.{hold_from, put_hold}
 use Rattle.office_holds.specs.declared.row.HoldRow.{HoldRow}
 use Rattle.office_holds.specs.declared.target.Target.{Target}
-use Rattle.office_holds.proofs.Keeping.{FitsHoldLimits-held_on, FitsHoldLimits-lifted_hold, FitsHoldLimits-placed_hold, placed_by_put}
+use Rattle.office_holds.proofs.Keeping.{FitsHoldLimits-held_on, FitsHoldLimits-lifted_hold, FitsHoldLimits-placed_hold, StaysLifted-free, placed_by_put}
 use Rattle.office_rules.specs.Acts.{IsChangeTo}
 use Rattle.office_rules.specs.Conditions.{conditions_of_covering, dated, lacks_target, refusals_of_hold_off, refusals_of_hold_on, refusals_of_lift_hold, refusals_of_place_hold}
 use Rattle.office_rules.specs.Effects.{with_holds}
@@ -49,7 +49,7 @@ placing_change s day code reason by change fits accepted same writes =
     let none = (dated_accepted s day (conditions_of_place_hold s.holds code) accepted).1 in
     let puts = placed_by_put s.holds day code reason by none in
     put_change s day (conditions_of_place_hold s.holds code) (placed_hold s.holds day code reason by) (row_write.Hold code (placed_row day reason by)) change accepted same writes
-    (subst FitsHoldLimits (sym puts) (FitsHoldLimits-placed_hold s.holds fits day code reason by none))
+    (subst FitsHoldLimits (sym puts) (FitsHoldLimits-placed_hold s.holds fits day code reason by none), StaysLifted-free s.holds code (placed_row day reason by) none)
     (λ contents. ap (λ (holds : HoldMap). with_contents (record s { holds = holds }) contents) puts)
 
 -- the hold that is lifted is there
@@ -74,7 +74,7 @@ pub lifting_change : (s : Office) (day : ℤ) (code : List ℕ) (hold : HoldStat
 lifting_change s day code hold change fits accepted there same writes =
     let puts = lifted_by_put s.holds day code hold there in
     put_change s day (conditions_of_lift_hold s.holds code) (lifted_hold s.holds day code) (row_write.Hold code (lifted_row day hold)) change accepted same writes
-    (subst FitsHoldLimits (sym puts) (FitsHoldLimits-lifted_hold s.holds fits day code))
+    (subst FitsHoldLimits (sym puts) (FitsHoldLimits-lifted_hold s.holds fits day code), λ _ _ _. refl)
     (λ contents. ap (λ (holds : HoldMap). with_contents (record s { holds = holds }) contents) puts)
 
 some_of : (o : Option HoldState) → is_none o ≡ false → IsSome o

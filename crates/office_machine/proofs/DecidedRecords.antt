@@ -5,6 +5,7 @@ use Rattle.std.specs.Option.{option_map}
 use Rattle.office_days.specs.declared.refusal.Refusal.{Refusal}
 use Rattle.office_tree.specs.Conditions.{first_of, conditions_of_confirm, conditions_of_receipt, conditions_of_review, conditions_of_set_record_schedule, lacks_schedule}
 use Rattle.office_tree.specs.Effects.{receipted, with_head}
+use Rattle.office_tree.specs.Lasting.{HeadStays}
 use Rattle.office_tree.specs.Lists.{numbered, or_else, put}
 use Rattle.office_tree.specs.Rows.{put_record}
 use Rattle.office_tree.specs.Sound as tree
@@ -16,7 +17,7 @@ use Rattle.office_tree.specs.declared.status.Status.{Status}
 use Rattle.office_tree.specs.declared.status.Status.TheVariants.{Received}
 use Rattle.office_tree.proofs.Accepting.{none_holds, neither, not_false}
 use Rattle.office_tree.proofs.Amending.{IsSound-confirm, IsSound-receipt, IsSound-review, IsSound-set_record_schedule}
-use Rattle.office_tree.proofs.FoundRefs.{keeps_there}
+use Rattle.office_tree.proofs.LastingRows.{keeps_head}
 use Rattle.office_tree.proofs.Places.{numbered_within}
 use Rattle.office_tree.proofs.Putting.{put-edited, put_edited_to, put_same}
 use Rattle.office_rules.specs.Acts.{IsChangeTo}
@@ -72,13 +73,13 @@ head_put t r edit old head status there standing is =
 
 -- a row put in place of the one of a record that is there, which makes a sound tree of the tree
 row_changed : (s : Office) (day : ℤ) (r : ℕ) (next : TreeState) (old head : Record) (status : Status) (conditions : List (Refusal × Bool)) (change : Change)
-    → first_of conditions ≡ None → numbered s.tree.records r ≡ Some old → head.ref_text ≡ old.ref_text → put_record s.tree r head status ≡ next → tree.IsSound next
+    → first_of conditions ≡ None → numbered s.tree.records r ≡ Some old → HeadStays old head → put_record s.tree r head status ≡ next → tree.IsSound next
     → change.answer ≡ Done → change.writes.items ≡ head_writes s r head status day
     → IsChangeTo s (λ contents. stepped conditions (with_contents s contents) Done (with_office (with_contents s contents) (with_tree s day next))) change
-row_changed s day r next old head status conditions change accepted there named puts sound done written =
+row_changed s day r next old head status conditions change accepted there stays puts sound done written =
     let within = numbered_within s.tree.records r old there in
     let last : r ≤ length s.tree.records + 1 = omega (arith, within.1) in
-    let fits : CanWrite s (head_writes s r head status day) = ((within.0, last, subst tree.IsSound (sym puts) sound, keeps_there (λ (it : Record). it.ref_text) s.tree.records r old head there named), days_follow s (write_office (row_write.Record r head status) s) day) in
+    let fits : CanWrite s (head_writes s r head status day) = ((within.0, last, subst tree.IsSound (sym puts) sound, keeps_head s.tree.records r old head there stays), days_follow s (write_office (row_write.Record r head status) s) day) in
     let days = few_days s day in
     let few : length change.writes.items ≤ 6 = rw written (omega (arith, days)) in
     accepted_change s conditions Done (λ contents. with_office (with_contents s contents) (with_tree s day next)) change accepted (sym done) refl few
@@ -86,11 +87,11 @@ row_changed s day r next old head status conditions change accepted there named 
     (λ contents. ap (λ ws. all_writes ws (with_contents s contents)) written ∙ day_led s day (write (row_write.Record r head status) (with_contents s contents)) refl ∙ ap (λ t. with_contents (with_tree s day t) contents) puts)
 
 pub head_changed : (s : Office) (day : ℤ) (r : ℕ) (edit : Record → Record) (old head : Record) (status : Status) (conditions : List (Refusal × Bool)) (change : Change)
-    → first_of conditions ≡ None → numbered s.tree.records r ≡ Some old → numbered s.tree.statuses r ≡ Some status → head ≡ edit old → (edit old).ref_text ≡ old.ref_text → tree.IsSound (with_head s.tree r edit)
+    → first_of conditions ≡ None → numbered s.tree.records r ≡ Some old → numbered s.tree.statuses r ≡ Some status → head ≡ edit old → HeadStays old (edit old) → tree.IsSound (with_head s.tree r edit)
     → change.answer ≡ Done → change.writes.items ≡ head_writes s r head status day
     → IsChangeTo s (λ contents. stepped conditions (with_contents s contents) Done (with_office (with_contents s contents) (with_tree s day (with_head s.tree r edit)))) change
-head_changed s day r edit old head status conditions change accepted there standing is named sound done written =
-    row_changed s day r (with_head s.tree r edit) old head status conditions change accepted there (ap (λ (it : Record). it.ref_text) is ∙ named) (head_put s.tree r edit old head status there standing is) sound done written
+head_changed s day r edit old head status conditions change accepted there standing is stays sound done written =
+    row_changed s day r (with_head s.tree r edit) old head status conditions change accepted there (subst (HeadStays old) (sym is) stays) (head_put s.tree r edit old head status there standing is) sound done written
 
 -- what a decision reads of a record that is there: its head and its status
 pub record IsRead (t : TreeState) (r : ℕ) (old : Record) (status : Status) : Type 0 where
@@ -106,7 +107,7 @@ scheduled s t day r schedule old head status change same table reads is done wri
     let accepted = subst (λ (u : TreeState). first_of (dated s day (conditions_of_set_record_schedule u r schedule)) ≡ None) same table in
     let read = subst (λ (u : TreeState). IsRead u r old status) same reads in
     let sound = IsSound-set_record_schedule s.tree r schedule read.sound (dated_accepted s day (conditions_of_set_record_schedule s.tree r schedule) accepted).1 in
-    head_changed s day r (λ it. record it { schedule = schedule }) old head status (refusals_of_set_record_schedule s day r schedule) change accepted read.there read.standing is refl sound done written
+    head_changed s day r (λ it. record it { schedule = schedule }) old head status (refusals_of_set_record_schedule s day r schedule) change accepted read.there read.standing is (record { ref_text = refl; aggregation = refl; added = refl }) sound done written
 
 -- the confirmation of a record with that due day
 abbrev pub confirming : Action → ℤ → List ℕ → Option ℤ → Option Confirmation
@@ -123,7 +124,7 @@ confirmed_on s t day r named by old head status change same table reads is done 
     let head_is = subst (λ (u : TreeState). head ≡ record old { confirmation = confirming named day by (due_of u r) }) same is in
     let sound = IsSound-confirm s.tree day r named by read.sound (dated_accepted s day (conditions_of_confirm s.tree day r named) accepted).1 in
     head_changed s day r (λ it. record it { confirmation = confirming named day by (due_of s.tree r) }) old head status
-    (refusals_of_confirm s day r named) change accepted read.there read.standing head_is refl sound done written
+    (refusals_of_confirm s day r named) change accepted read.there read.standing head_is (record { ref_text = refl; aggregation = refl; added = refl }) sound done written
 
 pub reviewed_on : (s : Office) (t : TreeState) (day : ℤ) (r : ℕ) (schedule : Option (List ℕ)) (by : List ℕ) (old head : Record) (status : Status) (change : Change)
     → t ≡ s.tree → first_of (dated s day (conditions_of_review t day r schedule)) ≡ None → IsRead t r old status
@@ -135,7 +136,7 @@ reviewed_on s t day r schedule by old head status change same table reads is don
     let read = subst (λ (u : TreeState). IsRead u r old status) same reads in
     let sound = IsSound-review s.tree day r schedule by read.sound (dated_accepted s day (conditions_of_review s.tree day r schedule) accepted).1 in
     head_changed s day r (λ it. record it { review = Some (record { day = day; by = by }); schedule = or_else schedule it.schedule }) old head status
-    (refusals_of_review s day r schedule) change accepted read.there read.standing is refl sound done written
+    (refusals_of_review s day r schedule) change accepted read.there read.standing is (record { ref_text = refl; aggregation = refl; added = refl }) sound done written
 
 -- the tree with the row put in is the tree with the receipt
 receipt_put : (t : TreeState) (day : ℤ) (r : ℕ) (by : List ℕ) (old head : Record) → tree.IsSound t → numbered t.records r ≡ Some old → head ≡ record old { receipt = Some (record { day = day; by = by }) }
@@ -156,5 +157,5 @@ received_on s t day r digest by old head change same table sound there is done w
     let own_sound = subst (λ (u : TreeState). tree.IsSound u) same sound in
     let own_there = subst (λ (u : TreeState). numbered u.records r ≡ Some old) same there in
     let next_sound = IsSound-receipt s.tree day r digest by own_sound (dated_accepted s day (conditions_of_receipt s.tree r digest) accepted).1 in
-    row_changed s day r (receipted s.tree day r by) old head Received (refusals_of_receipt s day r digest) change accepted own_there (ap (λ (it : Record). it.ref_text) is)
+    row_changed s day r (receipted s.tree day r by) old head Received (refusals_of_receipt s day r digest) change accepted own_there (subst (HeadStays old) (sym is) (record { ref_text = refl; aggregation = refl; added = refl }))
     (receipt_put s.tree day r by old head own_sound own_there is) next_sound done written

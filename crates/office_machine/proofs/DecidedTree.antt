@@ -6,7 +6,7 @@ use Rattle.std.specs.Prelude.{not}
 use Rattle.office_days.specs.declared.refusal.Refusal.{Refusal}
 use Rattle.office_tree.specs.Conditions.{first_of, conditions_of_add_schedule, conditions_of_add_class, conditions_of_set_class_schedule, conditions_of_add_aggregation, conditions_of_close_aggregation}
 use Rattle.office_tree.specs.Effects.{added_schedule, added_class, with_class_schedule}
-use Rattle.office_tree.specs.Indexes.{KeepsRef, aggregation_refs}
+use Rattle.office_tree.specs.Lasting.{KeepsAggregation}
 use Rattle.office_tree.specs.Lists.{numbered, edited, put, amended, amended_by}
 use Rattle.office_tree.specs.Sound as tree
 use Rattle.office_tree.specs.Tree.{TreeState, code_cmp}
@@ -15,7 +15,8 @@ use Rattle.office_tree.specs.declared.class.Class.{Class}
 use Rattle.office_tree.specs.declared.schedule.Schedule.{Schedule}
 use Rattle.office_tree.proofs.Accepting.{none_holds, not_false, neither}
 use Rattle.office_tree.proofs.Amending.{IsSound-set_class_schedule, as_scheduled}
-use Rattle.office_tree.proofs.FoundRefs.{keeps_next, keeps_there}
+use Rattle.office_tree.proofs.Adding.{adds_schedule}
+use Rattle.office_tree.proofs.LastingRows.{keeps_aggregation, keeps_next_aggregation}
 use Rattle.office_tree.proofs.Keeping.{IsSound-add_schedule, IsSound-add_class, IsSound-add_aggregation, IsSound-close_aggregation, as_closed}
 use Rattle.office_tree.proofs.Places.{numbered_within}
 use Rattle.office_tree.proofs.Putting.{put_next, put-edited}
@@ -56,7 +57,7 @@ pub schedule_change : (s : Office) (day : ℤ) (code : List ℕ) (schedule : Sch
     → IsChangeTo s (λ contents. step_add_schedule (with_contents s contents) day code schedule) change
 schedule_change s day code schedule change sound accepted same writes =
     put_change s day (conditions_of_add_schedule s.tree code) Done (added_schedule s.tree code schedule) (row_write.Schedule code schedule) change accepted same refl writes
-    (IsSound-add_schedule s.tree code schedule sound (dated_accepted s day (conditions_of_add_schedule s.tree code) accepted).1) (λ contents. refl)
+    (let own = (dated_accepted s day (conditions_of_add_schedule s.tree code) accepted).1 in (IsSound-add_schedule s.tree code schedule sound own, adds_schedule s.tree code own)) (λ contents. refl)
 
 pub class_change : (s : Office) (day : ℤ) (code : List ℕ) (class : Class) (change : Change) → tree.IsSound s.tree → first_of (refusals_of_add_class s day code class) ≡ None → Done ≡ change.answer → change.writes.items ≡ row_write.Class code class ∷ day_writes s day
     → IsChangeTo s (λ contents. step_add_class (with_contents s contents) day code class) change
@@ -84,7 +85,7 @@ class_schedule_change s day class schedule it change sound accepted there same w
 
 -- a row of an aggregation that is there or is the next one, where the put makes of the aggregations what the act does
 aggregation_put : (s : Office) (day : ℤ) (conditions : List (Refusal × Bool)) (answer : Answer) (a : ℕ) (it : Aggregation) (after : List Aggregation) (change : Change) → first_of (dated s day conditions) ≡ None → answer ≡ change.answer → is_of_change answer ≡ true → change.writes.items ≡ row_write.Aggregation a it ∷ day_writes s day
-    → 0 < a → a ≤ length s.tree.aggregations + 1 → put s.tree.aggregations a it ≡ after → tree.IsSound (record s.tree { aggregations = after }) → KeepsRef (aggregation_refs s.tree.aggregations) a it.ref_text
+    → 0 < a → a ≤ length s.tree.aggregations + 1 → put s.tree.aggregations a it ≡ after → tree.IsSound (record s.tree { aggregations = after }) → KeepsAggregation s.tree.aggregations a it
     → IsChangeTo s (λ contents. stepped (dated s day conditions) (with_contents s contents) answer (with_office (with_contents s contents) (with_tree s day (record s.tree { aggregations = after })))) change
 aggregation_put s day conditions answer a it after change accepted same told writes low high is sound keeps =
     put_change s day conditions answer (record s.tree { aggregations = after }) (row_write.Aggregation a it) change accepted same told writes
@@ -98,7 +99,7 @@ aggregation_change s day ref_text title parent class change sound accepted same 
     let conditions = conditions_of_add_aggregation s.tree ref_text parent class in
     aggregation_put s day conditions (Number (suc (length s.tree.aggregations))) (length s.tree.aggregations + 1) it (s.tree.aggregations ++ it ∷ []) change accepted same refl writes
     (omega arith) (omega arith) (put_next s.tree.aggregations it) (IsSound-add_aggregation s.tree ref_text title parent class sound (dated_accepted s day conditions accepted).1)
-    (keeps_next (λ (it : Aggregation). it.ref_text) s.tree.aggregations (length s.tree.aggregations + 1) ref_text refl)
+    (keeps_next_aggregation s.tree.aggregations (length s.tree.aggregations + 1) it refl)
 
 pub closing_change : (s : Office) (day : ℤ) (a : ℕ) (it : Aggregation) (change : Change) → tree.IsSound s.tree → first_of (refusals_of_close_aggregation s day a) ≡ None → numbered s.tree.aggregations a ≡ Some it → Done ≡ change.answer
     → change.writes.items ≡ row_write.Aggregation a (as_closed day it) ∷ day_writes s day → IsChangeTo s (λ contents. step_close_aggregation (with_contents s contents) day a) change
@@ -108,4 +109,4 @@ closing_change s day a it change sound accepted there same writes =
     let within = numbered_within s.tree.aggregations a it there in
     aggregation_put s day conditions Done a (as_closed day it) (edited s.tree.aggregations a (as_closed day)) change accepted same refl writes
     within.0 (omega (arith, within.1)) (put-edited s.tree.aggregations a (as_closed day) it there) (IsSound-close_aggregation s.tree a day sound by_tree)
-    (keeps_there (λ (it : Aggregation). it.ref_text) s.tree.aggregations a it (as_closed day it) there refl)
+    (keeps_aggregation s.tree.aggregations a it (as_closed day it) there (record { ref_text = refl; parent = refl }))

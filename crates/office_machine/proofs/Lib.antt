@@ -1,3 +1,4 @@
+pub mod AboveRecords
 pub mod DayWrites
 pub mod DecidedAdditions
 pub mod DecidedClasses
@@ -6,12 +7,15 @@ pub mod DecidedRecords
 pub mod DecidedTree
 pub mod Decisions
 pub mod DueLists
+pub mod EndingEntries
 pub mod LesserRefusals
+pub mod LookedAt
 pub mod NextReady
 pub mod OfficeSound
 pub mod OpenedRuns
 pub mod Places
 pub mod RunClosing
+pub mod RunRange
 pub mod RunTaken
 pub mod SameRecords
 pub mod SpentByEntries

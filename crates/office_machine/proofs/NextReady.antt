@@ -15,7 +15,7 @@ pub next_by_row : (s : Office) (run : ℕ) (it : Run) → numbered s.runs run �
 next_by_row s run it there =
     ap (λ o. ready_after s (unwrap_or (option_map (λ (row : Run). row.day) o) (pos 0)) (unwrap_or (option_map (λ (row : Run). row.cursor) o) 0)) there
 
-one_after : (count before : ℕ) → before < count → numbers_after before (count - before) ≡ (before + 1) ∷ numbers_after (before + 1) (count - (before + 1))
+pub one_after : (count before : ℕ) → before < count → numbers_after before (count - before) ≡ (before + 1) ∷ numbers_after (before + 1) (count - (before + 1))
 one_after count before h =
     let left : count - before ≡ suc (count - (before + 1)) = omega arith in
     let more : suc before ≡ before + 1 = omega arith in

@@ -79,7 +79,7 @@ sound_status t r head now sound there =
     subst (λ (records : List Record). tree.IsSound (record t { records = records; statuses = put t.statuses r now })) (sym (put_same t.records r head there)) kept
 
 status_follows : (s : Office) (r : ℕ) (head : Record) (now : Status) → tree.IsSound s.tree → numbered s.tree.records r ≡ Some head → CanFollow s (row_write.Record r head now)
-status_follows s r head now sound there = let within = numbered_within s.tree.records r head there in (within.0, within.1, sound_status s.tree r head now sound there, (head, there, refl))
+status_follows s r head now sound there = let within = numbered_within s.tree.records r head there in (within.0, within.1, sound_status s.tree r head now sound there, (head, there, record { ref_text = refl; aggregation = refl; added = refl }))
 
 can_write : (s : Office) (run r : ℕ) (o : Outcome) (head : Record) (it : Run) → tree.IsSound s.tree → numbered s.tree.records r ≡ Some head → numbered s.runs run ≡ Some it → CanWrite s (taking_writes o (entry_of s run r o) head it)
 can_write s run r outcome.Sent head it sound there opened = (tt, (status_follows s r head status.Sent sound there, (numbered_within s.runs run it opened, tt)))

@@ -1,5 +1,5 @@
 -- The aggregations that are spent by entries: what an aggregation is tested for, and the list of those that pass.
-use Rattle.std.proofs.Common.{◌≡◌, ℕ, suc, ◌-◌, ◌<◌, Bool, true, false, cond, ◌&&◌, List, [], ◌∷◌, ◌++◌, filter, length, refl, sym, ap, ◌∙◌, append_assoc, append-nil, arith}
+use Rattle.std.proofs.Common.{◌≡◌, ℕ, suc, ◌-◌, ◌<◌, Bool, true, false, cond, ◌&&◌, List, [], ◌∷◌, ◌++◌, filter, length, refl, sym, ap, ◌∙◌, append_assoc, arith}
 use Rattle.std.proofs.lemmas.Bool.{and_parts, and_from, and_right}
 use Rattle.std.specs.Cmp.{both_ways}
 use Rattle.std.specs.List.{list_any}
@@ -31,7 +31,7 @@ ended_is_any tree entries a (r, there, below, (e, listed, same, ending)) =
     is_any (ended_below tree a) entries e listed (and_from (is_ending e.outcome && has_record tree e.record_no) (is_below tree a e.record_no) first (ap (is_below tree a) same ∙ below))
 
 -- an entry ended a record that is there and below exactly where a record below is one that an entry ended
-pub any_ended : (tree : TreeState) (entries : List Entry) (a : ℕ) → list_any (ended_below tree a) entries ≡ list_any (is_ended_in entries) (records_below tree a)
+any_ended : (tree : TreeState) (entries : List Entry) (a : ℕ) → list_any (ended_below tree a) entries ≡ list_any (is_ended_in entries) (records_below tree a)
 any_ended tree entries a = both_ways (list_any (ended_below tree a) entries) (list_any (is_ended_in entries) (records_below tree a))
     (λ h. is_ended_below tree entries a (any_is_ended tree entries a h))
     (λ h. ended_is_any tree entries a (ended_below_is tree entries a h))
@@ -83,9 +83,3 @@ module _ (tree : TreeState) (entries : List Entry) where
       ap (λ k. so_far ++ spent_after tree entries k) next
       ∙ ap (λ rest. so_far ++ rest) (sym (chosen n false left (sym (fails ∙ ap (is_spent_by tree entries) next))))
       ∙ before
-
-  -- at last none is after
-  pub spent_at_last : (so_far all : List ℕ) (n : ℕ) → n ≡ length tree.aggregations → so_far ++ spent_after tree entries n ≡ all → so_far ≡ all
-  spent_at_last so_far all n last before =
-      let none : length tree.aggregations - n ≡ 0 = omega arith in
-      sym (append-nil so_far) ∙ ap (λ k. so_far ++ filter (is_spent_by tree entries) (numbers_after n k)) (sym none) ∙ before

@@ -2,4 +2,5 @@ pub mod DayWrites
 pub mod DuePairs
 pub mod EntryPlaces
 pub mod Lesser
+pub mod Marks
 pub mod RunWrites

@@ -1,5 +1,5 @@
 ghost use Rattle.std.specs.Prelude.{◌≡◌, ◌<◌, ◌≤◌, length, OnOk, OnErr};
-ghost use Rattle.office_tree.specs.Indexes.{KeepsRef, record_refs};
+ghost use Rattle.office_tree.specs.Lasting.{KeepsHead};
 ghost use Rattle.office_tree.specs.Rows.{put_record};
 ghost use Rattle.office_tree.specs.Lists.{put};
 ghost use Rattle.office_tree.specs.Sound.{IsSound};
@@ -15,7 +15,7 @@ use office_tree::{Memory, Record, RecordNo, Status, Tree, put_row};
 fn replace_record(tree: &mut Tree, record_no: RecordNo, head: Record, status: Status)
     requires sound { IsSound (put_record tree.old record_no head status) }
     requires there { (0 < record_no) × (record_no ≤ length tree.old.records) }
-    requires ref_text { KeepsRef (record_refs tree.old.records) record_no head.ref_text }
+    requires keeps { KeepsHead tree.old.records record_no head }
     ensures { tree.new ≡ put_record tree.old record_no head status }
 {
     if tree.put_record(record_no, head, status).is_err() {

@@ -1,22 +1,10 @@
 //! What a disposal run does with one record, by how far its disposal has come.
 ghost use Rattle.std.specs.Prelude.{◌≡◌, Some, if◌then◌else◌};
 ghost use Rattle.office_proof.specs.declared.outcome.Outcome.TheVariants.{Skipped};
-ghost use Rattle.office_rules.specs.Disposing.{outcome_by, ready_by};
+ghost use Rattle.office_rules.specs.Disposing.{outcome_by};
 
 use office_proof::Outcome;
 use office_tree::{Action, Status};
-
-/// Whether a run takes a record of that status; one that is here only where it may begin, which is
-/// where its action is to transfer or to destroy, it is due, and its confirmation counts.
-pub(crate) fn ready_by(status: Status, may_begin: bool) -> bool
-    ensures { result ≡ ready_by (Some status) may_begin }
-{
-    match status {
-        Status::Here => may_begin,
-        Status::Received => true,
-        Status::Sent | Status::Ended => false,
-    }
-}
 
 /// That end, or `Skipped` where a hold keeps the record from it.
 fn unless_held(ending: Outcome, held: bool) -> Outcome

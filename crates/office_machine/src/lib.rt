@@ -18,6 +18,7 @@ mod entry_rows;
 mod founding;
 mod lesser;
 mod machine;
+mod marking;
 mod parts;
 mod reading;
 mod reclassifying;

@@ -5,7 +5,7 @@ ghost use Rattle.std.specs.String.{string_bytes};
 ghost use Rattle.office_rules.specs.Acts.{CanBeMade, IsDecidedFor, IsFeasible, KeepsHeld, may_release};
 ghost use Rattle.office_rules.specs.Readings.{IsDueList, all_entries_of, ending_entry, record_view};
 ghost use Rattle.office_rules.specs.Registers.{AreDueRows, entry_rows};
-ghost use Rattle.office_rules.specs.Runs.{next_in_run};
+ghost use Rattle.office_rules.specs.Runs.{looked_at, next_in_run};
 ghost use Rattle.office_rules.specs.Sound.{IsSoundOffice};
 ghost use Rattle.office_rules.specs.State.{empty_office};
 ghost use Rattle.office_rules.specs.Writes.{all_office_writes};
@@ -85,6 +85,17 @@ impl Machine {
         self.parts.next_in_run()
     }
 
+    /// The answer of [`Machine::next_in_run`], and how many candidates were looked at for it: those
+    /// above the cursor of the open run and not above the answer, all above the cursor where it is
+    /// `None`, and none where no run is open.
+    pub fn next_counted(&self) -> (Option<RecordNo>, u32)
+        ensures answer { result.0 ≡ next_in_run self.now }
+        ensures count { result.1 ≡ looked_at self.now }
+    {
+        self.sound();
+        self.parts.next_counted()
+    }
+
     /// What is told of the record; `None` where it is not there.
     pub fn record(&self, alloc: Global, record_no: RecordNo) -> Result<Option<RecordView>, Memory>
         ensures { IfOk result (λ view. view ≡ record_view self.now record_no) }
@@ -96,6 +107,7 @@ impl Machine {
     pub fn entry_of(&self, alloc: Global, record_no: RecordNo) -> Result<Option<Entry>, Memory>
         ensures { IfOk result (λ entry. entry ≡ ending_entry self.now record_no) }
     {
+        self.sound();
         self.parts.entry_that_ended(alloc, record_no)
     }
 

@@ -1,18 +1,19 @@
-ghost use Rattle.std.specs.Prelude.{◌≡◌, ◌==◌, ◌&&◌, IfOk, IsTrue, Some, map};
+ghost use Rattle.std.specs.Prelude.{◌≡◌, ◌↔◌, IfOk, IsTrue, Some};
 ghost use Rattle.std.specs.FinMap.{from_entries, get, values};
-ghost use Rattle.std.specs.List.{find};
 ghost use Rattle.std.specs.Option.{option_copied, option_map};
 ghost use Rattle.std.specs.String.{string_bytes};
+ghost use Rattle.office_tree.specs.Lists.{numbered};
 ghost use Rattle.office_tree.specs.Tree.{has_record};
-ghost use Rattle.office_proof.specs.Outcomes.{is_ending};
+ghost use Rattle.office_tree.specs.declared.status.Status.TheVariants.{Ended};
 ghost use Rattle.office_rules.specs.Readings.{all_entries_of, ending_entry, record_view};
+ghost use Rattle.office_rules.specs.Sound.{IsSoundOffice};
 ghost use Rattle.office_rules.specs.State.{entry_cmp};
 
 use crate::RecordView;
 use crate::parts::Parts;
 use office_proof::{Entry, RunNo};
 use office_rules::{copy_code, copy_codes, copy_entry, copy_texts};
-use office_tree::{Confirmation, Memory, RecordNo};
+use office_tree::{Confirmation, Memory, RecordNo, Status};
 use std::alloc::Global;
 use std::collections::BTreeMap;
 
@@ -27,31 +28,6 @@ fn copy_confirmation(
         Some(confirmation) => Ok(Some(confirmation.copy(alloc)?)),
         None => Ok(None),
     }
-}
-
-/// Whether the entry ended the record.
-fn ended(entry: &Entry, record_no: RecordNo) -> bool
-    ensures { result ≡ entry.now.record_no == record_no && is_ending entry.now.outcome }
-{
-    if entry.record_no != record_no {
-        return false;
-    }
-    entry.outcome.is_ending()
-}
-
-/// The first of the entries that ended the record.
-fn find_ending<'a>(
-    entries: &'a BTreeMap<(RunNo, RecordNo), Entry>,
-    record_no: RecordNo,
-) -> Option<&'a Entry>
-    ensures { option_copied result ≡ find (λ e. e.record_no == record_no && is_ending e.outcome) (values (from_entries {R = entry_cmp} entries.now.entries)) }
-{
-    for entry in entries.values() {
-        if ended(entry, record_no) {
-            return Some(entry);
-        }
-    }
-    None
 }
 
 /// Copies of all the entries, in their order.
@@ -69,15 +45,42 @@ fn copy_entries(
 }
 
 impl Parts {
+    /// Whether the record is there and is ended.
+    fn is_ended(&self, record_no: RecordNo) -> bool
+        ensures { IsTrue result ↔ (numbered self.now.tree.statuses record_no ≡ Some Ended) }
+    {
+        self.tree.sound();
+        self.tree.has_record(record_no) && matches!(self.tree.status(record_no), Status::Ended)
+    }
+
+    /// The entry of the first run that ended the record.
+    fn first_ending(&self, record_no: RecordNo) -> Option<&Entry>
+        requires { IsSoundOffice self.now }
+        ensures { option_copied result ≡ ending_entry self.now record_no }
+    {
+        for before in 0..self.run_count() {
+            if let Some(entry) = self.entries.get(&(before + 1, record_no)) {
+                if entry.outcome.is_ending() {
+                    return Some(entry);
+                }
+            }
+        }
+        None
+    }
+
     /// The entry that ended the record; `None` where it is not ended or not there.
     pub(crate) fn entry_that_ended(
         &self,
         alloc: Global,
         record_no: RecordNo,
     ) -> Result<Option<Entry>, Memory>
+        requires { IsSoundOffice self.now }
         ensures { IfOk result (λ entry. entry ≡ ending_entry self.now record_no) }
     {
-        match find_ending(&self.entries, record_no) {
+        if !self.is_ended(record_no) {
+            return Ok(None);
+        }
+        match self.first_ending(record_no) {
             Some(entry) => Ok(Some(copy_entry(alloc, entry)?)),
             None => Ok(None),
         }

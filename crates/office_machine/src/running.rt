@@ -1,39 +1,16 @@
 ghost use Rattle.std.specs.Prelude.{◌≡◌, length, IsSome, IsTrue, Some};
-ghost use Rattle.office_tree.specs.Disposal.{is_disposal};
 ghost use Rattle.office_tree.specs.Lists.{numbered};
+ghost use Rattle.office_tree.specs.Outlooks.{is_candidate};
 ghost use Rattle.office_tree.specs.Tree.{has_record};
-ghost use Rattle.office_rules.specs.Disposing.{is_ready, may_begin};
-ghost use Rattle.office_rules.specs.Runs.{next_in_run, next_ready, open_run};
+ghost use Rattle.office_rules.specs.Disposing.{is_ready};
+ghost use Rattle.office_rules.specs.Runs.{looked_at, looked_at_in, next_in_run, next_ready, open_run};
 ghost use Rattle.office_rules.specs.Sound.{IsSoundOffice};
 
 use crate::Run;
-use crate::disposing::ready_by;
 use crate::parts::Parts;
 use office_days::Day;
 use office_proof::RunNo;
-use office_tree::{Action, RecordNo, Tree};
-
-/// Whether a run does that action.
-fn is_disposal(action: Action) -> bool
-    ensures { result ≡ is_disposal action }
-{
-    matches!(action, Action::Transfer | Action::Destroy)
-}
-
-/// Whether the record's disposal may begin on that day: its action is to transfer or to destroy, it
-/// is due, and its confirmation counts.
-fn may_begin(tree: &Tree, record_no: RecordNo, day: Day) -> bool
-    requires { IsTrue (has_record tree.now record_no) }
-    ensures { result ≡ may_begin tree.now record_no day }
-{
-    if !is_disposal(tree.schedule_of(record_no).action) {
-        return false;
-    }
-    match tree.due_of(record_no) {
-        Some(due) if due.reached(day) => tree.counts(record_no),
-        _ => false,
-    }
-}
+use office_tree::{RecordNo, Status};
 
 impl Parts {
     /// How many runs there are: the number of the last one.
@@ -64,13 +41,40 @@ impl Parts {
         }
     }
 
-    /// Whether the record is ready for a run of that day.
-    pub(crate) fn is_ready(&self, day: Day, record_no: RecordNo) -> bool
-        requires { IsTrue (has_record self.now.tree record_no) }
+    /// Whether a candidate is ready for a run of that day: it is received, or its due day is reached.
+    fn is_ready(&self, day: Day, record_no: RecordNo) -> bool
+        requires there { IsTrue (has_record self.now.tree record_no) }
+        requires candidate { IsTrue (is_candidate self.now.tree record_no) }
         ensures { result ≡ is_ready self.now day record_no }
     {
-        let may = may_begin(&self.tree, record_no, day);
-        ready_by(self.tree.status(record_no), may)
+        match self.tree.status(record_no) {
+            Status::Here => match self.tree.due_of(record_no) {
+                Some(due) => due.reached(day),
+                None => false,
+            },
+            Status::Received => true,
+            Status::Sent | Status::Ended => false,
+        }
+    }
+
+    /// The least ready record above the cursor of the run, and how many candidates were looked at.
+    fn next_ready_counted(&self, run: RunNo) -> (Option<RecordNo>, u32)
+        requires { IsSome (numbered self.now.runs run) }
+        ensures next { result.0 ≡ next_ready self.now run }
+        ensures count { result.1 ≡ looked_at_in self.now run }
+    {
+        let it = self.run(run);
+        let mut count = 0;
+        for before in it.cursor..self.tree.record_count() {
+            let record_no = before + 1;
+            if self.tree.is_candidate(record_no) {
+                count += 1;
+                if self.is_ready(it.day, record_no) {
+                    return (Some(record_no), count);
+                }
+            }
+        }
+        (None, count)
     }
 
     /// The least ready record above the cursor of the run.
@@ -78,14 +82,19 @@ impl Parts {
         requires { IsSome (numbered self.now.runs run) }
         ensures { result ≡ next_ready self.now run }
     {
-        let it = self.run(run);
-        for before in it.cursor..self.tree.record_count() {
-            let record_no = before + 1;
-            if self.is_ready(it.day, record_no) {
-                return Some(record_no);
-            }
+        self.next_ready_counted(run).0
+    }
+
+    /// The record that the next step of the open run would take, and how many candidates were looked at.
+    pub(crate) fn next_counted(&self) -> (Option<RecordNo>, u32)
+        requires { IsSoundOffice self.now }
+        ensures next { result.0 ≡ next_in_run self.now }
+        ensures count { result.1 ≡ looked_at self.now }
+    {
+        match self.open_run() {
+            Some(run) => self.next_ready_counted(run),
+            None => (None, 0),
         }
-        None
     }
 
     /// The record that the next step of the open run would take.
@@ -93,9 +102,6 @@ impl Parts {
         requires { IsSoundOffice self.now }
         ensures { result ≡ next_in_run self.now }
     {
-        match self.open_run() {
-            Some(run) => self.next_ready(run),
-            None => None,
-        }
+        self.next_counted().0
     }
 }

@@ -67,9 +67,9 @@ Differs s = RefsDiffer s.tree.aggregations s.tree.records
 
 -- a row that follows has its ref for itself, where refs differ after it, and they differed before it
 free_to_follow : (s : Office) (w : RowWrite) → CanFollow s w → Differs (write_office w s) → RefIsFree s w × Differs s
-free_to_follow s (row_write.Record number head status) (low, high, sound, (old, there, named)) differ = (
+free_to_follow s (row_write.Record number head status) (low, high, sound, (old, there, stays)) differ = (
   none_other (λ it. it.ref_text) s.tree.records number head differ.of_records low (omega (arith, high)),
-  record { of_aggregations = differ.of_aggregations; of_records = differed (λ it. it.ref_text) s.tree.records number head old differ.of_records low high there named },
+  record { of_aggregations = differ.of_aggregations; of_records = differed (λ it. it.ref_text) s.tree.records number head old differ.of_records low high there stays.ref_text },
 )
 free_to_follow s (row_write.Run number run) follows differ = (tt, differ)
 free_to_follow s (row_write.Content number bytes) follows differ = (tt, differ)

@@ -1,10 +1,11 @@
 -- A disposal run: its candidates, its steps, and what a run that never stops makes of the office at once. Source: own.
-use Rattle.std.specs.Prelude.{◌≡◌, ◌==◌, ◌&&◌, ℕ, zero, suc, ◌-◌, ◌≤◌, ◌⊎◌, Bool, true, List, [], ◌∷◌, take, length, filter, Option, Some, None, ℤ, pos, if◌then◌else◌}
+use Rattle.std.specs.Prelude.{◌≡◌, ◌==◌, ◌&&◌, ℕ, zero, suc, ◌-◌, ◌≤◌, ◌⊎◌, Bool, true, List, [], ◌∷◌, take, length, filter, nat_le, Option, Some, None, ℤ, pos, if◌then◌else◌}
 use Rattle.std.specs.List.{find, list_any}
 use Rattle.std.specs.Option.{unwrap_or, option_map, option_and_then}
 use Rattle.std.specs.FinMap.{insert, remove, values}
 use Rattle.office_tree.specs.Disposal.{is_below, is_spent, records_below}
 use Rattle.office_tree.specs.Lists.{numbered, edited, numbers_after}
+use Rattle.office_tree.specs.Outlooks.{is_candidate}
 use Rattle.office_tree.specs.Tree.{TreeState, has_record}
 use Rattle.office_tree.specs.declared.status.Status.{Status}
 use Rattle.office_tree.specs.declared.status.Status.TheVariants as status
@@ -168,3 +169,21 @@ step_of s (Some run) = run_step s run
 abbrev pub after_steps : State → ℕ → State
 after_steps s zero = s
 after_steps s (suc n) = after_steps (step_of s (open_run s.office)) n
+
+-- ---- what is looked at to find the next record
+
+-- the candidates of the tree above a run's cursor, ready or not
+abbrev pub candidates_above : Office → ℕ → List ℕ
+candidates_above s run = filter (is_candidate s.tree) (above_cursor s run)
+
+-- how many of them are looked at: those not above the record that is found, and all where none is
+abbrev pub looked_at_by : List ℕ → Option ℕ → ℕ
+looked_at_by them None = length them
+looked_at_by them (Some r) = length (filter (λ c. nat_le c r) them)
+
+abbrev pub looked_at_in : Office → ℕ → ℕ
+looked_at_in s run = looked_at_by (candidates_above s run) (next_ready s run)
+
+-- how many candidates are looked at for the open run; none where no run is open
+abbrev pub looked_at : Office → ℕ
+looked_at s = unwrap_or (option_map (looked_at_in s) (open_run s)) 0

@@ -1,8 +1,8 @@
 -- What a row write makes of the office. Source: own.
-use Rattle.std.specs.Prelude.{◌≡◌, ◌<◌, ◌≤◌, ◌+◌, ℕ, List, [], ◌∷◌, length, Some, IsSome}
-use Rattle.std.specs.FinMap.{get, insert, remove}
+use Rattle.std.specs.Prelude.{◌≡◌, ◌<◌, ◌≤◌, ◌+◌, ℕ, List, [], ◌∷◌, length, Some, IsSome, false}
+use Rattle.std.specs.FinMap.{contains_key, get, insert, remove}
 use Rattle.std.specs.String.{string_bytes}
-use Rattle.office_tree.specs.Indexes.{KeepsRef, aggregation_refs, record_refs}
+use Rattle.office_tree.specs.Lasting.{HeadStays, KeepsAggregation, KeepsHead}
 use Rattle.office_tree.specs.Lists.{numbered, put}
 use Rattle.office_tree.specs.Rows.{put_schedule, put_class, put_aggregation, put_record}
 use Rattle.office_tree.specs.Sound as tree
@@ -10,7 +10,7 @@ use Rattle.office_tree.specs.declared.aggregation.Aggregation.{Aggregation}
 use Rattle.office_tree.specs.declared.head.Record.{Record}
 use Rattle.office_holds.specs.Effects.{held_on, held_off}
 use Rattle.office_holds.specs.Forms.{FitsHoldLimits}
-use Rattle.office_holds.specs.Rows.{put_hold}
+use Rattle.office_holds.specs.Rows.{StaysLifted, put_hold}
 use Rattle.office_rules.specs.State.{State, Office, ByteMap}
 use Rattle.office_rules.specs.declared.rows.RowWrite.{RowWrite}
 use Rattle.office_rules.specs.declared.rows.RowWrite.TheVariants as row_write
@@ -49,15 +49,15 @@ abbrev pub all_writes : List RowWrite → State → State
 all_writes [] s = s
 all_writes (w ∷ ws) s = all_writes ws (write w s)
 
--- a write that can be done first, which may take memory: the key of its row is there, under the same ref, or is the next number, and tree and holds stay within what they promise
+-- a write that can be done first, which may take memory: the key of its row is there or is the next number, tree and holds stay within what they promise, and what is there keeps what stays: a schedule all, an aggregation its ref and parent, a record its ref, aggregation and added day, a hold that it is lifted
 abbrev pub CanPut : Office → RowWrite → Type 0
-CanPut s (row_write.Schedule code schedule) = tree.IsSound (put_schedule s.tree code schedule)
+CanPut s (row_write.Schedule code schedule) = tree.IsSound (put_schedule s.tree code schedule) × (contains_key s.tree.schedules code ≡ false)
 CanPut s (row_write.Class code class) = tree.IsSound (put_class s.tree code class)
 CanPut s (row_write.Aggregation number aggregation) =
-    (0 < number) × (number ≤ length s.tree.aggregations + 1) × tree.IsSound (put_aggregation s.tree number aggregation) × KeepsRef (aggregation_refs s.tree.aggregations) number aggregation.ref_text
+    (0 < number) × (number ≤ length s.tree.aggregations + 1) × tree.IsSound (put_aggregation s.tree number aggregation) × KeepsAggregation s.tree.aggregations number aggregation
 CanPut s (row_write.Record number head status) =
-    (0 < number) × (number ≤ length s.tree.records + 1) × tree.IsSound (put_record s.tree number head status) × KeepsRef (record_refs s.tree.records) number head.ref_text
-CanPut s (row_write.Hold code hold) = FitsHoldLimits (put_hold s.holds code hold)
+    (0 < number) × (number ≤ length s.tree.records + 1) × tree.IsSound (put_record s.tree number head status) × KeepsHead s.tree.records number head
+CanPut s (row_write.Hold code hold) = FitsHoldLimits (put_hold s.holds code hold) × StaysLifted s.holds code hold
 CanPut s (row_write.Target hold target) = IsSome (get s.holds hold) × FitsHoldLimits (held_on s.holds hold target)
 CanPut s (row_write.TargetGone hold target) = Unit {0}
 CanPut s (row_write.Run number run) = (0 < number) × (number ≤ length s.runs + 1)
@@ -65,13 +65,13 @@ CanPut s (row_write.Entry entry) = Unit {0}
 CanPut s (row_write.Certificate run text) = Unit {0}
 CanPut s _ = ⊥
 
--- the record that is there has this ref
-abbrev pub HasRef : Office → ℕ → List ℕ → Type 0
-HasRef s r ref_text = (head : Record) × (numbered s.tree.records r ≡ Some head) × (head.ref_text ≡ ref_text)
+-- a record is there, and keeps what stays of it
+abbrev pub HasHead : Office → ℕ → Record → Type 0
+HasHead s r head = (old : Record) × (numbered s.tree.records r ≡ Some old) × HeadStays old head
 
--- a write that may follow on another, since it takes no memory: a row in place of one that is there, under the same ref, a content, or the day
+-- a write that may follow on another, since it takes no memory: a row in place of one that is there, of which it keeps what stays, a content, or the day
 abbrev pub CanFollow : Office → RowWrite → Type 0
-CanFollow s (row_write.Record number head status) = (0 < number) × (number ≤ length s.tree.records) × tree.IsSound (put_record s.tree number head status) × HasRef s number head.ref_text
+CanFollow s (row_write.Record number head status) = (0 < number) × (number ≤ length s.tree.records) × tree.IsSound (put_record s.tree number head status) × HasHead s number head
 CanFollow s (row_write.Run number run) = (0 < number) × (number ≤ length s.runs)
 CanFollow s (row_write.Content number bytes) = Unit {0}
 CanFollow s (row_write.ContentGone number) = Unit {0}

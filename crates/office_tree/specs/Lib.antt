@@ -5,11 +5,17 @@ pub mod Effects
 pub mod Examined
 pub mod Forms
 pub mod Founding
+pub mod Homes
 pub mod Indexes
+pub mod Lasting
 pub mod Lists
 pub mod Meanings
+pub mod Outlooks
+pub mod Plans
 pub mod Rows
 pub mod Sound
+pub mod Stored
+pub mod Tallies
 pub mod TextForms
 pub mod Tree
 pub mod Words

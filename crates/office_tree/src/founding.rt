@@ -6,11 +6,20 @@ ghost use Rattle.std.specs.Option.{unwrap_or};
 ghost use Rattle.office_tree.specs.Founding.{is_aggregation_named, is_placed, is_record_named, is_there, is_within_limits, tree_of};
 ghost use Rattle.office_tree.specs.Lists.{numbered};
 ghost use Rattle.office_tree.specs.Sound.{IsSound, NamesStand, RootsHaveClasses};
+ghost use Rattle.office_tree.specs.Stored.{IsStored};
 ghost use Rattle.office_tree.specs.Tree.{chain, chain_of, code_cmp};
 ghost use Rattle.office_tree.specs.declared.aggregation.Aggregation.{Aggregation};
 
+use crate::homes::{Homes, homes_of};
 use crate::indexing::{index_of_aggregations, index_of_records};
-use crate::{AggNo, Aggregation, Class, Code, Memory, Record, Schedule, Status, Tree};
+use crate::outlook::Outlook;
+use crate::plans::{Plans, plans_of};
+use crate::renewing::outlooks_of;
+use crate::rows::Rows;
+use crate::tally::{Tally, tallies_of};
+use crate::{
+    AggNo, Aggregation, Class, Code, Memory, Record, RecordNo, Schedule, Status, Text, Tree,
+};
 use std::alloc::Global;
 use std::collections::BTreeMap;
 
@@ -217,6 +226,38 @@ fn are_sound(
     statuses.len() == records.len()
 }
 
+/// What is kept beside the rows of a tree.
+#[derive(Drop)]
+struct Kept {
+    by_aggregation_ref: BTreeMap<Text, AggNo>,
+    by_record_ref: BTreeMap<Text, RecordNo>,
+    plans: Plans,
+    outlooks: Vec<Outlook>,
+    tallies: Vec<Tally>,
+    homes: Homes,
+}
+
+/// What is to be kept beside the rows.
+fn kept_of(alloc: Global, rows: &Rows<'_>) -> Result<Kept, Memory>
+    requires { IsSound rows.now }
+    ensures { IfOk result (λ kept. IsStored rows.now (from_entries kept.by_aggregation_ref.entries) (from_entries kept.by_record_ref.entries) kept.plans kept.outlooks.items kept.tallies.items kept.homes.last.items kept.homes.before.items) }
+{
+    let plans = plans_of(alloc, rows.schedules)?;
+    let tallies = tallies_of(alloc, rows.aggregations, rows.records, rows.statuses)?;
+    let outlooks = outlooks_of(alloc, rows, &plans, &tallies)?;
+    let by_aggregation_ref = index_of_aggregations(alloc, rows.aggregations)?;
+    let by_record_ref = index_of_records(alloc, rows.records)?;
+    let homes = homes_of(alloc, rows.aggregations.len(), rows.records)?;
+    Ok(Kept {
+        by_aggregation_ref,
+        by_record_ref,
+        plans,
+        outlooks,
+        tallies,
+        homes,
+    })
+}
+
 impl Tree {
     /// The tree of these parts, with indexes of their refs; `None` exactly where they hang not together.
     pub fn of_parts(
@@ -232,16 +273,26 @@ impl Tree {
         if !are_sound(&schedules, &classes, &aggregations, &records, &statuses) {
             return Ok(None);
         }
-        let by_aggregation_ref = index_of_aggregations(alloc, &aggregations)?;
-        let by_record_ref = index_of_records(alloc, &records)?;
+        let rows = Rows {
+            schedules: &schedules,
+            classes: &classes,
+            aggregations: &aggregations,
+            records: &records,
+            statuses: &statuses,
+        };
+        let kept = kept_of(alloc, &rows)?;
         Ok(Some(Tree {
             schedules,
             classes,
             aggregations,
             records,
             statuses,
-            by_aggregation_ref,
-            by_record_ref,
+            by_aggregation_ref: kept.by_aggregation_ref,
+            by_record_ref: kept.by_record_ref,
+            plans: kept.plans,
+            outlooks: kept.outlooks,
+            tallies: kept.tallies,
+            homes: kept.homes,
         }))
     }
 }

@@ -1,13 +1,17 @@
 ghost use Rattle.std.specs.Prelude.{◌≡◌, ◌<◌, ◌≤◌, IsTrue, Some, length};
-ghost use Rattle.std.specs.Option.{option_and_then};
+ghost use Rattle.std.specs.Option.{option_and_then, option_map};
 ghost use Rattle.office_tree.specs.Lists.{later, numbered};
-ghost use Rattle.office_tree.specs.Tree.{due_by, due_of, has_record, last_addition, plan_of, schedule_of, start_in, start_of};
+ghost use Rattle.office_tree.specs.Outlooks.{is_candidate};
+ghost use Rattle.office_tree.specs.Tallies.{AreLastAdditions};
+ghost use Rattle.office_tree.specs.Tree.{due_by, due_of, has_record, plan_of, schedule_of, start_in, start_of};
 
+use crate::outlook::Outlook;
+use crate::tally::Tally;
 use crate::{Action, AggNo, Aggregation, Code, Record, RecordNo, Schedule, Tree, Trigger};
 use office_days::{Day, DueDay, due_day};
 
 /// The later of two days, where there may be no first.
-fn later(best: Option<Day>, day: Day) -> Day
+pub(crate) fn later(best: Option<Day>, day: Day) -> Day
     ensures { Some result ≡ later best day }
 {
     match best {
@@ -16,17 +20,14 @@ fn later(best: Option<Day>, day: Day) -> Day
     }
 }
 
-/// The greatest added day of all records ever added to the aggregation.
-fn last_addition(records: &[Record], aggregation: AggNo) -> Option<Day>
-    ensures { result ≡ last_addition records.now aggregation }
+/// The last addition to the aggregation, as it is kept.
+fn last_addition_of(tallies: &[Tally], aggregation: AggNo) -> Option<Day>
+    requires low { 0 < aggregation }
+    requires high { aggregation ≤ length tallies.now }
+    ensures { option_map (λ it. it.last_addition) (numbered tallies.now aggregation) ≡ Some result }
 {
-    let mut best: Option<Day> = None;
-    for head in records {
-        if head.aggregation == aggregation {
-            best = Some(later(best, head.added));
-        }
-    }
-    best
+    let tally = tallies[aggregation as usize - 1];
+    tally.last_addition
 }
 
 /// The day on which the aggregation was closed.
@@ -42,6 +43,7 @@ fn closed_day(aggregations: &[Aggregation], aggregation: AggNo) -> Option<Day>
 /// The start day of a record by a schedule's trigger.
 pub(crate) fn start_in(
     aggregations: &[Aggregation],
+    tallies: &[Tally],
     records: &[Record],
     schedule: Schedule,
     record_no: RecordNo,
@@ -49,6 +51,7 @@ pub(crate) fn start_in(
     requires home { (head : Record) → numbered records.now record_no ≡ Some head → (0 < head.aggregation) × (head.aggregation ≤ length aggregations.now) }
     requires low { 0 < record_no }
     requires high { record_no ≤ length records.now }
+    requires last { AreLastAdditions tallies.now aggregations.now records.now }
     ensures { result ≡ start_in aggregations.now records.now schedule record_no }
 {
     let head = &records[record_no as usize - 1];
@@ -56,7 +59,7 @@ pub(crate) fn start_in(
         Trigger::Origin => Some(head.originated),
         Trigger::Added => Some(head.added),
         Trigger::Closed => closed_day(aggregations, head.aggregation),
-        Trigger::LastAddition => last_addition(records, head.aggregation),
+        Trigger::LastAddition => last_addition_of(tallies, head.aggregation),
         Trigger::Review => match &head.review {
             Some(review) => Some(review.day),
             None => Some(head.added),
@@ -79,20 +82,22 @@ pub(crate) fn due_by(schedule: Schedule, start: Option<Day>) -> Option<DueDay>
 }
 
 impl Tree {
+    /// What is kept of the record.
+    fn outlook(&self, record_no: RecordNo) -> Outlook
+        requires { IsTrue (has_record self.now record_no) }
+        ensures due { result.due ≡ due_of self.now record_no }
+        ensures candidate { result.is_candidate ≡ is_candidate self.now record_no }
+    {
+        self.outlooks[record_no as usize - 1]
+    }
+
     /// The code of the record's plan: its own schedule, else the schedule of its class (MoReq2010,
     /// disposal scheduling service).
     pub fn plan_of(&self, record_no: RecordNo) -> &Code
         requires { IsTrue (has_record self.now record_no) }
         ensures { plan_of self.now record_no ≡ Some result.now }
     {
-        let head = &self.records[record_no as usize - 1];
-        if let Some(schedule) = &head.schedule {
-            return schedule;
-        }
-        match self.classes.get(self.class_of(record_no)) {
-            Some(class) => &class.schedule,
-            None => unreachable!(),
-        }
+        self.plans.code(self.outlooks[record_no as usize - 1].plan)
     }
 
     /// The schedule of the record's plan.
@@ -113,7 +118,13 @@ impl Tree {
         ensures { result ≡ start_of self.now record_no }
     {
         let schedule = self.schedule_of(record_no);
-        start_in(&self.aggregations, &self.records, schedule, record_no)
+        start_in(
+            &self.aggregations,
+            &self.tallies,
+            &self.records,
+            schedule,
+            record_no,
+        )
     }
 
     /// The due day of the record: the start plus the period, then the offset; none where there is
@@ -122,6 +133,15 @@ impl Tree {
         requires { IsTrue (has_record self.now record_no) }
         ensures { result ≡ due_of self.now record_no }
     {
-        due_by(self.schedule_of(record_no), self.start_of(record_no))
+        self.outlook(record_no).due
+    }
+
+    /// Whether a disposal run takes the record once it is due: it is here, its action is to transfer or to destroy and its
+    /// confirmation counts; or it is received.
+    pub fn is_candidate(&self, record_no: RecordNo) -> bool
+        requires { IsTrue (has_record self.now record_no) }
+        ensures { result ≡ is_candidate self.now record_no }
+    {
+        self.outlook(record_no).is_candidate
     }
 }

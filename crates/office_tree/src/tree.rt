@@ -1,6 +1,10 @@
 ghost use Rattle.std.specs.Prelude.{◌≡◌, ◌≤◌, length};
 ghost use Rattle.office_tree.specs.Tree.{empty_tree, has_aggregation, has_record};
 
+use crate::homes::Homes;
+use crate::outlook::Outlook;
+use crate::plans::Plans;
+use crate::tally::Tally;
 use crate::{AggNo, Aggregation, Class, Code, Record, RecordNo, Schedule, Status, Text};
 use std::alloc::Global;
 use std::collections::BTreeMap;
@@ -8,7 +12,8 @@ use std::marker::Model;
 
 /// Schedules and classes by code, aggregations and record heads by number, and the numbers under their refs.
 /// Contracts see a `TreeState`, which is sound: every named thing is there, a root has a class, and no open
-/// aggregation has a closed parent. Nothing in it is derived: the indexes of refs are not seen.
+/// aggregation has a closed parent. Nothing in it is derived: the indexes of refs and what is kept of records and
+/// aggregations are not seen.
 #[derive(Drop)]
 pub struct Tree {
     pub(crate) schedules: BTreeMap<Code, Schedule>,
@@ -18,12 +23,16 @@ pub struct Tree {
     pub(crate) statuses: Vec<Status>,
     pub(crate) by_aggregation_ref: BTreeMap<Text, AggNo>,
     pub(crate) by_record_ref: BTreeMap<Text, RecordNo>,
+    pub(crate) plans: Plans,
+    pub(crate) outlooks: Vec<Outlook>,
+    pub(crate) tallies: Vec<Tally>,
+    pub(crate) homes: Homes,
 }
 
 impl Model for Tree {
     ghost use Rattle.std.specs.FinMap.{from_entries};
     ghost use Rattle.office_tree.specs.Tree.{TreeState};
-    ghost use Rattle.office_tree.specs.Indexes.{IsKept};
+    ghost use Rattle.office_tree.specs.Stored.{IsStored};
     ghost use Rattle.std.specs.Coded.{codes};
     ghost use Rattle.std.specs.FinMap as map;
 
@@ -39,13 +48,13 @@ impl Model for Tree {
       statuses = t.statuses.items;
     } };
 
-    ghost invariant = { λ t. IsKept (record {
+    ghost invariant = { λ t. IsStored (record {
       schedules = from_entries t.schedules.entries;
       classes = from_entries t.classes.entries;
       aggregations = t.aggregations.items;
       records = t.records.items;
       statuses = t.statuses.items;
-    }) (from_entries t.by_aggregation_ref.entries) (from_entries t.by_record_ref.entries) };
+    }) (from_entries t.by_aggregation_ref.entries) (from_entries t.by_record_ref.entries) t.plans t.outlooks.items t.tallies.items t.homes.last.items t.homes.before.items };
 }
 
 impl Tree {
@@ -61,6 +70,10 @@ impl Tree {
             statuses: Vec::new(alloc),
             by_aggregation_ref: BTreeMap::new(alloc),
             by_record_ref: BTreeMap::new(alloc),
+            plans: Plans::new(alloc),
+            outlooks: Vec::new(alloc),
+            tallies: Vec::new(alloc),
+            homes: Homes::new(alloc),
         }
     }
 

@@ -1,7 +1,11 @@
-use Rattle.std.proofs.Common.{◌≡◌, Some}
+use Rattle.std.proofs.Common.{◌≡◌, Some, filter, slice_get}
+use Rattle.std.specs.FinMap.{from_entries, get}
+use Rattle.office_tree.specs.Lists.{holds_of}
+use Rattle.office_tree.specs.Tree.{code_cmp}
 use Rattle.office_holds.specs.Holds.{hold_covers}
-use Rattle.office_holds.proofs.Entries.{first_passing}
 use Rattle.office_holds.proofs.finding.first_covering.Given as goal
 
 abbrev pub invariant-loop-code : goal.invariant-loop-code
-invariant-loop-code l = first_passing (λ hold. hold_covers hold l.record_no l.above (Some l.class)) l.code-iterator ≡ first_passing (λ hold. hold_covers hold l.record_no l.above (Some l.class)) l.holds.entries
+invariant-loop-code l =
+    slice_get (filter (λ code. holds_of (get (from_entries {R = code_cmp} l.holds.entries) code) (λ hold. hold_covers hold l.record_no l.above (Some l.class))) l.code-iterator) 0
+    ≡ slice_get (filter (λ code. holds_of (get (from_entries {R = code_cmp} l.holds.entries) code) (λ hold. hold_covers hold l.record_no l.above (Some l.class))) l.codes.keys) 0

@@ -4,6 +4,7 @@ use Rattle.office_tree.specs.Lists.{or_else}
 use Rattle.office_tree.specs.Tree.{start_by}
 use Rattle.office_tree.specs.declared.head.Review.{Review}
 use Rattle.office_tree.proofs.Places.{numbered_read}
+use Rattle.office_tree.proofs.Kept.{last_read}
 use Rattle.office_tree.proofs.ScheduleLemmas.{start_in-head}
 use Rattle.office_tree.proofs.scheduling.start_in.Goals as goal
 
@@ -25,7 +26,7 @@ returns-in-Closed c =
 pub returns-in-LastAddition : goal.returns-in-LastAddition
 returns-in-LastAddition c =
     let head = numbered_read c.args.records.now c.args.record_no c.index-records-record_no.result c.requires.low c.requires.high c.index-records-record_no.is in
-    c.last_addition.ensures ∙ sym (start_in-head c.args.aggregations.now c.args.records.now c.args.schedule c.args.record_no c.index-records-record_no.result head ∙ ap (λ t. start_by t c.args.aggregations.now c.args.records.now c.index-records-record_no.result) c.in-LastAddition.is)
+    last_read c.args.tallies.now c.args.aggregations.now c.args.records.now c.index-records-record_no.result.aggregation c.last_addition_of.result c.requires.last c.last_addition_of.ensures ∙ sym (start_in-head c.args.aggregations.now c.args.records.now c.args.schedule c.args.record_no c.index-records-record_no.result head ∙ ap (λ t. start_by t c.args.aggregations.now c.args.records.now c.index-records-record_no.result) c.in-LastAddition.is)
 
 pub returns-in-Some : goal.returns-in-Some
 returns-in-Some c =

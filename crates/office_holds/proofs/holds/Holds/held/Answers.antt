@@ -1,15 +1,17 @@
-use Rattle.std.proofs.Common.{ap, sym, ◌∙◌, Some, map, List, ℕ}
-use Rattle.std.specs.List.{list_any}
-use Rattle.office_tree.specs.Tree.{above, class_of}
-use Rattle.office_tree.proofs.Maps.{entries_of_ordered}
-use Rattle.office_holds.specs.Holds.{HoldState, hold_covers, held_in, is_held}
+use Rattle.std.proofs.Common.{ap, sym, ◌∙◌, Some}
+use Rattle.std.specs.FinSet.{from_list}
+use Rattle.office_tree.specs.Tree.{above, code_cmp}
+use Rattle.office_holds.specs.Holds.{held_in, is_held}
+use Rattle.office_holds.specs.contracts.holds.Holds.{the_view}
+use Rattle.office_holds.proofs.Kept.{held_by_kept}
 use Rattle.office_holds.proofs.holds.Holds.held.Goals as goal
 
 pub returns : goal.returns
-unfolding held_in
 returns c =
-    c.any_covers.ensures.value
-    ∙ ap (λ numbers. list_any (λ (hold : HoldState). hold_covers hold c.args.record_no numbers (Some c.class_of.result.now)) (map (λ e. e.1) c.self.inside.by_code.entries)) (c.deref.ensures.0 ∙ c.above-above.ensures)
-    ∙ ap (λ class. list_any (λ (hold : HoldState). hold_covers hold c.args.record_no (above c.args.tree.now c.args.record_no) class) (map (λ e. e.1) c.self.inside.by_code.entries)) (sym c.class_of.ensures)
-    ∙ ap (λ (es : List (List ℕ × HoldState)). list_any (λ hold. hold_covers hold c.args.record_no (above c.args.tree.now c.args.record_no) (class_of c.args.tree.now c.args.record_no)) (map (λ e. e.1) es)) (sym (entries_of_ordered c.self.inside.by_code.entries c.any_covers.ensures.ordered))
-    ∙ ap (λ h. is_held h c.args.tree.now c.args.record_no) c.self.view_is
+    let holds = the_view c.self.inside in
+    let r = c.args.record_no in
+    c.bind.ensures
+    ∙ held_by_kept holds c.self.inside.counts (from_list {R = code_cmp} c.self.inside.in_force.keys) r c.deref.result.now c.class_of.result.now c.self.invariant.1
+    ∙ ap (λ numbers. held_in holds r numbers (Some c.class_of.result.now)) (c.deref.ensures.0 ∙ c.above-above.ensures)
+    ∙ ap (λ class. held_in holds r (above c.args.tree.now r) class) (sym c.class_of.ensures)
+    ∙ ap (λ h. is_held h c.args.tree.now r) c.self.view_is

@@ -1,0 +1,154 @@
+-- What is kept of records, as a loop over them renews it.
+use Rattle.std.proofs.Common.{◌≡◌, ◌≢◌, ℕ, zero, suc, ◌+◌, ◌-◌, ◌<◌, ◌≤◌, ◌==◌, Bool, true, List, [], ◌∷◌, ◌++◌, length, get_or, set, Some, None, refl, sym, subst, ap, ◌∙◌, inl, inr, arith, length-append}
+use Rattle.std.specs.Prelude.{◌⊎◌, false}
+use Rattle.std.specs.Option.{option_map}
+use Rattle.std.proofs.lemmas.Bool.{cases_lt}
+use Rattle.std.proofs.lemmas.Bool.Decides.{nat_tests}
+use Rattle.office_tree.specs.Homes.{IsLastBelow, homes_of}
+use Rattle.office_tree.specs.Lists.{numbered, put}
+use Rattle.office_tree.specs.Outlooks.{AreOutlooks, IsOutlook}
+use Rattle.office_tree.specs.Stored.{AreRenewed, is_meant}
+use Rattle.office_tree.specs.Tree.{TreeState}
+use Rattle.office_tree.specs.declared.head.Record.{Record}
+use Rattle.office_tree.specs.declared.outlook.Outlook.{Outlook}
+use Rattle.office_tree.proofs.FoundRefs.{numbered_map}
+use Rattle.office_tree.proofs.Frames.{numbered_put_other}
+use Rattle.office_tree.proofs.Places.{numbered_push, numbered_read, numbered_within}
+use Rattle.office_tree.proofs.Putting.{numbered-put, put_within}
+
+-- ---- one place written
+
+written : {A : Type 0} (xs : List A) (n : ℕ) (x : A) → 0 < n → n ≤ length xs → put xs n x ≡ set xs (n - 1) x
+written xs n x low high = put_within xs n (n - 1) x (omega (arith, low)) high
+
+-- what was written is what its number is
+pub written_here : {A : Type 0} (xs : List A) (n : ℕ) (x y : A) → 0 < n → n ≤ length xs → numbered (set xs (n - 1) x) n ≡ Some y → x ≡ y
+written_here xs n x y low high e =
+    let is : Some x ≡ Some y = sym (numbered-put xs n x low (omega (arith, high))) ∙ ap (λ zs. numbered zs n) (written xs n x low high) ∙ e in
+    cc
+
+-- and the others are as they were
+pub written_other : {A : Type 0} (xs : List A) (n : ℕ) (x : A) (m : ℕ) → 0 < n → n ≤ length xs → m ≢ n → numbered (set xs (n - 1) x) m ≡ numbered xs m
+written_other xs n x m low high other =
+    ap (λ zs. numbered zs m) (sym (written xs n x low high)) ∙ numbered_put_other xs n m x (omega (arith, high)) (λ e. other (sym e))
+
+-- what was read at a place of the records is the record of the next number
+pub head_at : (records others : List Record) (i : ℕ) (head : Record) → records ≡ others → i < length records → head ≡ get_or records i head → numbered others (i + 1) ≡ Some head
+head_at records others i head same low is =
+    let place : i ≡ i + 1 - 1 = omega arith in
+    ap (λ (heads : List Record). numbered heads (i + 1)) (sym same) ∙ numbered_read records (i + 1) head (omega arith) (omega (arith, low)) (is ∙ ap (λ k. get_or records k head) place)
+
+-- ---- so many records renewed
+
+pub record RenewedTo (codes : List (List ℕ)) (tree : TreeState) (i : ℕ) (old new : List Outlook) : Type 0 where
+  pub count : length new ≡ length old
+  pub done : (r : ℕ) (it : Outlook) → r ≤ i → numbered new r ≡ Some it → IsOutlook codes tree r it
+
+none_yet : (looks : List Outlook) (r : ℕ) (it : Outlook) → r ≤ 0 → numbered looks r ≡ Some it → ⊥
+none_yet looks zero it h e = absurd cc
+none_yet looks (suc r) it h e = absurd (omega (arith, h))
+
+pub renewed_none : (codes : List (List ℕ)) (tree : TreeState) (old : List Outlook) → RenewedTo codes tree 0 old old
+renewed_none codes tree old = record { count = λ _. length old; done = λ r it low e. absurd (none_yet old r it low e) }
+
+-- one record more
+pub renewed_one : (codes : List (List ℕ)) (tree : TreeState) (i : ℕ) (old new next : List Outlook) → RenewedTo codes tree i old new → length next ≡ length new
+    → ((it : Outlook) → numbered next (i + 1) ≡ Some it → IsOutlook codes tree (i + 1) it) → ((r : ℕ) → r ≢ i + 1 → numbered next r ≡ numbered new r) → RenewedTo codes tree (i + 1) old next
+renewed_one codes tree i old new next so_far many here others = record {
+  count = many ∙ so_far.count;
+  done = λ r it low e. elim (cases_lt i r) [
+    | inl above ↦ let same : i + 1 ≡ r = omega (arith, low, above) in subst (λ n. numbered next n ≡ Some it → IsOutlook codes tree n it) same (here it) e
+    | inr below ↦ so_far.done r it below (sym (others r (λ same. omega (arith, same, below))) ∙ e)
+  ];
+}
+
+-- and all are
+pub renewed_all : (codes : List (List ℕ)) (tree : TreeState) (i : ℕ) (old new : List Outlook) → RenewedTo codes tree i old new → length tree.records ≤ i → AreRenewed codes tree None old new
+renewed_all codes tree i old new so_far all = λ r it head e there.
+    let within = numbered_within tree.records r head there in
+    inl (so_far.done r it (omega (arith, all, within.1)) e)
+
+-- ---- the records of one aggregation renewed, from the last on
+
+pub record RenewedAbove (codes : List (List ℕ)) (tree : TreeState) (home at : ℕ) (old new : List Outlook) : Type 0 where
+  pub count : length new ≡ length old
+  pub there : 0 < at → numbered (homes_of tree.records) at ≡ Some home
+  pub done : (r : ℕ) (it : Outlook) (head : Record) → at < r → numbered new r ≡ Some it → numbered tree.records r ≡ Some head
+      → IsOutlook codes tree r it ⊎ ((is_meant (Some home) head ≡ false) × (numbered old r ≡ Some it))
+  pub left : (r : ℕ) → r ≤ at → numbered new r ≡ numbered old r
+
+is_same : (m n : ℕ) → (m == n) ≡ true → m ≡ n
+is_same m n h = grind (arith, nat_tests)
+
+home_told : (records : List Record) (r : ℕ) (head : Record) → numbered records r ≡ Some head → numbered (homes_of records) r ≡ Some head.aggregation
+home_told records r head there = numbered_map (λ (it : Record). it.aggregation) records r ∙ ap (option_map (λ (it : Record). it.aggregation)) there
+
+-- a record that is not of that home is not meant
+not_meant : (records : List Record) (home r : ℕ) (head : Record) → numbered records r ≡ Some head → (numbered (homes_of records) r ≡ Some home → ⊥) → (b : Bool) → (head.aggregation == home) ≡ b → (head.aggregation == home) ≡ false
+not_meant records home r head there apart true test = absurd (apart (home_told records r head there ∙ ap Some (is_same head.aggregation home test)))
+not_meant records home r head there apart false test = test
+
+-- none are yet
+pub renewed_last : (codes : List (List ℕ)) (tree : TreeState) (home at : ℕ) (old : List Outlook) → IsLastBelow (homes_of tree.records) home (length (homes_of tree.records) + 1) at → RenewedAbove codes tree home at old old
+renewed_last codes tree home at old is = record {
+  count = λ _. length old;
+  there = is.there;
+  done = λ r it head low e there.
+      let within = numbered_within (homes_of tree.records) r head.aggregation (home_told tree.records r head there) in
+      inr (not_meant tree.records home r head there (is.last r low (omega (arith, within.1))) (head.aggregation == home) refl, e);
+  left = λ r low. λ _. numbered old r;
+}
+
+-- one record more, and the one before it is the next
+pub renewed_before : (codes : List (List ℕ)) (tree : TreeState) (home at before : ℕ) (old new next : List Outlook) → RenewedAbove codes tree home at old new → length next ≡ length new
+    → ((it : Outlook) → numbered next at ≡ Some it → IsOutlook codes tree at it) → ((r : ℕ) → r ≢ at → numbered next r ≡ numbered new r) → IsLastBelow (homes_of tree.records) home at before
+    → RenewedAbove codes tree home before old next
+renewed_before codes tree home at before old new next so_far many here others is = record {
+  count = many ∙ so_far.count;
+  there = is.there;
+  done = λ r it head low e there. elim (cases_lt at r) [
+    | inl above ↦ so_far.done r it head above (sym (others r (λ same. omega (arith, same, above))) ∙ e) there
+    | inr high ↦ elim (cases_lt r at) [
+      | inl between ↦
+          let was = sym (so_far.left r high) ∙ sym (others r (λ same. omega (arith, same, between))) ∙ e in
+          inr (not_meant tree.records home r head there (is.last r low between) (head.aggregation == home) refl, was)
+      | inr up ↦ let same : at ≡ r = omega (arith, high, up) in inl (subst (λ n. numbered next n ≡ Some it → IsOutlook codes tree n it) same (here it) e)
+    ]
+  ];
+  left = λ r low. let below = is.below in others r (λ same. omega (arith, same, low, below)) ∙ so_far.left r (omega (arith, low, below));
+}
+
+-- and all are
+pub renewed_home : (codes : List (List ℕ)) (tree : TreeState) (home at : ℕ) (old new : List Outlook) → RenewedAbove codes tree home at old new → at ≡ 0 → AreRenewed codes tree (Some home) old new
+renewed_home codes tree home at old new so_far none = λ r it head e there.
+    let within = numbered_within tree.records r head there in
+    so_far.done r it head (omega (arith, none, within.0)) e there
+
+-- ---- so many outlooks
+
+pub record OutlooksTo (codes : List (List ℕ)) (tree : TreeState) (i : ℕ) (looks : List Outlook) : Type 0 where
+  pub count : length looks ≡ i
+  pub each : (r : ℕ) (it : Outlook) → numbered looks r ≡ Some it → IsOutlook codes tree r it
+
+no_look : (r : ℕ) (it : Outlook) → numbered [] r ≡ Some it → ⊥
+no_look zero it e = absurd cc
+no_look (suc r) it e = absurd cc
+
+pub outlooks_none : (codes : List (List ℕ)) (tree : TreeState) (looks : List Outlook) → looks ≡ [] → OutlooksTo codes tree 0 looks
+outlooks_none codes tree looks is = record {
+  count = ap length is;
+  each = λ r it e. absurd (no_look r it (ap (λ those. numbered those r) (sym is) ∙ e));
+}
+
+pub outlooks_next : (codes : List (List ℕ)) (tree : TreeState) (i : ℕ) (looks more : List Outlook) (look : Outlook) → OutlooksTo codes tree i looks → IsOutlook codes tree (i + 1) look → more ≡ looks ++ look ∷ [] → OutlooksTo codes tree (i + 1) more
+outlooks_next codes tree i looks more look so_far here is = record {
+  count = ap length is ∙ length-append looks (look ∷ []) ∙ ap (λ n. n + 1) so_far.count;
+  each = λ r it e. elim (numbered_push looks look it r (ap (λ those. numbered those r) (sym is) ∙ e)) [
+    | inl old ↦ so_far.each r it old
+    | inr new ↦ let same : i + 1 ≡ r = omega (arith, new.0, so_far.count) in
+        subst (λ n. IsOutlook codes tree n it) same (subst (λ (l : Outlook). IsOutlook codes tree (i + 1) l) new.1 here)
+  ];
+}
+
+pub outlooks_all : (codes : List (List ℕ)) (tree : TreeState) (i : ℕ) (looks : List Outlook) → OutlooksTo codes tree i looks → i ≡ length tree.records → AreOutlooks codes tree looks
+outlooks_all codes tree i looks so_far all = record { count = so_far.count ∙ all; each = so_far.each }

@@ -1,0 +1,68 @@
+use Rattle.std.proofs.Common.{◌≡◌, ◌∙◌, Some, None, true, refl, sym, ap, subst}
+use Rattle.std.specs.FinMap.{FinMap, contains_key, from_entries, get, insert}
+use Rattle.std.specs.Fn.{FnOnceReturnsAtMut}
+use Rattle.std.specs.Option.{is_some}
+use Rattle.office_tree.specs.Rows.{put_class}
+use Rattle.office_tree.specs.Sound.{IsSound}
+use Rattle.office_tree.specs.Stored.{AreRenewed, IsStored}
+use Rattle.office_tree.specs.Tree.{TreeState, code_cmp}
+use Rattle.office_tree.specs.contracts.tree.Tree.{the_view}
+use Rattle.office_tree.specs.declared.class.Class.{Class}
+use Rattle.office_tree.proofs.Edits.{class_edited}
+use Rattle.office_tree.proofs.Inserting.{inserted}
+use Rattle.office_tree.proofs.Plan.{contains_is, get_is}
+use Rattle.office_tree.proofs.tree.Tree.edit_class.Goals as goal
+
+pub unreachable-requires : goal.unreachable-requires
+unreachable-requires g c =
+    let there = ap (λ t. contains_key t.classes c.args.code.now) c.self.view_is ∙ c.requires.there in
+    let found = sym (contains_is c.self.inside.classes.entries c.args.code.now) ∙ there in
+    let none : is_some {T = Class} None ≡ true = ap is_some c.in-None.ensures.value ∙ found in
+    cc
+
+pub renew_all-requires-clause-sound : goal.renew_all-requires-clause-sound
+renew_all-requires-clause-sound g c =
+    let tree = the_view c.self.inside in
+    let new = c.change.new.arg2 in
+    let there = sym c.in-Some.ensures.value in
+    let now : get c.args.self.now.classes c.args.code.now ≡ Some c.in-Some.here.now = ap (λ t. get t.classes c.args.code.now) (sym c.self.view_is) ∙ get_is c.self.inside.classes.entries c.args.code.now ∙ there in
+    let finds = ((c.get_mut.follows.holds new).3 (ap is_some there)).0 in
+    let put : insert (from_entries {R = code_cmp} c.self.inside.classes.entries) c.args.code.now new ≡ from_entries {R = code_cmp} (c.get_mut.follows.lender new).entries =
+    sym (inserted c.self.inside.classes.entries (c.get_mut.follows.lender new).entries c.args.code.now new finds) in
+    let gave : FnOnceReturnsAtMut g.F.FnOnce c.args.change c.in-Some.here.now tt new = record { shown = _; shows = refl; left = _; met = c.change.ensures; leaves = refl } in
+    let sound = subst (λ (t : TreeState). IsSound (put_class t c.args.code.now new)) (sym c.self.view_is) (c.requires.sound c.in-Some.here.now new now gave) in
+    let lent : put_class tree c.args.code.now new ≡ record tree { classes = from_entries {R = code_cmp} (c.get_mut.follows.lender new).entries; aggregations = c.deref.result.now; records = c.deref-2.result.now; statuses = c.deref-3.result.now } =
+    λ i. record tree { classes = put i; aggregations = sym c.deref.ensures.value i; records = sym c.deref-2.ensures.value i; statuses = sym c.deref-3.ensures.value i } in
+    subst IsSound lent sound
+
+pub invariant_of-self : goal.invariant_of-self
+invariant_of-self g c =
+    let tree = the_view c.self.inside in
+    let new = c.change.new.arg2 in
+    let there = sym c.in-Some.ensures.value in
+    let now : get c.args.self.now.classes c.args.code.now ≡ Some c.in-Some.here.now = ap (λ t. get t.classes c.args.code.now) (sym c.self.view_is) ∙ get_is c.self.inside.classes.entries c.args.code.now ∙ there in
+    let finds = ((c.get_mut.follows.holds new).3 (ap is_some there)).0 in
+    let put : insert (from_entries {R = code_cmp} c.self.inside.classes.entries) c.args.code.now new ≡ from_entries {R = code_cmp} (c.get_mut.follows.lender new).entries =
+    sym (inserted c.self.inside.classes.entries (c.get_mut.follows.lender new).entries c.args.code.now new finds) in
+    let gave : FnOnceReturnsAtMut g.F.FnOnce c.args.change c.in-Some.here.now tt new = record { shown = _; shows = refl; left = _; met = c.change.ensures; leaves = refl } in
+    let sound = subst (λ (t : TreeState). IsSound (put_class t c.args.code.now new)) (sym c.self.view_is) (c.requires.sound c.in-Some.here.now new now gave) in
+    let lent : put_class tree c.args.code.now new ≡ record tree { classes = from_entries {R = code_cmp} (c.get_mut.follows.lender new).entries; aggregations = c.deref.result.now; records = c.deref-2.result.now; statuses = c.deref-3.result.now } =
+    λ i. record tree { classes = put i; aggregations = sym c.deref.ensures.value i; records = sym c.deref-2.ensures.value i; statuses = sym c.deref-3.ensures.value i } in
+    let renewed = subst (λ (t : TreeState). AreRenewed c.self.inside.plans t None c.self.inside.outlooks.items c.renew_all.new.outlooks.items) (sym lent) c.renew_all.ensures.renewed in
+    let kept =
+    class_edited tree (from_entries {R = code_cmp} c.self.inside.by_aggregation_ref.entries) (from_entries {R = code_cmp} c.self.inside.by_record_ref.entries) c.self.inside.plans c.self.inside.outlooks.items c.renew_all.new.outlooks.items c.self.inside.tallies.items c.self.inside.homes.last.items c.self.inside.homes.before.items
+    c.args.code.now new c.self.invariant sound c.renew_all.ensures.count renewed in
+    subst
+    (λ (classes : FinMap code_cmp Class). IsStored (record tree { classes = classes }) (from_entries {R = code_cmp} c.self.inside.by_aggregation_ref.entries) (from_entries {R = code_cmp} c.self.inside.by_record_ref.entries) c.self.inside.plans c.renew_all.new.outlooks.items c.self.inside.tallies.items c.self.inside.homes.last.items c.self.inside.homes.before.items)
+    put kept
+
+pub returns : goal.returns
+returns g c =
+    let tree = the_view c.self.inside in
+    let new = c.change.new.arg2 in
+    let there = sym c.in-Some.ensures.value in
+    let now : get c.args.self.now.classes c.args.code.now ≡ Some c.in-Some.here.now = ap (λ t. get t.classes c.args.code.now) (sym c.self.view_is) ∙ get_is c.self.inside.classes.entries c.args.code.now ∙ there in
+    let finds = ((c.get_mut.follows.holds new).3 (ap is_some there)).0 in
+    let put = inserted c.self.inside.classes.entries (c.get_mut.follows.lender new).entries c.args.code.now new finds in
+    let gave : FnOnceReturnsAtMut g.F.FnOnce c.args.change c.in-Some.here.now tt new = record { shown = _; shows = refl; left = _; met = c.change.ensures; leaves = refl } in
+    (c.in-Some.here.now, new, now, gave, ap (λ (classes : FinMap code_cmp Class). record tree { classes = classes }) put ∙ ap (λ t. put_class t c.args.code.now new) c.self.view_is)

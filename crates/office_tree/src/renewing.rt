@@ -1,0 +1,125 @@
+//! What is kept of records is renewed once a row was changed.
+ghost use Rattle.std.specs.Prelude.{◌≡◌, ◌≢◌, ℕ, IfOk, IfSome, IsTrue, None, Some, length};
+ghost use Rattle.office_tree.specs.Homes.{HasLinks};
+ghost use Rattle.office_tree.specs.Lists.{numbered};
+ghost use Rattle.office_tree.specs.Outlooks.{AreOutlooks, IsOutlook};
+ghost use Rattle.office_tree.specs.Plans.{ArePlanned};
+ghost use Rattle.office_tree.specs.Sound.{IsSound};
+ghost use Rattle.office_tree.specs.Stored.{AreRenewed};
+ghost use Rattle.office_tree.specs.Tallies.{AreLastAdditions};
+ghost use Rattle.office_tree.specs.Tree.{has_aggregation, has_record};
+
+use crate::homes::Homes;
+use crate::outlook::Outlook;
+use crate::plans::Plans;
+use crate::rows::Rows;
+use crate::tally::Tally;
+use crate::{AggNo, Memory, RecordNo};
+use std::alloc::Global;
+
+/// Renews what is kept of one record.
+pub(crate) fn renew(
+    outlooks: &mut Vec<Outlook>,
+    rows: &Rows<'_>,
+    plans: &Plans,
+    tallies: &[Tally],
+    record_no: RecordNo,
+)
+    requires sound { IsSound rows.now }
+    requires there { IsTrue (has_record rows.now record_no) }
+    requires planned { ArePlanned rows.now.schedules plans.now }
+    requires last { AreLastAdditions tallies.now rows.now.aggregations rows.now.records }
+    requires many { length outlooks.old.items ≡ length rows.now.records }
+    ensures count { length outlooks.new.items ≡ length outlooks.old.items }
+    ensures here { (it : Outlook) → numbered outlooks.new.items record_no ≡ Some it → IsOutlook plans.now rows.now record_no it }
+    ensures others { (r : ℕ) → r ≢ record_no → numbered outlooks.new.items r ≡ numbered outlooks.old.items r }
+{
+    outlooks[record_no as usize - 1] = rows.outlook(plans, tallies, record_no);
+}
+
+/// Renews what is kept of all records.
+pub(crate) fn renew_all(
+    outlooks: &mut Vec<Outlook>,
+    rows: &Rows<'_>,
+    plans: &Plans,
+    tallies: &[Tally],
+)
+    requires sound { IsSound rows.now }
+    requires planned { ArePlanned rows.now.schedules plans.now }
+    requires last { AreLastAdditions tallies.now rows.now.aggregations rows.now.records }
+    requires many { length outlooks.old.items ≡ length rows.now.records }
+    ensures count { length outlooks.new.items ≡ length outlooks.old.items }
+    ensures renewed { AreRenewed plans.now rows.now None outlooks.old.items outlooks.new.items }
+{
+    for i in 0..rows.records.len() {
+        renew(outlooks, rows, plans, tallies, i as RecordNo + 1);
+    }
+}
+
+/// Renews what is kept of the records of one aggregation, and goes through these alone.
+pub(crate) fn renew_home(
+    outlooks: &mut Vec<Outlook>,
+    rows: &Rows<'_>,
+    plans: &Plans,
+    tallies: &[Tally],
+    homes: &Homes,
+    home: AggNo,
+)
+    requires sound { IsSound rows.now }
+    requires planned { ArePlanned rows.now.schedules plans.now }
+    requires last { AreLastAdditions tallies.now rows.now.aggregations rows.now.records }
+    requires many { length outlooks.old.items ≡ length rows.now.records }
+    requires linked { HasLinks rows.now homes.now.last.items homes.now.before.items }
+    requires there { IsTrue (has_aggregation rows.now home) }
+    ensures count { length outlooks.new.items ≡ length outlooks.old.items }
+    ensures renewed { AreRenewed plans.now rows.now (Some home) outlooks.old.items outlooks.new.items }
+{
+    let mut at = homes.last(home);
+    while at != 0 {
+        renew(outlooks, rows, plans, tallies, at);
+        at = homes.before(at);
+    }
+}
+
+/// Renews what is kept of the records of one aggregation, or of all.
+pub(crate) fn renew_meant(
+    outlooks: &mut Vec<Outlook>,
+    rows: &Rows<'_>,
+    plans: &Plans,
+    tallies: &[Tally],
+    homes: &Homes,
+    home: Option<AggNo>,
+)
+    requires sound { IsSound rows.now }
+    requires planned { ArePlanned rows.now.schedules plans.now }
+    requires last { AreLastAdditions tallies.now rows.now.aggregations rows.now.records }
+    requires many { length outlooks.old.items ≡ length rows.now.records }
+    requires linked { HasLinks rows.now homes.now.last.items homes.now.before.items }
+    requires there { IfSome home (λ a. IsTrue (has_aggregation rows.now a)) }
+    ensures count { length outlooks.new.items ≡ length outlooks.old.items }
+    ensures renewed { AreRenewed plans.now rows.now home outlooks.old.items outlooks.new.items }
+{
+    match home {
+        Some(aggregation) => renew_home(outlooks, rows, plans, tallies, homes, aggregation),
+        None => renew_all(outlooks, rows, plans, tallies),
+    }
+}
+
+/// What is kept of all records.
+pub(crate) fn outlooks_of(
+    alloc: Global,
+    rows: &Rows<'_>,
+    plans: &Plans,
+    tallies: &[Tally],
+) -> Result<Vec<Outlook>, Memory>
+    requires sound { IsSound rows.now }
+    requires planned { ArePlanned rows.now.schedules plans.now }
+    requires last { AreLastAdditions tallies.now rows.now.aggregations rows.now.records }
+    ensures { IfOk result (λ outlooks. AreOutlooks plans.now rows.now outlooks.items) }
+{
+    let mut outlooks = Vec::new(alloc);
+    for i in 0..rows.records.len() {
+        outlooks.push(rows.outlook(plans, tallies, i as RecordNo + 1))?;
+    }
+    Ok(outlooks)
+}

@@ -1,0 +1,138 @@
+//! The rows of a tree, lent while what is kept of them is renewed.
+ghost use Rattle.std.specs.Prelude.{◌≡◌, ◌&&◌, IsTrue, Some, length};
+ghost use Rattle.std.specs.FinMap.{get};
+ghost use Rattle.std.specs.Ordering.{int_eq};
+ghost use Rattle.office_tree.specs.Disposal.{is_disposal, same_action};
+ghost use Rattle.office_tree.specs.Lists.{holds_of};
+ghost use Rattle.office_tree.specs.Outlooks.{IsOutlook, candidate_by};
+ghost use Rattle.office_tree.specs.Plans.{ArePlanned};
+ghost use Rattle.office_tree.specs.Sound.{IsSound};
+ghost use Rattle.office_tree.specs.Tallies.{AreLastAdditions};
+ghost use Rattle.office_tree.specs.Tree.{has_record, plan_of, schedule_of};
+
+use crate::classifying::class_in;
+use crate::outlook::Outlook;
+use crate::plans::Plans;
+use crate::scheduling::{due_by, start_in};
+use crate::tally::Tally;
+use crate::{Action, Aggregation, Class, Code, Confirmation, Record, RecordNo, Schedule, Status};
+use office_days::DueDay;
+use std::collections::BTreeMap;
+use std::marker::Model;
+
+/// The rows of a tree. Contracts see a `TreeState`.
+#[derive(Drop)]
+pub(crate) struct Rows<'a> {
+    pub(crate) schedules: &'a BTreeMap<Code, Schedule>,
+    pub(crate) classes: &'a BTreeMap<Code, Class>,
+    pub(crate) aggregations: &'a [Aggregation],
+    pub(crate) records: &'a [Record],
+    pub(crate) statuses: &'a [Status],
+}
+
+impl<'a> Model for Rows<'a> {
+    ghost use Rattle.std.specs.FinMap.{from_entries};
+    ghost use Rattle.office_tree.specs.Tree.{TreeState};
+    ghost use Rattle.std.specs.Coded.{codes};
+    ghost use Rattle.std.specs.FinMap as map;
+
+    ghost Value = { TreeState };
+
+    ghost coded = { Prim.hlevel (codes, map.code) };
+
+    ghost view = { λ t. record {
+      schedules = from_entries t.schedules.now.entries;
+      classes = from_entries t.classes.now.entries;
+      aggregations = t.aggregations.now;
+      records = t.records.now;
+      statuses = t.statuses.now;
+    } };
+}
+
+/// Whether a run does that action.
+fn is_disposal(action: Action) -> bool
+    ensures { result ≡ is_disposal action }
+{
+    matches!(action, Action::Transfer | Action::Destroy)
+}
+
+/// Whether the confirmation, if there is one, is of that action and that due day.
+fn is_confirmed(confirmation: &Option<Confirmation>, action: Action, due: Option<DueDay>) -> bool
+    ensures { result ≡ holds_of confirmation.now (λ it. same_action it.action action && holds_of due (int_eq it.due)) }
+{
+    match confirmation {
+        Some(confirmation) => confirmation.is_of(action, due),
+        None => false,
+    }
+}
+
+/// Whether a run takes a record of that status once it is due.
+fn is_candidate(head: &Record, status: Status, action: Action, due: Option<DueDay>) -> bool
+    ensures { result ≡ candidate_by (Some status) (is_disposal action && holds_of head.now.confirmation (λ it. same_action it.action action && holds_of due (int_eq it.due))) }
+{
+    match status {
+        Status::Here => is_disposal(action) && is_confirmed(&head.confirmation, action, due),
+        Status::Received => true,
+        Status::Sent | Status::Ended => false,
+    }
+}
+
+impl<'a> Rows<'a> {
+    /// The code of the record's plan: its own schedule, else the schedule of its class.
+    pub(crate) fn plan_of(&self, record_no: RecordNo) -> &'a Code
+        requires sound { IsSound self.now }
+        requires there { IsTrue (has_record self.now record_no) }
+        ensures { plan_of self.now record_no ≡ Some result.now }
+    {
+        let head = &self.records[record_no as usize - 1];
+        if let Some(schedule) = &head.schedule {
+            return schedule;
+        }
+        let class = class_in(self.aggregations, self.records, record_no);
+        match self.classes.get(class) {
+            Some(class) => &class.schedule,
+            None => unreachable!(),
+        }
+    }
+
+    /// The schedule of that code, which is the plan of a record.
+    fn schedule(&self, record_no: RecordNo, plan: &Code) -> &'a Schedule
+        requires sound { IsSound self.now }
+        requires plan { plan_of self.now record_no ≡ Some plan.now }
+        ensures { schedule_of self.now record_no ≡ Some result.now }
+    {
+        match self.schedules.get(plan) {
+            Some(schedule) => schedule,
+            None => unreachable!(),
+        }
+    }
+
+    /// What is to be kept of the record.
+    pub(crate) fn outlook(&self, plans: &Plans, tallies: &[Tally], record_no: RecordNo) -> Outlook
+        requires sound { IsSound self.now }
+        requires there { IsTrue (has_record self.now record_no) }
+        requires planned { ArePlanned self.now.schedules plans.now }
+        requires last { AreLastAdditions tallies.now self.now.aggregations self.now.records }
+        ensures { IsOutlook plans.now self.now record_no result }
+    {
+        let at = record_no as usize - 1;
+        let plan = self.plan_of(record_no);
+        let schedule = self.schedule(record_no, plan);
+        let start = start_in(
+            self.aggregations,
+            tallies,
+            self.records,
+            *schedule,
+            record_no,
+        );
+        let mut outlook = Outlook {
+            plan: plans.number_of(plan),
+            due: due_by(*schedule, start),
+            is_candidate: false,
+        };
+        let head = &self.records[at];
+        let status = &self.statuses[at];
+        outlook.is_candidate = is_candidate(head, *status, schedule.action, outlook.due);
+        outlook
+    }
+}
