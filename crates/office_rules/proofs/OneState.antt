@@ -1,5 +1,5 @@
 -- A state is known by its rows.
-use Rattle.std.proofs.Common.{◌≡◌, length, Option, Some, None, refl, sym, ap, ◌∙◌}
+use Rattle.std.proofs.Common.{◌≡◌, [], ◌∷◌, ℤ, length, Option, Some, None, refl, sym, ap, ◌∙◌}
 use Rattle.std.specs.Option.{option_map}
 use Rattle.std.specs.Cmp.{nat_cmp_total}
 use Rattle.std.specs.Cmp.Lexicographic.{nat_list_cmp_total}
@@ -14,8 +14,7 @@ use Rattle.office_holds.specs.declared.target.Target.{Target}
 use Rattle.office_holds.specs.declared.target.Target.TheVariants as target
 use Rattle.office_rules.specs.Rows.{rows_of, record_rows, targets_of}
 use Rattle.office_rules.specs.State.{State, with_contents}
-use Rattle.office_rules.specs.Tables.{StandsFor}
-use Rattle.office_rules.specs.declared.tables.Tables.{Tables}
+use Rattle.office_rules.specs.Tables.{StandsFor, TableLists}
 use Rattle.office_rules.proofs.HoldRows.{codes_apart}
 use Rattle.office_rules.proofs.KeyedRows.{rows_by, rows_by-get}
 use Rattle.office_rules.proofs.NumberedRows.{same_numbered, same_heads, same_statuses}
@@ -68,12 +67,15 @@ one_state s t e f same =
       contents = contents i;
     }
 
+same_day : (x y : ℤ) → x ∷ [] ≡ y ∷ [] → x ≡ y
+same_day x y e = cc
+
 -- tables that were read stand for at most one office
-pub one_office : (t : Tables) (s u : State) → length s.office.tree.statuses ≡ length s.office.tree.records → length u.office.tree.statuses ≡ length u.office.tree.records → StandsFor t s → StandsFor t u → s.office ≡ u.office
+pub one_office : (t : TableLists) (s u : State) → length s.office.tree.statuses ≡ length s.office.tree.records → length u.office.tree.statuses ≡ length u.office.tree.records → StandsFor t s → StandsFor t u → s.office ≡ u.office
 unfolding rows_of
 one_office t s u e f a b =
     ap (λ (x : State). x.office) (one_state s (with_contents u.office s.contents) e f (λ i. record {
-      day = (sym a.day ∙ b.day) i;
+      day = same_day (rows_of s).day (rows_of u).day (sym a.day ∙ b.day) i;
       schedules = (sym a.schedules ∙ b.schedules) i;
       classes = (sym a.classes ∙ b.classes) i;
       aggregations = (sym a.aggregations ∙ b.aggregations) i;

@@ -22,9 +22,8 @@ use Rattle.office_proof.specs.Outcomes.{is_ending, is_skipping, is_transferring}
 use Rattle.office_proof.specs.declared.entry.Entry.{Entry}
 use Rattle.office_rules.specs.Sound.{IsFormedRun, RunsStand}
 use Rattle.office_rules.specs.State.{Office, ByteMap, EntryMap, with_contents}
-use Rattle.office_rules.specs.Tables.{StandsFor}
+use Rattle.office_rules.specs.Tables.{StandsFor, TableLists}
 use Rattle.office_rules.specs.declared.run.Run.{Run}
-use Rattle.office_rules.specs.declared.tables.Tables.{Tables}
 
 -- entries, each under its run and record
 abbrev pub entry_rows : List Entry → List ((ℕ × ℕ) × Entry)
@@ -35,8 +34,8 @@ abbrev pub HaveKeys : ByteMap → List ℕ → Type 0
 HaveKeys contents keys = map (λ e. e.0) (entries contents) ≡ keys
 
 -- with any contents of the keys that were read, the office is the one for which the tables stand
-abbrev pub AreTablesOf : Tables → Office → Type 0
-AreTablesOf tables s = (contents : ByteMap) → HaveKeys contents tables.contents.items → StandsFor tables (with_contents s contents)
+abbrev pub AreTablesOf : TableLists → Office → Type 0
+AreTablesOf tables s = (contents : ByteMap) → HaveKeys contents tables.contents → StandsFor tables (with_contents s contents)
 
 -- what an entry names is there; a hold is told exactly of a skipped record; the record is not above its run's cursor; a record that was transferred has a receipt; one that was ended is ended
 abbrev pub is_entry_right : Office → Entry → Bool

@@ -1,0 +1,52 @@
+use crate::{RecordRow, Run};
+use office_days::Day;
+use office_holds::{HoldRow, Target};
+use office_proof::{Entry, RunNo};
+use office_tree::{AggNo, Aggregation, Class, Code, RecordNo, Schedule};
+
+/// A row of one of the eleven tables, with its key. Of `contents` it is the key alone, of `office`, which has one row of this
+/// version, its day.
+#[derive(Drop)]
+pub enum Row {
+    Office {
+        day: Day,
+    },
+    Schedule {
+        code: Code,
+        schedule: Schedule,
+    },
+    Class {
+        code: Code,
+        class: Class,
+    },
+    Aggregation {
+        number: AggNo,
+        aggregation: Aggregation,
+    },
+    Record {
+        number: RecordNo,
+        columns: RecordRow,
+    },
+    Content {
+        number: RecordNo,
+    },
+    Hold {
+        code: Code,
+        hold: HoldRow,
+    },
+    Target {
+        hold: Code,
+        target: Target,
+    },
+    Run {
+        number: RunNo,
+        run: Run,
+    },
+    Entry {
+        entry: Entry,
+    },
+    Certificate {
+        run: RunNo,
+        text: String,
+    },
+}
