@@ -113,7 +113,8 @@ module _ {V W : Type 0} (f : V → W) where
 pub find-hold_rows : (holds : HoldMap) (q : List ℕ) → find code_cmp q (hold_rows holds) ≡ option_map hold_row (get holds q)
 find-hold_rows holds q = rows_by-find hold_row q (entries holds) ∙ ap (option_map hold_row) (sym (get-entries holds q))
 
-rows-insert : (holds : HoldMap) (k : List ℕ) (v : HoldState) → hold_rows (insert holds k v) ≡ put code_cmp k (hold_row v) (hold_rows holds)
+-- the rows of holds with one put in
+pub rows-insert : (holds : HoldMap) (k : List ℕ) (v : HoldState) → hold_rows (insert holds k v) ≡ put code_cmp k (hold_row v) (hold_rows holds)
 rows-insert holds k v = ap (rows_by hold_row) (entries-insert nat_list_cmp_total holds k v) ∙ rows_by-put hold_row k v (entries holds)
 
 rows-put_by : (holds : HoldMap) (k : List ℕ) (new : Target) (x : Option HoldState) → get holds k ≡ x → hold_rows (amended_by holds k (with_target new) x) ≡ hold_rows holds

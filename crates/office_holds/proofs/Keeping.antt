@@ -224,7 +224,7 @@ without_count (target.Record r) hold = omega (arith, len_less nat_cmp_total hold
 has_room : (holds : HoldMap) (code : List ℕ) (hold : HoldState) → get holds code ≡ Some hold → has_all_targets holds code ≡ false → target_count hold < 1_000
 has_room holds code hold is room = below (target_count hold) 1_000 (sym (ap (λ (o : Option HoldState). holds_of o (λ it. nat_le 1_000 (target_count it))) is) ∙ room)
 
-abbrev HasFewTargets : List ℕ → HoldState → Type 0
+abbrev pub HasFewTargets : List ℕ → HoldState → Type 0
 HasFewTargets code hold = target_count hold ≤ 1_000
 
 pub FitsHoldLimits-empty : FitsHoldLimits empty

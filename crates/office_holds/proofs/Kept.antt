@@ -17,7 +17,7 @@ use Rattle.office_tree.proofs.Maps.{entries_of_ordered}
 use Rattle.office_tree.proofs.Inserting.{get-amended, same_code}
 use Rattle.office_holds.specs.Effects.{held_off, held_on, lifted_hold, with_target, without_target}
 use Rattle.office_holds.specs.Forms.{FitsHoldLimits}
-use Rattle.office_holds.specs.Founding.{bare_holds, same_target}
+use Rattle.office_holds.specs.Founding.{same_target}
 use Rattle.office_holds.specs.HoldCounts.{CountsDown, CountsUp, HasInForce, IsKept, binding_count, binds, binds_at, is_bound, kept_count, may_gain}
 use Rattle.office_holds.specs.Holds.{HoldMap, HoldState, covers_in, has_target, held_in, hold_covers, is_in_force}
 use Rattle.office_holds.specs.Numbers.{one_if}
@@ -57,30 +57,12 @@ module _ (holds : HoldMap) (k : List ℕ) where
   pub none_there : (t : Target) → get holds k ≡ None → binds_at holds k t ≡ false
   none_there t none = ap (λ (o : Option HoldState). holds_of o (binds t)) none
 
--- ---- no holds, and holds without targets
+-- ---- no holds
 
 pub IsKept-empty : (counts : HoldCounts) (codes : FinSet code_cmp) → ((t : Target) → kept_count counts t ≡ 0) → IsKept empty counts codes
 IsKept-empty counts codes zero = record {
   counted = λ t. let few = binding_count-le empty t in let none = len-empty code_cmp HoldState in omega (arith, few, none, zero t);
   in_force = λ q hold is. let none = get-empty {X = HoldState} code_cmp q in absurd cc;
-}
-
-and_false : (a b : Bool) → b ≡ false → (a && b) ≡ false
-and_false true b e = e
-and_false false b e = refl
-
-bare_unbound : (rows : List (List ℕ × HoldRow)) (t : Target) → length (filter (binds t) (map (λ e. e.1) (bare_holds rows))) ≡ 0
-bare_unbound [] t = refl
-bare_unbound (e ∷ es) t =
-    let rest : List HoldState = filter (binds t) (map (λ f. f.1) (bare_holds es)) in
-    ap (λ b. length (cond b (hold_from e.1 None ∷ rest) rest)) (and_false (is_none e.1.lifted) (has_target (hold_from e.1 None) t) (bare_none e.1 t)) ∙ bare_unbound es t
-
-pub IsKept-bare : (rows : List (List ℕ × HoldRow)) (es : List (List ℕ × HoldState)) (counts : HoldCounts) (codes : FinSet code_cmp) → es ≡ bare_holds rows → IsStrictlySortedBy code_cmp (keys_of es)
-    → ((t : Target) → kept_count counts t ≡ 0) → HasInForce (from_entries {R = code_cmp} es) codes → IsKept (from_entries {R = code_cmp} es) counts codes
-unfolding binding_count
-IsKept-bare rows es counts codes same ordered zero has = record {
-  counted = λ t. zero t ∙ sym (ap (λ (fs : List (List ℕ × HoldState)). length (filter (binds t) (map (λ e. e.1) fs))) (entries_of_ordered es ordered ∙ same) ∙ bare_unbound rows t);
-  in_force = has;
 }
 
 -- ---- a hold that is lifted

@@ -11,6 +11,7 @@ pub mod Keeping
 pub mod Kept
 pub mod Keys
 pub mod Lasting
+pub mod NextHolds
 pub mod Reclassifying
 pub mod Standing
 pub mod Subsets

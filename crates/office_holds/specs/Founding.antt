@@ -1,12 +1,14 @@
 -- When rows of holds and rows of their targets are those of a register of holds. Source: own.
-use Rattle.std.specs.Prelude.{◌≡◌, ◌==◌, ℕ, Bool, false, ◌&&◌, ◌||◌, not, nat_le, List, map, None}
+use Rattle.std.specs.Prelude.{◌≡◌, ◌==◌, ℕ, Bool, false, ◌&&◌, ◌||◌, not, nat_le, List, map}
 use Rattle.std.specs.FinMap.{entries, get}
-use Rattle.std.specs.List.{list_any}
+use Rattle.std.specs.List.{All, list_any}
 use Rattle.std.specs.Str.{bytes_eq}
+use Rattle.std.specs.declared.cmp.Ordering.TheVariants.{Less}
 use Rattle.office_tree.specs.Lists.{holds_of}
+use Rattle.office_tree.specs.Tree.{code_cmp}
 use Rattle.office_holds.specs.Conditions.{target_count}
 use Rattle.office_holds.specs.Holds.{HoldMap, HoldState, has_target}
-use Rattle.office_holds.specs.Rows.{hold_from, hold_row}
+use Rattle.office_holds.specs.Rows.{hold_row}
 use Rattle.office_holds.specs.declared.row.HoldRow.{HoldRow}
 use Rattle.office_holds.specs.declared.target.Target.{Target}
 use Rattle.office_holds.specs.declared.target.Target.TheVariants as target
@@ -34,6 +36,6 @@ pub record AreRowsOf (rows : List (List ℕ × HoldRow)) (targets : List (List �
 abbrev pub takes_target : HoldMap → List ℕ → Target → Bool
 takes_target holds code target = holds_of (get holds code) (λ hold. has_target hold target || not (nat_le 1_000 (target_count hold)))
 
--- holds of these columns, each without targets
-abbrev pub bare_holds : List (List ℕ × HoldRow) → List (List ℕ × HoldState)
-bare_holds rows = map (λ e. (e.0, hold_from e.1 None)) rows
+-- the code is above those of all the holds
+abbrev pub IsAbove : HoldMap → List ℕ → Type 0
+IsAbove holds code = All (λ q. code_cmp q code ≡ Less) (map (λ e. e.0) (entries holds))

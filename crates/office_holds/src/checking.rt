@@ -10,7 +10,7 @@ use office_tree::{Classified, Code, Tree};
 
 impl Holds {
     /// Whether there are as many holds as the office takes, lifted ones counted.
-    fn is_full(&self) -> bool
+    pub(crate) fn is_full(&self) -> bool
         ensures { result ≡ nat_le 1_000 (len self.now) }
     {
         self.by_code.len() >= 1_000

@@ -1,13 +1,10 @@
-ghost use Rattle.std.specs.Prelude.{◌≡◌, ◌≢◌, IsTrue, false, ℕ, suc, List, [], ◌∷◌, ◌++◌, length, vec_len, vec_capacity, ◌<◌, IsOk, Err, OnOk, OnErr, IfOk};
+ghost use Rattle.std.specs.Prelude.{◌≡◌, ◌≢◌, IsTrue, false, suc, [], ◌∷◌, ◌++◌, length, vec_len, vec_capacity, ◌<◌, IsOk, OnOk, OnErr};
 ghost use Rattle.std.specs.Ordering.{is_lt};
 ghost use Rattle.std.specs.List.{All};
-ghost use Rattle.std.specs.List.Sorted.{IsStrictlySortedBy};
-ghost use Rattle.std.specs.Map.{keys_of};
 ghost use Rattle.std.specs.BTreeMap.{keys, IsOrdered};
 ghost use Rattle.std.specs.declared.cmp.Ordering.TheVariants.{Less};
 ghost use Rattle.office_rows.specs.Rows.{numbered_rows, OnDamaged};
 
-use std::alloc::Global;
 use std::collections::BTreeMap;
 
 /// Why nothing is built of rows.
@@ -19,8 +16,8 @@ pub enum Rebuild {
     Damaged,
 }
 
-// Whether the key is above the map's keys.
-fn follows<K: Ord, V>(map: &BTreeMap<K, V>, key: &K) -> bool
+/// Whether the key is above the map's keys.
+pub fn follows<K: Ord, V>(map: &BTreeMap<K, V>, key: &K) -> bool
     ensures below { IsTrue result → All (λ q. K.cmp q key.now ≡ Less) (keys map.now) }
     ensures not_below { result ≡ false → All (λ q. K.cmp q key.now ≡ Less) (keys map.now) → ⊥ }
 {
@@ -76,30 +73,9 @@ pub fn push_numbered<T: Drop>(things: &mut Vec<T>, number: u32, thing: T) -> Res
     push(things, thing)
 }
 
-/// The map that a table by key stands for.
-pub fn keyed<K: Ord + Drop, V: Drop>(
-    alloc: Global,
-    rows: Vec<(K, V)>,
-) -> Result<BTreeMap<K, V>, Rebuild>
-    ensures ok { IfOk result (λ map. map.entries ≡ rows.items) }
-    ensures ordered { IfOk result (λ map. IsOrdered K.cmp map) }
-    ensures damaged { OnDamaged result (IsStrictlySortedBy K.cmp (keys_of rows.items) → ⊥) }
+/// Tells in proofs that the keys of the map ascend; a call does nothing.
+pub fn ordered<K: Ord, V>(map: &BTreeMap<K, V>)
+    ensures { IsOrdered K.cmp map.now }
 {
-    let mut map = BTreeMap::new(alloc);
-    for (key, value) in rows {
-        push_keyed(&mut map, key, value)?;
-    }
-    Ok(map)
-}
-
-/// The list that a table by number stands for.
-pub fn numbered<T: Drop>(alloc: Global, rows: Vec<(u32, T)>) -> Result<Vec<T>, Rebuild>
-    ensures ok { IfOk result (λ things. numbered_rows things.items ≡ rows.items) }
-    ensures damaged { OnDamaged result ((things : List T) → numbered_rows things ≢ rows.items) }
-{
-    let mut things = Vec::new(alloc);
-    for (number, thing) in rows {
-        push_numbered(&mut things, number, thing)?;
-    }
-    Ok(things)
+    let _ = map.len();
 }

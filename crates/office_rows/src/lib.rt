@@ -1,4 +1,5 @@
-//! Rows of tables back to maps and lists: a table by key stands for a map, a table by number for a list.
+//! Rows of tables back to maps and lists, one after another: a table by key stands for a map, a table by number
+//! for a list.
 //!
 //! A table's rows come in the order of its key. They are damaged where that order, or the run of the
 //! numbers 1, 2, .., is broken: then there is no map, or no list, of which they are the rows.
@@ -6,4 +7,4 @@
 
 mod build;
 
-pub use build::{Rebuild, keyed, numbered, push_keyed, push_numbered};
+pub use build::{Rebuild, follows, ordered, push_keyed, push_numbered};

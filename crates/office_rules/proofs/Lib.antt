@@ -5,6 +5,7 @@ pub mod Changes
 pub mod Contents
 pub mod Feasible
 pub mod FreeRefs
+pub mod GivenRows
 pub mod HeldSteps
 pub mod HoldRows
 pub mod KeptHolds

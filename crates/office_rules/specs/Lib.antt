@@ -1,10 +1,10 @@
 pub mod Acts
 pub mod Conditions
-pub mod Copies
 pub mod Disposing
 pub mod Effects
 pub mod Forms
 pub mod Founding
+pub mod Giving
 pub mod Meanings
 pub mod Readings
 pub mod Registers

@@ -50,6 +50,11 @@ with_row t (row.Run number run) = record t { runs = t.runs ++ (number, run) ∷ 
 with_row t (row.Entry entry) = record t { entries = t.entries ++ entry ∷ [] }
 with_row t (row.Certificate run text) = record t { certificates = t.certificates ++ (run, string_bytes text) ∷ [] }
 
+-- rows, one after another
+abbrev pub with_rows : TableLists → List Row → TableLists
+with_rows t [] = t
+with_rows t (r ∷ rs) = with_rows (with_row t r) rs
+
 -- the rows of tables that are in memory whole
 abbrev pub lists_of : Tables → TableLists
 lists_of t = record {

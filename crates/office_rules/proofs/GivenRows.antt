@@ -1,0 +1,264 @@
+-- Rows of tables that are given one after another.
+use Rattle.std.proofs.Common.{◌≡◌, ◌≢◌, ℕ, List, [], ◌∷◌, ◌++◌, map, refl, sym, ap, ◌∙◌, subst, append_assoc, append-nil}
+use Rattle.std.proofs.lemmas.List.{map-append, map-id}
+use Rattle.std.specs.Prelude.{String}
+use Rattle.std.specs.Global.{Global}
+use Rattle.std.specs.String.{string_bytes}
+use Rattle.office_tree.specs.declared.aggregation.Aggregation.{Aggregation}
+use Rattle.office_tree.specs.declared.class.Class.{Class}
+use Rattle.office_tree.specs.declared.schedule.Schedule.{Schedule}
+use Rattle.office_holds.specs.declared.row.HoldRow.{HoldRow}
+use Rattle.office_holds.specs.declared.target.Target.{Target}
+use Rattle.office_proof.specs.declared.entry.Entry.{Entry}
+use Rattle.office_rules.specs.Giving.{StandForNoneFrom, up_to_classes, up_to_contents, up_to_targets}
+use Rattle.office_rules.specs.Tables.{Begins, IsFront, StandForNone, TableLists, no_rows, with_row, with_rows}
+use Rattle.office_rules.specs.declared.rows.RecordRow.{RecordRow}
+use Rattle.office_rules.specs.declared.run.Run.{Run}
+use Rattle.office_rules.specs.declared.table_row.Row.{Row}
+use Rattle.office_rules.specs.declared.table_row.Row.TheVariants as row
+
+-- ---- what the rows of one table make of those that have come
+
+-- a part of the tables that a row of that kind is put at the end of
+module _ {A B : Type 0} (row_of : A → Row) (told : A → B) (part : TableLists → List B) (put : TableLists → List B → TableLists)
+    (one : (t : TableLists) (x : A) → with_row t (row_of x) ≡ put t (part t ++ told x ∷ [])) (here : (t : TableLists) (xs : List B) → part (put t xs) ≡ xs)
+    (over : (t : TableLists) (xs ys : List B) → put (put t xs) ys ≡ put t ys) (same : (t : TableLists) → put t (part t) ≡ t) where
+  with_all : (xs : List A) (t : TableLists) → with_rows t (map row_of xs) ≡ put t (part t ++ map told xs)
+  with_all [] t = sym (ap (put t) (append-nil (part t)) ∙ same t)
+  with_all (x ∷ xs) t =
+      ap (λ u. with_rows u (map row_of xs)) (one t x)
+      ∙ with_all xs (put t (part t ++ told x ∷ []))
+      ∙ ap (λ ys. put (put t (part t ++ told x ∷ [])) (ys ++ map told xs)) (here t (part t ++ told x ∷ []))
+      ∙ over t (part t ++ told x ∷ []) ((part t ++ told x ∷ []) ++ map told xs)
+      ∙ ap (put t) (append_assoc (part t) (told x ∷ []) (map told xs))
+
+module _ {A : Type 0} (row_of : A → Row) (part : TableLists → List A) (put : TableLists → List A → TableLists)
+    (one : (t : TableLists) (x : A) → with_row t (row_of x) ≡ put t (part t ++ x ∷ [])) (here : (t : TableLists) (xs : List A) → part (put t xs) ≡ xs)
+    (over : (t : TableLists) (xs ys : List A) → put (put t xs) ys ≡ put t ys) (same : (t : TableLists) → put t (part t) ≡ t) where
+  with_these : (xs : List A) (t : TableLists) → with_rows t (map row_of xs) ≡ put t (part t ++ xs)
+  with_these xs t = with_all row_of (λ x. x) part put one here over same xs t ∙ ap (λ ys. put t (part t ++ ys)) (map-id xs)
+
+pub schedules_all : (xs : List (List ℕ × Schedule)) (t : TableLists) → with_rows t (map (λ e. row.Schedule e.0 e.1) xs) ≡ record t { schedules = t.schedules ++ xs }
+schedules_all = with_these (λ e. row.Schedule e.0 e.1) (λ t. t.schedules) (λ t xs. record t { schedules = xs }) (λ t x. refl) (λ t xs. refl) (λ t xs ys. refl) (λ t. refl)
+
+pub classes_all : (xs : List (List ℕ × Class)) (t : TableLists) → with_rows t (map (λ e. row.Class e.0 e.1) xs) ≡ record t { classes = t.classes ++ xs }
+classes_all = with_these (λ e. row.Class e.0 e.1) (λ t. t.classes) (λ t xs. record t { classes = xs }) (λ t x. refl) (λ t xs. refl) (λ t xs ys. refl) (λ t. refl)
+
+pub aggregations_all : (xs : List (ℕ × Aggregation)) (t : TableLists) → with_rows t (map (λ e. row.Aggregation e.0 e.1) xs) ≡ record t { aggregations = t.aggregations ++ xs }
+aggregations_all = with_these (λ e. row.Aggregation e.0 e.1) (λ t. t.aggregations) (λ t xs. record t { aggregations = xs }) (λ t x. refl) (λ t xs. refl) (λ t xs ys. refl) (λ t. refl)
+
+pub records_all : (xs : List (ℕ × RecordRow)) (t : TableLists) → with_rows t (map (λ e. row.Record e.0 e.1) xs) ≡ record t { records = t.records ++ xs }
+records_all = with_these (λ e. row.Record e.0 e.1) (λ t. t.records) (λ t xs. record t { records = xs }) (λ t x. refl) (λ t xs. refl) (λ t xs ys. refl) (λ t. refl)
+
+pub contents_all : (xs : List (ℕ)) (t : TableLists) → with_rows t (map (λ number. row.Content number) xs) ≡ record t { contents = t.contents ++ xs }
+contents_all = with_these (λ number. row.Content number) (λ t. t.contents) (λ t xs. record t { contents = xs }) (λ t x. refl) (λ t xs. refl) (λ t xs ys. refl) (λ t. refl)
+
+pub holds_all : (xs : List (List ℕ × HoldRow)) (t : TableLists) → with_rows t (map (λ e. row.Hold e.0 e.1) xs) ≡ record t { holds = t.holds ++ xs }
+holds_all = with_these (λ e. row.Hold e.0 e.1) (λ t. t.holds) (λ t xs. record t { holds = xs }) (λ t x. refl) (λ t xs. refl) (λ t xs ys. refl) (λ t. refl)
+
+pub targets_all : (xs : List (List ℕ × Target)) (t : TableLists) → with_rows t (map (λ e. row.Target e.0 e.1) xs) ≡ record t { targets = t.targets ++ xs }
+targets_all = with_these (λ e. row.Target e.0 e.1) (λ t. t.targets) (λ t xs. record t { targets = xs }) (λ t x. refl) (λ t xs. refl) (λ t xs ys. refl) (λ t. refl)
+
+pub runs_all : (xs : List (ℕ × Run)) (t : TableLists) → with_rows t (map (λ e. row.Run e.0 e.1) xs) ≡ record t { runs = t.runs ++ xs }
+runs_all = with_these (λ e. row.Run e.0 e.1) (λ t. t.runs) (λ t xs. record t { runs = xs }) (λ t x. refl) (λ t xs. refl) (λ t xs ys. refl) (λ t. refl)
+
+pub entries_all : (xs : List (Entry)) (t : TableLists) → with_rows t (map (λ entry. row.Entry entry) xs) ≡ record t { entries = t.entries ++ xs }
+entries_all = with_these (λ entry. row.Entry entry) (λ t. t.entries) (λ t xs. record t { entries = xs }) (λ t x. refl) (λ t xs. refl) (λ t xs ys. refl) (λ t. refl)
+
+abbrev text_row : ℕ × String Global → ℕ × List ℕ
+text_row e = (e.0, string_bytes e.1)
+
+pub certificates_all : (xs : List (ℕ × String Global)) (t : TableLists) → with_rows t (map (λ e. row.Certificate e.0 e.1) xs) ≡ record t { certificates = t.certificates ++ map text_row xs }
+certificates_all = with_all (λ e. row.Certificate e.0 e.1) text_row (λ t. t.certificates) (λ t xs. record t { certificates = xs }) (λ t x. refl) (λ t xs. refl) (λ t xs ys. refl) (λ t. refl)
+
+-- ---- tables that begin with the rows that have come
+
+whole : {A : Type 0} (xs : List A) → IsFront xs xs
+whole xs = ([], sym (append-nil xs))
+
+none : {A : Type 0} (xs : List A) → IsFront [] xs
+none xs = (xs, refl)
+
+-- where no tables begin with what had come and the first of these rows, these tables do not, if they begin so
+broken : {A : Type 0} (row_of : A → Row) (t front come : TableLists) (xs : List A) → ((done rest : List A) → xs ≡ done ++ rest → Begins (with_rows front (map row_of done)) t) → come ≡ front
+    → StandForNoneFrom come row_of xs → StandForNone t
+broken row_of t front come xs begins same broke =
+    broke.3 t (subst (λ u. Begins (with_rows u (map row_of broke.0)) t) (sym same) (begins broke.0 broke.1 broke.2))
+
+module _ (t : TableLists) where
+  pub schedules_broken : (come : TableLists) → come ≡ record no_rows { days = t.days } → StandForNoneFrom come (λ e. row.Schedule e.0 e.1) t.schedules → StandForNone t
+  schedules_broken come = broken (λ e. row.Schedule e.0 e.1) t (record no_rows { days = t.days }) come t.schedules (λ done rest split. subst (λ u. Begins u t) (sym (schedules_all done (record no_rows { days = t.days }))) (record {
+      days = whole t.days;
+      schedules = (rest, split);
+      classes = none t.classes;
+      aggregations = none t.aggregations;
+      records = none t.records;
+      contents = none t.contents;
+      holds = none t.holds;
+      all_holds = λ some. absurd (some refl);
+      targets = none t.targets;
+      runs = none t.runs;
+      entries = none t.entries;
+      certificates = none t.certificates;
+    }))
+
+  pub classes_broken : (come : TableLists) → come ≡ record no_rows { days = t.days; schedules = t.schedules } → StandForNoneFrom come (λ e. row.Class e.0 e.1) t.classes → StandForNone t
+  classes_broken come = broken (λ e. row.Class e.0 e.1) t (record no_rows { days = t.days; schedules = t.schedules }) come t.classes (λ done rest split. subst (λ u. Begins u t) (sym (classes_all done (record no_rows { days = t.days; schedules = t.schedules }))) (record {
+      days = whole t.days;
+      schedules = whole t.schedules;
+      classes = (rest, split);
+      aggregations = none t.aggregations;
+      records = none t.records;
+      contents = none t.contents;
+      holds = none t.holds;
+      all_holds = λ some. absurd (some refl);
+      targets = none t.targets;
+      runs = none t.runs;
+      entries = none t.entries;
+      certificates = none t.certificates;
+    }))
+
+  pub aggregations_broken : (come : TableLists) → come ≡ up_to_classes t → StandForNoneFrom come (λ e. row.Aggregation e.0 e.1) t.aggregations → StandForNone t
+  aggregations_broken come = broken (λ e. row.Aggregation e.0 e.1) t (up_to_classes t) come t.aggregations (λ done rest split. subst (λ u. Begins u t) (sym (aggregations_all done (up_to_classes t))) (record {
+      days = whole t.days;
+      schedules = whole t.schedules;
+      classes = whole t.classes;
+      aggregations = (rest, split);
+      records = none t.records;
+      contents = none t.contents;
+      holds = none t.holds;
+      all_holds = λ some. absurd (some refl);
+      targets = none t.targets;
+      runs = none t.runs;
+      entries = none t.entries;
+      certificates = none t.certificates;
+    }))
+
+  pub records_broken : (come : TableLists) → come ≡ record (up_to_classes t) { aggregations = t.aggregations } → StandForNoneFrom come (λ e. row.Record e.0 e.1) t.records → StandForNone t
+  records_broken come = broken (λ e. row.Record e.0 e.1) t (record (up_to_classes t) { aggregations = t.aggregations }) come t.records (λ done rest split. subst (λ u. Begins u t) (sym (records_all done (record (up_to_classes t) { aggregations = t.aggregations }))) (record {
+      days = whole t.days;
+      schedules = whole t.schedules;
+      classes = whole t.classes;
+      aggregations = whole t.aggregations;
+      records = (rest, split);
+      contents = none t.contents;
+      holds = none t.holds;
+      all_holds = λ some. absurd (some refl);
+      targets = none t.targets;
+      runs = none t.runs;
+      entries = none t.entries;
+      certificates = none t.certificates;
+    }))
+
+  pub contents_broken : (come : TableLists) → come ≡ record (up_to_classes t) { aggregations = t.aggregations; records = t.records } → StandForNoneFrom come (λ number. row.Content number) t.contents → StandForNone t
+  contents_broken come = broken (λ number. row.Content number) t (record (up_to_classes t) { aggregations = t.aggregations; records = t.records }) come t.contents (λ done rest split. subst (λ u. Begins u t) (sym (contents_all done (record (up_to_classes t) { aggregations = t.aggregations; records = t.records }))) (record {
+      days = whole t.days;
+      schedules = whole t.schedules;
+      classes = whole t.classes;
+      aggregations = whole t.aggregations;
+      records = whole t.records;
+      contents = (rest, split);
+      holds = none t.holds;
+      all_holds = λ some. absurd (some refl);
+      targets = none t.targets;
+      runs = none t.runs;
+      entries = none t.entries;
+      certificates = none t.certificates;
+    }))
+
+  pub holds_broken : (come : TableLists) → come ≡ up_to_contents t → StandForNoneFrom come (λ e. row.Hold e.0 e.1) t.holds → StandForNone t
+  holds_broken come = broken (λ e. row.Hold e.0 e.1) t (up_to_contents t) come t.holds (λ done rest split. subst (λ u. Begins u t) (sym (holds_all done (up_to_contents t))) (record {
+      days = whole t.days;
+      schedules = whole t.schedules;
+      classes = whole t.classes;
+      aggregations = whole t.aggregations;
+      records = whole t.records;
+      contents = whole t.contents;
+      holds = (rest, split);
+      all_holds = λ some. absurd (some refl);
+      targets = none t.targets;
+      runs = none t.runs;
+      entries = none t.entries;
+      certificates = none t.certificates;
+    }))
+
+  pub targets_broken : (come : TableLists) → come ≡ record (up_to_contents t) { holds = t.holds } → StandForNoneFrom come (λ e. row.Target e.0 e.1) t.targets → StandForNone t
+  targets_broken come = broken (λ e. row.Target e.0 e.1) t (record (up_to_contents t) { holds = t.holds }) come t.targets (λ done rest split. subst (λ u. Begins u t) (sym (targets_all done (record (up_to_contents t) { holds = t.holds }))) (record {
+      days = whole t.days;
+      schedules = whole t.schedules;
+      classes = whole t.classes;
+      aggregations = whole t.aggregations;
+      records = whole t.records;
+      contents = whole t.contents;
+      holds = whole t.holds;
+      all_holds = λ some. refl;
+      targets = (rest, split);
+      runs = none t.runs;
+      entries = none t.entries;
+      certificates = none t.certificates;
+    }))
+
+  pub runs_broken : (come : TableLists) → come ≡ up_to_targets t → StandForNoneFrom come (λ e. row.Run e.0 e.1) t.runs → StandForNone t
+  runs_broken come = broken (λ e. row.Run e.0 e.1) t (up_to_targets t) come t.runs (λ done rest split. subst (λ u. Begins u t) (sym (runs_all done (up_to_targets t))) (record {
+      days = whole t.days;
+      schedules = whole t.schedules;
+      classes = whole t.classes;
+      aggregations = whole t.aggregations;
+      records = whole t.records;
+      contents = whole t.contents;
+      holds = whole t.holds;
+      all_holds = λ some. refl;
+      targets = whole t.targets;
+      runs = (rest, split);
+      entries = none t.entries;
+      certificates = none t.certificates;
+    }))
+
+  pub entries_broken : (come : TableLists) → come ≡ record (up_to_targets t) { runs = t.runs } → StandForNoneFrom come (λ entry. row.Entry entry) t.entries → StandForNone t
+  entries_broken come = broken (λ entry. row.Entry entry) t (record (up_to_targets t) { runs = t.runs }) come t.entries (λ done rest split. subst (λ u. Begins u t) (sym (entries_all done (record (up_to_targets t) { runs = t.runs }))) (record {
+      days = whole t.days;
+      schedules = whole t.schedules;
+      classes = whole t.classes;
+      aggregations = whole t.aggregations;
+      records = whole t.records;
+      contents = whole t.contents;
+      holds = whole t.holds;
+      all_holds = λ some. refl;
+      targets = whole t.targets;
+      runs = whole t.runs;
+      entries = (rest, split);
+      certificates = none t.certificates;
+    }))
+
+  pub certificates_broken : (texts : List (ℕ × String Global)) → t.certificates ≡ map text_row texts → (come : TableLists) → come ≡ record (up_to_targets t) { runs = t.runs; entries = t.entries } → StandForNoneFrom come (λ e. row.Certificate e.0 e.1) texts → StandForNone t
+  certificates_broken texts are come = broken (λ e. row.Certificate e.0 e.1) t (record (up_to_targets t) { runs = t.runs; entries = t.entries }) come texts (λ done rest split. subst (λ u. Begins u t) (sym (certificates_all done (record (up_to_targets t) { runs = t.runs; entries = t.entries }))) (record {
+      days = whole t.days;
+      schedules = whole t.schedules;
+      classes = whole t.classes;
+      aggregations = whole t.aggregations;
+      records = whole t.records;
+      contents = whole t.contents;
+      holds = whole t.holds;
+      all_holds = λ some. refl;
+      targets = whole t.targets;
+      runs = whole t.runs;
+      entries = whole t.entries;
+      certificates = (map text_row rest, are ∙ ap (map text_row) split ∙ map-append text_row done rest);
+    }))
+
+  -- the row of office alone
+  pub day_begins : (come : TableLists) → come ≡ record no_rows { days = t.days } → Begins come t
+  day_begins come same = subst (λ u. Begins u t) (sym same) (record {
+      days = whole t.days;
+      schedules = none t.schedules;
+      classes = none t.classes;
+      aggregations = none t.aggregations;
+      records = none t.records;
+      contents = none t.contents;
+      holds = none t.holds;
+      all_holds = λ some. absurd (some refl);
+      targets = none t.targets;
+      runs = none t.runs;
+      entries = none t.entries;
+      certificates = none t.certificates;
+    })
