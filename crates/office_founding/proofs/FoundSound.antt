@@ -3,7 +3,6 @@ use Rattle.std.proofs.Common.{◌≡◌, ℕ, List, [], ◌∷◌, map, length, 
 use Rattle.std.specs.Prelude.{true, nat_le}
 use Rattle.std.specs.FinMap.{FinMap, entries, get-entries, values}
 use Rattle.std.specs.FinMap.Entries.{find}
-use Rattle.std.specs.List.{list_any}
 use Rattle.std.specs.Ordering.{eq_by_cmp, is_eq, nat_cmp}
 use Rattle.std.specs.declared.cmp.Ordering.{Ordering}
 use Rattle.std.specs.declared.cmp.Ordering.TheVariants.{Less, Equal, Greater}
@@ -12,15 +11,12 @@ use Rattle.office_tree.specs.Sound as tree
 use Rattle.office_tree.specs.declared.head.Record.{Record}
 use Rattle.office_tree.proofs.Bridge.{from_numbers}
 use Rattle.office_tree.proofs.Named.{le_to}
-use Rattle.office_holds.specs.Founding.{is_pair}
 use Rattle.office_proof.specs.declared.entry.Entry.{Entry}
-use Rattle.office_rules.specs.Copies.{HaveSameRows}
 use Rattle.office_rules.specs.Founding.{AreEntriesKeyed, AreTablesOf, DoPartsAgree, EachHasOneEnding, HaveKeys, IsFormedOffice, entry_rows}
 use Rattle.office_rules.specs.Rows.{rows_of}
 use Rattle.office_rules.specs.Sound.{IsSound}
 use Rattle.office_rules.specs.State.{ByteMap, entry_cmp, Office, State, with_contents}
-use Rattle.office_rules.specs.Tables.{StandsFor}
-use Rattle.office_rules.specs.declared.tables.Tables.{Tables}
+use Rattle.office_rules.specs.Tables.{StandsFor, TableLists}
 use Rattle.office_rules.proofs.OneState.{one_office}
 use Rattle.office_founding.proofs.EntryTests.{AreEntriesSound, entries_sound, entries_tested}
 use Rattle.office_founding.proofs.PartsTests.{contents_stand, days_sound, days_tested, keys_of_live, papers_sound, papers_tested}
@@ -104,61 +100,23 @@ found_is_of : (key : ℕ × ℕ) (es : List Entry) (e : Entry) → find entry_cm
 found_is_of key [] e found = absurd cc
 found_is_of key (x ∷ es) e found = first_is key x e (find entry_cmp key (entry_rows es)) (eq_by_cmp entry_cmp key (x.run, x.record_no)) refl found (found_is_of key es e)
 
-module _ (t : Tables) (s : State) (stand : StandsFor t s) where
+module _ (t : TableLists) (s : State) (stand : StandsFor t s) where
   tables_keyed : AreEntriesKeyed s.office.entries
   unfolding rows_of
-  tables_keyed = λ run r e at. found_is_of (run, r) t.entries.items e (ap (find entry_cmp (run, r)) stand.entries ∙ sym (get-entries s.office.entries (run, r)) ∙ at)
+  tables_keyed = λ run r e at. found_is_of (run, r) t.entries e (ap (find entry_cmp (run, r)) stand.entries ∙ sym (get-entries s.office.entries (run, r)) ∙ at)
 
-  tables_keys : HaveKeys s.contents t.contents.items
+  tables_keys : HaveKeys s.contents t.contents
   unfolding rows_of
   tables_keys = sym stand.contents
 
 -- entries that were read stand each under its own run and record
-pub entries_keyed : (t : Tables) (s : Office) (contents : ByteMap) → AreTablesOf t s → HaveKeys contents t.contents.items → AreEntriesKeyed s.entries
+pub entries_keyed : (t : TableLists) (s : Office) (contents : ByteMap) → AreTablesOf t s → HaveKeys contents t.contents → AreEntriesKeyed s.entries
 entries_keyed t s contents stand have = tables_keyed t (with_contents s contents) (stand contents have)
 
 -- a sound state of the tables is the office with its contents
-pub found_state : (t : Tables) (s : Office) (u : State) → length s.tree.statuses ≡ length s.tree.records → AreTablesOf t s → StandsFor t u → IsSound u
-    → HaveKeys u.contents t.contents.items × IsSound (with_contents s u.contents)
+pub found_state : (t : TableLists) (s : Office) (u : State) → length s.tree.statuses ≡ length s.tree.records → AreTablesOf t s → StandsFor t u → IsSound u
+    → HaveKeys u.contents t.contents × IsSound (with_contents s u.contents)
 found_state t s u many stand for sound =
-    let have : HaveKeys u.contents t.contents.items = tables_keys t u for in
+    let have : HaveKeys u.contents t.contents = tables_keys t u for in
     let same : s ≡ u.office = one_office t (with_contents s u.contents) u many sound.limits.statuses (stand u.contents have) for in
     (have, subst (λ (o : Office). IsSound (with_contents o u.contents)) (sym same) sound)
-
--- ---- tables with the same rows
-
-turned : (t u : Tables) → HaveSameRows t u → HaveSameRows u t
-turned t u same = record {
-  day = sym same.day;
-  schedules = sym same.schedules;
-  classes = sym same.classes;
-  aggregations = sym same.aggregations;
-  records = sym same.records;
-  contents = sym same.contents;
-  holds = sym same.holds;
-  targets = sym same.targets;
-  runs = sym same.runs;
-  entries = sym same.entries;
-  certificates = sym same.certificates;
-}
-
-pub same_stand : (t u : Tables) (s : State) → HaveSameRows t u → StandsFor t s → StandsFor u s
-same_stand t u s same stand = record {
-  day = sym same.day ∙ stand.day;
-  schedules = sym same.schedules ∙ stand.schedules;
-  classes = sym same.classes ∙ stand.classes;
-  aggregations = sym same.aggregations ∙ stand.aggregations;
-  records = sym same.records ∙ stand.records;
-  contents = sym same.contents ∙ stand.contents;
-  holds = sym same.holds ∙ stand.holds;
-  targets = λ code target. ap (list_any (λ e. is_pair e.0 e.1 code target)) (sym same.targets) ∙ stand.targets code target;
-  runs = sym same.runs ∙ stand.runs;
-  entries = ap entry_rows (sym same.entries) ∙ stand.entries;
-  certificates = sym same.certificates ∙ stand.certificates;
-}
-
-pub same_tables : (t u : Tables) (s : Office) → HaveSameRows t u → AreTablesOf t s → AreTablesOf u s
-same_tables t u s same stand = λ contents have. same_stand t u (with_contents s contents) same (stand contents (have ∙ sym same.contents))
-
-pub none_stand : (t u : Tables) → HaveSameRows t u → ((s : State) → StandsFor t s → IsSound s → ⊥) → (s : State) → StandsFor u s → IsSound s → ⊥
-none_stand t u same none s stand sound = none s (same_stand u t s (turned t u same) stand) sound

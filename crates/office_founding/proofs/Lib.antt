@@ -4,6 +4,7 @@ pub mod FoundSound
 pub mod FoundTables
 pub mod FoundTree
 pub mod MapRows
+pub mod NextRows
 pub mod PartsTests
 pub mod Passing
 pub mod RecordRows

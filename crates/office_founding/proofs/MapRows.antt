@@ -1,4 +1,4 @@
--- Rows of entries, of certificates and of keys, one by one.
+-- Rows of entries and of keys, one by one.
 use Rattle.std.proofs.Common.{◌≡◌, ℕ, List, [], ◌∷◌, ◌++◌, map, refl, sym, ap, subst, ◌∙◌}
 use Rattle.std.proofs.lemmas.List.{map-append}
 use Rattle.std.proofs.lemmas.List.Elements.{All-from_recursion}
@@ -8,21 +8,10 @@ use Rattle.std.specs.Map.{keys_of}
 use Rattle.std.specs.Ordering.{nat_cmp}
 use Rattle.std.specs.declared.cmp.Ordering.{Ordering}
 use Rattle.std.specs.declared.cmp.Ordering.TheVariants.{Less}
-use Rattle.std.specs.declared.string.String.{String}
-use Rattle.std.specs.String.{string_bytes}
-use Rattle.std.specs.declared.alloc.Global.{Global}
 use Rattle.office_proof.specs.declared.entry.Entry.{Entry}
 use Rattle.office_rows.proofs.Ascending.{above_front}
 use Rattle.office_rules.specs.Founding.{entry_rows}
 use Rattle.office_rules.specs.State.{entry_cmp}
-
--- a certificate's row with its bytes
-abbrev pub text_row : ℕ × String Global → ℕ × List ℕ
-text_row e = (e.0, string_bytes e.1)
-
-pub certificate_keys : (rows : List (ℕ × String Global)) → keys_of (map text_row rows) ≡ keys_of rows
-certificate_keys [] = refl
-certificate_keys (e ∷ es) = ap (λ rest. e.0 ∷ rest) (certificate_keys es)
 
 -- each key with no bytes
 abbrev pub with_no_bytes : List ℕ → List (ℕ × List ℕ)

@@ -1,48 +1,43 @@
-//! The office for which tables stand, or that there is none.
-ghost use Rattle.std.specs.Prelude.{◌≡◌, IfOk, map};
+//! The office for which the rows that have come stand, or that there is none.
+ghost use Rattle.std.specs.Prelude.{◌≡◌, IfOk, length, map};
 ghost use Rattle.std.specs.BTreeMap.{IsOrdered};
 ghost use Rattle.std.specs.Ordering.{nat_cmp};
-ghost use Rattle.office_rows.specs.Rows.{OnDamaged};
+ghost use Rattle.office_rows.specs.Rows.{OnDamaged, numbered_rows};
 ghost use Rattle.office_tree.specs.Sound as sound_tree;
 ghost use Rattle.office_tree.specs.Tree.{TreeState};
 ghost use Rattle.office_rules.specs.Founding.{AreTablesOf, HaveKeys};
+ghost use Rattle.office_rules.specs.Rows.{record_rows};
 ghost use Rattle.office_rules.specs.Sound.{IsSound};
-ghost use Rattle.office_rules.specs.State.{ByteMap, State};
-ghost use Rattle.office_rules.specs.Tables.{StandsFor};
+ghost use Rattle.office_rules.specs.State.{ByteMap, with_contents};
+ghost use Rattle.office_rules.specs.Tables.{StandForNone};
 ghost use Rattle.office_founding.specs.TreeRows.{AreTreeRows};
 
 mod agreeing;
 mod entries;
-mod maps;
-mod rebuilding;
-mod records;
+pub(crate) mod records;
 mod runs;
 
-use crate::Founded;
-use maps::{certificates_of, entries_of, marks_of};
-use office_holds::Holds;
-use office_rows::{Rebuild, keyed, numbered};
-use office_rules::{RecordRow, Tables};
-use office_tree::{AggNo, Aggregation, Class, Code, RecordNo, Schedule, Tree};
-use records::records_of;
+use crate::{Founded, Gathering};
+use office_rows::{Rebuild, ordered};
+use office_tree::{Aggregation, Class, Code, Record, RecordNo, Schedule, Status, Tree};
 use std::alloc::Global;
 use std::collections::BTreeMap;
 
-/// The tree of which these are the rows; damaged where there is no sound one.
-fn tree_of_rows(
+/// The tree of these parts; damaged where there is no sound one.
+fn tree_of(
     alloc: Global,
-    schedules: Vec<(Code, Schedule)>,
-    classes: Vec<(Code, Class)>,
-    aggregations: Vec<(AggNo, Aggregation)>,
-    records: Vec<(RecordNo, RecordRow)>,
+    schedules: BTreeMap<Code, Schedule>,
+    classes: BTreeMap<Code, Class>,
+    aggregations: Vec<Aggregation>,
+    heads: Vec<Record>,
+    statuses: Vec<Status>,
 ) -> Result<Tree, Rebuild>
-    ensures ok { IfOk result (λ tree. AreTreeRows schedules.items classes.items aggregations.items records.items tree) }
-    ensures damaged { OnDamaged result ((tree : TreeState) → sound_tree.IsSound tree → AreTreeRows schedules.items classes.items aggregations.items records.items tree → ⊥) }
+    requires { length statuses.items ≡ length heads.items }
+    ensures ok { IfOk result (λ tree. AreTreeRows schedules.entries classes.entries (numbered_rows aggregations.items) (numbered_rows (record_rows heads.items statuses.items)) tree) }
+    ensures damaged { OnDamaged result ((tree : TreeState) → sound_tree.IsSound tree → AreTreeRows schedules.entries classes.entries (numbered_rows aggregations.items) (numbered_rows (record_rows heads.items statuses.items)) tree → ⊥) }
 {
-    let schedules = keyed(alloc, schedules)?;
-    let classes = keyed(alloc, classes)?;
-    let aggregations = numbered(alloc, aggregations)?;
-    let (heads, statuses) = records_of(alloc, records)?;
+    ordered(&schedules);
+    ordered(&classes);
     match Tree::of_parts(alloc, schedules, classes, aggregations, heads, statuses) {
         Ok(Some(tree)) => Ok(tree),
         Ok(None) => Err(Rebuild::Damaged),
@@ -50,36 +45,56 @@ fn tree_of_rows(
     }
 }
 
-impl Founded {
-    /// The parts of which the tables have the rows, and the keys of contents; damaged only where there is
-    /// no sound office of such rows.
-    fn of_rows(alloc: Global, tables: Tables) -> Result<(Founded, BTreeMap<RecordNo, ()>), Rebuild>
-        ensures parts { IfOk result (λ p. AreTablesOf tables p.0) }
-        ensures keys { IfOk result (λ p. (contents : ByteMap) × HaveKeys contents tables.contents.items) }
-        ensures marks { IfOk result (λ p. map (λ e. e.0) p.1.entries ≡ tables.contents.items) }
+impl Gathering {
+    /// The parts of which the rows are, and the keys of contents; damaged only where there is no sound
+    /// office of such rows.
+    fn parts(self) -> Result<(Founded, BTreeMap<RecordNo, ()>), Rebuild>
+        ensures parts { IfOk result (λ p. AreTablesOf self p.0) }
+        ensures keys { IfOk result (λ p. (contents : ByteMap) × HaveKeys contents self.contents) }
+        ensures marks { IfOk result (λ p. map (λ e. e.0) p.1.entries ≡ self.contents) }
         ensures ordered { IfOk result (λ p. IsOrdered nat_cmp p.1) }
-        ensures damaged { OnDamaged result ((s : State) → StandsFor tables s → IsSound s → ⊥) }
+        ensures damaged { OnDamaged result (StandForNone self) }
     {
-        let tree = tree_of_rows(
-            alloc,
-            tables.schedules,
-            tables.classes,
-            tables.aggregations,
-            tables.records,
+        let Some(day) = self.day else {
+            return Err(Rebuild::Damaged);
+        };
+        ordered(&self.entries);
+        ordered(&self.certificates);
+        ordered(&self.contents);
+        let tree = tree_of(
+            self.alloc,
+            self.schedules,
+            self.classes,
+            self.aggregations,
+            self.heads,
+            self.statuses,
         )?;
-        let holds = Holds::of_rows(alloc, tables.holds, tables.targets)?;
-        let runs = numbered(alloc, tables.runs)?;
-        let entries = entries_of(alloc, tables.entries)?;
-        let certificates = certificates_of(alloc, tables.certificates)?;
-        let marks = marks_of(alloc, tables.contents)?;
         let parts = Founded {
             tree,
-            holds,
-            runs,
-            entries,
-            certificates,
-            day: tables.day,
+            holds: self.holds,
+            runs: self.runs,
+            entries: self.entries,
+            certificates: self.certificates,
+            day,
         };
-        Ok((parts, marks))
+        Ok((parts, self.contents))
+    }
+
+    /// The office for which the rows stand that have come; damaged only where there is none. Whatever the
+    /// contents of the keys that have come are, it is sound with them.
+    pub fn finish(self) -> Result<Founded, Rebuild>
+        ensures ok { IfOk result (λ office. AreTablesOf self office) }
+        ensures sound { IfOk result (λ office. (contents : ByteMap) → HaveKeys contents self.contents → IsSound (with_contents office contents)) }
+        ensures keys { IfOk result (λ office. (contents : ByteMap) × HaveKeys contents self.contents) }
+        ensures damaged { OnDamaged result (StandForNone self) }
+    {
+        let alloc = self.alloc;
+        let (parts, keys) = self.parts()?;
+        parts.tree.sound();
+        match parts.is_sound(alloc, &keys) {
+            Ok(true) => Ok(parts),
+            Ok(false) => Err(Rebuild::Damaged),
+            Err(_) => Err(Rebuild::Memory),
+        }
     }
 }

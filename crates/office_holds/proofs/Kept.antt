@@ -1,24 +1,22 @@
 -- What is kept beside the holds agrees with them still after each change.
-use Rattle.std.proofs.Common.{◌≡◌, ◌<◌, ℕ, ◌+◌, List, [], ◌∷◌, length, map, filter, Bool, true, false, cond, not, ◌&&◌, ◌||◌, Option, Some, None, refl, sym, ap, ◌∙◌, arith, IsTrue, ℤ}
+use Rattle.std.proofs.Common.{◌≡◌, ◌<◌, ℕ, ◌+◌, List, filter, Bool, true, false, cond, not, ◌&&◌, ◌||◌, Option, Some, None, refl, sym, ap, ◌∙◌, arith, IsTrue, ℤ}
 use Rattle.std.specs.Option.{is_none, is_some, option_map}
 use Rattle.std.specs.Ordering.{eq_by_cmp, is_eq, nat_cmp}
 use Rattle.std.specs.Cmp.{Equal-is, nat_cmp_total, tied_itself}
 use Rattle.std.specs.Cmp.Lexicographic.{nat_list_cmp_total}
-use Rattle.std.specs.FinMap.{contains_key, empty, from_entries, get, get-empty, entries, get-entries, get-insert, insert, same_map, len-empty, nat_cmp-IsAntisymmetric}
+use Rattle.std.specs.FinMap.{contains_key, empty, get, get-empty, entries, get-entries, get-insert, insert, same_map, len-empty, nat_cmp-IsAntisymmetric}
 use Rattle.std.specs.FinSet as set
 use Rattle.std.specs.Prelude.{nat_lt, slice_get}
 use Rattle.std.specs.List.{list_any}
 use Rattle.std.specs.List.Sorted.{IsStrictlySortedBy}
-use Rattle.std.specs.Map.{keys_of}
 use Rattle.std.specs.FinSet.{FinSet, contains, contains-from_list, contains-insert, contains-remove, from_list}
 use Rattle.office_tree.specs.Lists.{amended, holds_of}
 use Rattle.office_tree.specs.Tree.{code_cmp}
-use Rattle.office_tree.proofs.Maps.{entries_of_ordered}
 use Rattle.office_tree.proofs.Inserting.{get-amended, same_code}
 use Rattle.office_holds.specs.Effects.{held_off, held_on, lifted_hold, with_target, without_target}
 use Rattle.office_holds.specs.Forms.{FitsHoldLimits}
 use Rattle.office_holds.specs.Founding.{same_target}
-use Rattle.office_holds.specs.HoldCounts.{CountsDown, CountsUp, HasInForce, IsKept, binding_count, binds, binds_at, is_bound, kept_count, may_gain}
+use Rattle.office_holds.specs.HoldCounts.{CountsDown, CountsUp, IsKept, binds, binds_at, is_bound, kept_count, may_gain}
 use Rattle.office_holds.specs.Holds.{HoldMap, HoldState, covers_in, has_target, held_in, hold_covers, is_in_force}
 use Rattle.office_holds.specs.Numbers.{one_if}
 use Rattle.office_holds.specs.Rows.{hold_from, put_hold}

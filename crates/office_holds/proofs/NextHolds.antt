@@ -1,5 +1,5 @@
 -- One more hold, whose code is above those of the others.
-use Rattle.std.proofs.Common.{◌≡◌, ◌≤◌, ◌<◌, ◌+◌, ℕ, suc, List, [], ◌∷◌, ◌++◌, length, map, Bool, true, false, cond, ◌||◌, not, Option, Some, None, refl, sym, ap, subst, ◌∙◌, append_assoc, arith}
+use Rattle.std.proofs.Common.{◌≡◌, ◌<◌, ℕ, List, [], ◌∷◌, ◌++◌, length, Bool, true, false, cond, Option, Some, None, refl, sym, ap, subst, ◌∙◌, append_assoc, arith}
 use Rattle.std.specs.Prelude.{nat_le}
 use Rattle.std.specs.Option.{is_some}
 use Rattle.std.specs.List.{All}
@@ -7,7 +7,7 @@ use Rattle.std.specs.Map.{keys_of}
 use Rattle.std.specs.Ordering.{eq_by_cmp, is_eq, ordering_reverse}
 use Rattle.std.specs.declared.cmp.Ordering.TheVariants.{Less, Greater}
 use Rattle.std.specs.Cmp.Lexicographic.{nat_list_cmp_total}
-use Rattle.std.specs.FinMap.{contains_key, entries, get, get-entries, get-insert, insert, len, len-entries}
+use Rattle.std.specs.FinMap.{entries, get, get-entries, get-insert, insert, len, len-entries}
 use Rattle.std.specs.FinMap.Entries.{by_order, find, put}
 use Rattle.std.proofs.lemmas.Bool.Decides.{nat_tests}
 use Rattle.std.proofs.lemmas.List.{length-append}
@@ -19,7 +19,7 @@ use Rattle.office_tree.proofs.Inserting.{len-insert_free, same_code}
 use Rattle.office_holds.specs.Forms.{FitsHoldLimits}
 use Rattle.office_holds.specs.Founding.{AreRowsOf, IsAbove, hold_rows}
 use Rattle.office_holds.specs.Holds.{HoldMap, HoldState, has_target}
-use Rattle.office_holds.specs.Rows.{hold_from, hold_row, put_hold}
+use Rattle.office_holds.specs.Rows.{hold_from, put_hold}
 use Rattle.office_holds.specs.declared.row.HoldRow.{HoldRow}
 use Rattle.office_holds.specs.declared.target.Target.{Target}
 use Rattle.office_holds.proofs.Amending.{OfEach-insert}

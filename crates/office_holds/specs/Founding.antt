@@ -7,7 +7,7 @@ use Rattle.std.specs.declared.cmp.Ordering.TheVariants.{Less}
 use Rattle.office_tree.specs.Lists.{holds_of}
 use Rattle.office_tree.specs.Tree.{code_cmp}
 use Rattle.office_holds.specs.Conditions.{target_count}
-use Rattle.office_holds.specs.Holds.{HoldMap, HoldState, has_target}
+use Rattle.office_holds.specs.Holds.{HoldMap, has_target}
 use Rattle.office_holds.specs.Rows.{hold_row}
 use Rattle.office_holds.specs.declared.row.HoldRow.{HoldRow}
 use Rattle.office_holds.specs.declared.target.Target.{Target}

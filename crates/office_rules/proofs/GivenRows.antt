@@ -1,5 +1,5 @@
 -- Rows of tables that are given one after another.
-use Rattle.std.proofs.Common.{◌≡◌, ◌≢◌, ℕ, List, [], ◌∷◌, ◌++◌, map, refl, sym, ap, ◌∙◌, subst, append_assoc, append-nil}
+use Rattle.std.proofs.Common.{◌≡◌, ◌<◌, ℕ, zero, suc, List, [], ◌∷◌, ◌++◌, length, map, get_or, take, refl, sym, ap, ◌∙◌, subst, append_assoc, append-nil, arith}
 use Rattle.std.proofs.lemmas.List.{map-append, map-id}
 use Rattle.std.specs.Prelude.{String}
 use Rattle.std.specs.Global.{Global}
@@ -16,6 +16,25 @@ use Rattle.office_rules.specs.declared.rows.RecordRow.{RecordRow}
 use Rattle.office_rules.specs.declared.run.Run.{Run}
 use Rattle.office_rules.specs.declared.table_row.Row.{Row}
 use Rattle.office_rules.specs.declared.table_row.Row.TheVariants as row
+
+-- ---- one row more
+
+-- of the first things of a list one more
+taken_next : {A : Type 0} (xs : List A) (i : ℕ) (x : A) → i < length xs → x ≡ get_or xs i x → take (suc i) xs ≡ take i xs ++ x ∷ []
+taken_next [] i x low is = absurd (omega arith)
+taken_next (y ∷ ys) zero x low is = ap (λ z. z ∷ []) (sym is)
+taken_next (y ∷ ys) (suc i) x low is = ap (λ zs. y ∷ zs) (taken_next ys i x (omega arith) is)
+
+with_rows-push : (t : TableLists) (rs : List Row) (r : Row) → with_rows t (rs ++ r ∷ []) ≡ with_row (with_rows t rs) r
+with_rows-push t [] r = refl
+with_rows-push t (s ∷ rs) r = with_rows-push (with_row t s) rs r
+
+pub with_rows-next : {A : Type 0} (row_of : A → Row) (t : TableLists) (xs : List A) (i : ℕ) (x : A) → i < length xs → x ≡ get_or xs i x
+    → with_rows t (map row_of (take (suc i) xs)) ≡ with_row (with_rows t (map row_of (take i xs))) (row_of x)
+with_rows-next row_of t xs i x low is =
+    ap (λ ys. with_rows t (map row_of ys)) (taken_next xs i x low is)
+    ∙ ap (with_rows t) (map-append row_of (take i xs) (x ∷ []))
+    ∙ with_rows-push t (map row_of (take i xs)) (row_of x)
 
 -- ---- what the rows of one table make of those that have come
 

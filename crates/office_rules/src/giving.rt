@@ -15,6 +15,8 @@ use std::alloc::Global;
 
 /// What stands in a table that is in memory.
 trait Kept: Sized {
+    ghost use Rattle.office_rules.specs.declared.table_row.Row.{Row};
+
     /// It, as a row of its table.
     ghost row_of: { Self → Row };
 

@@ -1,5 +1,5 @@
 //! The rows whose columns are not the fields of what they stand for.
-ghost use Rattle.std.specs.Prelude.{◌≡◌, ◌≢◌, IfOk, List, MatchOption, Option, length};
+ghost use Rattle.std.specs.Prelude.{◌≡◌, ◌≢◌, ◌∷◌, ◌++◌, [], ℕ, List, MatchOption, OnOk, Option, length};
 ghost use Rattle.std.specs.Option.{option_map};
 ghost use Rattle.office_rows.specs.Rows.{OnDamaged, numbered_rows};
 ghost use Rattle.office_tree.specs.declared.head.Confirmation.{Confirmation};
@@ -8,12 +8,12 @@ ghost use Rattle.office_tree.specs.declared.head.Record.{Record};
 ghost use Rattle.office_tree.specs.declared.head.Review.{Review};
 ghost use Rattle.office_tree.specs.declared.status.Status.{Status};
 ghost use Rattle.office_rules.specs.Rows.{record_row, record_rows};
+ghost use Rattle.office_rules.specs.declared.rows.RecordRow.{RecordRow};
 
 use office_days::{Day, DueDay};
 use office_rows::{Rebuild, push_numbered};
 use office_rules::RecordRow;
 use office_tree::{Action, Confirmation, Receipt, Record, RecordNo, Review, Status, Text};
-use std::alloc::Global;
 
 /// The review, if there is one, of which these are the columns; `None` where one of them is there alone.
 fn review_of(day: Option<Day>, by: Option<Text>) -> Option<Option<Review>>
@@ -68,7 +68,7 @@ fn receipt_of(day: Option<Day>, by: Option<Text>) -> Option<Option<Receipt>>
 }
 
 /// The head and the status of which these are the columns; `None` where there are none.
-pub(crate) fn record_of(row: RecordRow) -> Option<(Record, Status)>
+fn record_of(row: RecordRow) -> Option<(Record, Status)>
     ensures { MatchOption result ((head : Record) (status : Status) → record_row head status ≢ row) (λ p. record_row p.0 p.1 ≡ row) }
 {
     let review = review_of(row.reviewed, row.reviewed_by);
@@ -95,25 +95,28 @@ pub(crate) fn record_of(row: RecordRow) -> Option<(Record, Status)>
     Some((head, row.status))
 }
 
-/// The heads and statuses of which these are the rows; damaged where there are none.
-pub(crate) fn records_of(
-    alloc: Global,
-    rows: Vec<(RecordNo, RecordRow)>,
-) -> Result<(Vec<Record>, Vec<Status>), Rebuild>
-    ensures ok { IfOk result (λ p. numbered_rows (record_rows p.0.items p.1.items) ≡ rows.items) }
-    ensures long { IfOk result (λ p. length p.1.items ≡ length p.0.items) }
-    ensures damaged { OnDamaged result ((heads : List Record) (statuses : List Status) → numbered_rows (record_rows heads statuses) ≢ rows.items) }
+/// Puts the head and the status of which these are the columns after the others, under that number; damaged
+/// where there are none, or where it is not the next number.
+pub(crate) fn push_record(
+    heads: &mut Vec<Record>,
+    statuses: &mut Vec<Status>,
+    number: RecordNo,
+    columns: RecordRow,
+) -> Result<(), Rebuild>
+    requires { length statuses.old.items ≡ length heads.old.items }
+    ensures ok { OnOk result (numbered_rows (record_rows heads.new.items statuses.new.items) ≡ numbered_rows (record_rows heads.old.items statuses.old.items) ++ (number, columns) ∷ []) }
+    ensures long { length statuses.new.items ≡ length heads.new.items }
+    ensures damaged { OnDamaged result ((all : List Record) (ends : List Status) (rest : List (ℕ × RecordRow)) → numbered_rows (record_rows all ends) ≢ (numbered_rows (record_rows heads.old.items statuses.old.items) ++ (number, columns) ∷ []) ++ rest) }
 {
-    let mut heads = Vec::new(alloc);
-    let mut statuses = Vec::new(alloc);
-    for (number, row) in rows {
-        let Some((head, status)) = record_of(row) else {
-            return Err(Rebuild::Damaged);
-        };
-        push_numbered(&mut heads, number, head)?;
-        if statuses.push(status).is_err() {
-            return Err(Rebuild::Memory);
-        }
+    if statuses.try_reserve(1).is_err() {
+        return Err(Rebuild::Memory);
     }
-    Ok((heads, statuses))
+    let Some((head, status)) = record_of(columns) else {
+        return Err(Rebuild::Damaged);
+    };
+    push_numbered(heads, number, head)?;
+    match statuses.push(status) {
+        Ok(()) => Ok(()),
+        Err(_) => Err(Rebuild::Memory),
+    }
 }

@@ -1,0 +1,90 @@
+-- Rows that come after others, in tables that stand for a state.
+use Rattle.std.proofs.Common.{◌≡◌, ◌≢◌, ℕ, ℤ, suc, List, [], ◌∷◌, ◌++◌, length, map, sym, ap, subst, ◌∙◌, append_assoc}
+use Rattle.std.specs.FinMap.{entries}
+use Rattle.std.specs.List.{All}
+use Rattle.std.specs.List.Sorted.{IsStrictlySortedBy}
+use Rattle.std.specs.Map.{keys_of}
+use Rattle.std.specs.Ordering.{nat_cmp}
+use Rattle.std.specs.declared.cmp.Ordering.TheVariants.{Less}
+use Rattle.office_rows.specs.Rows.{numbered_rows}
+use Rattle.office_rows.proofs.Counted.{next_number_of}
+use Rattle.office_rows.proofs.Maps.{keys_ascend}
+use Rattle.office_rows.proofs.Ascending.{keyed_next}
+use Rattle.office_tree.specs.Tree.{code_cmp}
+use Rattle.office_tree.specs.declared.aggregation.Aggregation.{Aggregation}
+use Rattle.office_tree.specs.declared.class.Class.{Class}
+use Rattle.office_tree.specs.declared.schedule.Schedule.{Schedule}
+use Rattle.office_holds.specs.Founding.{AreRowsOf, hold_rows}
+use Rattle.office_holds.specs.declared.row.HoldRow.{HoldRow}
+use Rattle.office_holds.specs.declared.target.Target.{Target}
+use Rattle.office_proof.specs.declared.entry.Entry.{Entry}
+use Rattle.office_rules.specs.Founding.{entry_rows}
+use Rattle.office_rules.specs.Rows.{record_rows, rows_of}
+use Rattle.office_rules.specs.State.{State, entry_cmp}
+use Rattle.office_rules.specs.Tables.{IsFront, StandsFor, TableLists}
+use Rattle.office_rules.specs.declared.rows.RecordRow.{RecordRow}
+use Rattle.office_rules.specs.declared.run.Run.{Run}
+use Rattle.office_founding.proofs.MapRows.{next_entry, next_key}
+
+-- no list of one has two first ones
+pub one_day : (days : List ℤ) (first second day : ℤ) → IsFront ((first ∷ []) ++ second ∷ []) days → days ≡ day ∷ [] → ⊥
+one_day days first second day front one =
+    let two : first ∷ second ∷ front.0 ≡ day ∷ [] = sym front.1 ∙ one in
+    absurd cc
+
+module _ (t : TableLists) (s : State) (stand : StandsFor t s) where
+  pub day_is : t.days ≡ s.office.day ∷ []
+  unfolding rows_of
+  day_is = stand.day
+
+  -- ---- the keys of those before are below a row's
+
+  pub next_schedule : (done : List (List ℕ × Schedule)) (code : List ℕ) (it : Schedule) → IsFront (done ++ (code, it) ∷ []) t.schedules → All (λ q. code_cmp q code ≡ Less) (keys_of done)
+  unfolding rows_of
+  next_schedule done code it front = keyed_next code_cmp s.office.tree.schedules done code it front.0 (sym stand.schedules ∙ front.1)
+
+  pub next_class : (done : List (List ℕ × Class)) (code : List ℕ) (it : Class) → IsFront (done ++ (code, it) ∷ []) t.classes → All (λ q. code_cmp q code ≡ Less) (keys_of done)
+  unfolding rows_of
+  next_class done code it front = keyed_next code_cmp s.office.tree.classes done code it front.0 (sym stand.classes ∙ front.1)
+
+  pub next_content : (done : List ℕ) (number : ℕ) → IsFront (done ++ number ∷ []) t.contents → All (λ q. nat_cmp q number ≡ Less) done
+  unfolding rows_of
+  next_content done number front =
+      next_key done number front.0
+      (subst (λ ks. IsStrictlySortedBy nat_cmp ks) (sym stand.contents ∙ front.1 ∙ append_assoc done (number ∷ []) front.0) (keys_ascend nat_cmp s.contents))
+
+  pub entry_next : (done : List Entry) (e : Entry) → IsFront (done ++ e ∷ []) t.entries → All (λ q. entry_cmp q (e.run, e.record_no) ≡ Less) (keys_of (entry_rows done))
+  unfolding rows_of
+  entry_next done e front =
+      next_entry done e front.0
+      (subst (λ es. IsStrictlySortedBy entry_cmp (keys_of es)) (sym stand.entries ∙ ap entry_rows (front.1 ∙ append_assoc done (e ∷ []) front.0)) (keys_ascend entry_cmp s.office.entries))
+
+  pub next_certificate : (done : List (ℕ × List ℕ)) (run : ℕ) (text : List ℕ) → IsFront (done ++ (run, text) ∷ []) t.certificates → All (λ q. nat_cmp q run ≡ Less) (keys_of done)
+  unfolding rows_of
+  next_certificate done run text front = keyed_next nat_cmp s.office.certificates done run text front.0 (sym stand.certificates ∙ front.1)
+
+  -- ---- a row's number is the next
+
+  pub next_aggregation : (done : List Aggregation) (number : ℕ) (it : Aggregation) → IsFront (numbered_rows done ++ (number, it) ∷ []) t.aggregations → number ≡ suc (length done)
+  unfolding rows_of
+  next_aggregation done number it front = next_number_of s.office.tree.aggregations done number it front.0 (sym stand.aggregations ∙ front.1)
+
+  pub next_run : (done : List Run) (number : ℕ) (it : Run) → IsFront (numbered_rows done ++ (number, it) ∷ []) t.runs → number ≡ suc (length done)
+  unfolding rows_of
+  next_run done number it front = next_number_of s.office.runs done number it front.0 (sym stand.runs ∙ front.1)
+
+  -- ---- of what the rows are
+
+  pub record_rows_are : (rows : List (ℕ × RecordRow)) → IsFront rows t.records → (rest : List (ℕ × RecordRow)) × (numbered_rows (record_rows s.office.tree.records s.office.tree.statuses) ≡ rows ++ rest)
+  unfolding rows_of
+  record_rows_are rows front = (front.0, sym stand.records ∙ front.1)
+
+  pub hold_rows_are : (rows : List (List ℕ × HoldRow)) → IsFront rows t.holds → (rest : List (List ℕ × HoldRow)) × (hold_rows s.office.holds ≡ rows ++ rest)
+  unfolding rows_of
+  hold_rows_are rows front = (front.0, sym stand.holds ∙ front.1)
+
+  pub target_rows_are : (rows : List (List ℕ × HoldRow)) (done : List (List ℕ × Target)) (code : List ℕ) (it : Target) → t.holds ≡ rows → IsFront (done ++ (code, it) ∷ []) t.targets
+      → (rest : List (List ℕ × Target)) × AreRowsOf rows (done ++ (code, it) ∷ rest) s.office.holds
+  unfolding rows_of
+  target_rows_are rows done code it all front =
+      (front.0, subst (λ ts. AreRowsOf rows ts s.office.holds) (front.1 ∙ append_assoc done ((code, it) ∷ []) front.0) (record { columns = sym stand.holds ∙ all; targets_stand = stand.targets }))

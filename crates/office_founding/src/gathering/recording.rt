@@ -1,0 +1,29 @@
+//! The rows of records and contents taken in.
+ghost use Rattle.std.specs.Prelude.{◌≡◌, OnOk};
+ghost use Rattle.office_rows.specs.Rows.{OnDamaged};
+ghost use Rattle.office_rules.specs.Tables.{Begins, StandForNone, TableLists, with_row};
+ghost use Rattle.office_rules.specs.declared.table_row.Row.TheVariants as of_table;
+
+use crate::Gathering;
+use crate::founding::records::push_record;
+use office_rows::{Rebuild, push_keyed};
+use office_rules::RecordRow;
+use office_tree::RecordNo;
+
+impl Gathering {
+    /// Takes a record in.
+    pub(super) fn put_record(&mut self, number: RecordNo, columns: RecordRow) -> Result<(), Rebuild>
+        ensures ok { OnOk result (self.new ≡ with_row self.old (of_table.Record number columns)) }
+        ensures damaged { OnDamaged result ((t : TableLists) → Begins (with_row self.old (of_table.Record number columns)) t → StandForNone t) }
+    {
+        push_record(&mut self.heads, &mut self.statuses, number, columns)
+    }
+
+    /// Takes the key of a content in.
+    pub(super) fn put_content(&mut self, number: RecordNo) -> Result<(), Rebuild>
+        ensures ok { OnOk result (self.new ≡ with_row self.old (of_table.Content number)) }
+        ensures damaged { OnDamaged result ((t : TableLists) → Begins (with_row self.old (of_table.Content number)) t → StandForNone t) }
+    {
+        push_keyed(&mut self.contents, number, ())
+    }
+}
