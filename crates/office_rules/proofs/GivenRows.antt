@@ -1,5 +1,5 @@
 -- Rows of tables that are given one after another.
-use Rattle.std.proofs.Common.{◌≡◌, ◌<◌, ℕ, zero, suc, List, [], ◌∷◌, ◌++◌, length, map, get_or, take, refl, sym, ap, ◌∙◌, subst, append_assoc, append-nil, arith}
+use Rattle.std.proofs.Common.{◌≡◌, ◌≢◌, ◌<◌, ℕ, zero, suc, List, [], ◌∷◌, ◌++◌, length, map, get_or, take, refl, sym, ap, ◌∙◌, subst, append_assoc, append-nil, arith}
 use Rattle.std.proofs.lemmas.List.{map-append, map-id}
 use Rattle.std.specs.Prelude.{String}
 use Rattle.std.specs.Global.{Global}
@@ -57,37 +57,37 @@ module _ {A : Type 0} (row_of : A → Row) (part : TableLists → List A) (put :
   with_these : (xs : List A) (t : TableLists) → with_rows t (map row_of xs) ≡ put t (part t ++ xs)
   with_these xs t = with_all row_of (λ x. x) part put one here over same xs t ∙ ap (λ ys. put t (part t ++ ys)) (map-id xs)
 
-pub schedules_all : (xs : List (List ℕ × Schedule)) (t : TableLists) → with_rows t (map (λ e. row.Schedule e.0 e.1) xs) ≡ record t { schedules = t.schedules ++ xs }
+schedules_all : (xs : List (List ℕ × Schedule)) (t : TableLists) → with_rows t (map (λ e. row.Schedule e.0 e.1) xs) ≡ record t { schedules = t.schedules ++ xs }
 schedules_all = with_these (λ e. row.Schedule e.0 e.1) (λ t. t.schedules) (λ t xs. record t { schedules = xs }) (λ t x. refl) (λ t xs. refl) (λ t xs ys. refl) (λ t. refl)
 
-pub classes_all : (xs : List (List ℕ × Class)) (t : TableLists) → with_rows t (map (λ e. row.Class e.0 e.1) xs) ≡ record t { classes = t.classes ++ xs }
+classes_all : (xs : List (List ℕ × Class)) (t : TableLists) → with_rows t (map (λ e. row.Class e.0 e.1) xs) ≡ record t { classes = t.classes ++ xs }
 classes_all = with_these (λ e. row.Class e.0 e.1) (λ t. t.classes) (λ t xs. record t { classes = xs }) (λ t x. refl) (λ t xs. refl) (λ t xs ys. refl) (λ t. refl)
 
-pub aggregations_all : (xs : List (ℕ × Aggregation)) (t : TableLists) → with_rows t (map (λ e. row.Aggregation e.0 e.1) xs) ≡ record t { aggregations = t.aggregations ++ xs }
+aggregations_all : (xs : List (ℕ × Aggregation)) (t : TableLists) → with_rows t (map (λ e. row.Aggregation e.0 e.1) xs) ≡ record t { aggregations = t.aggregations ++ xs }
 aggregations_all = with_these (λ e. row.Aggregation e.0 e.1) (λ t. t.aggregations) (λ t xs. record t { aggregations = xs }) (λ t x. refl) (λ t xs. refl) (λ t xs ys. refl) (λ t. refl)
 
-pub records_all : (xs : List (ℕ × RecordRow)) (t : TableLists) → with_rows t (map (λ e. row.Record e.0 e.1) xs) ≡ record t { records = t.records ++ xs }
+records_all : (xs : List (ℕ × RecordRow)) (t : TableLists) → with_rows t (map (λ e. row.Record e.0 e.1) xs) ≡ record t { records = t.records ++ xs }
 records_all = with_these (λ e. row.Record e.0 e.1) (λ t. t.records) (λ t xs. record t { records = xs }) (λ t x. refl) (λ t xs. refl) (λ t xs ys. refl) (λ t. refl)
 
-pub contents_all : (xs : List (ℕ)) (t : TableLists) → with_rows t (map (λ number. row.Content number) xs) ≡ record t { contents = t.contents ++ xs }
+contents_all : (xs : List (ℕ)) (t : TableLists) → with_rows t (map (λ number. row.Content number) xs) ≡ record t { contents = t.contents ++ xs }
 contents_all = with_these (λ number. row.Content number) (λ t. t.contents) (λ t xs. record t { contents = xs }) (λ t x. refl) (λ t xs. refl) (λ t xs ys. refl) (λ t. refl)
 
-pub holds_all : (xs : List (List ℕ × HoldRow)) (t : TableLists) → with_rows t (map (λ e. row.Hold e.0 e.1) xs) ≡ record t { holds = t.holds ++ xs }
+holds_all : (xs : List (List ℕ × HoldRow)) (t : TableLists) → with_rows t (map (λ e. row.Hold e.0 e.1) xs) ≡ record t { holds = t.holds ++ xs }
 holds_all = with_these (λ e. row.Hold e.0 e.1) (λ t. t.holds) (λ t xs. record t { holds = xs }) (λ t x. refl) (λ t xs. refl) (λ t xs ys. refl) (λ t. refl)
 
-pub targets_all : (xs : List (List ℕ × Target)) (t : TableLists) → with_rows t (map (λ e. row.Target e.0 e.1) xs) ≡ record t { targets = t.targets ++ xs }
+targets_all : (xs : List (List ℕ × Target)) (t : TableLists) → with_rows t (map (λ e. row.Target e.0 e.1) xs) ≡ record t { targets = t.targets ++ xs }
 targets_all = with_these (λ e. row.Target e.0 e.1) (λ t. t.targets) (λ t xs. record t { targets = xs }) (λ t x. refl) (λ t xs. refl) (λ t xs ys. refl) (λ t. refl)
 
-pub runs_all : (xs : List (ℕ × Run)) (t : TableLists) → with_rows t (map (λ e. row.Run e.0 e.1) xs) ≡ record t { runs = t.runs ++ xs }
+runs_all : (xs : List (ℕ × Run)) (t : TableLists) → with_rows t (map (λ e. row.Run e.0 e.1) xs) ≡ record t { runs = t.runs ++ xs }
 runs_all = with_these (λ e. row.Run e.0 e.1) (λ t. t.runs) (λ t xs. record t { runs = xs }) (λ t x. refl) (λ t xs. refl) (λ t xs ys. refl) (λ t. refl)
 
-pub entries_all : (xs : List (Entry)) (t : TableLists) → with_rows t (map (λ entry. row.Entry entry) xs) ≡ record t { entries = t.entries ++ xs }
+entries_all : (xs : List (Entry)) (t : TableLists) → with_rows t (map (λ entry. row.Entry entry) xs) ≡ record t { entries = t.entries ++ xs }
 entries_all = with_these (λ entry. row.Entry entry) (λ t. t.entries) (λ t xs. record t { entries = xs }) (λ t x. refl) (λ t xs. refl) (λ t xs ys. refl) (λ t. refl)
 
-abbrev text_row : ℕ × String Global → ℕ × List ℕ
+abbrev pub text_row : ℕ × String Global → ℕ × List ℕ
 text_row e = (e.0, string_bytes e.1)
 
-pub certificates_all : (xs : List (ℕ × String Global)) (t : TableLists) → with_rows t (map (λ e. row.Certificate e.0 e.1) xs) ≡ record t { certificates = t.certificates ++ map text_row xs }
+certificates_all : (xs : List (ℕ × String Global)) (t : TableLists) → with_rows t (map (λ e. row.Certificate e.0 e.1) xs) ≡ record t { certificates = t.certificates ++ map text_row xs }
 certificates_all = with_all (λ e. row.Certificate e.0 e.1) text_row (λ t. t.certificates) (λ t xs. record t { certificates = xs }) (λ t x. refl) (λ t xs. refl) (λ t xs ys. refl) (λ t. refl)
 
 -- ---- tables that begin with the rows that have come
@@ -98,186 +98,114 @@ whole xs = ([], sym (append-nil xs))
 none : {A : Type 0} (xs : List A) → IsFront [] xs
 none xs = (xs, refl)
 
--- where no tables begin with what had come and the first of these rows, these tables do not, if they begin so
+-- each table begins with its rows, and where targets came all holds are there
+begins_by : (front t : TableLists) → IsFront front.days t.days → IsFront front.schedules t.schedules → IsFront front.classes t.classes → IsFront front.aggregations t.aggregations → IsFront front.records t.records
+    → IsFront front.contents t.contents → IsFront front.holds t.holds → (front.targets ≢ [] → t.holds ≡ front.holds) → IsFront front.targets t.targets → IsFront front.runs t.runs → IsFront front.entries t.entries
+    → IsFront front.certificates t.certificates → Begins front t
+begins_by front t days schedules classes aggregations records contents holds all_holds targets runs entries certificates = record {
+  days = days;
+  schedules = schedules;
+  classes = classes;
+  aggregations = aggregations;
+  records = records;
+  contents = contents;
+  holds = holds;
+  all_holds = all_holds;
+  targets = targets;
+  runs = runs;
+  entries = entries;
+  certificates = certificates;
+}
+
+-- where no tables begin with what had come and the first of these rows, those that do begin so stand for none
 broken : {A : Type 0} (row_of : A → Row) (t front come : TableLists) (xs : List A) → ((done rest : List A) → xs ≡ done ++ rest → Begins (with_rows front (map row_of done)) t) → come ≡ front
     → StandForNoneFrom come row_of xs → StandForNone t
 broken row_of t front come xs begins same broke =
     broke.3 t (subst (λ u. Begins (with_rows u (map row_of broke.0)) t) (sym same) (begins broke.0 broke.1 broke.2))
 
 module _ (t : TableLists) where
-  pub schedules_broken : (come : TableLists) → come ≡ record no_rows { days = t.days } → StandForNoneFrom come (λ e. row.Schedule e.0 e.1) t.schedules → StandForNone t
-  schedules_broken come = broken (λ e. row.Schedule e.0 e.1) t (record no_rows { days = t.days }) come t.schedules (λ done rest split. subst (λ u. Begins u t) (sym (schedules_all done (record no_rows { days = t.days }))) (record {
-      days = whole t.days;
-      schedules = (rest, split);
-      classes = none t.classes;
-      aggregations = none t.aggregations;
-      records = none t.records;
-      contents = none t.contents;
-      holds = none t.holds;
-      all_holds = λ some. absurd (some refl);
-      targets = none t.targets;
-      runs = none t.runs;
-      entries = none t.entries;
-      certificates = none t.certificates;
-    }))
-
-  pub classes_broken : (come : TableLists) → come ≡ record no_rows { days = t.days; schedules = t.schedules } → StandForNoneFrom come (λ e. row.Class e.0 e.1) t.classes → StandForNone t
-  classes_broken come = broken (λ e. row.Class e.0 e.1) t (record no_rows { days = t.days; schedules = t.schedules }) come t.classes (λ done rest split. subst (λ u. Begins u t) (sym (classes_all done (record no_rows { days = t.days; schedules = t.schedules }))) (record {
-      days = whole t.days;
-      schedules = whole t.schedules;
-      classes = (rest, split);
-      aggregations = none t.aggregations;
-      records = none t.records;
-      contents = none t.contents;
-      holds = none t.holds;
-      all_holds = λ some. absurd (some refl);
-      targets = none t.targets;
-      runs = none t.runs;
-      entries = none t.entries;
-      certificates = none t.certificates;
-    }))
-
-  pub aggregations_broken : (come : TableLists) → come ≡ up_to_classes t → StandForNoneFrom come (λ e. row.Aggregation e.0 e.1) t.aggregations → StandForNone t
-  aggregations_broken come = broken (λ e. row.Aggregation e.0 e.1) t (up_to_classes t) come t.aggregations (λ done rest split. subst (λ u. Begins u t) (sym (aggregations_all done (up_to_classes t))) (record {
-      days = whole t.days;
-      schedules = whole t.schedules;
-      classes = whole t.classes;
-      aggregations = (rest, split);
-      records = none t.records;
-      contents = none t.contents;
-      holds = none t.holds;
-      all_holds = λ some. absurd (some refl);
-      targets = none t.targets;
-      runs = none t.runs;
-      entries = none t.entries;
-      certificates = none t.certificates;
-    }))
-
-  pub records_broken : (come : TableLists) → come ≡ record (up_to_classes t) { aggregations = t.aggregations } → StandForNoneFrom come (λ e. row.Record e.0 e.1) t.records → StandForNone t
-  records_broken come = broken (λ e. row.Record e.0 e.1) t (record (up_to_classes t) { aggregations = t.aggregations }) come t.records (λ done rest split. subst (λ u. Begins u t) (sym (records_all done (record (up_to_classes t) { aggregations = t.aggregations }))) (record {
-      days = whole t.days;
-      schedules = whole t.schedules;
-      classes = whole t.classes;
-      aggregations = whole t.aggregations;
-      records = (rest, split);
-      contents = none t.contents;
-      holds = none t.holds;
-      all_holds = λ some. absurd (some refl);
-      targets = none t.targets;
-      runs = none t.runs;
-      entries = none t.entries;
-      certificates = none t.certificates;
-    }))
-
-  pub contents_broken : (come : TableLists) → come ≡ record (up_to_classes t) { aggregations = t.aggregations; records = t.records } → StandForNoneFrom come (λ number. row.Content number) t.contents → StandForNone t
-  contents_broken come = broken (λ number. row.Content number) t (record (up_to_classes t) { aggregations = t.aggregations; records = t.records }) come t.contents (λ done rest split. subst (λ u. Begins u t) (sym (contents_all done (record (up_to_classes t) { aggregations = t.aggregations; records = t.records }))) (record {
-      days = whole t.days;
-      schedules = whole t.schedules;
-      classes = whole t.classes;
-      aggregations = whole t.aggregations;
-      records = whole t.records;
-      contents = (rest, split);
-      holds = none t.holds;
-      all_holds = λ some. absurd (some refl);
-      targets = none t.targets;
-      runs = none t.runs;
-      entries = none t.entries;
-      certificates = none t.certificates;
-    }))
-
-  pub holds_broken : (come : TableLists) → come ≡ up_to_contents t → StandForNoneFrom come (λ e. row.Hold e.0 e.1) t.holds → StandForNone t
-  holds_broken come = broken (λ e. row.Hold e.0 e.1) t (up_to_contents t) come t.holds (λ done rest split. subst (λ u. Begins u t) (sym (holds_all done (up_to_contents t))) (record {
-      days = whole t.days;
-      schedules = whole t.schedules;
-      classes = whole t.classes;
-      aggregations = whole t.aggregations;
-      records = whole t.records;
-      contents = whole t.contents;
-      holds = (rest, split);
-      all_holds = λ some. absurd (some refl);
-      targets = none t.targets;
-      runs = none t.runs;
-      entries = none t.entries;
-      certificates = none t.certificates;
-    }))
-
-  pub targets_broken : (come : TableLists) → come ≡ record (up_to_contents t) { holds = t.holds } → StandForNoneFrom come (λ e. row.Target e.0 e.1) t.targets → StandForNone t
-  targets_broken come = broken (λ e. row.Target e.0 e.1) t (record (up_to_contents t) { holds = t.holds }) come t.targets (λ done rest split. subst (λ u. Begins u t) (sym (targets_all done (record (up_to_contents t) { holds = t.holds }))) (record {
-      days = whole t.days;
-      schedules = whole t.schedules;
-      classes = whole t.classes;
-      aggregations = whole t.aggregations;
-      records = whole t.records;
-      contents = whole t.contents;
-      holds = whole t.holds;
-      all_holds = λ some. refl;
-      targets = (rest, split);
-      runs = none t.runs;
-      entries = none t.entries;
-      certificates = none t.certificates;
-    }))
-
-  pub runs_broken : (come : TableLists) → come ≡ up_to_targets t → StandForNoneFrom come (λ e. row.Run e.0 e.1) t.runs → StandForNone t
-  runs_broken come = broken (λ e. row.Run e.0 e.1) t (up_to_targets t) come t.runs (λ done rest split. subst (λ u. Begins u t) (sym (runs_all done (up_to_targets t))) (record {
-      days = whole t.days;
-      schedules = whole t.schedules;
-      classes = whole t.classes;
-      aggregations = whole t.aggregations;
-      records = whole t.records;
-      contents = whole t.contents;
-      holds = whole t.holds;
-      all_holds = λ some. refl;
-      targets = whole t.targets;
-      runs = (rest, split);
-      entries = none t.entries;
-      certificates = none t.certificates;
-    }))
-
-  pub entries_broken : (come : TableLists) → come ≡ record (up_to_targets t) { runs = t.runs } → StandForNoneFrom come (λ entry. row.Entry entry) t.entries → StandForNone t
-  entries_broken come = broken (λ entry. row.Entry entry) t (record (up_to_targets t) { runs = t.runs }) come t.entries (λ done rest split. subst (λ u. Begins u t) (sym (entries_all done (record (up_to_targets t) { runs = t.runs }))) (record {
-      days = whole t.days;
-      schedules = whole t.schedules;
-      classes = whole t.classes;
-      aggregations = whole t.aggregations;
-      records = whole t.records;
-      contents = whole t.contents;
-      holds = whole t.holds;
-      all_holds = λ some. refl;
-      targets = whole t.targets;
-      runs = whole t.runs;
-      entries = (rest, split);
-      certificates = none t.certificates;
-    }))
-
-  pub certificates_broken : (texts : List (ℕ × String Global)) → t.certificates ≡ map text_row texts → (come : TableLists) → come ≡ record (up_to_targets t) { runs = t.runs; entries = t.entries } → StandForNoneFrom come (λ e. row.Certificate e.0 e.1) texts → StandForNone t
-  certificates_broken texts are come = broken (λ e. row.Certificate e.0 e.1) t (record (up_to_targets t) { runs = t.runs; entries = t.entries }) come texts (λ done rest split. subst (λ u. Begins u t) (sym (certificates_all done (record (up_to_targets t) { runs = t.runs; entries = t.entries }))) (record {
-      days = whole t.days;
-      schedules = whole t.schedules;
-      classes = whole t.classes;
-      aggregations = whole t.aggregations;
-      records = whole t.records;
-      contents = whole t.contents;
-      holds = whole t.holds;
-      all_holds = λ some. refl;
-      targets = whole t.targets;
-      runs = whole t.runs;
-      entries = whole t.entries;
-      certificates = (map text_row rest, are ∙ ap (map text_row) split ∙ map-append text_row done rest);
-    }))
-
-  -- the row of office alone
+  -- the row of office
   pub day_begins : (come : TableLists) → come ≡ record no_rows { days = t.days } → Begins come t
-  day_begins come same = subst (λ u. Begins u t) (sym same) (record {
-      days = whole t.days;
-      schedules = none t.schedules;
-      classes = none t.classes;
-      aggregations = none t.aggregations;
-      records = none t.records;
-      contents = none t.contents;
-      holds = none t.holds;
-      all_holds = λ some. absurd (some refl);
-      targets = none t.targets;
-      runs = none t.runs;
-      entries = none t.entries;
-      certificates = none t.certificates;
-    })
+  day_begins come same = subst (λ u. Begins u t) (sym same) (begins_by (record no_rows { days = t.days }) t (whole t.days) (none t.schedules) (none t.classes) (none t.aggregations) (none t.records) (none t.contents) (none t.holds) (λ some. absurd (some refl)) (none t.targets) (none t.runs) (none t.entries) (none t.certificates))
+
+  -- ---- after all rows of a table; where some first ones were refused
+
+  pub schedules_next : (xs : List (List ℕ × Schedule)) → xs ≡ t.schedules → (come next : TableLists) → come ≡ record no_rows { days = t.days } → next ≡ with_rows come (map (λ e. row.Schedule e.0 e.1) xs) → next ≡ record no_rows { days = t.days; schedules = t.schedules }
+  schedules_next xs same come next at is = is ∙ (λ i. with_rows (at i) (map (λ e. row.Schedule e.0 e.1) (same i))) ∙ schedules_all t.schedules (record no_rows { days = t.days })
+
+  pub schedules_broken : (xs : List (List ℕ × Schedule)) → xs ≡ t.schedules → (come : TableLists) → come ≡ record no_rows { days = t.days } → StandForNoneFrom come (λ e. row.Schedule e.0 e.1) xs → StandForNone t
+  schedules_broken xs same come =
+      broken (λ e. row.Schedule e.0 e.1) t (record no_rows { days = t.days }) come xs
+      (λ done rest split. subst (λ u. Begins u t) (sym (schedules_all done (record no_rows { days = t.days }))) (begins_by (record (record no_rows { days = t.days }) { schedules = done }) t (whole t.days) (rest, sym same ∙ split) (none t.classes) (none t.aggregations) (none t.records) (none t.contents) (none t.holds) (λ some. absurd (some refl)) (none t.targets) (none t.runs) (none t.entries) (none t.certificates)))
+
+  pub classes_next : (xs : List (List ℕ × Class)) → xs ≡ t.classes → (come next : TableLists) → come ≡ record no_rows { days = t.days; schedules = t.schedules } → next ≡ with_rows come (map (λ e. row.Class e.0 e.1) xs) → next ≡ up_to_classes t
+  classes_next xs same come next at is = is ∙ (λ i. with_rows (at i) (map (λ e. row.Class e.0 e.1) (same i))) ∙ classes_all t.classes (record no_rows { days = t.days; schedules = t.schedules })
+
+  pub classes_broken : (xs : List (List ℕ × Class)) → xs ≡ t.classes → (come : TableLists) → come ≡ record no_rows { days = t.days; schedules = t.schedules } → StandForNoneFrom come (λ e. row.Class e.0 e.1) xs → StandForNone t
+  classes_broken xs same come =
+      broken (λ e. row.Class e.0 e.1) t (record no_rows { days = t.days; schedules = t.schedules }) come xs
+      (λ done rest split. subst (λ u. Begins u t) (sym (classes_all done (record no_rows { days = t.days; schedules = t.schedules }))) (begins_by (record (record no_rows { days = t.days; schedules = t.schedules }) { classes = done }) t (whole t.days) (whole t.schedules) (rest, sym same ∙ split) (none t.aggregations) (none t.records) (none t.contents) (none t.holds) (λ some. absurd (some refl)) (none t.targets) (none t.runs) (none t.entries) (none t.certificates)))
+
+  pub aggregations_next : (xs : List (ℕ × Aggregation)) → xs ≡ t.aggregations → (come next : TableLists) → come ≡ up_to_classes t → next ≡ with_rows come (map (λ e. row.Aggregation e.0 e.1) xs) → next ≡ record (up_to_classes t) { aggregations = t.aggregations }
+  aggregations_next xs same come next at is = is ∙ (λ i. with_rows (at i) (map (λ e. row.Aggregation e.0 e.1) (same i))) ∙ aggregations_all t.aggregations (up_to_classes t)
+
+  pub aggregations_broken : (xs : List (ℕ × Aggregation)) → xs ≡ t.aggregations → (come : TableLists) → come ≡ up_to_classes t → StandForNoneFrom come (λ e. row.Aggregation e.0 e.1) xs → StandForNone t
+  aggregations_broken xs same come =
+      broken (λ e. row.Aggregation e.0 e.1) t (up_to_classes t) come xs
+      (λ done rest split. subst (λ u. Begins u t) (sym (aggregations_all done (up_to_classes t))) (begins_by (record (up_to_classes t) { aggregations = done }) t (whole t.days) (whole t.schedules) (whole t.classes) (rest, sym same ∙ split) (none t.records) (none t.contents) (none t.holds) (λ some. absurd (some refl)) (none t.targets) (none t.runs) (none t.entries) (none t.certificates)))
+
+  pub records_next : (xs : List (ℕ × RecordRow)) → xs ≡ t.records → (come next : TableLists) → come ≡ record (up_to_classes t) { aggregations = t.aggregations } → next ≡ with_rows come (map (λ e. row.Record e.0 e.1) xs) → next ≡ record (up_to_classes t) { aggregations = t.aggregations; records = t.records }
+  records_next xs same come next at is = is ∙ (λ i. with_rows (at i) (map (λ e. row.Record e.0 e.1) (same i))) ∙ records_all t.records (record (up_to_classes t) { aggregations = t.aggregations })
+
+  pub records_broken : (xs : List (ℕ × RecordRow)) → xs ≡ t.records → (come : TableLists) → come ≡ record (up_to_classes t) { aggregations = t.aggregations } → StandForNoneFrom come (λ e. row.Record e.0 e.1) xs → StandForNone t
+  records_broken xs same come =
+      broken (λ e. row.Record e.0 e.1) t (record (up_to_classes t) { aggregations = t.aggregations }) come xs
+      (λ done rest split. subst (λ u. Begins u t) (sym (records_all done (record (up_to_classes t) { aggregations = t.aggregations }))) (begins_by (record (record (up_to_classes t) { aggregations = t.aggregations }) { records = done }) t (whole t.days) (whole t.schedules) (whole t.classes) (whole t.aggregations) (rest, sym same ∙ split) (none t.contents) (none t.holds) (λ some. absurd (some refl)) (none t.targets) (none t.runs) (none t.entries) (none t.certificates)))
+
+  pub contents_next : (xs : List (ℕ)) → xs ≡ t.contents → (come next : TableLists) → come ≡ record (up_to_classes t) { aggregations = t.aggregations; records = t.records } → next ≡ with_rows come (map (λ number. row.Content number) xs) → next ≡ up_to_contents t
+  contents_next xs same come next at is = is ∙ (λ i. with_rows (at i) (map (λ number. row.Content number) (same i))) ∙ contents_all t.contents (record (up_to_classes t) { aggregations = t.aggregations; records = t.records })
+
+  pub contents_broken : (xs : List (ℕ)) → xs ≡ t.contents → (come : TableLists) → come ≡ record (up_to_classes t) { aggregations = t.aggregations; records = t.records } → StandForNoneFrom come (λ number. row.Content number) xs → StandForNone t
+  contents_broken xs same come =
+      broken (λ number. row.Content number) t (record (up_to_classes t) { aggregations = t.aggregations; records = t.records }) come xs
+      (λ done rest split. subst (λ u. Begins u t) (sym (contents_all done (record (up_to_classes t) { aggregations = t.aggregations; records = t.records }))) (begins_by (record (record (up_to_classes t) { aggregations = t.aggregations; records = t.records }) { contents = done }) t (whole t.days) (whole t.schedules) (whole t.classes) (whole t.aggregations) (whole t.records) (rest, sym same ∙ split) (none t.holds) (λ some. absurd (some refl)) (none t.targets) (none t.runs) (none t.entries) (none t.certificates)))
+
+  pub holds_next : (xs : List (List ℕ × HoldRow)) → xs ≡ t.holds → (come next : TableLists) → come ≡ up_to_contents t → next ≡ with_rows come (map (λ e. row.Hold e.0 e.1) xs) → next ≡ record (up_to_contents t) { holds = t.holds }
+  holds_next xs same come next at is = is ∙ (λ i. with_rows (at i) (map (λ e. row.Hold e.0 e.1) (same i))) ∙ holds_all t.holds (up_to_contents t)
+
+  pub holds_broken : (xs : List (List ℕ × HoldRow)) → xs ≡ t.holds → (come : TableLists) → come ≡ up_to_contents t → StandForNoneFrom come (λ e. row.Hold e.0 e.1) xs → StandForNone t
+  holds_broken xs same come =
+      broken (λ e. row.Hold e.0 e.1) t (up_to_contents t) come xs
+      (λ done rest split. subst (λ u. Begins u t) (sym (holds_all done (up_to_contents t))) (begins_by (record (up_to_contents t) { holds = done }) t (whole t.days) (whole t.schedules) (whole t.classes) (whole t.aggregations) (whole t.records) (whole t.contents) (rest, sym same ∙ split) (λ some. absurd (some refl)) (none t.targets) (none t.runs) (none t.entries) (none t.certificates)))
+
+  pub targets_next : (xs : List (List ℕ × Target)) → xs ≡ t.targets → (come next : TableLists) → come ≡ record (up_to_contents t) { holds = t.holds } → next ≡ with_rows come (map (λ e. row.Target e.0 e.1) xs) → next ≡ up_to_targets t
+  targets_next xs same come next at is = is ∙ (λ i. with_rows (at i) (map (λ e. row.Target e.0 e.1) (same i))) ∙ targets_all t.targets (record (up_to_contents t) { holds = t.holds })
+
+  pub targets_broken : (xs : List (List ℕ × Target)) → xs ≡ t.targets → (come : TableLists) → come ≡ record (up_to_contents t) { holds = t.holds } → StandForNoneFrom come (λ e. row.Target e.0 e.1) xs → StandForNone t
+  targets_broken xs same come =
+      broken (λ e. row.Target e.0 e.1) t (record (up_to_contents t) { holds = t.holds }) come xs
+      (λ done rest split. subst (λ u. Begins u t) (sym (targets_all done (record (up_to_contents t) { holds = t.holds }))) (begins_by (record (record (up_to_contents t) { holds = t.holds }) { targets = done }) t (whole t.days) (whole t.schedules) (whole t.classes) (whole t.aggregations) (whole t.records) (whole t.contents) (whole t.holds) (λ some. refl) (rest, sym same ∙ split) (none t.runs) (none t.entries) (none t.certificates)))
+
+  pub runs_next : (xs : List (ℕ × Run)) → xs ≡ t.runs → (come next : TableLists) → come ≡ up_to_targets t → next ≡ with_rows come (map (λ e. row.Run e.0 e.1) xs) → next ≡ record (up_to_targets t) { runs = t.runs }
+  runs_next xs same come next at is = is ∙ (λ i. with_rows (at i) (map (λ e. row.Run e.0 e.1) (same i))) ∙ runs_all t.runs (up_to_targets t)
+
+  pub runs_broken : (xs : List (ℕ × Run)) → xs ≡ t.runs → (come : TableLists) → come ≡ up_to_targets t → StandForNoneFrom come (λ e. row.Run e.0 e.1) xs → StandForNone t
+  runs_broken xs same come =
+      broken (λ e. row.Run e.0 e.1) t (up_to_targets t) come xs
+      (λ done rest split. subst (λ u. Begins u t) (sym (runs_all done (up_to_targets t))) (begins_by (record (up_to_targets t) { runs = done }) t (whole t.days) (whole t.schedules) (whole t.classes) (whole t.aggregations) (whole t.records) (whole t.contents) (whole t.holds) (λ some. refl) (whole t.targets) (rest, sym same ∙ split) (none t.entries) (none t.certificates)))
+
+  pub entries_next : (xs : List (Entry)) → xs ≡ t.entries → (come next : TableLists) → come ≡ record (up_to_targets t) { runs = t.runs } → next ≡ with_rows come (map (λ entry. row.Entry entry) xs) → next ≡ record (up_to_targets t) { runs = t.runs; entries = t.entries }
+  entries_next xs same come next at is = is ∙ (λ i. with_rows (at i) (map (λ entry. row.Entry entry) (same i))) ∙ entries_all t.entries (record (up_to_targets t) { runs = t.runs })
+
+  pub entries_broken : (xs : List (Entry)) → xs ≡ t.entries → (come : TableLists) → come ≡ record (up_to_targets t) { runs = t.runs } → StandForNoneFrom come (λ entry. row.Entry entry) xs → StandForNone t
+  entries_broken xs same come =
+      broken (λ entry. row.Entry entry) t (record (up_to_targets t) { runs = t.runs }) come xs
+      (λ done rest split. subst (λ u. Begins u t) (sym (entries_all done (record (up_to_targets t) { runs = t.runs }))) (begins_by (record (record (up_to_targets t) { runs = t.runs }) { entries = done }) t (whole t.days) (whole t.schedules) (whole t.classes) (whole t.aggregations) (whole t.records) (whole t.contents) (whole t.holds) (λ some. refl) (whole t.targets) (whole t.runs) (rest, sym same ∙ split) (none t.certificates)))
+
+  pub certificates_next : (xs : List (ℕ × String Global)) → map text_row xs ≡ t.certificates → (come next : TableLists) → come ≡ record (up_to_targets t) { runs = t.runs; entries = t.entries } → next ≡ with_rows come (map (λ e. row.Certificate e.0 e.1) xs) → next ≡ t
+  certificates_next xs same come next at is = is ∙ (λ i. with_rows (at i) (map (λ e. row.Certificate e.0 e.1) xs)) ∙ certificates_all xs (record (up_to_targets t) { runs = t.runs; entries = t.entries }) ∙ ap (λ texts. record t { certificates = texts }) same
+
+  pub certificates_broken : (xs : List (ℕ × String Global)) → map text_row xs ≡ t.certificates → (come : TableLists) → come ≡ record (up_to_targets t) { runs = t.runs; entries = t.entries } → StandForNoneFrom come (λ e. row.Certificate e.0 e.1) xs → StandForNone t
+  certificates_broken xs same come =
+      broken (λ e. row.Certificate e.0 e.1) t (record (up_to_targets t) { runs = t.runs; entries = t.entries }) come xs
+      (λ done rest split. subst (λ u. Begins u t) (sym (certificates_all done (record (up_to_targets t) { runs = t.runs; entries = t.entries }))) (begins_by (record (record (up_to_targets t) { runs = t.runs; entries = t.entries }) { certificates = map text_row done }) t (whole t.days) (whole t.schedules) (whole t.classes) (whole t.aggregations) (whole t.records) (whole t.contents) (whole t.holds) (λ some. refl) (whole t.targets) (whole t.runs) (whole t.entries) (map text_row rest, sym same ∙ ap (map text_row) split ∙ map-append text_row done rest)))
