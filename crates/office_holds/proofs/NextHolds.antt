@@ -80,6 +80,7 @@ module _ (holds : HoldMap) (code : List ℕ) (row : HoldRow) (above : IsAbove ho
   }) where
     no_key : (o : Option HoldState) → o ≡ None → is_some o ≡ false
     no_key o e = ap is_some e
+
     below : (n : ℕ) → nat_le 1_000 n ≡ false → n < 1_000
     below n h = grind (arith, nat_tests)
 

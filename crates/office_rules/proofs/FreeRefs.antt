@@ -1,9 +1,7 @@
 -- A change that can be made puts no row in under another's ref, at none of its writes.
-use Rattle.std.proofs.Common.{◌≡◌, ◌≢◌, ◌≤◌, ◌<◌, ◌+◌, ◌⊎◌, inl, inr, ℕ, suc, zero, List, [], ◌∷◌, length, Some, None, refl, sym, ap, ◌∙◌, arith}
+use Rattle.std.proofs.Common.{◌≡◌, ◌≢◌, ◌≤◌, ◌<◌, ◌+◌, ◌⊎◌, inl, inr, ℕ, suc, zero, List, [], ◌∷◌, length, Some, refl, sym, ap, ◌∙◌, arith}
 use Rattle.office_tree.specs.Lists.{Differ, numbered, put, put_at}
 use Rattle.office_tree.specs.Sound.{RefsDiffer}
-use Rattle.office_tree.specs.declared.aggregation.Aggregation.{Aggregation}
-use Rattle.office_tree.specs.declared.head.Record.{Record}
 use Rattle.office_tree.proofs.Putting.{numbered-put}
 use Rattle.office_rules.specs.Acts.{CanBeMade}
 use Rattle.office_rules.specs.Sound.{IsSoundOffice}

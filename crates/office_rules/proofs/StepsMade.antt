@@ -2,12 +2,10 @@
 use Rattle.std.proofs.Common.{◌≡◌, ℕ, zero, suc, Option, Some, None, [], ◌∷◌, refl, sym, ap, subst, ◌∙◌}
 use Rattle.std.specs.Option.{is_none}
 use Rattle.office_days.specs.declared.refusal.Refusal.TheVariants.{NoRun}
-use Rattle.office_tree.specs.Conditions.{first_of}
 use Rattle.office_rules.specs.Acts.{AreStepsMade, step}
 use Rattle.office_rules.specs.Runs.{after_steps, open_run, step_of, whole}
 use Rattle.office_rules.specs.State.{Office, State}
 use Rattle.office_rules.specs.Steps.{answer_in, stepped}
-use Rattle.office_rules.specs.Writes.{all_office_writes}
 use Rattle.office_rules.specs.declared.act.Act.TheVariants as act
 use Rattle.office_rules.proofs.Changes.{office_changed}
 use Rattle.office_rules.proofs.Resuming.{midway_closed, steps_midway}

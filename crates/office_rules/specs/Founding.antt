@@ -1,10 +1,9 @@
 -- An office made of tables that were read, and what is examined of it. Source: own.
-use Rattle.std.specs.Prelude.{◌≡◌, ◌≢◌, ◌↔◌, ◌≤◌, ◌≤ℤ◌, ℕ, ℤ, Bool, true, ◌&&◌, ◌||◌, not, nat_le, int_le, List, map, length, Option, Some, IsTrue, IsSome, if◌then◌else◌}
+use Rattle.std.specs.Prelude.{◌≡◌, ◌≢◌, ◌↔◌, ◌≤◌, ◌≤ℤ◌, ℕ, ℤ, Bool, true, ◌&&◌, ◌||◌, not, nat_le, List, map, length, Some, IsTrue, IsSome, if◌then◌else◌}
 use Rattle.std.specs.FinMap.{FinMap, entries, get, values}
 use Rattle.std.specs.List.{All, Contains}
 use Rattle.std.specs.Option.{is_none, is_some}
 use Rattle.std.specs.Ordering.{nat_cmp}
-use Rattle.std.specs.String.{string_bytes}
 use Rattle.office_days.specs.Limits.{IsDayNumber}
 use Rattle.office_tree.specs.Disposal.{is_ended}
 use Rattle.office_tree.specs.Examined.{AllHavePapers, AreContentsShort, IsTreeBy}

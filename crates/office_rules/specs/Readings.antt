@@ -1,6 +1,6 @@
 -- What is read of the office. Source: own; what is told of a record is MoReq2010's, its record, disposal scheduling and
 -- disposal holding services.
-use Rattle.std.specs.Prelude.{◌≡◌, ◌↔◌, IsTrue, ℕ, ◌==◌, Bool, true, false, ◌&&◌, List, [], Option, Some, None, ℤ, pos, int_le, if◌then◌else◌}
+use Rattle.std.specs.Prelude.{◌≡◌, ◌↔◌, IsTrue, ℕ, ◌==◌, Bool, ◌&&◌, List, [], Option, Some, None, ℤ, pos, int_le, if◌then◌else◌}
 use Rattle.std.specs.List.{find, Contains}
 use Rattle.std.specs.List.Sorted.{IsStrictlySortedBy}
 use Rattle.std.specs.Option.{unwrap_or}

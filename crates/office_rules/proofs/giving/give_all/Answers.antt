@@ -16,8 +16,12 @@ loop-row-preserved g c =
 pub returns-in_err-give-clause-damaged : goal.returns-in_err-give-clause-damaged
 returns-in_err-give-clause-damaged g c =
     let n = suc c.loop-row.row-index in
-    damaged_exit c.from_residual.result c.in_err-give.field-0.0 c.from_residual.ensures.1 c.in_err-give.ensures.damaged (λ none.
-    (take n c.args.rows.now, drop n c.args.rows.now, sym (take-append-drop n c.args.rows.now), λ t begins.
-      none t (subst (λ (u : TableLists). Begins u t)
-      (with_rows-next g.T.Kept.row_of (g.I.Intake.content c.args.intake.now) c.args.rows.now c.loop-row.row-index c.row-item.result c.loop-row-test.true c.row-item.is
-      ∙ ap (λ (u : TableLists). with_row u (g.T.Kept.row_of c.row-item.result)) (sym c.loop-row.invariant)) begins)))
+    damaged_exit c.from_residual.result c.in_err-give.field-0.0 c.from_residual.ensures.1 c.in_err-give.ensures.damaged (λ none. (
+      take n c.args.rows.now,
+      drop n c.args.rows.now,
+      sym (take-append-drop n c.args.rows.now),
+      λ t begins.
+          none t (subst (λ (u : TableLists). Begins u t)
+          (with_rows-next g.T.Kept.row_of (g.I.Intake.content c.args.intake.now) c.args.rows.now c.loop-row.row-index c.row-item.result c.loop-row-test.true c.row-item.is
+          ∙ ap (λ (u : TableLists). with_row u (g.T.Kept.row_of c.row-item.result)) (sym c.loop-row.invariant)) begins),
+    ))

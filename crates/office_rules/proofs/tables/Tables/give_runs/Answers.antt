@@ -1,4 +1,4 @@
-use Rattle.std.proofs.Common.{◌≡◌, ◌∙◌, ap, map}
+use Rattle.std.proofs.Common.{ap, map}
 use Rattle.std.proofs.lemmas.Result.{IfOk-weaker}
 use Rattle.office_rows.proofs.Exits.{damaged_exit, damaged_so}
 use Rattle.office_rules.specs.Tables.{lists_of}
