@@ -3,6 +3,7 @@ pub mod EntryTests
 pub mod FoundSound
 pub mod FoundTables
 pub mod FoundTree
+pub mod Gathered
 pub mod MapRows
 pub mod NextRows
 pub mod PartsTests

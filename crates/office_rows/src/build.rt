@@ -35,6 +35,7 @@ pub fn push_keyed<K: Ord + Drop, V: Drop>(
 ) -> Result<(), Rebuild>
     ensures ok { OnOk result (map.new.entries ≡ map.old.entries ++ (key, value) ∷ []) }
     ensures ordered { OnOk result (IsOrdered K.cmp map.new) }
+    ensures err { OnErr result (map.new.entries ≡ map.old.entries) }
     ensures damaged { OnDamaged result (All (λ q. K.cmp q key ≡ Less) (keys map.old) → ⊥) }
 {
     if !follows(map, &key) {

@@ -1,0 +1,41 @@
+-- What an office under construction keeps true as rows come.
+use Rattle.std.proofs.Common.{◌≡◌, ◌≢◌, ℕ, List, [], ◌∷◌, ◌++◌, map, refl, sym, ap, ◌∙◌}
+use Rattle.std.specs.FinMap.{get}
+use Rattle.std.specs.List.{list_any}
+use Rattle.std.proofs.lemmas.List.{map-append}
+use Rattle.office_tree.specs.Lists.{holds_of}
+use Rattle.office_tree.specs.declared.head.Record.{Record}
+use Rattle.office_tree.specs.declared.status.Status.{Status}
+use Rattle.office_holds.specs.Founding.{AreRowsOf, hold_rows, is_pair}
+use Rattle.office_holds.specs.Holds.{HoldMap, has_target}
+use Rattle.office_holds.specs.declared.target.Target.{Target}
+use Rattle.office_proof.specs.declared.entry.Entry.{Entry}
+use Rattle.office_rules.specs.Founding.{entry_rows}
+use Rattle.office_founding.specs.Gathered.{AreGathered}
+
+-- which targets the holds have
+abbrev HaveTargets : HoldMap → List (List ℕ × Target) → Type 0
+HaveTargets holds targets = (code : List ℕ) (target : Target) → list_any (λ e. is_pair e.0 e.1 code target) targets ≡ holds_of (get holds code) (λ hold. has_target hold target)
+
+-- the rows of holds are their own
+pub own_rows : (holds : HoldMap) (targets : List (List ℕ × Target)) → HaveTargets holds targets → AreRowsOf (hold_rows holds) targets holds
+own_rows holds targets stand = record { columns = refl; targets_stand = stand }
+
+pub with_holds : (heads : List Record) (statuses : List Status) (holds after : HoldMap) (targets told : List (List ℕ × Target)) (es : List ((ℕ × ℕ) × Entry)) → AreGathered heads statuses holds targets es → HaveTargets after told
+    → AreGathered heads statuses after told es
+with_holds heads statuses holds after targets told es are stand = record { long = are.long; targets_stand = stand; keyed = are.keyed }
+
+pub not_empty : {A : Type 0} (xs : List A) (x : A) → xs ++ x ∷ [] ≢ []
+not_empty [] x e = absurd cc
+not_empty (y ∷ xs) x e = absurd cc
+
+entry_rows-push : (es : List ((ℕ × ℕ) × Entry)) (e : Entry) → entry_rows (map (λ x. x.1) es) ≡ es → entry_rows (map (λ x. x.1) (es ++ ((e.run, e.record_no), e) ∷ [])) ≡ es ++ ((e.run, e.record_no), e) ∷ []
+entry_rows-push es e keyed =
+    ap entry_rows (map-append (λ x. x.1) es (((e.run, e.record_no), e) ∷ []))
+    ∙ map-append (λ x. ((x.run, x.record_no), x)) (map (λ x. x.1) es) (e ∷ [])
+    ∙ ap (λ front. front ++ ((e.run, e.record_no), e) ∷ []) keyed
+
+-- one more entry under its run and record
+pub with_entry : (heads : List Record) (statuses : List Status) (holds : HoldMap) (targets : List (List ℕ × Target)) (es : List ((ℕ × ℕ) × Entry)) (e : Entry) → AreGathered heads statuses holds targets es
+    → AreGathered heads statuses holds targets (es ++ ((e.run, e.record_no), e) ∷ [])
+with_entry heads statuses holds targets es e are = record { long = are.long; targets_stand = are.targets_stand; keyed = entry_rows-push es e are.keyed }
