@@ -89,10 +89,10 @@ impl Gathering {
         ensures damaged { OnDamaged result (StandForNone self) }
     {
         let alloc = self.alloc;
-        let (parts, keys) = self.parts()?;
-        parts.tree.sound();
-        match parts.is_sound(alloc, &keys) {
-            Ok(true) => Ok(parts),
+        let (office, keys) = self.parts()?;
+        office.tree.sound();
+        match office.is_sound(alloc, &keys) {
+            Ok(true) => Ok(office),
             Ok(false) => Err(Rebuild::Damaged),
             Err(_) => Err(Rebuild::Memory),
         }
