@@ -1,10 +1,12 @@
 //! The office in memory.
 //!
 //! [`Machine`] decides acts, and makes what it decided, as the rules of the office say. What it decides is a
-//! list of row writes, which the store does to its tables.
+//! list of row writes, which the store does to its tables. [`Builder`] makes it of the rows of those tables, which
+//! it takes in one after another as they are read.
 #![tactic(auto)]
 
 mod applying;
+mod builder;
 mod closing;
 mod decide;
 mod deciding;
@@ -26,10 +28,12 @@ mod running;
 mod storing;
 mod taking;
 
+pub use builder::Builder;
 pub use due_rows::DueRows;
 pub use entry_rows::EntryRows;
 pub use machine::Machine;
 pub use office_rows::Rebuild;
 pub use office_rules::{
-    Act, Answer, Change, Decision, NewRecord, RecordRow, RecordView, RowWrite, Run, Tables,
+    Act, Answer, Change, Decision, Intake, NewRecord, RecordRow, RecordView, Row, RowWrite, Run,
+    Tables,
 };

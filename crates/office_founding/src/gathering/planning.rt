@@ -39,7 +39,11 @@ impl Gathering {
     }
 
     /// Takes an aggregation in.
-    pub(super) fn put_aggregation(&mut self, number: AggNo, aggregation: Aggregation) -> Result<(), Rebuild>
+    pub(super) fn put_aggregation(
+        &mut self,
+        number: AggNo,
+        aggregation: Aggregation,
+    ) -> Result<(), Rebuild>
         ensures ok { OnOk result (self.new ≡ with_row self.old (of_table.Aggregation number aggregation)) }
         ensures damaged { OnDamaged result ((t : TableLists) → Begins (with_row self.old (of_table.Aggregation number aggregation)) t → StandForNone t) }
     {

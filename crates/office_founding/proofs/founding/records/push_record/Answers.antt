@@ -1,5 +1,4 @@
-use Rattle.std.proofs.Common.{◌≡◌, [], ◌∷◌, ◌++◌, sym, ap, ◌∙◌, append_assoc}
-use Rattle.std.proofs.lemmas.Result.{IfOk-weaker}
+use Rattle.std.proofs.Common.{[], ◌∷◌, ◌++◌, ap, ◌∙◌, append_assoc}
 use Rattle.office_rows.specs.Rows.{numbered_rows}
 use Rattle.office_rows.proofs.Exits.{damaged_exit}
 use Rattle.office_rules.specs.Rows.{record_rows}

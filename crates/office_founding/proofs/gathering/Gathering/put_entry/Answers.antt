@@ -1,4 +1,4 @@
-use Rattle.std.proofs.Common.{◌≡◌, ℕ, [], ◌∷◌, ◌++◌, List, map, sym, ap, subst, ◌∙◌}
+use Rattle.std.proofs.Common.{◌≡◌, ℕ, [], ◌∷◌, List, map, sym, ap, subst, ◌∙◌}
 use Rattle.std.proofs.lemmas.List.{map-append}
 use Rattle.std.proofs.lemmas.Result.{IfOk-weaker}
 use Rattle.std.specs.List.{All}
@@ -7,7 +7,6 @@ use Rattle.std.specs.declared.cmp.Ordering.TheVariants.{Less}
 use Rattle.office_rows.proofs.Exits.{damaged_so}
 use Rattle.office_holds.proofs.Keys.{either_way}
 use Rattle.office_proof.specs.declared.entry.Entry.{Entry}
-use Rattle.office_rules.specs.Founding.{entry_rows}
 use Rattle.office_rules.specs.State.{entry_cmp}
 use Rattle.office_rules.specs.Tables.{Begins, TableLists, with_row}
 use Rattle.office_rules.specs.declared.table_row.Row.TheVariants as row

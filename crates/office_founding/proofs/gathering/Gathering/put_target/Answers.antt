@@ -1,8 +1,6 @@
-use Rattle.std.proofs.Common.{◌≡◌, [], ◌∷◌, ◌++◌, refl, sym, ap, subst, ◌∙◌}
-use Rattle.std.proofs.lemmas.Result.{IfOk-weaker}
+use Rattle.std.proofs.Common.{[], ◌∷◌, ◌++◌, sym, ap, subst, ◌∙◌}
 use Rattle.office_rows.proofs.Exits.{damaged_exit}
 use Rattle.office_holds.specs.Founding.{hold_rows}
-use Rattle.office_holds.specs.Holds.{HoldMap}
 use Rattle.office_rules.specs.Tables.{Begins, TableLists, with_row}
 use Rattle.office_rules.specs.declared.table_row.Row.TheVariants as row
 use Rattle.office_founding.specs.Gathered.{AreGathered}

@@ -1,7 +1,7 @@
 use Rattle.std.proofs.Common.{subst, sym}
 use Rattle.office_rules.specs.Sound.{IsSound, IsSoundOffice}
 use Rattle.office_rules.specs.State.{Office, with_contents}
-use Rattle.office_machine.proofs.machine.Machine.of_tables.Goals as goal
+use Rattle.office_machine.proofs.builder.Builder.finish.Goals as goal
 
 pub invariant_of-result : goal.invariant_of-result
 unfolding IsSoundOffice

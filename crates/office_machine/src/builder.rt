@@ -1,0 +1,72 @@
+//! The office in memory, made of rows as they come.
+ghost use Rattle.std.specs.Prelude.{◌≡◌, IfOk};
+ghost use Rattle.office_rows.specs.Rows.{OnDamaged};
+ghost use Rattle.office_rules.specs.Founding.{AreTablesOf, HaveKeys};
+ghost use Rattle.office_rules.specs.Sound.{IsSound};
+ghost use Rattle.office_rules.specs.State.{ByteMap, with_contents};
+ghost use Rattle.office_rules.specs.Tables.{StandForNone, no_rows};
+
+use crate::parts::Parts;
+use crate::{Intake, Machine, Rebuild, Row};
+use office_founding::Gathering;
+use std::alloc::Global;
+use std::marker::Model;
+
+/// What makes the office of its tables: it takes their rows in, one after another, and keeps each where the
+/// office keeps it. Contracts see the rows that have come.
+#[derive(Drop)]
+pub struct Builder {
+    gathering: Gathering,
+}
+
+impl Model for Builder {
+    ghost use Rattle.std.specs.Coded.{codes};
+    ghost use Rattle.std.specs.FinMap as map;
+    ghost use Rattle.office_rules.specs.Tables.{TableLists};
+
+    ghost Value = { TableLists };
+
+    ghost coded = { Prim.hlevel (codes, map.code) };
+
+    ghost view = { λ b. b.gathering };
+}
+
+impl Builder {
+    /// A builder to which no row has come.
+    pub fn new(alloc: Global) -> Builder
+        ensures { result ≡ no_rows }
+    {
+        Builder {
+            gathering: Gathering::new(alloc),
+        }
+    }
+
+    /// The office for which the rows stand that have come; damaged only where there is none. Whatever the
+    /// contents of the keys that have come are, it is sound with them. Contents themselves are not asked for.
+    pub fn finish(self) -> Result<Machine, Rebuild>
+        ensures ok { IfOk result (λ machine. AreTablesOf self machine) }
+        ensures sound { IfOk result (λ machine. (contents : ByteMap) → HaveKeys contents self.contents → IsSound (with_contents machine contents)) }
+        ensures keys { IfOk result (λ machine. (contents : ByteMap) × HaveKeys contents self.contents) }
+        ensures damaged { OnDamaged result (StandForNone self) }
+    {
+        let office = self.gathering.finish()?;
+        Ok(Machine {
+            parts: Parts {
+                tree: office.tree,
+                holds: office.holds,
+                runs: office.runs,
+                entries: office.entries,
+                certificates: office.certificates,
+                day: office.day,
+            },
+        })
+    }
+}
+
+impl Intake for Builder {
+    ghost content = { λ b. b };
+
+    fn row(&mut self, row: Row) -> Result<(), Rebuild> {
+        self.gathering.row(row)
+    }
+}
