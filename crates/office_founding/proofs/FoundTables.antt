@@ -1,5 +1,5 @@
 -- The office of the rows that have come, and rows of which there is none.
-use Rattle.std.proofs.Common.{◌≡◌, ℕ, List, ◌∷◌, [], map, sym, ap, subst, ◌∙◌}
+use Rattle.std.proofs.Common.{◌≡◌, ℕ, List, ◌∷◌, [], sym, ap, subst, ◌∙◌}
 use Rattle.std.specs.Cmp.{nat_cmp_total}
 use Rattle.std.specs.FinMap.{entries, from_entries}
 use Rattle.std.specs.List.Sorted.{IsStrictlySortedBy}

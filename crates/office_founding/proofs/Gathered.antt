@@ -1,13 +1,18 @@
 -- What an office under construction keeps true as rows come.
-use Rattle.std.proofs.Common.{◌≡◌, ◌≢◌, ℕ, List, [], ◌∷◌, ◌++◌, map, refl, sym, ap, ◌∙◌}
-use Rattle.std.specs.FinMap.{get}
+use Rattle.std.proofs.Common.{◌≡◌, ◌≢◌, ℕ, List, [], ◌∷◌, ◌++◌, map, Option, refl, sym, ap, ◌∙◌}
+use Rattle.std.specs.Cmp.Lexicographic.{nat_list_cmp_total}
+use Rattle.std.specs.FinMap.{empty, get, get-empty}
 use Rattle.std.specs.List.{list_any}
+use Rattle.std.specs.List.Sorted.{IsStrictlySortedBy}
 use Rattle.std.proofs.lemmas.List.{map-append}
+use Rattle.office_rows.proofs.Maps.{entries_of_ordered}
 use Rattle.office_tree.specs.Lists.{holds_of}
+use Rattle.office_tree.specs.Tree.{code_cmp}
 use Rattle.office_tree.specs.declared.head.Record.{Record}
 use Rattle.office_tree.specs.declared.status.Status.{Status}
 use Rattle.office_holds.specs.Founding.{AreRowsOf, hold_rows, is_pair}
-use Rattle.office_holds.specs.Holds.{HoldMap, has_target}
+use Rattle.office_holds.specs.Holds.{HoldMap, HoldState, has_target}
+use Rattle.office_holds.specs.Rows.{hold_row}
 use Rattle.office_holds.specs.declared.target.Target.{Target}
 use Rattle.office_proof.specs.declared.entry.Entry.{Entry}
 use Rattle.office_rules.specs.Founding.{entry_rows}
@@ -39,3 +44,16 @@ entry_rows-push es e keyed =
 pub with_entry : (heads : List Record) (statuses : List Status) (holds : HoldMap) (targets : List (List ℕ × Target)) (es : List ((ℕ × ℕ) × Entry)) (e : Entry) → AreGathered heads statuses holds targets es
     → AreGathered heads statuses holds targets (es ++ ((e.run, e.record_no), e) ∷ [])
 with_entry heads statuses holds targets es e are = record { long = are.long; targets_stand = are.targets_stand; keyed = entry_rows-push es e are.keyed }
+
+-- ---- no row has come
+
+pub nothing_gathered : AreGathered [] [] empty [] []
+nothing_gathered = record {
+  long = refl;
+  targets_stand = λ code target. sym (ap (λ (o : Option HoldState). holds_of o (λ hold. has_target hold target)) (get-empty {X = HoldState} code_cmp code));
+  keyed = refl;
+}
+
+pub no_hold_rows : hold_rows empty ≡ []
+unfolding IsStrictlySortedBy
+no_hold_rows = ap (map (λ (e : List ℕ × HoldState). (e.0, hold_row e.1))) (entries_of_ordered code_cmp nat_list_cmp_total [] tt)
