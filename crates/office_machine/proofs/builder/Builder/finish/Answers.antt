@@ -1,6 +1,8 @@
 use Rattle.std.proofs.Common.{subst, sym}
+use Rattle.office_rules.specs.Founding.{HaveKeys}
 use Rattle.office_rules.specs.Sound.{IsSound, IsSoundOffice}
-use Rattle.office_rules.specs.State.{Office, with_contents}
+use Rattle.office_rules.specs.State.{ByteMap, Office, with_contents}
+use Rattle.office_rules.specs.Tables.{TableLists}
 use Rattle.office_machine.proofs.builder.Builder.finish.Goals as goal
 
 pub invariant_of-result : goal.invariant_of-result
@@ -8,3 +10,6 @@ unfolding IsSoundOffice
 invariant_of-result c =
     let some = c.in_ok-office.ensures.keys in
     (some.0, subst (λ (o : Office). IsSound (with_contents o some.0)) (sym c.office.view_is) (c.in_ok-office.ensures.sound some.0 some.1))
+
+pub returns-clause-keys : goal.returns-clause-keys
+returns-clause-keys c = subst (λ (rows : TableLists). (contents : ByteMap) × HaveKeys contents rows.contents) c.self.view_is c.in_ok-office.ensures.keys
