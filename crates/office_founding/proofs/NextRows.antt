@@ -25,17 +25,7 @@ use Rattle.office_rules.specs.declared.rows.RecordRow.{RecordRow}
 use Rattle.office_rules.specs.declared.run.Run.{Run}
 use Rattle.office_founding.proofs.MapRows.{next_entry, next_key}
 
--- no list of one has two first ones
-pub one_day : (days : List ℤ) (first second day : ℤ) → IsFront ((first ∷ []) ++ second ∷ []) days → days ≡ day ∷ [] → ⊥
-one_day days first second day front one =
-    let two : first ∷ second ∷ front.0 ≡ day ∷ [] = sym front.1 ∙ one in
-    absurd cc
-
 module _ (t : TableLists) (s : State) (stand : StandsFor t s) where
-  pub day_is : t.days ≡ s.office.day ∷ []
-  unfolding rows_of
-  day_is = stand.day
-
   -- ---- the keys of those before are below a row's
 
   pub next_schedule : (done : List (List ℕ × Schedule)) (code : List ℕ) (it : Schedule) → IsFront (done ++ (code, it) ∷ []) t.schedules → All (λ q. code_cmp q code ≡ Less) (keys_of done)
