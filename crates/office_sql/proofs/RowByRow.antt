@@ -9,6 +9,7 @@ use Rattle.sqlite.specs.Given.{HasGiven}
 use Rattle.sqlite.specs.Held.{Held, state}
 use Rattle.sqlite.specs.Listing.{understood}
 use Rattle.sqlite.specs.State.{State, IsUnchanged, Shown}
+use Rattle.sqlite.proofs.StateLemmas.{unchanged}
 use Rattle.sqlite.proofs.Callers.{EndsIn, IsPlain, begins_shown, command_of, given_begin}
 use Rattle.office_sql.specs.Bags.{shown}
 use Rattle.office_sql.specs.Reads.{IsByKey, bag_of, key_of, text_of}
@@ -18,10 +19,6 @@ use Rattle.office_sql.specs.declared.reading.OfficeTable.TheVariants as table
 use Rattle.office_sql.proofs.ReadLemmas.{ReadsWhole, shows_by_key}
 use Rattle.office_sql.proofs.ReadTexts.{all_schedules_is, all_classes_is, all_aggregations_is, all_records_is, all_contents_is, all_holds_is, all_targets_is, all_runs_is, all_entries_is, all_certificates_is}
 
--- nothing happens to a state that is open
-same_state : (s : State) → IsTrue s.is_open → IsUnchanged s s
-same_state s is_open = (record { was_open = is_open; is_open = is_open; now_is = refl; committed_is = refl; mode = refl }, record { changes = refl; last_rowid = refl }, refl)
-
 module _ {sql : List ℕ} {tree : ℕ} {places among : List ℕ} (it : ReadsWhole sql tree places among) where
   -- the rows so far are the first of all
   rows_begin : {S : Type 0} (g : Ghosts S) (h : Held S) (given : List Row) → h.schema ≡ office_schema → IsTrue (state g h).is_open → HasGiven g sql [] h given
@@ -29,7 +26,7 @@ module _ {sql : List ℕ} {tree : ℕ} {places among : List ℕ} (it : ReadsWhol
   rows_begin g h given has is_open gave =
       let s = state g h in
       let known : understood h.schema sql ≡ understood office_schema sql = ap (λ schema. understood schema sql) has in
-      let shows = begins_shown sql [] s s given (given_begin g sql [] h given gave) (same_state s is_open)
+      let shows = begins_shown sql [] s s given (given_begin g sql [] h given gave) (unchanged s is_open)
       (λ c db stated source. subst (λ k. EndsIn k db (timed [] c.formats stated.now)) (sym (sym (ap command_of stated.is) ∙ ap command_of known ∙ it.command)) tt) in
       (shows.0, shows_by_key it s s (given ++ shows.0) has shows.1)
 

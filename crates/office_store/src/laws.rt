@@ -9,10 +9,9 @@ ghost use Rattle.office_rules.specs.Rows.{rows_of};
 ghost use Rattle.office_rules.specs.Sound.{IsSound};
 ghost use Rattle.office_rules.specs.Founding.{HaveKeys};
 ghost use Rattle.office_rules.specs.State.{ByteMap, State};
-ghost use Rattle.office_rules.specs.Tables.{StandsFor};
+ghost use Rattle.office_rules.specs.Tables.{StandsFor, TableLists};
 ghost use Rattle.office_rules.specs.Writes.{all_writes};
 ghost use Rattle.office_rules.specs.declared.change.Change.{Change};
-ghost use Rattle.office_rules.specs.declared.tables.Tables.{Tables};
 ghost use Rattle.office_saving.specs.Written.{AreWritten};
 ghost use Rattle.office_store.specs.Adopted.{AreNumbersAndBytes, IsRead};
 ghost use Rattle.office_store.specs.Stands.{HasContents, Stands};
@@ -28,7 +27,7 @@ pub fn law_of_saved_rows()
 /// Tables that are read, where the database's tables stand for the rows of a sound state, stand for
 /// that state; and where its certificates are texts, every row is of its form.
 pub fn law_of_read_rows()
-    ensures stand { (s : State) (t : Tables) (db : Trees) → IsSound s → Stands (rows_of s) db → IsRead t db → StandsFor t s }
+    ensures stand { (s : State) (t : TableLists) (db : Trees) → IsSound s → Stands (rows_of s) db → IsRead t db → StandsFor t s }
     ensures readable { (s : State) (db : Trees) → IsSound s → ((run : ℕ) (text : List ℕ) → get s.office.certificates run ≡ Some text → IsUtf8 text) → Stands (rows_of s) db → AllReadable db }
 {}
 
@@ -36,8 +35,8 @@ pub fn law_of_read_rows()
 /// database's tables stand for its rows; and rows of numbers and bytes, the numbers ascending, are those
 /// of contents.
 pub fn law_of_found_rows()
-    ensures stand { (s : State) (t : Tables) (db : Trees) → IsRead t db → StandsFor t s → HasContents db s.contents → Stands (rows_of s) db }
-    ensures contents { (t : Tables) (db : Trees) (like : ByteMap) → IsRead t db → AreNumbersAndBytes db → HaveKeys like t.contents.items → (contents : ByteMap) × HaveKeys contents t.contents.items × HasContents db contents }
+    ensures stand { (s : State) (t : TableLists) (db : Trees) → IsRead t db → StandsFor t s → HasContents db s.contents → Stands (rows_of s) db }
+    ensures contents { (t : TableLists) (db : Trees) (like : ByteMap) → IsRead t db → AreNumbersAndBytes db → HaveKeys like t.contents → (contents : ByteMap) × HaveKeys contents t.contents × HasContents db contents }
 {}
 
 /// The tables in one database stand for at most one sound state.

@@ -5,13 +5,14 @@ ghost use Rattle.office_days.specs.Limits.{longest};
 ghost use Rattle.office_days.specs.Periods.{RetentionPeriod};
 ghost use Rattle.office_days.specs.Words.{unit_word};
 ghost use Rattle.office_sql.specs.Values.{Has, OnDamaged};
-ghost use Rattle.office_store.specs.Stored.{IsAggregationPair, IsClassPair, IsRowOf, IsSchedulePair, aggregation_pair, class_pair, schedule_pair};
+ghost use Rattle.office_store.specs.Stored.{IsAggregationPair, IsClassPair, IsRowOf, IsSchedulePair, aggregation_handed, aggregation_pair, class_handed, class_pair, schedule_handed, schedule_pair};
 
 use crate::columns::{
     action, code, has_columns, offset, optional_code, optional_day, trigger, unit, words,
 };
 use crate::stored::Stored;
 use office_days::Period;
+use office_rules::Row as TableRow;
 use office_sql::{BadValue, number, optional_number};
 use office_tree::{AggNo, Aggregation, Class, Code, Schedule};
 use sqlite::Row;
@@ -22,6 +23,8 @@ impl Stored for (Code, Schedule) {
 
     ghost IsRow = { IsRowOf schedule_pair IsSchedulePair };
 
+    ghost handed = { schedule_handed };
+
     fn read(alloc: Global, row: &Row) -> Result<(Code, Schedule), BadValue> {
         has_columns(row, 6)?;
         let schedule = Schedule {
@@ -31,6 +34,11 @@ impl Stored for (Code, Schedule) {
             action: action(row, 5)?,
         };
         Ok((code(alloc, row, 0)?, schedule))
+    }
+
+    fn into_row(self) -> TableRow {
+        let (code, schedule) = self;
+        TableRow::Schedule { code, schedule }
     }
 }
 
@@ -47,6 +55,8 @@ impl Stored for (Code, Class) {
 
     ghost IsRow = { IsRowOf class_pair IsClassPair };
 
+    ghost handed = { class_handed };
+
     fn read(alloc: Global, row: &Row) -> Result<(Code, Class), BadValue> {
         has_columns(row, 3)?;
         let named = code(alloc, row, 0)?;
@@ -56,12 +66,19 @@ impl Stored for (Code, Class) {
         };
         Ok((named, class))
     }
+
+    fn into_row(self) -> TableRow {
+        let (code, class) = self;
+        TableRow::Class { code, class }
+    }
 }
 
 impl Stored for (AggNo, Aggregation) {
     ghost shown = { aggregation_pair };
 
     ghost IsRow = { IsRowOf aggregation_pair IsAggregationPair };
+
+    ghost handed = { aggregation_handed };
 
     fn read(alloc: Global, row: &Row) -> Result<(AggNo, Aggregation), BadValue> {
         has_columns(row, 6)?;
@@ -74,5 +91,10 @@ impl Stored for (AggNo, Aggregation) {
             class: optional_code(alloc, row, 4)?,
         };
         Ok((numbered, aggregation))
+    }
+
+    fn into_row(self) -> TableRow {
+        let (number, aggregation) = self;
+        TableRow::Aggregation { number, aggregation }
     }
 }
