@@ -61,7 +61,7 @@ module _ {X : Type 0} (old new : State) (had has : TableLists) (result : Result 
   -- the day is not read
   pub no_day : (f : Fault) → result ≡ Err f → ReadsTables IsDay old new (Err f) → (HasCleanDisk new → IsAtRest old → f ≡ fault.Damaged → IsOtherVersion old.now.trees → ⊥) → TakesAll old new had has result
   no_day f is it this_version =
-      let failed : TakesAll {X} old new had has (Err f) = record {
+      let failed : TakesAll {X = X} old new had has (Err f) = record {
         taken = λ clean rest none. tt;
         damaged = λ clean rest none wrong s sound texts stands. it.damaged clean rest wrong (rows_readable s old.now.trees sound texts stands);
         this_version = this_version;
@@ -76,7 +76,7 @@ module _ {X : Type 0} (old new : State) (had has : TableLists) (result : Result 
   -- it is read, and refused
   pub day_refused : (day : ℤ) (f : Fault) → result ≡ Err f → ReadsTables IsDay old new (Ok day) → (f ≡ fault.Damaged → IsFrontOfNone (with_row had (row.Office day))) → (f ≡ fault.Memory) ⊎ (f ≡ fault.Damaged) → TakesAll old new had has result
   day_refused day f is it why faults =
-      let failed : TakesAll {X} old new had has (Err f) = record {
+      let failed : TakesAll {X = X} old new had has (Err f) = record {
         taken = λ clean rest none. tt;
         damaged = λ clean rest none wrong. none_held 1 1 (omega arith) (with_row no_rows (row.Office day)) old.now.trees (office_come old.now.trees day (it.read clean rest)) (subst (λ u. IsFrontOfNone (with_row u (row.Office day))) none (why wrong));
         this_version = λ clean rest. not_other (Err f) old.now.trees day (it.read clean rest);

@@ -56,8 +56,8 @@ module _ {S T : Type 0} (g : Ghosts S) (shown : T → Row) (IsIt : Row → Type 
 
   -- the database failed
   pub store_failed : {X : Type 0} (now : Held S) (has : TableLists) (result : Result X Fault) → Survives (state g first) (state g now) (λ _. ⊥) → result ≡ Err fault.Store → (t : OfficeTable) → Takes t now has result
-  store_failed {X} now has result survives is t =
-      let failed : Takes {X} t now has (Err fault.Store) = record {
+  store_failed {X = X} now has result survives is t =
+      let failed : Takes {X = X} t now has (Err fault.Store) = record {
         taken = λ clean starts. tt;
         refused = λ clean starts wrong. absurd cc;
         same = λ clean starts. tt;
@@ -106,7 +106,7 @@ module _ {S T : Type 0} (g : Ghosts S) (shown : T → Row) (IsIt : Row → Type 
 
     pub row_refused : {X : Type 0} (row : Row) (got : TableLists) (f : Fault) (result : Result X Fault) → next ≡ Some row
         → (f ≡ fault.Damaged → (IsIt row → ⊥) ⊎ ((it : T) × (row ≡ shown it) × IsFrontOfNone (with_row has (handed it)))) → (f ≡ fault.Memory) ⊎ (f ≡ fault.Damaged) → result ≡ Err f → (t : OfficeTable) → Takes t now got result
-    row_refused {X} row got f result is why faults is_err t = subst (Takes t now got) (sym is_err) failed
+    row_refused {X = X} row got f result is why faults is_err t = subst (Takes t now got) (sym is_err) failed
       where
         -- the rows so far and the one that was refused are the first of the table
         begun : HasCleanDisk (state g now) → (starts : StartsAt g t first) → (them : List T) × (has ≡ with_rows had (map handed them)) × (tail : List Row) × IsByKey (key_of t) (bag_of t (state g first).now.trees) ((map shown them ++ row ∷ []) ++ tail)
@@ -130,7 +130,7 @@ module _ {S T : Type 0} (g : Ghosts S) (shown : T → Row) (IsIt : Row → Type 
             ap (λ u. with_row u (handed h.0)) it.1 ∙ sym (fold-append with_row had (map handed it.0) (handed h.0 ∷ [])) ∙ ap (with_rows had) (sym (map-append handed it.0 (h.0 ∷ []))) in
             inr (it.0 ++ h.0 ∷ [], it.2, subst (λ l. IsByKey (key_of t) (bag_of t (state g first).now.trees) (l ++ it.2)) list it.3, subst IsFrontOfNone lists h.2)
 
-        failed : Takes {X} t now got (Err f)
+        failed : Takes {X = X} t now got (Err f)
         failed = record {
           taken = λ clean starts. tt;
           refused = λ clean starts damaged. refused clean starts (why damaged);

@@ -54,7 +54,7 @@ then_taken {first = first} {between = between} {last = last} {old = old} {mid = 
     }
 
 -- tables of which one was not taken in, told of a greater number
-pub failed_in : {X Y : Type 0} {first between last : ℕ} {old new : State} {had has : TableLists} {fault : Fault} {result : Result Y Fault} → result ≡ Err fault → TakesIn {X} first between old new had has (Err fault) → TakesIn first last old new had has result
+pub failed_in : {X Y : Type 0} {first between last : ℕ} {old new : State} {had has : TableLists} {fault : Fault} {result : Result Y Fault} → result ≡ Err fault → TakesIn {X = X} first between old new had has (Err fault) → TakesIn first last old new had has result
 failed_in {Y = Y} {first = first} {last = last} {old = old} {new = new} {had = had} {has = has} {fault = fault} is it =
-    let failed : TakesIn {Y} first last old new had has (Err fault) = record { taken = λ clean rest come. tt; damaged = it.damaged; same = λ clean rest. tt; faults = it.faults; leaves = it.leaves; clean = it.clean } in
+    let failed : TakesIn {X = Y} first last old new had has (Err fault) = record { taken = λ clean rest come. tt; damaged = it.damaged; same = λ clean rest. tt; faults = it.faults; leaves = it.leaves; clean = it.clean } in
     subst (TakesIn first last old new had has) (sym is) failed
