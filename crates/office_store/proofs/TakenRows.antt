@@ -1,5 +1,6 @@
 -- The rows of one table are taken in one after another, as its query gives them.
 use Rattle.std.proofs.Common.{◌≡◌, ◌⊎◌, inl, inr, ℕ, List, [], ◌∷◌, ◌++◌, All, map, Option, Some, None, Result, Ok, Err, IfErr, IsTrue, refl, sym, ap, subst, ◌∙◌, false, arith}
+use Rattle.std.proofs.lemmas.Result.{IfOk-weaker, IfErr-weaker}
 use Rattle.std.proofs.lemmas.Grind.{fold-append}
 use Rattle.std.proofs.lemmas.List.{append_assoc, map-append}
 use Rattle.std.proofs.lemmas.List.Elements.{recursion_from_All}
@@ -9,18 +10,20 @@ use Rattle.sqlite_value.specs.Order.{Row}
 use Rattle.sqlite_trees.specs.declared.store.Store.{Ghosts}
 use Rattle.sqlite_trees.specs.Tree.{Trees}
 use Rattle.sqlite.specs.Effect.{Database}
-use Rattle.sqlite.specs.Given.{Advances, HasGiven}
+use Rattle.sqlite.specs.Given.{Advances, HasBegun, HasGiven}
 use Rattle.sqlite.specs.Held.{Held, state}
-use Rattle.sqlite.specs.State.{State, HasCleanDisk, IsUnchanged, Survives}
-use Rattle.sqlite.proofs.Callers.{unchanged_then}
+use Rattle.sqlite.specs.State.{State, CommitsShowing, HasCleanDisk, IsUnchanged, Survives}
+use Rattle.sqlite.specs.Listing.{understood}
+use Rattle.sqlite.proofs.Callers.{IsPlain, begun_plain, unchanged_then}
 use Rattle.sqlite.proofs.StateLemmas.{unchanged}
 use Rattle.office_rules.specs.Tables.{TableLists, with_row}
 use Rattle.office_rules.specs.declared.table_row.Row.{Row as TableRow}
+use Rattle.office_sql.specs.Office.{IsAtRest, IsOffice}
 use Rattle.office_sql.specs.Reads.{IsByKey, bag_of, key_of, text_of}
 use Rattle.office_sql.specs.declared.reading.OfficeTable.{OfficeTable}
 use Rattle.office_sql.proofs.Inside.{quiet_same, quiet_then}
-use Rattle.office_sql.proofs.ReadLemmas.{clean_before}
-use Rattle.office_sql.proofs.RowByRow.{table_begun, table_shown}
+use Rattle.office_sql.proofs.ReadLemmas.{clean_before, query_quiet}
+use Rattle.office_sql.proofs.RowByRow.{plain_text, table_begun, table_shown}
 use Rattle.office_store.specs.Taken.{IsFrontOfNone, StartsAt, TakesRows, with_rows}
 use Rattle.office_store.specs.declared.fault.Fault.{Fault}
 use Rattle.office_store.specs.declared.fault.Fault.TheVariants as fault
@@ -138,4 +141,64 @@ module _ {S T : Type 0} (g : Ghosts S) (shown : T → Row) (IsIt : Row → Type 
           faults = not_version f faults;
           leaves = λ clean starts. leaves_less now quiet clean;
           clean = clean_before (state g first) (state g now) quiet;
+        }
+
+-- a table is queried, and its rows are taken in, where the office was at rest
+module _ {S T : Type 0} (g : Ghosts S) (shown : T → Row) (IsIt : Row → Type 0) (handed : T → TableRow) (t : OfficeTable) (first : Held S) (had has : TableLists) where
+  plain_here : IsAtRest (state g first) → IsPlain (understood first.schema (text_of t))
+  plain_here rest = subst (λ schema. IsPlain (understood schema (text_of t))) (sym rest.office.schema) (plain_text t)
+
+  quiet_query : (now : Held S) → Survives (state g first) (state g now) (CommitsShowing (text_of t) [] (state g first)) → IsAtRest (state g first) → Survives (state g first) (state g now) (λ _. ⊥)
+  quiet_query now survives rest = query_quiet (text_of t) [] (plain_text t) (state g first) (state g now) rest.office.schema survives
+
+  abbrev AtRest : Held S → Type 0
+  AtRest now = IsAtRest (state g now) × ((state g now).now ≡ (state g first).now)
+
+  -- what is as it was is at rest, by the laws of the store
+  module _ (settled : (s : S) (db : Trees) → IsTrue (g.view s).is_open → g.recovers s db → db ≡ (g.view s).committed) (stays : (s : S) → IsTrue (g.view s).is_open → g.recovers s (g.view s).committed) where
+    pub still_at_rest : (now : Held S) → IsAtRest (state g first) → IsUnchanged (state g first) (state g now) → AtRest now
+    still_at_rest now rest same =
+        let whole : (state g now).now ≡ (state g now).committed = same.0.now_is ∙ rest.settled ∙ sym same.0.committed_is in
+        (record {
+          is_open = same.0.is_open;
+          autocommit = same.0.mode ∙ rest.autocommit;
+          settled = whole;
+          office = subst IsOffice (sym same.0.now_is) rest.office;
+          only = λ db may. settled now.store db same.0.is_open may ∙ ap (λ (d : Database). d.trees) (sym whole);
+          stays = subst (λ (d : Database). (state g now).may_leave d.trees) (sym whole) (stays now.store same.0.is_open);
+        }, same.0.now_is)
+
+  -- it does not begin
+  pub not_begun : {X : Type 0} (now : Held S) (f : Fault) → f ≡ fault.Store → Survives (state g first) (state g now) (CommitsShowing (text_of t) [] (state g first))
+      → TakesRows {X = X} t shown IsIt handed (IsAtRest (state g first)) (AtRest now) (state g first) (state g now) had has (Err f)
+  not_begun now f is survives = record {
+    taken = λ clean rest. tt;
+    refused = λ clean rest wrong. absurd (let two = sym is ∙ wrong in cc);
+    same = λ clean rest. tt;
+    faults = (λ wrong. absurd (let two = sym is ∙ wrong in cc), λ wrong. absurd (let two = sym is ∙ wrong in cc));
+    leaves = λ clean rest db may. elim ((quiet_query now survives rest).crash clean db may) [ inl left ↦ left | inr never ↦ absurd never ];
+    clean = clean_before (state g first) (state g now) survives;
+  }
+
+  -- it begins, and gives its rows
+  module _ (begun : Held S) (survives : Survives (state g first) (state g begun) (CommitsShowing (text_of t) [] (state g first))) (begins : HasCleanDisk (state g begun) → HasBegun g (text_of t) [] first begun) where
+    has_begun : IsAtRest (state g first) → HasCleanDisk (state g begun) → HasGiven g (text_of t) [] begun [] × IsUnchanged (state g first) (state g begun)
+    has_begun rest clean = begun_plain g (text_of t) [] first begun (plain_here rest) (begins clean)
+
+    starts : IsAtRest (state g first) → HasCleanDisk (state g begun) → StartsAt g t begun
+    starts rest clean =
+        let it = has_begun rest clean in
+        record { is_open = it.1.0.is_open; schema = ap (λ (d : Database). d.schema) it.1.0.now_is ∙ rest.office.schema; given = it.0 }
+
+    pub rows_taken : {X : Type 0} (now : Held S) (result : Result X Fault) → TakesRows t shown IsIt handed (StartsAt g t begun) (IsUnchanged (state g begun) (state g now)) (state g begun) (state g now) had has result
+        → (HasCleanDisk (state g now) → IsAtRest (state g first) → IsUnchanged (state g first) (state g now) → AtRest now) → TakesRows t shown IsIt handed (IsAtRest (state g first)) (AtRest now) (state g first) (state g now) had has result
+    rows_taken now result it stays =
+        let same : HasCleanDisk (state g now) → IsAtRest (state g first) → (state g begun).now ≡ (state g first).now = λ clean rest. (has_begun rest (it.clean clean)).1.0.now_is in
+        record {
+          taken = λ clean rest. IfOk-weaker result _ _ (λ x took. (took.0, subst (λ (d : Database). IsByKey (key_of t) (bag_of t d.trees) (map shown took.0)) (same clean rest) took.1, took.2)) (it.taken clean (starts rest (it.clean clean)));
+          refused = λ clean rest. IfErr-weaker result _ _ (λ f why is. subst (λ (d : Database). (All IsIt (bag_of t d.trees) → ⊥) ⊎ ((them : List T) × (tail : List Row) × IsByKey (key_of t) (bag_of t d.trees) (map shown them ++ tail) × IsFrontOfNone (with_rows had (map handed them)))) (same clean rest) (why is)) (it.refused clean (starts rest (it.clean clean)));
+          same = λ clean rest. IfOk-weaker result _ _ (λ x unchanged. stays clean rest (unchanged_then (state g first) (state g begun) (state g now) (has_begun rest (it.clean clean)).1 unchanged)) (it.same clean (starts rest (it.clean clean)));
+          faults = it.faults;
+          leaves = λ clean rest db may. elim ((quiet_query begun survives rest).crash (it.clean clean) db (it.leaves clean (starts rest (it.clean clean)) db may)) [ inl left ↦ left | inr never ↦ absurd never ];
+          clean = λ clean. clean_before (state g first) (state g begun) survives (it.clean clean);
         }
