@@ -18,7 +18,7 @@ use Rattle.office_sql.specs.declared.reading.OfficeTable.TheVariants as table
 use Rattle.office_saving.specs.Encoded.{entry_shown}
 use Rattle.office_store.specs.Adopted.{AreCertificatesTexts, HoldNoOffice}
 use Rattle.office_store.specs.Stands.{Stands}
-use Rattle.office_store.specs.Stored.{AllReadable, IsRowOf, aggregation_pair, class_pair, hold_pair, number_row, record_pair, run_pair, schedule_pair, target_pair, text_row}
+use Rattle.office_store.specs.Stored.{AllReadable, IsCertificateRow, IsRowOf, aggregation_pair, class_pair, hold_pair, number_row, record_pair, run_pair, schedule_pair, target_pair, text_row}
 use Rattle.office_store.specs.Taken.{HaveCome, HaveRowsCome, IsFrontOfNone}
 use Rattle.office_store.proofs.FormedRows.{formed_records, own_entries, short_in_rows}
 use Rattle.office_store.proofs.ReadTables.{read_aggregations, read_certificates, read_classes, read_contents, read_day, read_entries, read_holds, read_records, read_runs, read_schedules, under_keys}
@@ -138,7 +138,7 @@ module _ (s : State) (db : Trees) (sound : IsSound s) (stands : Stands (rows_of 
           targets = pairs.2;
           runs = front_of run_pair table.Runs db (formed run_pair _ (bag_of table.Runs db) all.runs) (nat_lt 8 whole) (nat_lt 8 begun) u.runs rows.runs (read_runs rows db order stands) come.runs;
           entries = front_of entry_shown table.Entries db (formed entry_shown _ (bag_of table.Entries db) all.entries) (nat_lt 9 whole) (nat_lt 9 begun) u.entries (map (λ e. e.1) rows.entries_by) (read_entries rows db order stands (own_entries s sound)) come.entries;
-          certificates = front_of text_row table.Certificates db (All-weaker _ (IsShown text_row) (λ row it. ((it.0, it.1), it.4)) (bag_of table.Certificates db) all.certificates) (nat_lt 10 whole) (nat_lt 10 begun) u.certificates rows.certificates (read_certificates rows db order stands) come.certificates;
+          certificates = front_of text_row table.Certificates db (All-weaker IsCertificateRow (IsShown text_row) (λ row it. ((it.0, it.1), it.4)) (bag_of table.Certificates db) all.certificates) (nat_lt 10 whole) (nat_lt 10 begun) u.certificates rows.certificates (read_certificates rows db order stands) come.certificates;
         })
 
 -- where no tables that begin with the rows that have come stand for a state, the tables hold no office
