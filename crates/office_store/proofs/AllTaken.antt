@@ -79,7 +79,7 @@ module _ {X : Type 0} (old new : State) (had has : TableLists) (result : Result 
       let failed : TakesAll {X = X} old new had has (Err f) = record {
         taken = λ clean rest none. tt;
         damaged = λ clean rest none wrong. none_held 1 1 (omega arith) (with_row no_rows (row.Office day)) old.now.trees (office_come old.now.trees day (it.read clean rest)) (subst (λ u. IsFrontOfNone (with_row u (row.Office day))) none (why wrong));
-        this_version = λ clean rest. not_other (Err f) old.now.trees day (it.read clean rest);
+        this_version = λ clean rest. not_other {X = X} (Err f) old.now.trees day (it.read clean rest);
         version = λ clean rest wrong. elim faults [ inl memory ↦ absurd (let two = sym memory ∙ wrong in cc) | inr damaged ↦ absurd (let two = sym damaged ∙ wrong in cc) ];
         same = λ clean rest. tt;
         faults = λ wrong. elim faults [ inl memory ↦ absurd (let two = sym memory ∙ wrong in cc) | inr damaged ↦ absurd (let two = sym damaged ∙ wrong in cc) ];

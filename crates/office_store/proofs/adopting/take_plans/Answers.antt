@@ -5,7 +5,7 @@ use Rattle.office_store.proofs.adopting.take_plans.Goals as goal
 
 pub returns-in_err-schedules-clause-takes : goal.returns-in_err-schedules-clause-takes
 returns-in_err-schedules-clause-takes g c =
-    let failed = err_from_is_err_and c.from_residual-in_err-schedules.result c.from_residual-in_err-schedules.ensures.1 in
+    let failed = err_from_is_err_and c.from_residual.result c.from_residual.ensures.1 in
     failed_in (failed.1 ∙ ap Err failed.2) c.in_err-schedules.ensures.takes
 
 pub returns-in_err-classes-clause-takes : goal.returns-in_err-classes-clause-takes

@@ -5,7 +5,7 @@ use Rattle.office_store.proofs.adopting.take_rest.Goals as goal
 
 pub returns-in_err-take_plans-clause-takes : goal.returns-in_err-take_plans-clause-takes
 returns-in_err-take_plans-clause-takes g c =
-    let failed = err_from_is_err_and c.from_residual-in_err-take_plans.result c.from_residual-in_err-take_plans.ensures.1 in
+    let failed = err_from_is_err_and c.from_residual.result c.from_residual.ensures.1 in
     failed_in (failed.1 ∙ ap Err failed.2) c.in_err-take_plans.ensures.takes
 
 pub returns-in_err-take_things-clause-takes : goal.returns-in_err-take_things-clause-takes

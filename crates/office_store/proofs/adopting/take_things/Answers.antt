@@ -5,7 +5,7 @@ use Rattle.office_store.proofs.adopting.take_things.Goals as goal
 
 pub returns-in_err-records-clause-takes : goal.returns-in_err-records-clause-takes
 returns-in_err-records-clause-takes g c =
-    let failed = err_from_is_err_and c.from_residual-in_err-records.result c.from_residual-in_err-records.ensures.1 in
+    let failed = err_from_is_err_and c.from_residual.result c.from_residual.ensures.1 in
     failed_in (failed.1 ∙ ap Err failed.2) c.in_err-records.ensures.takes
 
 pub returns-clause-takes : goal.returns-clause-takes
