@@ -132,10 +132,12 @@ impl<S: Alter> Store<S> {
         ensures ended { IfErr result (λ e. e.1.in_transaction ≡ false) }
     {
         let mut gathered = Gathered::new(alloc);
-        let store = Store::adopt_into(alloc, conn, &mut gathered)?;
-        match gathered.into_tables() {
-            Some(tables) => Ok((store, tables)),
-            None => Err((Fault::Damaged, store.release())),
+        match Store::adopt_into(alloc, conn, &mut gathered) {
+            Ok(store) => match gathered.into_tables() {
+                Some(tables) => Ok((store, tables)),
+                None => Err((Fault::Damaged, store.release())),
+            },
+            Err(error) => Err(error),
         }
     }
 
