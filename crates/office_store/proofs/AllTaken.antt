@@ -1,5 +1,5 @@
 -- The office's day is read and handed on, and then the other tables are taken in.
-use Rattle.std.proofs.Common.{◌≡◌, ◌⊎◌, inl, inr, ℤ, pos, [], ◌∷◌, IsPermutation, Result, Ok, Err, IfErr, refl, sym, subst, ◌∙◌, arith}
+use Rattle.std.proofs.Common.{◌≡◌, ◌⊎◌, inl, inr, ℤ, pos, [], ◌∷◌, IsPermutation, Result, Ok, Err, refl, sym, subst, ◌∙◌, arith}
 use Rattle.std.proofs.lemmas.List.Elements.{All-nil}
 use Rattle.std.proofs.lemmas.Result.{IfOk-weaker, IfErr-weaker}
 use Rattle.sqlite_trees.specs.Tree.{Trees}
@@ -94,9 +94,9 @@ module _ {X : Type 0} (old new : State) (had has : TableLists) (result : Result 
       let rests : HasCleanDisk new → IsAtRest old → IsAtRest mid × (mid.now ≡ old.now) = λ clean rest. early.same (later.clean clean) rest in
       let is_day : HasCleanDisk new → IsAtRest old → IsDay day old.now.trees = λ clean rest. early.read (later.clean clean) rest in
       let come : HasCleanDisk new → IsAtRest old → had ≡ no_rows → HaveCome 1 1 got mid.now.trees = λ clean rest none.
-          let first = office_come old.now.trees day (is_day clean rest) in
-          let here = subst (λ (d : Database). HaveCome 1 1 (with_row no_rows (row.Office day)) d.trees) (sym (rests clean rest).1) first in
-          subst (λ u. HaveCome 1 1 u mid.now.trees) (sym gone) (subst (λ u. HaveCome 1 1 (with_row u (row.Office day)) mid.now.trees) (sym none) here) in
+      let first = office_come old.now.trees day (is_day clean rest) in
+      let here = subst (λ (d : Database). HaveCome 1 1 (with_row no_rows (row.Office day)) d.trees) (sym (rests clean rest).1) first in
+      subst (λ u. HaveCome 1 1 u mid.now.trees) (sym gone) (subst (λ u. HaveCome 1 1 (with_row u (row.Office day)) mid.now.trees) (sym none) here) in
       record {
         taken = λ clean rest none. IfOk-weaker result _ _ (λ x is. all_read has old.now.trees (subst (λ (d : Database). HaveCome 11 11 has d.trees) (rests clean rest).1 is)) (later.taken clean (rests clean rest).0 (come clean rest none));
         damaged = λ clean rest none. IfErr-weaker result _ _ (λ f held is. subst (λ (d : Database). HoldNoOffice d.trees) (rests clean rest).1 (held is)) (later.damaged clean (rests clean rest).0 (come clean rest none));

@@ -16,7 +16,7 @@ use Rattle.office_sql.specs.Reads.{IsByKey, bag_of, key_of}
 use Rattle.office_sql.specs.declared.reading.OfficeTable.{OfficeTable}
 use Rattle.office_sql.specs.declared.reading.OfficeTable.TheVariants as table
 use Rattle.office_saving.specs.Encoded.{entry_shown}
-use Rattle.office_store.specs.Adopted.{AreCertificatesTexts, HoldNoOffice}
+use Rattle.office_store.specs.Adopted.{HoldNoOffice}
 use Rattle.office_store.specs.Stands.{Stands}
 use Rattle.office_store.specs.Stored.{AllReadable, IsCertificateRow, IsRowOf, aggregation_pair, class_pair, hold_pair, number_row, record_pair, run_pair, schedule_pair, target_pair, text_row}
 use Rattle.office_store.specs.Taken.{HaveCome, HaveRowsCome, IsFrontOfNone}
@@ -125,21 +125,24 @@ module _ (s : State) (db : Trees) (sound : IsSound s) (stands : Stands (rows_of 
     they_begin =
         let order : AreInOrder rows = rows_in_order s in
         let pairs = pairs_of (nat_lt 7 whole) (nat_lt 7 begun) db u.targets stands.targets.0 (formed target_pair _ (bag_of table.Targets db) all.targets) (IsPermutation-sym _ _ stands.targets.1) come.targets in
-        let first = λ (some : u.targets ≢ []). after_holds whole begun near (pairs.3 some) in
-        (tables_of rows pairs.0, tables_stand pairs.0 pairs.1, record {
-          days = ([], sym (read_day rows db order stands u.days come.office) ∙ sym (append-nil u.days));
-          schedules = front_of schedule_pair table.Schedules db (formed schedule_pair _ (bag_of table.Schedules db) all.schedules) (nat_lt 1 whole) (nat_lt 1 begun) u.schedules rows.schedules (read_schedules rows db order stands) come.schedules;
-          classes = front_of class_pair table.Classes db (formed class_pair _ (bag_of table.Classes db) all.classes) (nat_lt 2 whole) (nat_lt 2 begun) u.classes rows.classes (read_classes rows db order stands) come.classes;
-          aggregations = front_of aggregation_pair table.Aggregations db (formed aggregation_pair _ (bag_of table.Aggregations db) all.aggregations) (nat_lt 3 whole) (nat_lt 3 begun) u.aggregations rows.aggregations (read_aggregations rows db order stands) come.aggregations;
-          records = front_of record_pair table.Records db (formed record_pair _ (bag_of table.Records db) all.records) (nat_lt 4 whole) (nat_lt 4 begun) u.records rows.records (read_records rows db order stands (λ e within. (formed_records s sound e within).1.digest)) come.records;
-          contents = front_of number_row table.Contents db (formed number_row _ (bag_of table.Contents db) all.contents) (nat_lt 5 whole) (nat_lt 5 begun) u.contents (map (λ e. e.0) rows.contents) (read_contents rows db order stands) come.contents;
-          holds = front_of hold_pair table.Holds db (formed hold_pair _ (bag_of table.Holds db) all.holds) (nat_lt 6 whole) (nat_lt 6 begun) u.holds rows.holds (read_holds rows db order stands) come.holds;
-          all_holds = λ some. sym (read_holds rows db order stands u.holds (subst (λ b. HaveRowsCome b (nat_lt 6 begun) table.Holds db (map hold_pair u.holds)) (first some) come.holds));
-          targets = pairs.2;
-          runs = front_of run_pair table.Runs db (formed run_pair _ (bag_of table.Runs db) all.runs) (nat_lt 8 whole) (nat_lt 8 begun) u.runs rows.runs (read_runs rows db order stands) come.runs;
-          entries = front_of entry_shown table.Entries db (formed entry_shown _ (bag_of table.Entries db) all.entries) (nat_lt 9 whole) (nat_lt 9 begun) u.entries (map (λ e. e.1) rows.entries_by) (read_entries rows db order stands (own_entries s sound)) come.entries;
-          certificates = front_of text_row table.Certificates db (All-weaker IsCertificateRow (IsShown text_row) (λ row it. ((it.0, it.1), it.4)) (bag_of table.Certificates db) all.certificates) (nat_lt 10 whole) (nat_lt 10 begun) u.certificates rows.certificates (read_certificates rows db order stands) come.certificates;
-        })
+        let first = λ (some : u.targets ≢ []). after_holds whole begun near (pairs.3 some) in (
+          tables_of rows pairs.0,
+          tables_stand pairs.0 pairs.1,
+          record {
+            days = ([], sym (read_day rows db order stands u.days come.office) ∙ sym (append-nil u.days));
+            schedules = front_of schedule_pair table.Schedules db (formed schedule_pair _ (bag_of table.Schedules db) all.schedules) (nat_lt 1 whole) (nat_lt 1 begun) u.schedules rows.schedules (read_schedules rows db order stands) come.schedules;
+            classes = front_of class_pair table.Classes db (formed class_pair _ (bag_of table.Classes db) all.classes) (nat_lt 2 whole) (nat_lt 2 begun) u.classes rows.classes (read_classes rows db order stands) come.classes;
+            aggregations = front_of aggregation_pair table.Aggregations db (formed aggregation_pair _ (bag_of table.Aggregations db) all.aggregations) (nat_lt 3 whole) (nat_lt 3 begun) u.aggregations rows.aggregations (read_aggregations rows db order stands) come.aggregations;
+            records = front_of record_pair table.Records db (formed record_pair _ (bag_of table.Records db) all.records) (nat_lt 4 whole) (nat_lt 4 begun) u.records rows.records (read_records rows db order stands (λ e within. (formed_records s sound e within).1.digest)) come.records;
+            contents = front_of number_row table.Contents db (formed number_row _ (bag_of table.Contents db) all.contents) (nat_lt 5 whole) (nat_lt 5 begun) u.contents (map (λ e. e.0) rows.contents) (read_contents rows db order stands) come.contents;
+            holds = front_of hold_pair table.Holds db (formed hold_pair _ (bag_of table.Holds db) all.holds) (nat_lt 6 whole) (nat_lt 6 begun) u.holds rows.holds (read_holds rows db order stands) come.holds;
+            all_holds = λ some. sym (read_holds rows db order stands u.holds (subst (λ b. HaveRowsCome b (nat_lt 6 begun) table.Holds db (map hold_pair u.holds)) (first some) come.holds));
+            targets = pairs.2;
+            runs = front_of run_pair table.Runs db (formed run_pair _ (bag_of table.Runs db) all.runs) (nat_lt 8 whole) (nat_lt 8 begun) u.runs rows.runs (read_runs rows db order stands) come.runs;
+            entries = front_of entry_shown table.Entries db (formed entry_shown _ (bag_of table.Entries db) all.entries) (nat_lt 9 whole) (nat_lt 9 begun) u.entries (map (λ e. e.1) rows.entries_by) (read_entries rows db order stands (own_entries s sound)) come.entries;
+            certificates = front_of text_row table.Certificates db (All-weaker IsCertificateRow (IsShown text_row) (λ row it. ((it.0, it.1), it.4)) (bag_of table.Certificates db) all.certificates) (nat_lt 10 whole) (nat_lt 10 begun) u.certificates rows.certificates (read_certificates rows db order stands) come.certificates;
+          },
+        )
 
 -- where no tables that begin with the rows that have come stand for a state, the tables hold no office
 pub none_held : (whole begun : ℕ) → begun ≤ suc whole → (u : TableLists) (db : Trees) → HaveCome whole begun u db → IsFrontOfNone u → HoldNoOffice db

@@ -1,8 +1,8 @@
 -- The rows of one table are taken in one after another, as its query gives them.
-use Rattle.std.proofs.Common.{◌≡◌, ◌⊎◌, inl, inr, ℕ, List, [], ◌∷◌, ◌++◌, All, map, Option, Some, None, Result, Ok, Err, IfErr, IsTrue, refl, sym, ap, subst, ◌∙◌, false, arith}
+use Rattle.std.proofs.Common.{◌≡◌, ◌⊎◌, inl, inr, List, [], ◌∷◌, ◌++◌, All, map, Option, Some, None, Result, Ok, Err, IsTrue, refl, sym, ap, subst, ◌∙◌, false}
 use Rattle.std.proofs.lemmas.Result.{IfOk-weaker, IfErr-weaker}
 use Rattle.std.proofs.lemmas.Grind.{fold-append}
-use Rattle.std.proofs.lemmas.List.{append_assoc, map-append}
+use Rattle.std.proofs.lemmas.List.{map-append}
 use Rattle.std.proofs.lemmas.List.Elements.{recursion_from_All}
 use Rattle.std.proofs.lemmas.List.Sorted.{All-permutation}
 use Rattle.std.specs.List.{AllByRecursion}
@@ -12,7 +12,7 @@ use Rattle.sqlite_trees.specs.Tree.{Trees}
 use Rattle.sqlite.specs.Effect.{Database}
 use Rattle.sqlite.specs.Given.{Advances, HasBegun, HasGiven}
 use Rattle.sqlite.specs.Held.{Held, state}
-use Rattle.sqlite.specs.State.{State, CommitsShowing, HasCleanDisk, IsUnchanged, Survives}
+use Rattle.sqlite.specs.State.{CommitsShowing, HasCleanDisk, IsUnchanged, Survives}
 use Rattle.sqlite.specs.Listing.{understood}
 use Rattle.sqlite.proofs.Callers.{IsPlain, begun_plain, unchanged_then}
 use Rattle.sqlite.proofs.StateLemmas.{unchanged}
@@ -158,15 +158,17 @@ module _ {S T : Type 0} (g : Ghosts S) (shown : T → Row) (IsIt : Row → Type 
   module _ (settled : (s : S) (db : Trees) → IsTrue (g.view s).is_open → g.recovers s db → db ≡ (g.view s).committed) (stays : (s : S) → IsTrue (g.view s).is_open → g.recovers s (g.view s).committed) where
     pub still_at_rest : (now : Held S) → IsAtRest (state g first) → IsUnchanged (state g first) (state g now) → AtRest now
     still_at_rest now rest same =
-        let whole : (state g now).now ≡ (state g now).committed = same.0.now_is ∙ rest.settled ∙ sym same.0.committed_is in
-        (record {
-          is_open = same.0.is_open;
-          autocommit = same.0.mode ∙ rest.autocommit;
-          settled = whole;
-          office = subst IsOffice (sym same.0.now_is) rest.office;
-          only = λ db may. settled now.store db same.0.is_open may ∙ ap (λ (d : Database). d.trees) (sym whole);
-          stays = subst (λ (d : Database). (state g now).may_leave d.trees) (sym whole) (stays now.store same.0.is_open);
-        }, same.0.now_is)
+        let whole : (state g now).now ≡ (state g now).committed = same.0.now_is ∙ rest.settled ∙ sym same.0.committed_is in (
+          record {
+            is_open = same.0.is_open;
+            autocommit = same.0.mode ∙ rest.autocommit;
+            settled = whole;
+            office = subst IsOffice (sym same.0.now_is) rest.office;
+            only = λ db may. settled now.store db same.0.is_open may ∙ ap (λ (d : Database). d.trees) (sym whole);
+            stays = subst (λ (d : Database). (state g now).may_leave d.trees) (sym whole) (stays now.store same.0.is_open);
+          },
+          same.0.now_is,
+        )
 
   -- it does not begin
   pub not_begun : {X : Type 0} (now : Held S) (f : Fault) → f ≡ fault.Store → Survives (state g first) (state g now) (CommitsShowing (text_of t) [] (state g first))

@@ -1,12 +1,9 @@
 //! The rows of one table are read one at a time, and each is given at once to what takes rows in.
 ghost use Rattle.std.specs.Prelude.{◌≡◌, ◌⊎◌, false, IfErr, OnOk};
-ghost use Rattle.sqlite.specs.Given.{HasGiven};
 ghost use Rattle.sqlite.specs.Held.{state};
 ghost use Rattle.sqlite.specs.State.{IsUnchanged};
 ghost use Rattle.office_rules.specs.Tables.{with_row};
 ghost use Rattle.office_sql.specs.Office.{IsAtRest};
-ghost use Rattle.office_sql.specs.Reads.{text_of};
-ghost use Rattle.office_sql.specs.Schema.{office_schema};
 ghost use Rattle.office_sql.specs.declared.reading.OfficeTable.{OfficeTable};
 ghost use Rattle.office_store.specs.Taken.{IsFrontOfNone, StartsAt, TakesRows};
 

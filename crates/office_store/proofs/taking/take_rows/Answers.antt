@@ -1,6 +1,6 @@
-use Rattle.std.proofs.Common.{◌≡◌, [], sym, subst, rules}
+use Rattle.std.proofs.Common.{◌≡◌, [], rules}
 use Rattle.sqlite.specs.Given.{HasBegun}
-use Rattle.sqlite.specs.Held.{Held, state}
+use Rattle.sqlite.specs.Held.{state}
 use Rattle.sqlite.specs.State.{CommitsShowing, HasCleanDisk, Survives}
 use Rattle.office_sql.specs.Office.{IsAtRest}
 use Rattle.office_sql.specs.Reads.{text_of}
@@ -18,7 +18,7 @@ returns-in-Ok-clause-takes g c =
     let begins : HasCleanDisk (state g.S.Store begun) → HasBegun g.S.Store (text_of t) [] first begun = rw c.text.ensures at c.in-Ok.ensures.begun in
     let it : TakesRows t g.T.Stored.shown g.T.Stored.IsRow g.T.Stored.handed (IsAtRest (state g.S.Store first)) (IsAtRest (state g.S.Store last) × ((state g.S.Store last).now ≡ (state g.S.Store first).now)) (state g.S.Store first) (state g.S.Store last) (g.I.Intake.content c.args.intake.now) (g.I.Intake.content c.take_each.new.intake) c.take_each.result =
     rows_taken g.S.Store g.T.Stored.shown g.T.Stored.IsRow g.T.Stored.handed t first (g.I.Intake.content c.args.intake.now) (g.I.Intake.content c.take_each.new.intake) begun survives begins
-        last c.take_each.result (c.take_each.ensures.takes t) (λ clean rest unchanged. still_at_rest g.S.Store g.T.Stored.shown g.T.Stored.IsRow g.T.Stored.handed t first (g.I.Intake.content c.args.intake.now) (g.I.Intake.content c.take_each.new.intake) g.met.S.Store.settled g.met.S.Store.stays last rest unchanged) in
+    last c.take_each.result (c.take_each.ensures.takes t) (λ clean rest unchanged. still_at_rest g.S.Store g.T.Stored.shown g.T.Stored.IsRow g.T.Stored.handed t first (g.I.Intake.content c.args.intake.now) (g.I.Intake.content c.take_each.new.intake) g.met.S.Store.settled g.met.S.Store.stays last rest unchanged) in
     search (rules, it)
 
 pub returns-in-Err-clause-takes : goal.returns-in-Err-clause-takes
