@@ -1,5 +1,5 @@
 -- A put, on the bag of a table's rows.
-use Rattle.std.proofs.Common.{◌≡◌, ◌≢◌, inl, inr, ℕ, ℤ, List, [], ◌∷◌, map, filter, not, Bool, true, false, ◌&&◌, ◌||◌, cond, None, refl, sym, ap, ap₂, subst, ◌∙◌, true≢false, IsTrue, Less, Equal, Greater, Ordering, is_eq, IsPermutation}
+use Rattle.std.proofs.Common.{◌≡◌, inl, inr, ℕ, ℤ, List, [], ◌∷◌, map, filter, not, Bool, true, false, ◌&&◌, ◌||◌, cond, None, refl, sym, ap, ap₂, subst, ◌∙◌, true≢false, IsTrue, Less, Equal, Greater, Ordering, is_eq, IsPermutation}
 use Rattle.std.specs.List.{list_any}
 use Rattle.std.specs.Ordering.{match_ordering}
 use Rattle.std.proofs.lemmas.Bool.{or_parts}

@@ -1,5 +1,5 @@
 -- A query of a whole table, by its key.
-use Rattle.std.proofs.Common.{◌≡◌, ◌⊎◌, inl, inr, ℕ, ◌+◌, ◌<◌, List, [], ◌∷◌, map, length, get_or, slice_index_or, nat_le, false, ◌^◌, refl, sym, ap, ap₂, subst, ◌∙◌, IsPermutation, IsSorted, IsSortedByKey, All, is_lt, drop, Ordering, Result, IfOk, OnOk, arith}
+use Rattle.std.proofs.Common.{◌≡◌, ◌⊎◌, inl, inr, ℕ, ◌+◌, ◌<◌, List, [], ◌∷◌, map, length, get_or, nat_le, false, ◌^◌, sym, ap, ap₂, subst, ◌∙◌, IsPermutation, IsSorted, IsSortedByKey, All, is_lt, Ordering, Result, IfOk, OnOk, arith}
 use Rattle.std.proofs.lemmas.List.{length-map}
 use Rattle.std.proofs.Math.ListN.{get_or-map}
 use Rattle.std.proofs.lemmas.List.Sorted.{IsPermutation-map, All-permutation}
@@ -14,7 +14,7 @@ use Rattle.sqlite_trees.specs.Tree.{Trees}
 use Rattle.sqlite_sql.specs.Query.{IsAnswer, Output, output, output_cmp, key_cmp}
 use Rattle.sqlite_sql.specs.Term.{Term, col, eval, eval_all}
 use Rattle.sqlite_value.specs.declared.keys.Key.{Key}
-use Rattle.sqlite_sql.specs.Program.{overlay, given_at}
+use Rattle.sqlite_sql.specs.Program.{overlay}
 use Rattle.sqlite_keyed.proofs.ListLemmas.{map-map, map_same, all_of, all_map}
 use Rattle.sqlite.specs.Command.TheVariants.{Select}
 use Rattle.sqlite.specs.Clock.{timed}
@@ -124,7 +124,7 @@ pub record HasRead {X E : Type 0} (items : X → List Row) (among : List ℕ) (b
   pub survives : old.now.schema ≡ office_schema → Survives old new (λ _. ⊥)
 
 module _ {sql : List ℕ} {tree : ℕ} {places among : List ℕ} (it : ReadsWhole sql tree places among) where
-  shows_by_key : (old new : State) (rows : List Row) → old.now.schema ≡ office_schema → Shown sql [] old new rows → IsByKey among (map (λ r. map (column r) places) (old.now.trees tree)) rows
+  pub shows_by_key : (old new : State) (rows : List Row) → old.now.schema ≡ office_schema → Shown sql [] old new rows → IsByKey among (map (λ r. map (column r) places) (old.now.trees tree)) rows
   shows_by_key old new rows has h =
       let read = reads_as sql [] old new office_schema has (Select (record { lets = []; body = in_order tree places it.keys }) it.names) it.command it.plain it.listing rows h in
       by_key tree places it.keys among it.low it.tied it.as_many old.now.trees rows (read.answer Null)

@@ -1,5 +1,5 @@
 -- The texts that read a table whole, in the order of its key. Source: own.
-use Rattle.std.specs.Prelude.{ℕ, ℤ, filter, pos, negsuc, false, List, [], ◌∷◌, codes, map, None, IsPermutation, IsSortedByKey}
+use Rattle.std.specs.Prelude.{ℕ, ℤ, filter, pos, negsuc, false, List, [], ◌∷◌, codes, map, take, None, IsPermutation, IsSortedByKey}
 use Rattle.sqlite_value.specs.declared.value.Value.TheVariants.{Int}
 use Rattle.sqlite_value.specs.declared.keys.Collation.TheVariants.{Binary}
 use Rattle.sqlite_value.specs.Keys.{ascending}
@@ -8,7 +8,9 @@ use Rattle.sqlite_sql.specs.Term.{Term, lit, col}
 use Rattle.sqlite_sql.specs.Query.{Query, inner, end, key_cmp}
 use Rattle.sqlite_trees.specs.Tree.{Trees}
 use Rattle.office_sql.specs.Bags.{rows_of, share}
-use Rattle.office_sql.specs.Schema.{at, contents}
+use Rattle.office_sql.specs.Schema.{at, aggregations, certificates, classes, contents, entries, holds, records, runs, schedules, targets}
+use Rattle.office_sql.specs.declared.reading.OfficeTable.{OfficeTable}
+use Rattle.office_sql.specs.declared.reading.OfficeTable.TheVariants as table
 
 -- the columns at these places, by the columns at those
 abbrev pub in_order : ℕ → List ℕ → List ℕ → Query
@@ -82,3 +84,42 @@ columns_where tree filter places = record {
   limit = lit (Int (negsuc 0));
   offset = lit (Int (pos 0));
 }
+
+-- the text that reads a table
+abbrev pub text_of : OfficeTable → List ℕ
+text_of table.Schedules = all_schedules
+text_of table.Classes = all_classes
+text_of table.Aggregations = all_aggregations
+text_of table.Records = all_records
+text_of table.Contents = all_contents
+text_of table.Holds = all_holds
+text_of table.Targets = all_targets
+text_of table.Runs = all_runs
+text_of table.Entries = all_entries
+text_of table.Certificates = all_certificates
+
+-- the columns of its key
+abbrev pub key_of : OfficeTable → List ℕ
+key_of table.Schedules = 0 ∷ []
+key_of table.Classes = 0 ∷ []
+key_of table.Aggregations = 0 ∷ []
+key_of table.Records = 0 ∷ []
+key_of table.Contents = 0 ∷ []
+key_of table.Holds = 0 ∷ []
+key_of table.Targets = 0 ∷ 1 ∷ 2 ∷ []
+key_of table.Runs = 0 ∷ []
+key_of table.Entries = 0 ∷ 1 ∷ []
+key_of table.Certificates = 0 ∷ []
+
+-- what it reads of the table; of `contents` the numbers alone
+abbrev pub bag_of : OfficeTable → Trees → List Row
+bag_of table.Schedules db = rows_of (at 1 schedules) db
+bag_of table.Classes db = rows_of (at 3 classes) db
+bag_of table.Aggregations db = rows_of (at 5 aggregations) db
+bag_of table.Records db = rows_of (at 7 records) db
+bag_of table.Contents db = map (take 1) (rows_of (at 9 contents) db)
+bag_of table.Holds db = rows_of (at 10 holds) db
+bag_of table.Targets db = rows_of (at 12 targets) db
+bag_of table.Runs db = rows_of (at 14 runs) db
+bag_of table.Entries db = rows_of (at 15 entries) db
+bag_of table.Certificates db = rows_of (at 17 certificates) db

@@ -11,7 +11,7 @@ use Rattle.sqlite_trees.specs.Tree.{Trees}
 use Rattle.sqlite_trees.proofs.ListLemmas.{map-map, pull_back}
 use Rattle.office_rules.specs.Founding.{HaveKeys}
 use Rattle.office_rules.specs.State.{ByteMap}
-use Rattle.office_rules.specs.declared.tables.Tables.{Tables}
+use Rattle.office_rules.specs.Tables.{TableLists}
 use Rattle.office_sql.specs.Bags.{rows_of}
 use Rattle.office_sql.specs.Schema.{at, contents}
 use Rattle.office_sql.specs.Shown.{content_row}
@@ -49,11 +49,11 @@ in_order_by_keys {V} es =
     let same : bare (map (λ e. e.0) es) ≡ map (λ e. (e.0, nothing e.1)) es = map-map (λ (k : ℕ). (k, tt)) (λ (e : ℕ × V). e.0) es in
     sym (made_in_order nat_cmp nothing es) ∙ ap (is_sorted nat_cmp) (sym same)
 
-pub found_contents : (t : Tables) (db : Trees) (like : ByteMap) → IsRead t db → AreNumbersAndBytes db → HaveKeys like t.contents.items → (contents : ByteMap) × HaveKeys contents t.contents.items × HasContents db contents
+pub found_contents : (t : TableLists) (db : Trees) (like : ByteMap) → IsRead t db → AreNumbersAndBytes db → HaveKeys like t.contents → (contents : ByteMap) × HaveKeys contents t.contents × HasContents db contents
 found_contents t db like read are keys =
     let bag = rows_of (at 9 contents) db in
-    let turned = pull_back (take 1) (map (take 1) bag) (map number_row t.contents.items) read.contents.same bag refl in
-    let pairs = pairs_of t.contents.items turned.0 (recursion_from_All IsNumberAndBytes turned.0 (All-permutation IsNumberAndBytes bag turned.0 turned.1 are)) turned.2 in
+    let turned = pull_back (take 1) (map (take 1) bag) (map number_row t.contents) read.contents.same bag refl in
+    let pairs = pairs_of t.contents turned.0 (recursion_from_All IsNumberAndBytes turned.0 (All-permutation IsNumberAndBytes bag turned.0 turned.1 are)) turned.2 in
     let order : is_sorted nat_cmp (entries like) ≡ is_sorted nat_cmp pairs.0 =
     in_order_by_keys (entries like) ∙ ap (λ ks. is_sorted nat_cmp (bare ks)) (keys ∙ sym pairs.1) ∙ sym (in_order_by_keys pairs.0) in
     let made : entries (from_sorted pairs.0) ≡ pairs.0 = entries-from_sorted nat_cmp pairs.0 (subst T order (entries_sorted like)) in

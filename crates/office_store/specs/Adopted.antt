@@ -1,37 +1,43 @@
 -- What is read of the tables when an office is adopted, and how a reading ends. Source: own.
-use Rattle.std.specs.Prelude.{◌≡◌, ◌≢◌, All, ℕ, ℤ, pos, List, [], ◌∷◌, map, take, Option, Some, None, Result, IfOk, IfErr, OnOk, IsPermutation}
+use Rattle.std.specs.Prelude.{◌≡◌, ◌≢◌, All, ℕ, ℤ, pos, List, [], ◌∷◌, map, take, IsUtf8, Option, Some, None, Result, IfOk, IfErr, OnOk, IsPermutation}
+use Rattle.std.specs.FinMap.{get}
 use Rattle.sqlite_value.specs.declared.value.Value.TheVariants.{Int, Blob}
 use Rattle.sqlite_value.specs.Order.{Row}
 use Rattle.sqlite_trees.specs.Tree.{Trees}
 use Rattle.sqlite.specs.State.{State, HasCleanDisk}
-use Rattle.office_rules.specs.declared.tables.Tables.{Tables}
+use Rattle.office_rules.specs.Rows.{rows_of as office_rows}
+use Rattle.office_rules.specs.Sound.{IsSound}
+use Rattle.office_rules.specs.State.{State as OfficeState}
+use Rattle.office_rules.specs.Tables.{TableLists}
 use Rattle.office_sql.specs.Bags.{rows_of}
 use Rattle.office_sql.specs.Office.{IsAtRest}
 use Rattle.office_sql.specs.Reads.{IsByKey}
 use Rattle.office_sql.specs.Schema.{at, aggregations, certificates, classes, contents, entries, holds, office, records, runs, schedules, targets}
 use Rattle.office_sql.specs.Shown.{content_row, office_row}
 use Rattle.office_saving.specs.Encoded.{entry_shown}
-use Rattle.office_store.specs.Stored.{AllReadable, aggregation_pair, certificate_pair, class_pair, hold_pair, number_row, record_pair, run_pair, schedule_pair, target_pair}
-use Rattle.office_store.specs.declared.adopting.Holding.{Holding}
-use Rattle.office_store.specs.declared.adopting.Plans.{Plans}
-use Rattle.office_store.specs.declared.adopting.Running.{Running}
-use Rattle.office_store.specs.declared.adopting.Things.{Things}
+use Rattle.office_store.specs.Stands.{Stands}
+use Rattle.office_store.specs.Stored.{AllReadable, aggregation_pair, class_pair, hold_pair, number_row, record_pair, run_pair, schedule_pair, target_pair, text_row}
 use Rattle.office_store.specs.declared.fault.Fault.{Fault}
 use Rattle.office_store.specs.declared.fault.Fault.TheVariants as fault
 
--- each table is read whole, in the order of its key; of contents the keys alone
-pub record IsRead (t : Tables) (db : Trees) : Type 0 where
-  pub office : IsPermutation (office_row (pos 1) (pos 1) t.day ∷ []) (rows_of (at 0 office) db)
-  pub schedules : IsByKey (0 ∷ []) (rows_of (at 1 schedules) db) (map schedule_pair t.schedules.items)
-  pub classes : IsByKey (0 ∷ []) (rows_of (at 3 classes) db) (map class_pair t.classes.items)
-  pub aggregations : IsByKey (0 ∷ []) (rows_of (at 5 aggregations) db) (map aggregation_pair t.aggregations.items)
-  pub records : IsByKey (0 ∷ []) (rows_of (at 7 records) db) (map record_pair t.records.items)
-  pub contents : IsByKey (0 ∷ []) (map (take 1) (rows_of (at 9 contents) db)) (map number_row t.contents.items)
-  pub holds : IsByKey (0 ∷ []) (rows_of (at 10 holds) db) (map hold_pair t.holds.items)
-  pub targets : IsByKey (0 ∷ 1 ∷ 2 ∷ []) (rows_of (at 12 targets) db) (map target_pair t.targets.items)
-  pub runs : IsByKey (0 ∷ []) (rows_of (at 14 runs) db) (map run_pair t.runs.items)
-  pub entries : IsByKey (0 ∷ 1 ∷ []) (rows_of (at 15 entries) db) (map entry_shown t.entries.items)
-  pub certificates : IsByKey (0 ∷ []) (rows_of (at 17 certificates) db) (map certificate_pair t.certificates.items)
+-- one day is read, that of the one row of `office`, of version 1
+abbrev pub IsOfficeRead : List ℤ → Trees → Type 0
+IsOfficeRead days db = (day : ℤ) × (days ≡ day ∷ []) × IsPermutation (office_row (pos 1) (pos 1) day ∷ []) (rows_of (at 0 office) db)
+
+-- each table is read whole, in the order of its key; of contents the keys alone; each certificate is a text
+pub record IsRead (t : TableLists) (db : Trees) : Type 0 where
+  pub office : IsOfficeRead t.days db
+  pub schedules : IsByKey (0 ∷ []) (rows_of (at 1 schedules) db) (map schedule_pair t.schedules)
+  pub classes : IsByKey (0 ∷ []) (rows_of (at 3 classes) db) (map class_pair t.classes)
+  pub aggregations : IsByKey (0 ∷ []) (rows_of (at 5 aggregations) db) (map aggregation_pair t.aggregations)
+  pub records : IsByKey (0 ∷ []) (rows_of (at 7 records) db) (map record_pair t.records)
+  pub contents : IsByKey (0 ∷ []) (map (take 1) (rows_of (at 9 contents) db)) (map number_row t.contents)
+  pub holds : IsByKey (0 ∷ []) (rows_of (at 10 holds) db) (map hold_pair t.holds)
+  pub targets : IsByKey (0 ∷ 1 ∷ 2 ∷ []) (rows_of (at 12 targets) db) (map target_pair t.targets)
+  pub runs : IsByKey (0 ∷ []) (rows_of (at 14 runs) db) (map run_pair t.runs)
+  pub entries : IsByKey (0 ∷ 1 ∷ []) (rows_of (at 15 entries) db) (map entry_shown t.entries)
+  pub certificates : IsByKey (0 ∷ []) (rows_of (at 17 certificates) db) (map text_row t.certificates)
+  pub texts : All (λ e. IsUtf8 e.1) t.certificates
 
 -- `office` has one row, and its version is not 1
 abbrev pub IsOtherVersion : Trees → Type 0
@@ -47,25 +53,13 @@ pub record ReadsTables {X : Type 0} (Is : X → Trees → Type 0) (old new : Sta
   pub leaves : HasCleanDisk new → IsAtRest old → (db : Trees) → new.may_leave db → old.may_leave db
   pub clean : HasCleanDisk new → HasCleanDisk old
 
--- the same of the tables in four parts
+-- each certificate is a text
+abbrev pub AreCertificatesTexts : OfficeState → Type 0
+AreCertificatesTexts s = (run : ℕ) (text : List ℕ) → get s.office.certificates run ≡ Some text → IsUtf8 text
 
-pub record ArePlansRead (t : Plans) (db : Trees) : Type 0 where
-  pub schedules : IsByKey (0 ∷ []) (rows_of (at 1 schedules) db) (map schedule_pair t.schedules.items)
-  pub classes : IsByKey (0 ∷ []) (rows_of (at 3 classes) db) (map class_pair t.classes.items)
-  pub aggregations : IsByKey (0 ∷ []) (rows_of (at 5 aggregations) db) (map aggregation_pair t.aggregations.items)
-
-pub record AreThingsRead (t : Things) (db : Trees) : Type 0 where
-  pub records : IsByKey (0 ∷ []) (rows_of (at 7 records) db) (map record_pair t.records.items)
-  pub contents : IsByKey (0 ∷ []) (map (take 1) (rows_of (at 9 contents) db)) (map number_row t.contents.items)
-
-pub record AreHoldingRead (t : Holding) (db : Trees) : Type 0 where
-  pub holds : IsByKey (0 ∷ []) (rows_of (at 10 holds) db) (map hold_pair t.holds.items)
-  pub targets : IsByKey (0 ∷ 1 ∷ 2 ∷ []) (rows_of (at 12 targets) db) (map target_pair t.targets.items)
-
-pub record AreRunningRead (t : Running) (db : Trees) : Type 0 where
-  pub runs : IsByKey (0 ∷ []) (rows_of (at 14 runs) db) (map run_pair t.runs.items)
-  pub entries : IsByKey (0 ∷ 1 ∷ []) (rows_of (at 15 entries) db) (map entry_shown t.entries.items)
-  pub certificates : IsByKey (0 ∷ []) (rows_of (at 17 certificates) db) (map certificate_pair t.certificates.items)
+-- the tables have the rows of no sound state whose certificates are texts
+abbrev pub HoldNoOffice : Trees → Type 0
+HoldNoOffice db = (s : OfficeState) → IsSound s → AreCertificatesTexts s → Stands (office_rows s) db → ⊥
 
 -- a crash leaves nothing that it did not leave before
 abbrev pub LeavesLess : State → State → Type 0

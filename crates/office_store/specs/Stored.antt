@@ -19,6 +19,8 @@ use Rattle.office_proof.specs.declared.entry.Entry.{Entry}
 use Rattle.office_rules.specs.Sound.{IsFormedRun}
 use Rattle.office_rules.specs.declared.rows.RecordRow.{RecordRow}
 use Rattle.office_rules.specs.declared.run.Run.{Run}
+use Rattle.office_rules.specs.declared.table_row.Row.{Row as TableRow}
+use Rattle.office_rules.specs.declared.table_row.Row.TheVariants as row
 use Rattle.office_sql.specs.Bags.{rows_of}
 use Rattle.office_sql.specs.Schema.{at, aggregations, certificates, classes, contents, entries, holds, office, records, runs, schedules, targets}
 use Rattle.office_sql.specs.Shown.{certificate_row, office_row}
@@ -123,8 +125,43 @@ IsEntryOfForm e = IsNumber e.run × IsNumber e.record_no × IsFormedEntry e
 abbrev pub certificate_pair : ℕ × String Global → Row
 certificate_pair e = certificate_row (pos e.0) (string_bytes e.1)
 
+abbrev pub text_row : ℕ × List ℕ → Row
+text_row e = certificate_row (pos e.0) e.1
+
 abbrev pub IsCertificateRow : Row → Type 0
 IsCertificateRow row = (run : ℕ) × (body : List ℕ) × IsNumber run × IsUtf8 body × (row ≡ certificate_row (pos run) body)
+
+-- what is handed on of a row of each table
+
+abbrev pub schedule_handed : List ℕ × Schedule → TableRow
+schedule_handed e = row.Schedule e.0 e.1
+
+abbrev pub class_handed : List ℕ × Class → TableRow
+class_handed e = row.Class e.0 e.1
+
+abbrev pub aggregation_handed : ℕ × Aggregation → TableRow
+aggregation_handed e = row.Aggregation e.0 e.1
+
+abbrev pub record_handed : ℕ × RecordRow → TableRow
+record_handed e = row.Record e.0 e.1
+
+abbrev pub number_handed : ℕ → TableRow
+number_handed = row.Content
+
+abbrev pub hold_handed : List ℕ × HoldRow → TableRow
+hold_handed e = row.Hold e.0 e.1
+
+abbrev pub target_handed : List ℕ × Target → TableRow
+target_handed e = row.Target e.0 e.1
+
+abbrev pub run_handed : ℕ × Run → TableRow
+run_handed e = row.Run e.0 e.1
+
+abbrev pub entry_handed : Entry → TableRow
+entry_handed = row.Entry
+
+abbrev pub certificate_handed : ℕ × String Global → TableRow
+certificate_handed e = row.Certificate e.0 e.1
 
 -- each table has rows of things of their form alone, and `office` one, of version 1
 pub record AllReadable (db : Trees) : Type 0 where

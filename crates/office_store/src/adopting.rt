@@ -1,5 +1,5 @@
-//! An office that is there is read whole: its version first, then one table after the other.
-ghost use Rattle.std.specs.Prelude.{◌≡◌, ◌≢◌, ◌⊎◌, ℤ, pos, false, List, [], ◌∷◌, IfOk, IfErr, OnOk, IsPermutation};
+//! An office that is there is taken in: its version first, then one table after the other, row by row.
+ghost use Rattle.std.specs.Prelude.{◌≡◌, ◌≢◌, ◌⊎◌, ℤ, pos, false, [], ◌∷◌, IfOk, IfErr, OnOk, IsPermutation};
 ghost use Rattle.sqlite.specs.Held.{state};
 ghost use Rattle.sqlite.specs.State.{HasCleanDisk};
 ghost use Rattle.sqlite_value.specs.declared.value.Value.TheVariants.{Int};
@@ -9,7 +9,8 @@ ghost use Rattle.office_sql.specs.Bags.{rows_of};
 ghost use Rattle.office_sql.specs.Office.{IsAtRest};
 ghost use Rattle.office_sql.specs.Schema.{at, office};
 ghost use Rattle.office_sql.specs.Shown.{office_row};
-ghost use Rattle.office_store.specs.Adopted.{AreHoldingRead, AreNumbersAndBytes, ArePlansRead, AreRunningRead, AreThingsRead, IsOtherVersion, IsRead, ReadsTables};
+ghost use Rattle.office_store.specs.Adopted.{AreNumbersAndBytes, IsOtherVersion, ReadsTables};
+ghost use Rattle.office_store.specs.Taken.{TakesAll, TakesIn};
 
 use crate::Fault;
 use crate::columns::{day, has_columns};
@@ -17,41 +18,13 @@ use crate::tables::{
     aggregations, certificates, classes, contents, entries, holds, of_database, of_value, records,
     runs, schedules, targets,
 };
+use crate::taking::give;
 use office_days::Day;
-use office_holds::{HoldRow, Target};
-use office_proof::{Entry, RunNo};
-use office_rules::{RecordRow, Run, Tables};
+use office_rules::{Intake, Row as TableRow};
 use office_sql::{all_office, number};
-use office_tree::{AggNo, Aggregation, Class, Code, RecordNo, Schedule};
 use sqlite::types::ValueRef;
 use sqlite::{Alter, Connection, Row};
 use std::alloc::Global;
-
-#[derive(Drop)]
-struct Plans {
-    schedules: Vec<(Code, Schedule)>,
-    classes: Vec<(Code, Class)>,
-    aggregations: Vec<(AggNo, Aggregation)>,
-}
-
-#[derive(Drop)]
-struct Things {
-    records: Vec<(RecordNo, RecordRow)>,
-    contents: Vec<RecordNo>,
-}
-
-#[derive(Drop)]
-struct Holding {
-    holds: Vec<(Code, HoldRow)>,
-    targets: Vec<(Code, Target)>,
-}
-
-#[derive(Drop)]
-struct Running {
-    runs: Vec<(RunNo, Run)>,
-    entries: Vec<Entry>,
-    certificates: Vec<(RunNo, String)>,
-}
 
 /// An open connection's tables obey their schema: each row of `contents` is a number and bytes.
 pub(crate) fn obeys<S: Alter>(conn: &Connection<S>)
@@ -60,75 +33,87 @@ pub(crate) fn obeys<S: Alter>(conn: &Connection<S>)
     conn.schema();
 }
 
-/// The rows of the eleven tables, where the version is this one.
-pub(crate) fn read_tables<S: Alter>(
+/// Takes in the rows of the eleven tables, where the version is this one.
+pub(crate) fn take_tables<S: Alter, I: Intake>(
     alloc: Global,
     conn: &mut Connection<S>,
-) -> Result<Tables, Fault>
-    ensures reads { ReadsTables IsRead (state S.Store conn.old) (state S.Store conn.new) result }
-    ensures this_version { HasCleanDisk (state S.Store conn.new) → IsAtRest (state S.Store conn.old) → IfErr result (λ fault. fault ≡ Fault.Damaged → IsOtherVersion (state S.Store conn.old).now.trees → ⊥) }
+    intake: &mut I,
+) -> Result<(), Fault>
+    ensures takes { TakesAll (state S.Store conn.old) (state S.Store conn.new) (I.content intake.old) (I.content intake.new) result }
     ensures mode { conn.old.in_transaction ≡ false → conn.new.in_transaction ≡ false }
 {
     let day = office_day(conn)?;
-    let plans = read_plans(alloc, conn)?;
-    let things = read_things(alloc, conn)?;
-    let holding = read_holding(alloc, conn)?;
-    let running = read_running(alloc, conn)?;
-    Ok(Tables {
-        day,
-        schedules: plans.schedules,
-        classes: plans.classes,
-        aggregations: plans.aggregations,
-        records: things.records,
-        contents: things.contents,
-        holds: holding.holds,
-        targets: holding.targets,
-        runs: running.runs,
-        entries: running.entries,
-        certificates: running.certificates,
-    })
+    give(TableRow::Office { day }, intake)?;
+    take_rest(alloc, conn, intake)
 }
 
-fn read_plans<S: Alter>(alloc: Global, conn: &mut Connection<S>) -> Result<Plans, Fault>
-    ensures reads { ReadsTables ArePlansRead (state S.Store conn.old) (state S.Store conn.new) result }
+// Takes in the ten tables beside `office`.
+fn take_rest<S: Alter, I: Intake>(
+    alloc: Global,
+    conn: &mut Connection<S>,
+    intake: &mut I,
+) -> Result<(), Fault>
+    ensures takes { TakesIn 1 11 (state S.Store conn.old) (state S.Store conn.new) (I.content intake.old) (I.content intake.new) result }
     ensures mode { conn.old.in_transaction ≡ false → conn.new.in_transaction ≡ false }
 {
-    Ok(Plans {
-        schedules: schedules(alloc, conn)?,
-        classes: classes(alloc, conn)?,
-        aggregations: aggregations(alloc, conn)?,
-    })
+    take_plans(alloc, conn, intake)?;
+    take_things(alloc, conn, intake)?;
+    take_holding(alloc, conn, intake)?;
+    take_running(alloc, conn, intake)
 }
 
-fn read_things<S: Alter>(alloc: Global, conn: &mut Connection<S>) -> Result<Things, Fault>
-    ensures reads { ReadsTables AreThingsRead (state S.Store conn.old) (state S.Store conn.new) result }
+// Takes in schedules, classes and aggregations.
+fn take_plans<S: Alter, I: Intake>(
+    alloc: Global,
+    conn: &mut Connection<S>,
+    intake: &mut I,
+) -> Result<(), Fault>
+    ensures takes { TakesIn 1 4 (state S.Store conn.old) (state S.Store conn.new) (I.content intake.old) (I.content intake.new) result }
     ensures mode { conn.old.in_transaction ≡ false → conn.new.in_transaction ≡ false }
 {
-    Ok(Things {
-        records: records(alloc, conn)?,
-        contents: contents(alloc, conn)?,
-    })
+    schedules(alloc, conn, intake)?;
+    classes(alloc, conn, intake)?;
+    aggregations(alloc, conn, intake)
 }
 
-fn read_holding<S: Alter>(alloc: Global, conn: &mut Connection<S>) -> Result<Holding, Fault>
-    ensures reads { ReadsTables AreHoldingRead (state S.Store conn.old) (state S.Store conn.new) result }
+// Takes in records, and the keys of contents.
+fn take_things<S: Alter, I: Intake>(
+    alloc: Global,
+    conn: &mut Connection<S>,
+    intake: &mut I,
+) -> Result<(), Fault>
+    ensures takes { TakesIn 4 6 (state S.Store conn.old) (state S.Store conn.new) (I.content intake.old) (I.content intake.new) result }
     ensures mode { conn.old.in_transaction ≡ false → conn.new.in_transaction ≡ false }
 {
-    Ok(Holding {
-        holds: holds(alloc, conn)?,
-        targets: targets(alloc, conn)?,
-    })
+    records(alloc, conn, intake)?;
+    contents(alloc, conn, intake)
 }
 
-fn read_running<S: Alter>(alloc: Global, conn: &mut Connection<S>) -> Result<Running, Fault>
-    ensures reads { ReadsTables AreRunningRead (state S.Store conn.old) (state S.Store conn.new) result }
+// Takes in holds and their targets.
+fn take_holding<S: Alter, I: Intake>(
+    alloc: Global,
+    conn: &mut Connection<S>,
+    intake: &mut I,
+) -> Result<(), Fault>
+    ensures takes { TakesIn 6 8 (state S.Store conn.old) (state S.Store conn.new) (I.content intake.old) (I.content intake.new) result }
     ensures mode { conn.old.in_transaction ≡ false → conn.new.in_transaction ≡ false }
 {
-    Ok(Running {
-        runs: runs(alloc, conn)?,
-        entries: entries(alloc, conn)?,
-        certificates: certificates(alloc, conn)?,
-    })
+    holds(alloc, conn, intake)?;
+    targets(alloc, conn, intake)
+}
+
+// Takes in runs, entries and certificates.
+fn take_running<S: Alter, I: Intake>(
+    alloc: Global,
+    conn: &mut Connection<S>,
+    intake: &mut I,
+) -> Result<(), Fault>
+    ensures takes { TakesIn 8 11 (state S.Store conn.old) (state S.Store conn.new) (I.content intake.old) (I.content intake.new) result }
+    ensures mode { conn.old.in_transaction ≡ false → conn.new.in_transaction ≡ false }
+{
+    runs(alloc, conn, intake)?;
+    entries(alloc, conn, intake)?;
+    certificates(alloc, conn, intake)
 }
 
 // The office's day, where there is one row and its version is 1.

@@ -5,10 +5,12 @@ mod adopting;
 mod columns;
 mod content;
 mod fault;
+mod gathering;
 pub mod laws;
 mod store;
 mod stored;
 mod tables;
+mod taking;
 
 pub use fault::Fault;
 pub use store::Store;

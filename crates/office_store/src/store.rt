@@ -8,18 +8,19 @@ ghost use Rattle.office_rules.specs.Acts.{CanBeMade};
 ghost use Rattle.office_rules.specs.Rows.{rows_of};
 ghost use Rattle.office_rules.specs.Sound.{IsSound};
 ghost use Rattle.office_rules.specs.State.{State, empty_state};
+ghost use Rattle.office_rules.specs.Tables.{lists_of, no_rows};
 ghost use Rattle.office_rules.specs.Writes.{all_writes};
 ghost use Rattle.office_sql.specs.Names.{has_other_table};
 ghost use Rattle.office_sql.specs.Office.{IsAtRest, IsBlank};
-ghost use Rattle.office_store.specs.Adopted.{AreNumbersAndBytes, IsOtherVersion, IsRead, LeavesLess};
+ghost use Rattle.office_store.specs.Adopted.{AreNumbersAndBytes, HoldNoOffice, IsOtherVersion, IsRead, LeavesLess};
 ghost use Rattle.office_store.specs.Stands.{HoldsRows, LeavesFirst, LeavesOffices, LeavesWithin};
-ghost use Rattle.office_store.specs.Stored.{AllReadable};
 
 use crate::Fault;
-use crate::adopting::{obeys, read_tables};
+use crate::adopting::{obeys, take_tables};
 use crate::content::content_in;
+use crate::gathering::Gathered;
 use crate::tables::of_database;
-use office_rules::{Change, Tables};
+use office_rules::{Change, Intake, Tables};
 use office_saving::{needed_texts, save_writes};
 use office_sql::{create_all, has_any_table};
 use office_tree::RecordNo;
@@ -79,18 +80,48 @@ impl<S: Alter> Store<S> {
         }
     }
 
+    /// Takes over the tables of an office that is there, and gives their rows on one at a time, the tables
+    /// one after the other, each in the order of its key; of contents the keys alone. At an error the
+    /// connection is given back, and nothing changed: `Version` where `office` has one row of another
+    /// version; `Damaged` where a row is not of its form, `office` has not one row, or the tables stand
+    /// for no office; `Memory` where there is none for what is read; `Store` where the database failed.
+    pub fn adopt_into<I: Intake>(
+        alloc: Global,
+        mut conn: Connection<S>,
+        intake: &mut I,
+    ) -> Result<Store<S>, (Fault, Connection<S>)>
+        requires { conn.in_transaction ≡ false }
+        ensures read { IfOk result (λ store. HasCleanDisk (state S.Store store) → IsAtRest (state S.Store conn) → I.content intake.old ≡ no_rows → IsRead (I.content intake.new) (state S.Store conn).now.trees) }
+        ensures same { IfOk result (λ store. HasCleanDisk (state S.Store store) → IsAtRest (state S.Store conn) → IsAtRest (state S.Store store) × ((state S.Store store).now ≡ (state S.Store conn).now)) }
+        ensures damaged { IfErr result (λ e. HasCleanDisk (state S.Store e.1) → IsAtRest (state S.Store conn) → e.0 ≡ Fault.Damaged → I.content intake.old ≡ no_rows → HoldNoOffice (state S.Store conn).now.trees) }
+        ensures bytes { IfOk result (λ store. HasCleanDisk (state S.Store store) → IsAtRest (state S.Store conn) → AreNumbersAndBytes (state S.Store conn).now.trees) }
+        ensures this_version { IfErr result (λ e. HasCleanDisk (state S.Store e.1) → IsAtRest (state S.Store conn) → e.0 ≡ Fault.Damaged → IsOtherVersion (state S.Store conn).now.trees → ⊥) }
+        ensures clean_read { IfOk result (λ store. HasCleanDisk (state S.Store store) → HasCleanDisk (state S.Store conn)) }
+        ensures clean_back { IfErr result (λ e. HasCleanDisk (state S.Store e.1) → HasCleanDisk (state S.Store conn)) }
+        ensures version { IfErr result (λ e. HasCleanDisk (state S.Store e.1) → IsAtRest (state S.Store conn) → e.0 ≡ Fault.Version → IsOtherVersion (state S.Store conn).now.trees) }
+        ensures leaves { IfErr result (λ e. HasCleanDisk (state S.Store e.1) → IsAtRest (state S.Store conn) → LeavesLess (state S.Store conn) (state S.Store e.1)) }
+        ensures faults { IfErr result (λ e. e.0 ≢ Fault.Reopen) }
+        ensures ended { IfErr result (λ e. e.1.in_transaction ≡ false) }
+    {
+        obeys(&conn);
+        match take_tables(alloc, &mut conn, intake) {
+            Ok(()) => Ok(Store { conn }),
+            Err(fault) => Err((fault, conn)),
+        }
+    }
+
     /// Takes over the tables of an office that is there, and reads them whole, but for the bytes of
     /// contents. At an error the connection is given back, and nothing changed: `Version` where `office`
     /// has one row of another version; `Damaged` where a row is not of its form or `office` has not one
     /// row; `Memory` where there is none for what is read; `Store` where the database failed.
     pub fn adopt(
         alloc: Global,
-        mut conn: Connection<S>,
+        conn: Connection<S>,
     ) -> Result<(Store<S>, Tables), (Fault, Connection<S>)>
         requires { conn.in_transaction ≡ false }
-        ensures read { IfOk result (λ p. HasCleanDisk (state S.Store p.0) → IsAtRest (state S.Store conn) → IsRead p.1 (state S.Store conn).now.trees) }
+        ensures read { IfOk result (λ p. HasCleanDisk (state S.Store p.0) → IsAtRest (state S.Store conn) → IsRead (lists_of p.1) (state S.Store conn).now.trees) }
         ensures same { IfOk result (λ p. HasCleanDisk (state S.Store p.0) → IsAtRest (state S.Store conn) → IsAtRest (state S.Store p.0) × ((state S.Store p.0).now ≡ (state S.Store conn).now)) }
-        ensures damaged { IfErr result (λ e. HasCleanDisk (state S.Store e.1) → IsAtRest (state S.Store conn) → e.0 ≡ Fault.Damaged → AllReadable (state S.Store conn).now.trees → ⊥) }
+        ensures damaged { IfErr result (λ e. HasCleanDisk (state S.Store e.1) → IsAtRest (state S.Store conn) → e.0 ≡ Fault.Damaged → HoldNoOffice (state S.Store conn).now.trees) }
         ensures bytes { IfOk result (λ p. HasCleanDisk (state S.Store p.0) → IsAtRest (state S.Store conn) → AreNumbersAndBytes (state S.Store conn).now.trees) }
         ensures this_version { IfErr result (λ e. HasCleanDisk (state S.Store e.1) → IsAtRest (state S.Store conn) → e.0 ≡ Fault.Damaged → IsOtherVersion (state S.Store conn).now.trees → ⊥) }
         ensures clean_read { IfOk result (λ p. HasCleanDisk (state S.Store p.0) → HasCleanDisk (state S.Store conn)) }
@@ -100,10 +131,13 @@ impl<S: Alter> Store<S> {
         ensures faults { IfErr result (λ e. e.0 ≢ Fault.Reopen) }
         ensures ended { IfErr result (λ e. e.1.in_transaction ≡ false) }
     {
-        obeys(&conn);
-        match read_tables(alloc, &mut conn) {
-            Ok(tables) => Ok((Store { conn }, tables)),
-            Err(fault) => Err((fault, conn)),
+        let mut gathered = Gathered::new(alloc);
+        match Store::adopt_into(alloc, conn, &mut gathered) {
+            Ok(store) => match gathered.into_tables() {
+                Some(tables) => Ok((store, tables)),
+                None => Err((Fault::Damaged, store.release())),
+            },
+            Err(error) => Err(error),
         }
     }
 

@@ -1,14 +1,13 @@
-use Rattle.std.proofs.Common.{rules, [], ◌∷◌}
+use Rattle.std.proofs.Common.{arith}
 use Rattle.sqlite.specs.Held.{state}
-use Rattle.office_sql.specs.Bags.{rows_of}
-use Rattle.office_sql.specs.Schema.{at, targets}
-use Rattle.office_store.specs.Stored.{IsRowOf, IsTargetPair, target_pair}
-use Rattle.office_store.proofs.ThingsRead.{table_read}
+use Rattle.office_sql.specs.declared.reading.OfficeTable.TheVariants as table
+use Rattle.office_store.specs.Stored.{IsRowOf, IsTargetPair, target_handed, target_pair}
+use Rattle.office_store.proofs.TablesCome.{targets_begun, targets_whole}
+use Rattle.office_store.proofs.Takings.{table_taken}
 use Rattle.office_store.proofs.tables.targets.Goals as goal
 
-pub returns-clause-reads : goal.returns-clause-reads
-returns-clause-reads g c =
-    let rows = c.all_targets in
-    let taken = c.taken in
-    table_read (0 ∷ 1 ∷ 2 ∷ []) (λ db. rows_of (at 12 targets) db) target_pair (IsRowOf target_pair IsTargetPair) (λ db all. all.targets) (λ rows. rows.items) (λ them. them.items) (state g.S.Store c.args.conn.now) (state g.S.Store rows.new.conn) rows.result taken.result
-    rows.ensures.rows rows.ensures.same (λ disk rest unchanged. search rules) rows.ensures.clean rows.ensures.survives taken.ensures.ok taken.ensures.damaged taken.ensures.faults taken.ensures.failed
+pub returns-clause-takes : goal.returns-clause-takes
+returns-clause-takes g c =
+    let took = c.take_rows in
+    table_taken table.Targets target_pair (IsRowOf target_pair IsTargetPair) target_handed 7 8 (omega arith) (λ db all. all.targets) targets_begun targets_whole
+    (state g.S.Store c.args.conn.now) (state g.S.Store took.new.conn) (g.I.Intake.content c.args.intake.now) (g.I.Intake.content took.new.intake) took.result took.ensures.takes
