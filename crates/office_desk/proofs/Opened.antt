@@ -16,32 +16,19 @@ use Rattle.office_rules.specs.Founding.{AreTablesOf, HaveKeys}
 use Rattle.office_rules.specs.Rows.{rows_of}
 use Rattle.office_rules.specs.Sound.{IsSound}
 use Rattle.office_rules.specs.State.{ByteMap, Office, State, with_contents}
-use Rattle.office_rules.specs.Tables.{StandsFor}
-use Rattle.office_rules.specs.declared.tables.Tables.{Tables}
-use Rattle.office_rules.proofs.KeyedRows.{rows_by-find}
+use Rattle.office_rules.specs.Tables.{StandsFor, TableLists}
+use Rattle.office_store.specs.Adopted.{AreCertificatesTexts}
 use Rattle.office_store.specs.Stands.{HasContents, Stands}
-use Rattle.office_desk.specs.Opening.{AreCertificatesTexts, StandFor}
-
-text_of : (found : Option (String Global)) (text : List ℕ) → option_map (λ it. string_bytes it) found ≡ Some text → IsUtf8 text
-text_of (Some it) text same = let is : string_bytes it ≡ text = cc in subst IsUtf8 is (IsUtf8-string_bytes it)
-text_of None text same = absurd cc
-
--- certificates that were read as strings are texts
-certificates_texts : (t : Tables) (s : State) → StandsFor t s → AreCertificatesTexts s
-unfolding rows_of
-certificates_texts t s stands run text there =
-    let rows = t.certificates.items in
-    text_of (find nat_cmp run rows) text
-    (sym (rows_by-find nat_cmp (λ (it : String Global). string_bytes it) run rows) ∙ ap (find nat_cmp run) stands.certificates ∙ sym (get-entries s.office.certificates run) ∙ there)
+use Rattle.office_desk.specs.Opening.{StandFor}
 
 -- the office that was built is that of a state which the database's tables stand for
-pub stand_found : (t : Tables) (db : Trees) (office : Office) → AreTablesOf t office → ((contents : ByteMap) → HaveKeys contents t.contents.items → IsSound (with_contents office contents))
-    → ((s : State) → StandsFor t s → HasContents db s.contents → Stands (rows_of s) db)
-    → (contents : ByteMap) → HaveKeys contents t.contents.items → HasContents db contents → StandFor db (with_contents office contents)
-stand_found t db office are sound law contents keys has =
+pub stand_found : (t : TableLists) (db : Trees) (office : Office) → AreTablesOf t office → ((contents : ByteMap) → HaveKeys contents t.contents → IsSound (with_contents office contents))
+    → ((s : State) → StandsFor t s → HasContents db s.contents → Stands (rows_of s) db) → ((s : State) → StandsFor t s → AreCertificatesTexts s)
+    → (contents : ByteMap) → HaveKeys contents t.contents → HasContents db contents → StandFor db (with_contents office contents)
+stand_found t db office are sound law texts contents keys has =
     let s = with_contents office contents in
     let stands : StandsFor t s = are contents keys in
-    record { sound = sound contents keys; texts = certificates_texts t s stands; rows = law s stands has }
+    record { sound = sound contents keys; texts = texts s stands; rows = law s stands has }
 
 both : (b : Bool) → b ≡ true → b ≡ false → ⊥
 both true p q = absurd cc

@@ -1,15 +1,10 @@
 -- What opening finds: tables that stand for a state, or for none. Source: own.
-use Rattle.std.specs.Prelude.{◌≡◌, ℕ, List, Some, IsUtf8}
-use Rattle.std.specs.FinMap.{get}
 use Rattle.sqlite_trees.specs.Tree.{Trees}
 use Rattle.office_rules.specs.Rows.{rows_of}
 use Rattle.office_rules.specs.Sound.{IsSound}
 use Rattle.office_rules.specs.State.{State}
+use Rattle.office_store.specs.Adopted.{AreCertificatesTexts}
 use Rattle.office_store.specs.Stands.{Stands}
-
--- each certificate is a text
-abbrev pub AreCertificatesTexts : State → Type 0
-AreCertificatesTexts s = (run : ℕ) (text : List ℕ) → get s.office.certificates run ≡ Some text → IsUtf8 text
 
 -- the tables have the rows of a sound state
 pub record StandFor (db : Trees) (s : State) : Type 0 where

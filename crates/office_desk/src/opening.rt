@@ -13,8 +13,7 @@ ghost use Rattle.office_desk.specs.Leaving.{StandsAt};
 ghost use Rattle.office_desk.specs.Opening.{StandFor, StandForNone};
 
 use crate::Desk;
-use office_machine::Machine;
-use office_rows::Rebuild;
+use office_machine::{Builder, Machine, Rebuild};
 use office_rules::laws::soundness::law_of_soundness;
 use office_store::laws::{law_of_found_rows, law_of_read_rows};
 use office_store::{Fault, Store};
@@ -94,7 +93,7 @@ impl<S: Alter> Desk<S> {
         })
     }
 
-    /// Takes over the tables of an office that is there.
+    /// Takes over the tables of an office that is there, row by row.
     fn take_over(alloc: Global, conn: Connection<S>) -> Result<Desk<S>, (Fault, Connection<S>)>
         requires { conn.in_transaction ≡ false }
         ensures found { IfOk result (λ desk. HasCleanDisk (state S.Store desk.held) → IsAtRest (state S.Store conn) → (s : State) × StandFor (state S.Store conn).now.trees s × StandsAt S.Store s desk × ((state S.Store desk.held).now ≡ (state S.Store conn).now)) }
@@ -110,8 +109,9 @@ impl<S: Alter> Desk<S> {
     {
         law_of_read_rows();
         law_of_found_rows();
-        let (store, tables) = Store::adopt(alloc, conn)?;
-        match Machine::of_tables(alloc, tables) {
+        let mut builder = Builder::new(alloc);
+        let store = Store::adopt_into(alloc, conn, &mut builder)?;
+        match builder.finish() {
             Ok(machine) => Ok(Desk {
                 machine,
                 store,
