@@ -15,6 +15,8 @@ pub mod Edits
 pub mod Forming
 pub mod FoundRefs
 pub mod Frames
+pub mod Heirs
+pub mod Inherited
 pub mod Inserting
 pub mod Keeping
 pub mod Kept

@@ -7,6 +7,7 @@ pub mod Forms
 pub mod Founding
 pub mod Homes
 pub mod Indexes
+pub mod Inheriting
 pub mod Lasting
 pub mod Lists
 pub mod Meanings

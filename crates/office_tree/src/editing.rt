@@ -10,7 +10,7 @@ ghost use Rattle.office_tree.specs.declared.aggregation.Aggregation.{Aggregation
 ghost use Rattle.office_tree.specs.declared.class.Class.{Class};
 ghost use Rattle.office_tree.specs.declared.head.Record.{Record};
 
-use crate::renewing::{renew, renew_all, renew_meant};
+use crate::renewing::{renew, renew_all, renew_reached};
 use crate::rows::Rows;
 use crate::tally::note_turn;
 use crate::{AggNo, Aggregation, Class, Code, Record, RecordNo, Status, Tree};
@@ -52,11 +52,6 @@ impl Tree {
         ensures { (old new : Aggregation) × (numbered self.old.aggregations aggregation ≡ Some old) × FnOnceReturnsAtMut F.FnOnce change old tt new × (self.new ≡ put_aggregation self.old aggregation new) }
     {
         change(&mut self.aggregations[aggregation as usize - 1]);
-        let home = if reclassifies {
-            None
-        } else {
-            Some(aggregation)
-        };
         let rows = Rows {
             schedules: &self.schedules,
             classes: &self.classes,
@@ -64,13 +59,15 @@ impl Tree {
             records: &self.records,
             statuses: &self.statuses,
         };
-        renew_meant(
+        renew_reached(
             &mut self.outlooks,
             &rows,
             &self.plans,
             &self.tallies,
             &self.homes,
-            home,
+            &self.children,
+            aggregation,
+            reclassifies,
         );
     }
 

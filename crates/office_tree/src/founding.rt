@@ -10,7 +10,7 @@ ghost use Rattle.office_tree.specs.Stored.{IsStored};
 ghost use Rattle.office_tree.specs.Tree.{chain, chain_of, code_cmp};
 ghost use Rattle.office_tree.specs.declared.aggregation.Aggregation.{Aggregation};
 
-use crate::homes::{Homes, homes_of};
+use crate::homes::{Homes, children_of, homes_of};
 use crate::indexing::{index_of_aggregations, index_of_records};
 use crate::outlook::Outlook;
 use crate::plans::{Plans, plans_of};
@@ -235,12 +235,14 @@ struct Kept {
     outlooks: Vec<Outlook>,
     tallies: Vec<Tally>,
     homes: Homes,
+    children: Homes,
 }
 
 /// What is to be kept beside the rows.
 fn kept_of(alloc: Global, rows: &Rows<'_>) -> Result<Kept, Memory>
     requires { IsSound rows.now }
-    ensures { IfOk result (λ kept. IsStored rows.now (from_entries kept.by_aggregation_ref.entries) (from_entries kept.by_record_ref.entries) kept.plans kept.outlooks.items kept.tallies.items kept.homes.last.items kept.homes.before.items) }
+    ensures stored { IfOk result (λ kept. IsStored rows.now (from_entries kept.by_aggregation_ref.entries) (from_entries kept.by_record_ref.entries) kept.plans kept.outlooks.items kept.tallies.items kept.homes.last.items kept.homes.before.items) }
+    ensures children { IfOk result (λ kept. HasChildren rows.now.aggregations kept.children.last.items kept.children.before.items) }
 {
     let plans = plans_of(alloc, rows.schedules)?;
     let tallies = tallies_of(alloc, rows.aggregations, rows.records, rows.statuses)?;
@@ -248,6 +250,7 @@ fn kept_of(alloc: Global, rows: &Rows<'_>) -> Result<Kept, Memory>
     let by_aggregation_ref = index_of_aggregations(alloc, rows.aggregations)?;
     let by_record_ref = index_of_records(alloc, rows.records)?;
     let homes = homes_of(alloc, rows.aggregations.len(), rows.records)?;
+    let children = children_of(alloc, rows.aggregations)?;
     Ok(Kept {
         by_aggregation_ref,
         by_record_ref,
@@ -255,6 +258,7 @@ fn kept_of(alloc: Global, rows: &Rows<'_>) -> Result<Kept, Memory>
         outlooks,
         tallies,
         homes,
+        children,
     })
 }
 
@@ -293,6 +297,7 @@ impl Tree {
             outlooks: kept.outlooks,
             tallies: kept.tallies,
             homes: kept.homes,
+            children: kept.children,
         }))
     }
 }

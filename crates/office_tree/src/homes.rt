@@ -1,22 +1,28 @@
-ghost use Rattle.std.specs.Prelude.{◌≡◌, ◌++◌, ◌∷◌, ◌+◌, ◌<◌, ◌≤◌, ℕ, List, [], IfOk, OnOk, Some, length, vec_len, vec_capacity};
-ghost use Rattle.office_tree.specs.Homes.{AreLinked, homes_of};
+ghost use Rattle.std.specs.Prelude.{◌≡◌, ◌++◌, ◌∷◌, ◌+◌, ◌<◌, ◌≤◌, ℕ, List, [], IfOk, IfSome, OnOk, Some, length, vec_len, vec_capacity};
+ghost use Rattle.std.specs.Option.{unwrap_or};
+ghost use Rattle.office_tree.specs.Homes.{AreLinked, HasChildren, homes_of};
 ghost use Rattle.office_tree.specs.Lists.{numbered};
+ghost use Rattle.office_tree.specs.declared.aggregation.Aggregation.{Aggregation};
 ghost use Rattle.office_tree.specs.declared.head.Record.{Record};
 
 use crate::pushing::push_row;
-use crate::{AggNo, Memory, Record, RecordNo};
+use crate::{AggNo, Aggregation, Memory, Record};
 use std::alloc::Global;
 
-/// The records of each aggregation, linked, so that they are gone through without the others: for each aggregation
-/// the number of the last record in it, for each record that of the one before it in the same aggregation, 0 for none.
+/// The number of a record, or of an aggregation in another.
+type ThingNo = u32;
+
+/// What is in each aggregation, linked, so that it is gone through without the others, records and aggregations alike:
+/// for each aggregation the number of the last thing in it, for each thing that of the one before it in the same
+/// aggregation, 0 for none.
 #[derive(Drop)]
 pub(crate) struct Homes {
-    pub(crate) last: Vec<RecordNo>,
-    pub(crate) before: Vec<RecordNo>,
+    pub(crate) last: Vec<ThingNo>,
+    pub(crate) before: Vec<ThingNo>,
 }
 
 impl Homes {
-    /// No aggregations and no records.
+    /// No aggregations, and nothing in them.
     pub(crate) fn new(alloc: Global) -> Homes
         ensures last { result.last.items ≡ [] }
         ensures before { result.before.items ≡ [] }
@@ -27,8 +33,8 @@ impl Homes {
         }
     }
 
-    /// The number of the last record in the aggregation; 0 for none.
-    pub(crate) fn last(&self, home: AggNo) -> RecordNo
+    /// The number of the last thing in the aggregation; 0 for none.
+    pub(crate) fn last(&self, home: AggNo) -> ThingNo
         requires low { 0 < home }
         requires high { home ≤ length self.now.last.items }
         ensures { numbered self.now.last.items home ≡ Some result }
@@ -36,13 +42,13 @@ impl Homes {
         self.last[home as usize - 1]
     }
 
-    /// The number of the record before this one in the same aggregation; 0 for none.
-    pub(crate) fn before(&self, record_no: RecordNo) -> RecordNo
-        requires low { 0 < record_no }
-        requires high { record_no ≤ length self.now.before.items }
-        ensures { numbered self.now.before.items record_no ≡ Some result }
+    /// The number of the thing before this one in the same aggregation; 0 for none.
+    pub(crate) fn before(&self, thing: ThingNo) -> ThingNo
+        requires low { 0 < thing }
+        requires high { thing ≤ length self.now.before.items }
+        ensures { numbered self.now.before.items thing ≡ Some result }
     {
-        self.before[record_no as usize - 1]
+        self.before[thing as usize - 1]
     }
 
     /// Makes room for one more aggregation.
@@ -55,8 +61,8 @@ impl Homes {
         Ok(())
     }
 
-    /// Makes room for one more record.
-    pub(crate) fn make_record_room(&mut self) -> Result<(), Memory>
+    /// Makes room for one more thing.
+    pub(crate) fn make_thing_room(&mut self) -> Result<(), Memory>
         ensures last { self.new.last.items ≡ self.old.last.items }
         ensures before { self.new.before.items ≡ self.old.before.items }
         ensures room { OnOk result (vec_len self.new.before < vec_capacity self.new.before) }
@@ -73,8 +79,8 @@ impl Homes {
         push_row(&mut self.last, 0);
     }
 
-    /// Adds the next record, for which there is room, to the aggregation.
-    pub(crate) fn add_record(&mut self, home: AggNo)
+    /// Adds the next thing, for which there is room, to the aggregation.
+    pub(crate) fn add_thing(&mut self, home: AggNo)
         requires room { vec_len self.old.before < vec_capacity self.old.before }
         requires few { length self.old.before.items ≤ 200_000 }
         requires low { 0 < home }
@@ -83,11 +89,32 @@ impl Homes {
     {
         let before = self.last(home);
         push_row(&mut self.before, before);
-        self.last[home as usize - 1] = self.before.len() as RecordNo;
+        self.last[home as usize - 1] = self.before.len() as ThingNo;
+    }
+
+    /// Adds the next thing, for which there is room, which is in no aggregation.
+    pub(crate) fn add_outside(&mut self)
+        requires { vec_len self.old.before < vec_capacity self.old.before }
+        ensures { (homes : List ℕ) (count : ℕ) → AreLinked homes count self.old.last.items self.old.before.items → AreLinked (homes ++ 0 ∷ []) count self.new.last.items self.new.before.items }
+    {
+        push_row(&mut self.before, 0);
+    }
+
+    /// Adds the next thing, for which there is room, to the aggregation that is its parent, if it has one.
+    pub(crate) fn add_child(&mut self, parent: Option<AggNo>)
+        requires room { vec_len self.old.before < vec_capacity self.old.before }
+        requires few { length self.old.before.items ≤ 200_000 }
+        requires within { IfSome parent (λ p. (0 < p) × (p ≤ length self.old.last.items)) }
+        ensures { (homes : List ℕ) (count : ℕ) → AreLinked homes count self.old.last.items self.old.before.items → AreLinked (homes ++ unwrap_or parent 0 ∷ []) count self.new.last.items self.new.before.items }
+    {
+        match parent {
+            Some(home) => self.add_thing(home),
+            None => self.add_outside(),
+        }
     }
 }
 
-/// So many aggregations with no records.
+/// So many aggregations with nothing in them.
 fn empty_homes(alloc: Global, count: usize) -> Result<Homes, Memory>
     ensures { IfOk result (λ homes. AreLinked [] count homes.last.items homes.before.items) }
 {
@@ -107,8 +134,22 @@ pub(crate) fn homes_of(alloc: Global, count: usize, records: &[Record]) -> Resul
 {
     let mut homes = empty_homes(alloc, count)?;
     for i in 0..records.len() {
-        homes.make_record_room()?;
-        homes.add_record(records[i].aggregation);
+        homes.make_thing_room()?;
+        homes.add_thing(records[i].aggregation);
+    }
+    Ok(homes)
+}
+
+/// These aggregations, each in its parent.
+pub(crate) fn children_of(alloc: Global, aggregations: &[Aggregation]) -> Result<Homes, Memory>
+    requires within { (a : ℕ) (it : Aggregation) → numbered aggregations.now a ≡ Some it → IfSome it.parent (λ p. (0 < p) × (p ≤ length aggregations.now)) }
+    requires few { length aggregations.now ≤ 50_000 }
+    ensures { IfOk result (λ homes. HasChildren aggregations.now homes.last.items homes.before.items) }
+{
+    let mut homes = empty_homes(alloc, aggregations.len())?;
+    for i in 0..aggregations.len() {
+        homes.make_thing_room()?;
+        homes.add_child(aggregations[i].parent);
     }
     Ok(homes)
 }

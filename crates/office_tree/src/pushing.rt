@@ -32,6 +32,7 @@ fn make_aggregation_room(
     aggregations: &mut Vec<Aggregation>,
     tallies: &mut Vec<Tally>,
     homes: &mut Homes,
+    children: &mut Homes,
     index: &mut BTreeMap<Text, AggNo>,
     ref_text: &Text,
 ) -> Result<(), Memory>
@@ -40,15 +41,21 @@ fn make_aggregation_room(
     ensures tallies { tallies.new.items ≡ tallies.old.items }
     ensures last { homes.new.last.items ≡ homes.old.last.items }
     ensures before { homes.new.before.items ≡ homes.old.before.items }
+    ensures child_last { children.new.last.items ≡ children.old.last.items }
+    ensures child_before { children.new.before.items ≡ children.old.before.items }
     ensures row_room { OnOk result (vec_len aggregations.new < vec_capacity aggregations.new) }
     ensures tally_room { OnOk result (vec_len tallies.new < vec_capacity tallies.new) }
     ensures home_room { OnOk result (vec_len homes.new.last < vec_capacity homes.new.last) }
+    ensures parent_room { OnOk result (vec_len children.new.last < vec_capacity children.new.last) }
+    ensures child_room { OnOk result (vec_len children.new.before < vec_capacity children.new.before) }
     ensures indexed { OnOk result (from_entries {R = code_cmp} index.new.entries ≡ insert (from_entries index.old.entries) ref_text.now (length aggregations.old.items + 1)) }
     ensures err { OnErr result (from_entries {R = code_cmp} index.new.entries ≡ from_entries index.old.entries) }
 {
     aggregations.try_reserve(1)?;
     tallies.try_reserve(1)?;
     homes.make_home_room()?;
+    children.make_home_room()?;
+    children.make_thing_room()?;
     let alloc = *aggregations.allocator();
     put_ref(index, alloc, ref_text, aggregations.len() as AggNo + 1)
 }
@@ -78,7 +85,7 @@ fn make_record_room(
     records.try_reserve(1)?;
     statuses.try_reserve(1)?;
     outlooks.try_reserve(1)?;
-    homes.make_record_room()?;
+    homes.make_thing_room()?;
     let alloc = *records.allocator();
     put_ref(index, alloc, ref_text, records.len() as RecordNo + 1)
 }
@@ -126,9 +133,11 @@ impl Tree {
             &mut self.aggregations,
             &mut self.tallies,
             &mut self.homes,
+            &mut self.children,
             &mut self.by_aggregation_ref,
             &it.ref_text,
         )?;
+        let parent = it.parent;
         push_row(&mut self.aggregations, it);
         let tally = Tally {
             last_addition: None,
@@ -137,6 +146,8 @@ impl Tree {
         };
         push_row(&mut self.tallies, tally);
         self.homes.add_home();
+        self.children.add_home();
+        self.children.add_child(parent);
         Ok(())
     }
 
@@ -159,7 +170,7 @@ impl Tree {
         push_row(&mut self.records, head);
         push_row(&mut self.statuses, status);
         push_row(&mut self.outlooks, no_outlook());
-        self.homes.add_record(home);
+        self.homes.add_thing(home);
         let record_no = self.records.len() as RecordNo;
         let is_later = is_later(&self.tallies, home, day);
         let is_live = status.is_live();

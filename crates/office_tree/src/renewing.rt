@@ -1,11 +1,12 @@
 //! What is kept of records is renewed once a row was changed.
-ghost use Rattle.std.specs.Prelude.{◌≡◌, ◌≢◌, ℕ, IfOk, IfSome, IsTrue, None, Some, length};
-ghost use Rattle.office_tree.specs.Homes.{HasLinks};
+ghost use Rattle.std.specs.Prelude.{◌≡◌, ◌≢◌, ℕ, IfOk, IsTrue, Some, length, true};
+ghost use Rattle.office_tree.specs.Homes.{HasChildren, HasLinks};
+ghost use Rattle.office_tree.specs.Inheriting.{is_heir, is_reached};
 ghost use Rattle.office_tree.specs.Lists.{numbered};
 ghost use Rattle.office_tree.specs.Outlooks.{AreOutlooks, IsOutlook};
 ghost use Rattle.office_tree.specs.Plans.{ArePlanned};
 ghost use Rattle.office_tree.specs.Sound.{IsSound};
-ghost use Rattle.office_tree.specs.Stored.{AreRenewed};
+ghost use Rattle.office_tree.specs.Stored.{AreRenewed, is_in};
 ghost use Rattle.office_tree.specs.Tallies.{AreLastAdditions};
 ghost use Rattle.office_tree.specs.Tree.{has_aggregation, has_record};
 
@@ -49,7 +50,7 @@ pub(crate) fn renew_all(
     requires last { AreLastAdditions tallies.now rows.now.aggregations rows.now.records }
     requires many { length outlooks.old.items ≡ length rows.now.records }
     ensures count { length outlooks.new.items ≡ length outlooks.old.items }
-    ensures renewed { AreRenewed plans.now rows.now None outlooks.old.items outlooks.new.items }
+    ensures renewed { AreRenewed plans.now rows.now (λ _. true) outlooks.old.items outlooks.new.items }
 {
     for i in 0..rows.records.len() {
         renew(outlooks, rows, plans, tallies, i as RecordNo + 1);
@@ -72,7 +73,7 @@ pub(crate) fn renew_home(
     requires linked { HasLinks rows.now homes.now.last.items homes.now.before.items }
     requires there { IsTrue (has_aggregation rows.now home) }
     ensures count { length outlooks.new.items ≡ length outlooks.old.items }
-    ensures renewed { AreRenewed plans.now rows.now (Some home) outlooks.old.items outlooks.new.items }
+    ensures renewed { AreRenewed plans.now rows.now (is_in home) outlooks.old.items outlooks.new.items }
 {
     let mut at = homes.last(home);
     while at != 0 {
@@ -81,27 +82,63 @@ pub(crate) fn renew_home(
     }
 }
 
-/// Renews what is kept of the records of one aggregation, or of all.
-pub(crate) fn renew_meant(
+/// Renews what is kept of the records that are in the aggregation or inherit from it, and goes through these alone:
+/// what has a class of its own is passed with all below it.
+pub(crate) fn renew_heirs(
     outlooks: &mut Vec<Outlook>,
     rows: &Rows<'_>,
     plans: &Plans,
     tallies: &[Tally],
     homes: &Homes,
-    home: Option<AggNo>,
+    children: &Homes,
+    from: AggNo,
 )
     requires sound { IsSound rows.now }
     requires planned { ArePlanned rows.now.schedules plans.now }
     requires last { AreLastAdditions tallies.now rows.now.aggregations rows.now.records }
     requires many { length outlooks.old.items ≡ length rows.now.records }
     requires linked { HasLinks rows.now homes.now.last.items homes.now.before.items }
-    requires there { IfSome home (λ a. IsTrue (has_aggregation rows.now a)) }
+    requires children { HasChildren rows.now.aggregations children.now.last.items children.now.before.items }
+    requires there { IsTrue (has_aggregation rows.now from) }
     ensures count { length outlooks.new.items ≡ length outlooks.old.items }
-    ensures renewed { AreRenewed plans.now rows.now home outlooks.old.items outlooks.new.items }
+    ensures renewed { AreRenewed plans.now rows.now (is_heir rows.now.aggregations from) outlooks.old.items outlooks.new.items }
 {
-    match home {
-        Some(aggregation) => renew_home(outlooks, rows, plans, tallies, homes, aggregation),
-        None => renew_all(outlooks, rows, plans, tallies),
+    renew_home(outlooks, rows, plans, tallies, homes, from);
+    let mut child = children.last(from);
+    while child != 0 {
+        if !rows.has_own_class(child) {
+            renew_heirs(outlooks, rows, plans, tallies, homes, children, child);
+        }
+        child = children.before(child);
+    }
+}
+
+/// Renews what is kept of the records that an edited aggregation reaches: those in it, and, where its own class may be
+/// another, those that inherit from it.
+pub(crate) fn renew_reached(
+    outlooks: &mut Vec<Outlook>,
+    rows: &Rows<'_>,
+    plans: &Plans,
+    tallies: &[Tally],
+    homes: &Homes,
+    children: &Homes,
+    aggregation: AggNo,
+    reclassifies: bool,
+)
+    requires sound { IsSound rows.now }
+    requires planned { ArePlanned rows.now.schedules plans.now }
+    requires last { AreLastAdditions tallies.now rows.now.aggregations rows.now.records }
+    requires many { length outlooks.old.items ≡ length rows.now.records }
+    requires linked { HasLinks rows.now homes.now.last.items homes.now.before.items }
+    requires children { HasChildren rows.now.aggregations children.now.last.items children.now.before.items }
+    requires there { IsTrue (has_aggregation rows.now aggregation) }
+    ensures count { length outlooks.new.items ≡ length outlooks.old.items }
+    ensures renewed { AreRenewed plans.now rows.now (is_reached rows.now.aggregations aggregation reclassifies) outlooks.old.items outlooks.new.items }
+{
+    if reclassifies {
+        renew_heirs(outlooks, rows, plans, tallies, homes, children, aggregation);
+    } else {
+        renew_home(outlooks, rows, plans, tallies, homes, aggregation);
     }
 }
 

@@ -27,11 +27,13 @@ pub struct Tree {
     pub(crate) outlooks: Vec<Outlook>,
     pub(crate) tallies: Vec<Tally>,
     pub(crate) homes: Homes,
+    pub(crate) children: Homes,
 }
 
 impl Model for Tree {
     ghost use Rattle.std.specs.FinMap.{from_entries};
     ghost use Rattle.office_tree.specs.Tree.{TreeState};
+    ghost use Rattle.office_tree.specs.Homes.{HasChildren};
     ghost use Rattle.office_tree.specs.Stored.{IsStored};
     ghost use Rattle.std.specs.Coded.{codes};
     ghost use Rattle.std.specs.FinMap as map;
@@ -54,7 +56,8 @@ impl Model for Tree {
       aggregations = t.aggregations.items;
       records = t.records.items;
       statuses = t.statuses.items;
-    }) (from_entries t.by_aggregation_ref.entries) (from_entries t.by_record_ref.entries) t.plans t.outlooks.items t.tallies.items t.homes.last.items t.homes.before.items };
+    }) (from_entries t.by_aggregation_ref.entries) (from_entries t.by_record_ref.entries) t.plans t.outlooks.items t.tallies.items t.homes.last.items t.homes.before.items
+    × HasChildren t.aggregations.items t.children.last.items t.children.before.items };
 }
 
 impl Tree {
@@ -74,6 +77,7 @@ impl Tree {
             outlooks: Vec::new(alloc),
             tallies: Vec::new(alloc),
             homes: Homes::new(alloc),
+            children: Homes::new(alloc),
         }
     }
 

@@ -48,13 +48,13 @@ invariant_of-self g c =
     let sound = subst (λ (t : TreeState). IsSound (put_class t c.args.code.now new)) (sym c.self.view_is) (c.requires.sound c.in-Some.here.now new now gave) in
     let lent : put_class tree c.args.code.now new ≡ record tree { classes = from_entries {R = code_cmp} (c.get_mut.follows.lender new).entries; aggregations = c.deref.result.now; records = c.deref-2.result.now; statuses = c.deref-3.result.now } =
     λ i. record tree { classes = put i; aggregations = sym c.deref.ensures.value i; records = sym c.deref-2.ensures.value i; statuses = sym c.deref-3.ensures.value i } in
-    let renewed = subst (λ (t : TreeState). AreRenewed c.self.inside.plans t None c.self.inside.outlooks.items c.renew_all.new.outlooks.items) (sym lent) c.renew_all.ensures.renewed in
+    let renewed = subst (λ (t : TreeState). AreRenewed c.self.inside.plans t (λ _. true) c.self.inside.outlooks.items c.renew_all.new.outlooks.items) (sym lent) c.renew_all.ensures.renewed in
     let kept =
     class_edited tree (from_entries {R = code_cmp} c.self.inside.by_aggregation_ref.entries) (from_entries {R = code_cmp} c.self.inside.by_record_ref.entries) c.self.inside.plans c.self.inside.outlooks.items c.renew_all.new.outlooks.items c.self.inside.tallies.items c.self.inside.homes.last.items c.self.inside.homes.before.items
-    c.args.code.now new c.self.invariant sound c.renew_all.ensures.count renewed in
-    subst
+    c.args.code.now new c.self.invariant.0 sound c.renew_all.ensures.count renewed in
+    (subst
     (λ (classes : FinMap code_cmp Class). IsStored (record tree { classes = classes }) (from_entries {R = code_cmp} c.self.inside.by_aggregation_ref.entries) (from_entries {R = code_cmp} c.self.inside.by_record_ref.entries) c.self.inside.plans c.renew_all.new.outlooks.items c.self.inside.tallies.items c.self.inside.homes.last.items c.self.inside.homes.before.items)
-    put kept
+    put kept, c.self.invariant.1)
 
 pub returns : goal.returns
 returns g c =

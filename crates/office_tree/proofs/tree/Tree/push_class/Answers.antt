@@ -21,5 +21,5 @@ invariant_of-self-2 c =
     let new = inserted c.self.inside.classes.entries c.insert.new.self.entries c.args.code c.args.class c.in_ok-insert.ensures.updates.0 in
     let sound = subst (λ (t : TreeState). IsSound (put_class t c.args.code c.args.class)) (sym c.self.view_is) c.requires.sound in
     let fresh = ap (λ t. contains_key t.classes c.args.code) c.self.view_is ∙ c.requires.fresh in
-    let kept = class_pushed tree (from_entries {R = code_cmp} c.self.inside.by_aggregation_ref.entries) (from_entries {R = code_cmp} c.self.inside.by_record_ref.entries) c.self.inside.plans c.self.inside.outlooks.items c.self.inside.tallies.items c.self.inside.homes.last.items c.self.inside.homes.before.items c.args.code c.args.class c.self.invariant sound fresh in
-    subst (λ (t : TreeState). IsStored t (from_entries {R = code_cmp} c.self.inside.by_aggregation_ref.entries) (from_entries {R = code_cmp} c.self.inside.by_record_ref.entries) c.self.inside.plans c.self.inside.outlooks.items c.self.inside.tallies.items c.self.inside.homes.last.items c.self.inside.homes.before.items) (sym (ap (λ classes. record tree { classes = classes }) new)) kept
+    let kept = class_pushed tree (from_entries {R = code_cmp} c.self.inside.by_aggregation_ref.entries) (from_entries {R = code_cmp} c.self.inside.by_record_ref.entries) c.self.inside.plans c.self.inside.outlooks.items c.self.inside.tallies.items c.self.inside.homes.last.items c.self.inside.homes.before.items c.args.code c.args.class c.self.invariant.0 sound fresh in
+    (subst (λ (t : TreeState). IsStored t (from_entries {R = code_cmp} c.self.inside.by_aggregation_ref.entries) (from_entries {R = code_cmp} c.self.inside.by_record_ref.entries) c.self.inside.plans c.self.inside.outlooks.items c.self.inside.tallies.items c.self.inside.homes.last.items c.self.inside.homes.before.items) (sym (ap (λ classes. record tree { classes = classes }) new)) kept, c.self.invariant.1)

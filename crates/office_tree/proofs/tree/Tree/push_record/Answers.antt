@@ -8,7 +8,7 @@ use Rattle.office_tree.specs.Lists.{numbered, put}
 use Rattle.office_tree.specs.Outlooks.{IsOutlook}
 use Rattle.office_tree.specs.Rows.{put_record}
 use Rattle.office_tree.specs.Sound.{IsSound}
-use Rattle.office_tree.specs.Stored.{AreRenewed, IsStored}
+use Rattle.office_tree.specs.Stored.{AreRenewed, IsStored, is_in}
 use Rattle.office_tree.specs.Tallies.{AreAdded, AreLastAdditions}
 use Rattle.office_tree.specs.Tree.{TreeState, code_cmp}
 use Rattle.office_tree.specs.contracts.tree.Tree.{the_view}
@@ -22,30 +22,30 @@ use Rattle.office_tree.proofs.Putting.{numbered-put, put_next, put_past}
 use Rattle.office_tree.proofs.Reading.{aggregation_there}
 use Rattle.office_tree.proofs.TalliesNoted.{tallies_next}
 use Rattle.office_tree.proofs.tree.Tree.push_record.Goals as goal
-use Rattle.office_tree.proofs.tree.Tree.push_record.Goals.{After-add_record}
+use Rattle.office_tree.proofs.tree.Tree.push_record.Goals.{After-add_thing}
 
-pub add_record-requires-clause-low : goal.add_record-requires-clause-low
-add_record-requires-clause-low c =
+pub add_thing-requires-clause-low : goal.add_thing-requires-clause-low
+add_thing-requires-clause-low c =
     let tree = the_view c.self.inside in
     let r = length c.self.inside.records.items + 1 in
     let sound : IsSound (put_record tree r c.args.head c.args.status) = subst (λ (t : TreeState). IsSound (put_record t (length t.records + 1) c.args.head c.args.status)) (sym c.self.view_is) c.requires in
     let home = sound.names.homes r c.args.head (numbered-put c.self.inside.records.items r c.args.head (omega arith) (omega arith)) in
     home.0
 
-pub add_record-requires-clause-high : goal.add_record-requires-clause-high
-add_record-requires-clause-high c =
+pub add_thing-requires-clause-high : goal.add_thing-requires-clause-high
+add_thing-requires-clause-high c =
     let tree = the_view c.self.inside in
     let r = length c.self.inside.records.items + 1 in
     let sound : IsSound (put_record tree r c.args.head c.args.status) = subst (λ (t : TreeState). IsSound (put_record t (length t.records + 1) c.args.head c.args.status)) (sym c.self.view_is) c.requires in
     let home = sound.names.homes r c.args.head (numbered-put c.self.inside.records.items r c.args.head (omega arith) (omega arith)) in
-    omega (arith, home.1, c.self.invariant.homes.aggregations, ap length c.make_record_room.ensures.last)
+    omega (arith, home.1, c.self.invariant.0.homes.aggregations, ap length c.make_record_room.ensures.last)
 
 -- the links with the new record
-linked : (c : After-add_record) → HasLinks (put_record (the_view c.self.inside) (length c.self.inside.records.items + 1) c.args.head c.args.status) c.add_record.new.self.last.items c.add_record.new.self.before.items
+linked : (c : After-add_thing) → HasLinks (put_record (the_view c.self.inside) (length c.self.inside.records.items + 1) c.args.head c.args.status) c.add_thing.new.self.last.items c.add_thing.new.self.before.items
 linked c =
     let tree = the_view c.self.inside in
-    let roomy = linked_same (homes_of tree.records) (length tree.aggregations) c.self.inside.homes.last.items c.self.inside.homes.before.items c.make_record_room.new.homes.last.items c.make_record_room.new.homes.before.items c.make_record_room.ensures.last c.make_record_room.ensures.before c.self.invariant.homes in
-    linked_next tree (length c.self.inside.records.items + 1) c.args.head c.args.status c.add_record.new.self.last.items c.add_record.new.self.before.items refl (c.add_record.ensures (homes_of tree.records) (length tree.aggregations) roomy)
+    let roomy = linked_same (homes_of tree.records) (length tree.aggregations) c.self.inside.homes.last.items c.self.inside.homes.before.items c.make_record_room.new.homes.last.items c.make_record_room.new.homes.before.items c.make_record_room.ensures.last c.make_record_room.ensures.before c.self.invariant.0.homes in
+    linked_next tree (length c.self.inside.records.items + 1) c.args.head c.args.status c.add_thing.new.self.last.items c.add_thing.new.self.before.items refl (c.add_thing.ensures (homes_of tree.records) (length tree.aggregations) roomy)
 
 pub is_later-is_later-requires-clause-low : goal.is_later-is_later-requires-clause-low
 is_later-is_later-requires-clause-low c =
@@ -61,7 +61,7 @@ is_later-is_later-requires-clause-high c =
     let r = length c.self.inside.records.items + 1 in
     let sound : IsSound (put_record tree r c.args.head c.args.status) = subst (λ (t : TreeState). IsSound (put_record t (length t.records + 1) c.args.head c.args.status)) (sym c.self.view_is) c.requires in
     let home = sound.names.homes r c.args.head (numbered-put c.self.inside.records.items r c.args.head (omega arith) (omega arith)) in
-    omega (arith, home.1, c.self.invariant.tallies.count, ap length c.deref.ensures.value)
+    omega (arith, home.1, c.self.invariant.0.tallies.count, ap length c.deref.ensures.value)
 
 pub note_addition-requires-clause-low : goal.note_addition-requires-clause-low
 note_addition-requires-clause-low c =
@@ -81,7 +81,7 @@ note_addition-requires-clause-high c =
 
 pub note_addition-requires-clause-few : goal.note_addition-requires-clause-few
 note_addition-requires-clause-few c = λ a it e.
-    live_fits (the_view c.self.inside) c.self.inside.tallies.items c.self.invariant.sound c.self.invariant.tallies a it (ap (λ its. numbered its a) (sym c.deref_mut.ensures.value) ∙ e)
+    live_fits (the_view c.self.inside) c.self.inside.tallies.items c.self.invariant.0.sound c.self.invariant.0.tallies a it (ap (λ its. numbered its a) (sym c.deref_mut.ensures.value) ∙ e)
 
 pub renew-requires-clause-sound : goal.renew-requires-clause-sound
 renew-requires-clause-sound c =
@@ -89,7 +89,7 @@ renew-requires-clause-sound c =
     let r = length c.self.inside.records.items + 1 in
     let sound : IsSound (put_record tree r c.args.head c.args.status) = subst (λ (t : TreeState). IsSound (put_record t (length t.records + 1) c.args.head c.args.status)) (sym c.self.view_is) c.requires in
     let heads : put c.self.inside.records.items r c.args.head ≡ c.push_row.new.rows.items = put_next c.self.inside.records.items c.args.head ∙ ap (λ its. its ++ c.args.head ∷ []) (sym c.make_record_room.ensures.heads) ∙ sym c.push_row.ensures in
-    let beside = c.self.invariant.sound.statuses in
+    let beside = c.self.invariant.0.sound.statuses in
     let statuses : put c.self.inside.statuses.items r c.args.status ≡ c.push_row-2.new.rows.items = put_past c.self.inside.statuses.items r c.args.status (omega (arith, beside)) ∙ ap (λ its. its ++ c.args.status ∷ []) (sym c.make_record_room.ensures.statuses) ∙ sym c.push_row-2.ensures in
     let written : put_record tree r c.args.head c.args.status ≡ record tree { records = c.push_row.new.rows.items; statuses = c.push_row-2.new.rows.items } = λ i. record tree { records = heads i; statuses = statuses i } in
     let lent : put_record tree r c.args.head c.args.status ≡ record tree { aggregations = c.deref-3.result.now; records = c.deref-4.result.now; statuses = c.deref-5.result.now } =
@@ -102,13 +102,13 @@ renew-requires-clause-last c =
     let r = length c.self.inside.records.items + 1 in
     let sound : IsSound (put_record tree r c.args.head c.args.status) = subst (λ (t : TreeState). IsSound (put_record t (length t.records + 1) c.args.head c.args.status)) (sym c.self.view_is) c.requires in
     let heads : put c.self.inside.records.items r c.args.head ≡ c.push_row.new.rows.items = put_next c.self.inside.records.items c.args.head ∙ ap (λ its. its ++ c.args.head ∷ []) (sym c.make_record_room.ensures.heads) ∙ sym c.push_row.ensures in
-    let beside = c.self.invariant.sound.statuses in
+    let beside = c.self.invariant.0.sound.statuses in
     let statuses : put c.self.inside.statuses.items r c.args.status ≡ c.push_row-2.new.rows.items = put_past c.self.inside.statuses.items r c.args.status (omega (arith, beside)) ∙ ap (λ its. its ++ c.args.status ∷ []) (sym c.make_record_room.ensures.statuses) ∙ sym c.push_row-2.ensures in
     let written : put_record tree r c.args.head c.args.status ≡ record tree { records = c.push_row.new.rows.items; statuses = c.push_row-2.new.rows.items } = λ i. record tree { records = heads i; statuses = statuses i } in
     let lent : put_record tree r c.args.head c.args.status ≡ record tree { aggregations = c.deref-3.result.now; records = c.deref-4.result.now; statuses = c.deref-5.result.now } =
     written ∙ (λ i. record tree { aggregations = sym c.deref-3.ensures.value i; records = sym c.deref-4.ensures.value i; statuses = sym c.deref-5.ensures.value i }) in
     let added : AreAdded tree.aggregations c.args.head.aggregation c.args.head.added (not (is_ended c.args.status)) c.self.inside.tallies.items c.note_addition.new.tallies = rw (c.deref-2.ensures.value, c.deref_mut.ensures.value, c.is_live-is_live.ensures) at c.note_addition.ensures in
-    let right = tallies_next tree r c.args.head c.args.status c.self.inside.tallies.items c.note_addition.new.tallies c.self.invariant.sound.statuses refl added c.self.invariant.tallies in
+    let right = tallies_next tree r c.args.head c.args.status c.self.inside.tallies.items c.note_addition.new.tallies c.self.invariant.0.sound.statuses refl added c.self.invariant.0.tallies in
     let last = subst (λ (t : TreeState). AreLastAdditions c.note_addition.new.tallies t.aggregations t.records) lent (last_additions (put_record tree r c.args.head c.args.status) c.note_addition.new.tallies right) in
     subst (λ (tallies : List Tally). AreLastAdditions tallies c.deref-3.result.now c.deref-4.result.now) (sym (c.deref-6.ensures.value ∙ (over c.self.inside.tallies.len c.self.inside.tallies.items c.note_addition.new.tallies _ (omega (arith, c.self.inside.tallies.ok.0)) added.count))) last
 
@@ -118,7 +118,7 @@ renew_home-requires-clause-sound c =
     let r = length c.self.inside.records.items + 1 in
     let sound : IsSound (put_record tree r c.args.head c.args.status) = subst (λ (t : TreeState). IsSound (put_record t (length t.records + 1) c.args.head c.args.status)) (sym c.self.view_is) c.requires in
     let heads : put c.self.inside.records.items r c.args.head ≡ c.push_row.new.rows.items = put_next c.self.inside.records.items c.args.head ∙ ap (λ its. its ++ c.args.head ∷ []) (sym c.make_record_room.ensures.heads) ∙ sym c.push_row.ensures in
-    let beside = c.self.invariant.sound.statuses in
+    let beside = c.self.invariant.0.sound.statuses in
     let statuses : put c.self.inside.statuses.items r c.args.status ≡ c.push_row-2.new.rows.items = put_past c.self.inside.statuses.items r c.args.status (omega (arith, beside)) ∙ ap (λ its. its ++ c.args.status ∷ []) (sym c.make_record_room.ensures.statuses) ∙ sym c.push_row-2.ensures in
     let written : put_record tree r c.args.head c.args.status ≡ record tree { records = c.push_row.new.rows.items; statuses = c.push_row-2.new.rows.items } = λ i. record tree { records = heads i; statuses = statuses i } in
     let lent : put_record tree r c.args.head c.args.status ≡ record tree { aggregations = c.deref-3.result.now; records = c.deref-4.result.now; statuses = c.deref-5.result.now } =
@@ -131,13 +131,13 @@ renew_home-requires-clause-last c =
     let r = length c.self.inside.records.items + 1 in
     let sound : IsSound (put_record tree r c.args.head c.args.status) = subst (λ (t : TreeState). IsSound (put_record t (length t.records + 1) c.args.head c.args.status)) (sym c.self.view_is) c.requires in
     let heads : put c.self.inside.records.items r c.args.head ≡ c.push_row.new.rows.items = put_next c.self.inside.records.items c.args.head ∙ ap (λ its. its ++ c.args.head ∷ []) (sym c.make_record_room.ensures.heads) ∙ sym c.push_row.ensures in
-    let beside = c.self.invariant.sound.statuses in
+    let beside = c.self.invariant.0.sound.statuses in
     let statuses : put c.self.inside.statuses.items r c.args.status ≡ c.push_row-2.new.rows.items = put_past c.self.inside.statuses.items r c.args.status (omega (arith, beside)) ∙ ap (λ its. its ++ c.args.status ∷ []) (sym c.make_record_room.ensures.statuses) ∙ sym c.push_row-2.ensures in
     let written : put_record tree r c.args.head c.args.status ≡ record tree { records = c.push_row.new.rows.items; statuses = c.push_row-2.new.rows.items } = λ i. record tree { records = heads i; statuses = statuses i } in
     let lent : put_record tree r c.args.head c.args.status ≡ record tree { aggregations = c.deref-3.result.now; records = c.deref-4.result.now; statuses = c.deref-5.result.now } =
     written ∙ (λ i. record tree { aggregations = sym c.deref-3.ensures.value i; records = sym c.deref-4.ensures.value i; statuses = sym c.deref-5.ensures.value i }) in
     let added : AreAdded tree.aggregations c.args.head.aggregation c.args.head.added (not (is_ended c.args.status)) c.self.inside.tallies.items c.note_addition.new.tallies = rw (c.deref-2.ensures.value, c.deref_mut.ensures.value, c.is_live-is_live.ensures) at c.note_addition.ensures in
-    let right = tallies_next tree r c.args.head c.args.status c.self.inside.tallies.items c.note_addition.new.tallies c.self.invariant.sound.statuses refl added c.self.invariant.tallies in
+    let right = tallies_next tree r c.args.head c.args.status c.self.inside.tallies.items c.note_addition.new.tallies c.self.invariant.0.sound.statuses refl added c.self.invariant.0.tallies in
     let last = subst (λ (t : TreeState). AreLastAdditions c.note_addition.new.tallies t.aggregations t.records) lent (last_additions (put_record tree r c.args.head c.args.status) c.note_addition.new.tallies right) in
     subst (λ (tallies : List Tally). AreLastAdditions tallies c.deref-3.result.now c.deref-4.result.now) (sym (c.deref-then-is_later.ensures.value ∙ (over c.self.inside.tallies.len c.self.inside.tallies.items c.note_addition.new.tallies _ (omega (arith, c.self.inside.tallies.ok.0)) added.count))) last
 
@@ -146,12 +146,12 @@ renew_home-requires-clause-linked c =
     let tree = the_view c.self.inside in
     let r = length c.self.inside.records.items + 1 in
     let heads : put c.self.inside.records.items r c.args.head ≡ c.push_row.new.rows.items = put_next c.self.inside.records.items c.args.head ∙ ap (λ its. its ++ c.args.head ∷ []) (sym c.make_record_room.ensures.heads) ∙ sym c.push_row.ensures in
-    let beside = c.self.invariant.sound.statuses in
+    let beside = c.self.invariant.0.sound.statuses in
     let statuses : put c.self.inside.statuses.items r c.args.status ≡ c.push_row-2.new.rows.items = put_past c.self.inside.statuses.items r c.args.status (omega (arith, beside)) ∙ ap (λ its. its ++ c.args.status ∷ []) (sym c.make_record_room.ensures.statuses) ∙ sym c.push_row-2.ensures in
     let written : put_record tree r c.args.head c.args.status ≡ record tree { records = c.push_row.new.rows.items; statuses = c.push_row-2.new.rows.items } = λ i. record tree { records = heads i; statuses = statuses i } in
     let lent : put_record tree r c.args.head c.args.status ≡ record tree { aggregations = c.deref-3.result.now; records = c.deref-4.result.now; statuses = c.deref-5.result.now } =
     written ∙ (λ i. record tree { aggregations = sym c.deref-3.ensures.value i; records = sym c.deref-4.ensures.value i; statuses = sym c.deref-5.ensures.value i }) in
-    subst (λ (t : TreeState). HasLinks t c.add_record.new.self.last.items c.add_record.new.self.before.items) lent (linked (goal.at.renew_home-requires-clause-linked c).After-add_record)
+    subst (λ (t : TreeState). HasLinks t c.add_thing.new.self.last.items c.add_thing.new.self.before.items) lent (linked (goal.at.renew_home-requires-clause-linked c).After-add_thing)
 
 pub renew_home-requires-clause-there : goal.renew_home-requires-clause-there
 renew_home-requires-clause-there c =
@@ -169,7 +169,7 @@ invariant_of-self-then-is_later c =
     let sound : IsSound (put_record tree r c.args.head c.args.status) = subst (λ (t : TreeState). IsSound (put_record t (length t.records + 1) c.args.head c.args.status)) (sym c.self.view_is) c.requires in
     let home = sound.names.homes r c.args.head (numbered-put c.self.inside.records.items r c.args.head (omega arith) (omega arith)) in
     let heads : put c.self.inside.records.items r c.args.head ≡ c.push_row.new.rows.items = put_next c.self.inside.records.items c.args.head ∙ ap (λ its. its ++ c.args.head ∷ []) (sym c.make_record_room.ensures.heads) ∙ sym c.push_row.ensures in
-    let beside = c.self.invariant.sound.statuses in
+    let beside = c.self.invariant.0.sound.statuses in
     let statuses : put c.self.inside.statuses.items r c.args.status ≡ c.push_row-2.new.rows.items = put_past c.self.inside.statuses.items r c.args.status (omega (arith, beside)) ∙ ap (λ its. its ++ c.args.status ∷ []) (sym c.make_record_room.ensures.statuses) ∙ sym c.push_row-2.ensures in
     let written : put_record tree r c.args.head c.args.status ≡ record tree { records = c.push_row.new.rows.items; statuses = c.push_row-2.new.rows.items } = λ i. record tree { records = heads i; statuses = statuses i } in
     let lent : put_record tree r c.args.head c.args.status ≡ record tree { aggregations = c.deref-3.result.now; records = c.deref-4.result.now; statuses = c.deref-5.result.now } =
@@ -183,12 +183,12 @@ invariant_of-self-then-is_later c =
     (subst (λ (t : TreeState). IsOutlook c.self.inside.plans t c.len-record_no.result it) (sym lent) (c.renew.ensures.here it (ap (numbered c.renew.new.outlooks.items) number ∙ e))) in
     let others : (q : ℕ) → q ≢ r → numbered c.renew.new.outlooks.items q ≡ numbered (c.self.inside.outlooks.items ++ c.no_outlook.result ∷ []) q = λ q apart.
     c.renew.ensures.others q (λ same. apart (same ∙ number)) ∙ ap (λ its. numbered its q) looks in
-    let renewed = subst (λ (t : TreeState). AreRenewed c.self.inside.plans t (Some c.args.head.aggregation) c.renew.new.outlooks.items c.renew_home.new.outlooks.items) (sym lent) c.renew_home.ensures.renewed in
-    let looked = later_looks c.self.inside.plans tree r c.args.head c.args.status c.self.inside.outlooks.items c.self.inside.tallies.items c.self.invariant.sound refl c.self.invariant.tallies home c.self.invariant.outlooks c.no_outlook.result c.renew.new.outlooks.items many here others c.renew_home.new.outlooks.items c.renew_home.ensures.count renewed in
-    let kept = record_pushed tree (from_entries {R = code_cmp} c.self.inside.by_aggregation_ref.entries) (from_entries {R = code_cmp} c.self.inside.by_record_ref.entries) c.self.inside.plans c.self.inside.outlooks.items c.renew_home.new.outlooks.items c.self.inside.tallies.items c.note_addition.new.tallies c.self.inside.homes.last.items c.self.inside.homes.before.items c.add_record.new.self.last.items c.add_record.new.self.before.items r c.args.head c.args.status c.self.invariant refl sound added looked (linked (goal.at.invariant_of-self-then-is_later c).After-add_record) in
-    let indexed = subst (λ (index : RefMap). IsStored (put_record tree r c.args.head c.args.status) (from_entries {R = code_cmp} c.self.inside.by_aggregation_ref.entries) index c.self.inside.plans c.renew_home.new.outlooks.items c.note_addition.new.tallies c.add_record.new.self.last.items c.add_record.new.self.before.items) (sym c.in_ok-make_record_room.ensures.indexed) kept in
-    let stored = subst (λ (t : TreeState). IsStored t (from_entries {R = code_cmp} c.self.inside.by_aggregation_ref.entries) (from_entries {R = code_cmp} c.make_record_room.new.index.entries) c.self.inside.plans c.renew_home.new.outlooks.items c.note_addition.new.tallies c.add_record.new.self.last.items c.add_record.new.self.before.items) written indexed in
-    subst (λ (tallies : List Tally). IsStored (record tree { records = c.push_row.new.rows.items; statuses = c.push_row-2.new.rows.items }) (from_entries {R = code_cmp} c.self.inside.by_aggregation_ref.entries) (from_entries {R = code_cmp} c.make_record_room.new.index.entries) c.self.inside.plans c.renew_home.new.outlooks.items tallies c.add_record.new.self.last.items c.add_record.new.self.before.items) (sym (over c.self.inside.tallies.len c.self.inside.tallies.items c.note_addition.new.tallies _ (omega (arith, c.self.inside.tallies.ok.0)) added.count)) stored
+    let renewed = subst (λ (t : TreeState). AreRenewed c.self.inside.plans t (is_in c.args.head.aggregation) c.renew.new.outlooks.items c.renew_home.new.outlooks.items) (sym lent) c.renew_home.ensures.renewed in
+    let looked = later_looks c.self.inside.plans tree r c.args.head c.args.status c.self.inside.outlooks.items c.self.inside.tallies.items c.self.invariant.0.sound refl c.self.invariant.0.tallies home c.self.invariant.0.outlooks c.no_outlook.result c.renew.new.outlooks.items many here others c.renew_home.new.outlooks.items c.renew_home.ensures.count renewed in
+    let kept = record_pushed tree (from_entries {R = code_cmp} c.self.inside.by_aggregation_ref.entries) (from_entries {R = code_cmp} c.self.inside.by_record_ref.entries) c.self.inside.plans c.self.inside.outlooks.items c.renew_home.new.outlooks.items c.self.inside.tallies.items c.note_addition.new.tallies c.self.inside.homes.last.items c.self.inside.homes.before.items c.add_thing.new.self.last.items c.add_thing.new.self.before.items r c.args.head c.args.status c.self.invariant.0 refl sound added looked (linked (goal.at.invariant_of-self-then-is_later c).After-add_thing) in
+    let indexed = subst (λ (index : RefMap). IsStored (put_record tree r c.args.head c.args.status) (from_entries {R = code_cmp} c.self.inside.by_aggregation_ref.entries) index c.self.inside.plans c.renew_home.new.outlooks.items c.note_addition.new.tallies c.add_thing.new.self.last.items c.add_thing.new.self.before.items) (sym c.in_ok-make_record_room.ensures.indexed) kept in
+    let stored = subst (λ (t : TreeState). IsStored t (from_entries {R = code_cmp} c.self.inside.by_aggregation_ref.entries) (from_entries {R = code_cmp} c.make_record_room.new.index.entries) c.self.inside.plans c.renew_home.new.outlooks.items c.note_addition.new.tallies c.add_thing.new.self.last.items c.add_thing.new.self.before.items) written indexed in
+    (subst (λ (tallies : List Tally). IsStored (record tree { records = c.push_row.new.rows.items; statuses = c.push_row-2.new.rows.items }) (from_entries {R = code_cmp} c.self.inside.by_aggregation_ref.entries) (from_entries {R = code_cmp} c.make_record_room.new.index.entries) c.self.inside.plans c.renew_home.new.outlooks.items tallies c.add_thing.new.self.last.items c.add_thing.new.self.before.items) (sym (over c.self.inside.tallies.len c.self.inside.tallies.items c.note_addition.new.tallies _ (omega (arith, c.self.inside.tallies.ok.0)) added.count)) stored, c.self.invariant.1)
 
 pub invariant_of-self-else-is_later : goal.invariant_of-self-else-is_later
 invariant_of-self-else-is_later c =
@@ -197,7 +197,7 @@ invariant_of-self-else-is_later c =
     let sound : IsSound (put_record tree r c.args.head c.args.status) = subst (λ (t : TreeState). IsSound (put_record t (length t.records + 1) c.args.head c.args.status)) (sym c.self.view_is) c.requires in
     let home = sound.names.homes r c.args.head (numbered-put c.self.inside.records.items r c.args.head (omega arith) (omega arith)) in
     let heads : put c.self.inside.records.items r c.args.head ≡ c.push_row.new.rows.items = put_next c.self.inside.records.items c.args.head ∙ ap (λ its. its ++ c.args.head ∷ []) (sym c.make_record_room.ensures.heads) ∙ sym c.push_row.ensures in
-    let beside = c.self.invariant.sound.statuses in
+    let beside = c.self.invariant.0.sound.statuses in
     let statuses : put c.self.inside.statuses.items r c.args.status ≡ c.push_row-2.new.rows.items = put_past c.self.inside.statuses.items r c.args.status (omega (arith, beside)) ∙ ap (λ its. its ++ c.args.status ∷ []) (sym c.make_record_room.ensures.statuses) ∙ sym c.push_row-2.ensures in
     let written : put_record tree r c.args.head c.args.status ≡ record tree { records = c.push_row.new.rows.items; statuses = c.push_row-2.new.rows.items } = λ i. record tree { records = heads i; statuses = statuses i } in
     let lent : put_record tree r c.args.head c.args.status ≡ record tree { aggregations = c.deref-3.result.now; records = c.deref-4.result.now; statuses = c.deref-5.result.now } =
@@ -212,18 +212,18 @@ invariant_of-self-else-is_later c =
     let others : (q : ℕ) → q ≢ r → numbered c.renew.new.outlooks.items q ≡ numbered (c.self.inside.outlooks.items ++ c.no_outlook.result ∷ []) q = λ q apart.
     c.renew.ensures.others q (λ same. apart (same ∙ number)) ∙ ap (λ its. numbered its q) looks in
     let quiet : IsQuiet c.self.inside.tallies.items c.args.head.aggregation c.args.head.added = λ it e. c.is_later-is_later.ensures c.if-is_later.false it (ap (λ its. numbered its c.args.head.aggregation) c.deref.ensures.value ∙ e) in
-    let looked = quiet_looks c.self.inside.plans tree r c.args.head c.args.status c.self.inside.outlooks.items c.self.inside.tallies.items c.self.invariant.sound refl c.self.invariant.tallies home c.self.invariant.outlooks c.no_outlook.result c.renew.new.outlooks.items many here others quiet in
-    let kept = record_pushed tree (from_entries {R = code_cmp} c.self.inside.by_aggregation_ref.entries) (from_entries {R = code_cmp} c.self.inside.by_record_ref.entries) c.self.inside.plans c.self.inside.outlooks.items c.renew.new.outlooks.items c.self.inside.tallies.items c.note_addition.new.tallies c.self.inside.homes.last.items c.self.inside.homes.before.items c.add_record.new.self.last.items c.add_record.new.self.before.items r c.args.head c.args.status c.self.invariant refl sound added looked (linked (goal.at.invariant_of-self-else-is_later c).After-add_record) in
-    let indexed = subst (λ (index : RefMap). IsStored (put_record tree r c.args.head c.args.status) (from_entries {R = code_cmp} c.self.inside.by_aggregation_ref.entries) index c.self.inside.plans c.renew.new.outlooks.items c.note_addition.new.tallies c.add_record.new.self.last.items c.add_record.new.self.before.items) (sym c.in_ok-make_record_room.ensures.indexed) kept in
-    let stored = subst (λ (t : TreeState). IsStored t (from_entries {R = code_cmp} c.self.inside.by_aggregation_ref.entries) (from_entries {R = code_cmp} c.make_record_room.new.index.entries) c.self.inside.plans c.renew.new.outlooks.items c.note_addition.new.tallies c.add_record.new.self.last.items c.add_record.new.self.before.items) written indexed in
-    subst (λ (tallies : List Tally). IsStored (record tree { records = c.push_row.new.rows.items; statuses = c.push_row-2.new.rows.items }) (from_entries {R = code_cmp} c.self.inside.by_aggregation_ref.entries) (from_entries {R = code_cmp} c.make_record_room.new.index.entries) c.self.inside.plans c.renew.new.outlooks.items tallies c.add_record.new.self.last.items c.add_record.new.self.before.items) (sym (over c.self.inside.tallies.len c.self.inside.tallies.items c.note_addition.new.tallies _ (omega (arith, c.self.inside.tallies.ok.0)) added.count)) stored
+    let looked = quiet_looks c.self.inside.plans tree r c.args.head c.args.status c.self.inside.outlooks.items c.self.inside.tallies.items c.self.invariant.0.sound refl c.self.invariant.0.tallies home c.self.invariant.0.outlooks c.no_outlook.result c.renew.new.outlooks.items many here others quiet in
+    let kept = record_pushed tree (from_entries {R = code_cmp} c.self.inside.by_aggregation_ref.entries) (from_entries {R = code_cmp} c.self.inside.by_record_ref.entries) c.self.inside.plans c.self.inside.outlooks.items c.renew.new.outlooks.items c.self.inside.tallies.items c.note_addition.new.tallies c.self.inside.homes.last.items c.self.inside.homes.before.items c.add_thing.new.self.last.items c.add_thing.new.self.before.items r c.args.head c.args.status c.self.invariant.0 refl sound added looked (linked (goal.at.invariant_of-self-else-is_later c).After-add_thing) in
+    let indexed = subst (λ (index : RefMap). IsStored (put_record tree r c.args.head c.args.status) (from_entries {R = code_cmp} c.self.inside.by_aggregation_ref.entries) index c.self.inside.plans c.renew.new.outlooks.items c.note_addition.new.tallies c.add_thing.new.self.last.items c.add_thing.new.self.before.items) (sym c.in_ok-make_record_room.ensures.indexed) kept in
+    let stored = subst (λ (t : TreeState). IsStored t (from_entries {R = code_cmp} c.self.inside.by_aggregation_ref.entries) (from_entries {R = code_cmp} c.make_record_room.new.index.entries) c.self.inside.plans c.renew.new.outlooks.items c.note_addition.new.tallies c.add_thing.new.self.last.items c.add_thing.new.self.before.items) written indexed in
+    (subst (λ (tallies : List Tally). IsStored (record tree { records = c.push_row.new.rows.items; statuses = c.push_row-2.new.rows.items }) (from_entries {R = code_cmp} c.self.inside.by_aggregation_ref.entries) (from_entries {R = code_cmp} c.make_record_room.new.index.entries) c.self.inside.plans c.renew.new.outlooks.items tallies c.add_thing.new.self.last.items c.add_thing.new.self.before.items) (sym (over c.self.inside.tallies.len c.self.inside.tallies.items c.note_addition.new.tallies _ (omega (arith, c.self.inside.tallies.ok.0)) added.count)) stored, c.self.invariant.1)
 
 pub returns-then-is_later-clause-ok : goal.returns-then-is_later-clause-ok
 returns-then-is_later-clause-ok c =
     let tree = the_view c.self.inside in
     let r = length c.self.inside.records.items + 1 in
     let heads : put c.self.inside.records.items r c.args.head ≡ c.push_row.new.rows.items = put_next c.self.inside.records.items c.args.head ∙ ap (λ its. its ++ c.args.head ∷ []) (sym c.make_record_room.ensures.heads) ∙ sym c.push_row.ensures in
-    let beside = c.self.invariant.sound.statuses in
+    let beside = c.self.invariant.0.sound.statuses in
     let statuses : put c.self.inside.statuses.items r c.args.status ≡ c.push_row-2.new.rows.items = put_past c.self.inside.statuses.items r c.args.status (omega (arith, beside)) ∙ ap (λ its. its ++ c.args.status ∷ []) (sym c.make_record_room.ensures.statuses) ∙ sym c.push_row-2.ensures in
     let written : put_record tree r c.args.head c.args.status ≡ record tree { records = c.push_row.new.rows.items; statuses = c.push_row-2.new.rows.items } = λ i. record tree { records = heads i; statuses = statuses i } in
     sym written ∙ ap (λ t. put_record t (length t.records + 1) c.args.head c.args.status) c.self.view_is
@@ -233,7 +233,7 @@ returns-else-is_later-clause-ok c =
     let tree = the_view c.self.inside in
     let r = length c.self.inside.records.items + 1 in
     let heads : put c.self.inside.records.items r c.args.head ≡ c.push_row.new.rows.items = put_next c.self.inside.records.items c.args.head ∙ ap (λ its. its ++ c.args.head ∷ []) (sym c.make_record_room.ensures.heads) ∙ sym c.push_row.ensures in
-    let beside = c.self.invariant.sound.statuses in
+    let beside = c.self.invariant.0.sound.statuses in
     let statuses : put c.self.inside.statuses.items r c.args.status ≡ c.push_row-2.new.rows.items = put_past c.self.inside.statuses.items r c.args.status (omega (arith, beside)) ∙ ap (λ its. its ++ c.args.status ∷ []) (sym c.make_record_room.ensures.statuses) ∙ sym c.push_row-2.ensures in
     let written : put_record tree r c.args.head c.args.status ≡ record tree { records = c.push_row.new.rows.items; statuses = c.push_row-2.new.rows.items } = λ i. record tree { records = heads i; statuses = statuses i } in
     sym written ∙ ap (λ t. put_record t (length t.records + 1) c.args.head c.args.status) c.self.view_is
