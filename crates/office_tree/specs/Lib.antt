@@ -10,6 +10,7 @@ pub mod Indexes
 pub mod Lasting
 pub mod Lists
 pub mod Meanings
+pub mod Members
 pub mod Outlooks
 pub mod Plans
 pub mod Rows
