@@ -15,6 +15,7 @@ pub mod Edits
 pub mod Forming
 pub mod FoundRefs
 pub mod Frames
+pub mod Fronted
 pub mod Heirs
 pub mod Inherited
 pub mod Inserting
@@ -25,6 +26,7 @@ pub mod LastAdditions
 pub mod LastingRows
 pub mod Least
 pub mod Linked
+pub mod Linking
 pub mod Maps
 pub mod Named
 pub mod OutlooksKept
@@ -35,15 +37,18 @@ pub mod Plan
 pub mod PlanThere
 pub mod PushedRecords
 pub mod Pushes
+pub mod Puts
 pub mod Putting
 pub mod ReadKept
 pub mod Reading
 pub mod RefIndexes
 pub mod Refs
+pub mod Relinked
 pub mod Renewed
 pub mod ScheduleLemmas
 pub mod SpentAggregations
 pub mod TalliesNoted
 pub mod TallyLemmas
 pub mod TallySteps
+pub mod Visits
 pub mod Walk

@@ -11,6 +11,7 @@ pub mod Inheriting
 pub mod Lasting
 pub mod Lists
 pub mod Meanings
+pub mod Members
 pub mod Outlooks
 pub mod Plans
 pub mod Rows

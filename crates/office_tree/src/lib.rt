@@ -32,6 +32,7 @@ mod head;
 mod homes;
 mod indexing;
 pub mod laws;
+mod members;
 mod memory;
 mod outlook;
 mod placing;
