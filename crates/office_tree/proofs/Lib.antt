@@ -16,6 +16,7 @@ pub mod Forming
 pub mod FoundRefs
 pub mod Frames
 pub mod Fronted
+pub mod Grouped
 pub mod Heirs
 pub mod Inherited
 pub mod Inserting

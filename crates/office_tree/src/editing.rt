@@ -10,7 +10,7 @@ ghost use Rattle.office_tree.specs.declared.aggregation.Aggregation.{Aggregation
 ghost use Rattle.office_tree.specs.declared.class.Class.{Class};
 ghost use Rattle.office_tree.specs.declared.head.Record.{Record};
 
-use crate::renewing::{renew, renew_all, renew_reached};
+use crate::renewing::{renew, renew_class, renew_reached};
 use crate::rows::Rows;
 use crate::tally::note_turn;
 use crate::{AggNo, Aggregation, Class, Code, Record, RecordNo, Status, Tree};
@@ -34,7 +34,15 @@ impl Tree {
             records: &self.records,
             statuses: &self.statuses,
         };
-        renew_all(&mut self.outlooks, &rows, &self.plans, &self.tallies);
+        let class = self.grouping.number_of(code);
+        renew_class(
+            &mut self.outlooks,
+            &rows,
+            &self.plans,
+            &self.tallies,
+            &self.grouping.members,
+            class,
+        );
     }
 
     /// Changes an aggregation that is there, maybe in its own class. It takes no memory.
@@ -61,6 +69,7 @@ impl Tree {
         };
         renew_reached(
             &mut self.outlooks,
+            &mut self.grouping,
             &rows,
             &self.plans,
             &self.tallies,
@@ -110,5 +119,6 @@ impl Tree {
             &self.tallies,
             record_no,
         );
+        self.grouping.regroup(&rows, record_no);
     }
 }

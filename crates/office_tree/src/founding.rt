@@ -6,10 +6,13 @@ ghost use Rattle.std.specs.Option.{unwrap_or};
 ghost use Rattle.office_tree.specs.Founding.{is_aggregation_named, is_placed, is_record_named, is_there, is_within_limits, tree_of};
 ghost use Rattle.office_tree.specs.Lists.{numbered};
 ghost use Rattle.office_tree.specs.Sound.{IsSound, NamesStand, RootsHaveClasses};
+ghost use Rattle.office_tree.specs.Grouping.{AreGrouped};
+ghost use Rattle.office_tree.specs.Homes.{HasChildren};
 ghost use Rattle.office_tree.specs.Stored.{IsStored};
 ghost use Rattle.office_tree.specs.Tree.{chain, chain_of, code_cmp};
 ghost use Rattle.office_tree.specs.declared.aggregation.Aggregation.{Aggregation};
 
+use crate::grouping::{Grouping, grouping_of};
 use crate::homes::{Homes, children_of, homes_of};
 use crate::indexing::{index_of_aggregations, index_of_records};
 use crate::outlook::Outlook;
@@ -236,12 +239,14 @@ struct Kept {
     tallies: Vec<Tally>,
     homes: Homes,
     children: Homes,
+    grouping: Grouping,
 }
 
 /// What is to be kept beside the rows.
 fn kept_of(alloc: Global, rows: &Rows<'_>) -> Result<Kept, Memory>
     requires { IsSound rows.now }
     ensures stored { IfOk result (λ kept. IsStored rows.now (from_entries kept.by_aggregation_ref.entries) (from_entries kept.by_record_ref.entries) kept.plans kept.outlooks.items kept.tallies.items kept.homes.last.items kept.homes.before.items) }
+    ensures grouping { IfOk result (λ kept. AreGrouped rows.now.classes rows.now.aggregations rows.now.records (from_entries kept.grouping.numbers.entries) kept.grouping.members.first.items kept.grouping.members.next.items kept.grouping.members.previous.items kept.grouping.members.class.items) }
     ensures children { IfOk result (λ kept. HasChildren rows.now.aggregations kept.children.last.items kept.children.before.items) }
 {
     let plans = plans_of(alloc, rows.schedules)?;
@@ -251,6 +256,7 @@ fn kept_of(alloc: Global, rows: &Rows<'_>) -> Result<Kept, Memory>
     let by_record_ref = index_of_records(alloc, rows.records)?;
     let homes = homes_of(alloc, rows.aggregations.len(), rows.records)?;
     let children = children_of(alloc, rows.aggregations)?;
+    let grouping = grouping_of(alloc, rows)?;
     Ok(Kept {
         by_aggregation_ref,
         by_record_ref,
@@ -259,6 +265,7 @@ fn kept_of(alloc: Global, rows: &Rows<'_>) -> Result<Kept, Memory>
         tallies,
         homes,
         children,
+        grouping,
     })
 }
 
@@ -298,6 +305,7 @@ impl Tree {
             tallies: kept.tallies,
             homes: kept.homes,
             children: kept.children,
+            grouping: kept.grouping,
         }))
     }
 }

@@ -28,6 +28,7 @@ mod examining;
 mod finding;
 mod formed;
 mod founding;
+mod grouping;
 mod head;
 mod homes;
 mod indexing;
