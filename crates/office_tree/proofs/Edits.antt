@@ -1,10 +1,12 @@
 -- What is kept beside the rows of a tree is right after a change of one thing that is there.
 use Rattle.std.proofs.Common.{◌≡◌, ◌≢◌, ℕ, ◌-◌, ◌++◌, set, take, ◌==◌, ◌<◌, ◌≤◌, Bool, true, false, cond, List, length, map, Option, Some, None, refl, sym, ap, ◌∙◌, subst, inl, inr, arith}
 use Rattle.std.specs.Prelude.{not, ◌&&◌}
-use Rattle.std.specs.Option.{option_map}
+use Rattle.std.specs.FinMap.{get}
+use Rattle.std.specs.Option.{option_and_then, option_map}
 use Rattle.std.proofs.Math.Seq.{take-append_seam}
 use Rattle.std.proofs.lemmas.Bool.Decides.{nat_tests}
 use Rattle.office_tree.specs.Disposal.{is_ended}
+use Rattle.office_tree.specs.Grouping.{IsOfClass, NumberMap}
 use Rattle.office_tree.specs.Homes.{AreLinked, HasLinks, homes_of}
 use Rattle.office_tree.specs.Indexes.{Indexes, RefMap}
 use Rattle.office_tree.specs.Inheriting.{is_reached}
@@ -25,17 +27,15 @@ use Rattle.office_tree.specs.declared.status.Status.TheVariants.{Ended}
 use Rattle.office_tree.specs.declared.tally.Tally.{Tally}
 use Rattle.office_tree.proofs.AdditionsPut.{last_addition_put}
 use Rattle.office_tree.proofs.FoundRefs.{numbered_map}
-use Rattle.office_tree.proofs.Frames.{leaves_put_aggregation, leaves_put_record, leaves_reclassified}
+use Rattle.office_tree.proofs.Frames.{leaves_other_class, leaves_put_aggregation, leaves_put_record, leaves_reclassified}
 use Rattle.office_tree.proofs.Linked.{homes_put}
 use Rattle.office_tree.proofs.OutlooksKept.{outlooks_kept}
 use Rattle.office_tree.proofs.PlanThere.{numbered_there}
 use Rattle.office_tree.proofs.Places.{numbered_within}
+use Rattle.office_tree.proofs.Puts.{same_or_not}
 use Rattle.office_tree.proofs.Putting.{length-put, put_same, put_within}
 use Rattle.office_tree.proofs.RefIndexes.{map_put}
 use Rattle.office_tree.proofs.TallyLemmas.{live_few, live-put, live-put_aggregation, records_few, records-put, records-put_aggregation}
-
-true≢false : true ≡ false → ⊥
-true≢false e = absurd cc
 
 -- ---- lists
 
@@ -197,10 +197,18 @@ aggregation_edited tree by_aggregation_ref by_record_ref codes looks more_looks 
 
 -- ---- a class
 
-pub class_edited : (tree : TreeState) (by_aggregation_ref by_record_ref : RefMap) (codes : List (List ℕ)) (looks more_looks : List Outlook) (counts : List Tally) (last before : List ℕ) (code : List ℕ) (new : Class)
-    → IsStored tree by_aggregation_ref by_record_ref codes looks counts last before → IsSound (put_class tree code new) → length more_looks ≡ length looks → AreRenewed codes (put_class tree code new) (λ _. true) looks more_looks
+other_class : (o : Option (List ℕ)) (numbers : NumberMap) (code : List ℕ) (n m : ℕ) → option_and_then (get numbers) o ≡ Some m → get numbers code ≡ Some n → m ≢ n → o ≡ Some code → ⊥
+other_class o numbers code n m of is apart same =
+    let both : Some m ≡ Some n = sym of ∙ ap (option_and_then (get numbers)) same ∙ is in
+    let equal : m ≡ n = cc in
+    apart equal
+
+pub class_edited : (tree : TreeState) (by_aggregation_ref by_record_ref : RefMap) (codes : List (List ℕ)) (looks more_looks : List Outlook) (counts : List Tally) (last before : List ℕ) (code : List ℕ) (new : Class) (numbers : NumberMap) (class : List ℕ) (n : ℕ)
+    → IsStored tree by_aggregation_ref by_record_ref codes looks counts last before → IsSound (put_class tree code new) → length more_looks ≡ length looks
+    → get numbers code ≡ Some n → length class ≡ length tree.records → ((r c : ℕ) → numbered class r ≡ Some c → IsOfClass numbers tree.aggregations tree.records r c)
+    → ((r : ℕ) → numbered class r ≡ Some n → (it : Outlook) → numbered more_looks r ≡ Some it → IsOutlook codes (put_class tree code new) r it) → ((r : ℕ) → numbered class r ≢ Some n → numbered more_looks r ≡ numbered looks r)
     → IsStored (put_class tree code new) by_aggregation_ref by_record_ref codes more_looks counts last before
-class_edited tree by_aggregation_ref by_record_ref codes looks more_looks counts last before code new kept sound many renewed = record {
+class_edited tree by_aggregation_ref by_record_ref codes looks more_looks counts last before code new numbers class n kept sound many is all grouped here others = record {
   sound = sound;
   aggregations = kept.aggregations;
   records = kept.records;
@@ -208,8 +216,14 @@ class_edited tree by_aggregation_ref by_record_ref codes looks more_looks counts
   outlooks = record {
     count = many ∙ kept.outlooks.count;
     each = λ r it e.
-        let head = across more_looks tree.records r it (many ∙ kept.outlooks.count) e in
-        elim (renewed r it head.0 e head.1) [ inl is ↦ is | inr (meant, before) ↦ absurd (true≢false meant) ];
+        let on = across more_looks class r it (many ∙ kept.outlooks.count ∙ sym all) e in
+        elim (same_or_not on.0 n) [
+          | inl same ↦ here r (on.1 ∙ ap Some same) it e
+          | inr apart ↦
+              let elsewhere : numbered class r ≢ Some n = λ f. let both : Some on.0 ≡ Some n = sym on.1 ∙ f in let equal : on.0 ≡ n = cc in apart equal in
+              outlooks_kept codes tree (put_class tree code new) r it (kept.outlooks.each r it (sym (others r elsewhere) ∙ e))
+              (leaves_other_class tree code new r (other_class _ numbers code n on.0 (grouped r on.0 on.1) is apart))
+        ];
   };
   tallies = record { count = kept.tallies.count; each = λ a it e. let tally = kept.tallies.each a it e in record { last_addition = tally.last_addition; records = tally.records; live = tally.live } };
   homes = kept.homes;

@@ -81,6 +81,26 @@ leaves_put_class tree code class r head sound here free =
     let plans = plan_put_class tree.classes code class tree.aggregations tree.records r free there in
     same_outlook tree (put_class tree code class) r plans (ap (option_and_then (get tree.schedules)) plans) (λ _. refl) refl refl
 
+-- what is under another code
+get_elsewhere : {V : Type 0} (m : FinMap code_cmp V) (k : List ℕ) (v : V) (q : List ℕ) → q ≢ k → get (insert m k v) q ≡ get m q
+get_elsewhere m k v q other = get-insert nat_list_cmp_total m k v q ∙ cond_else (eq_by_cmp code_cmp q k) v (get m q) (λ tie. other (same_code q k tie))
+
+schedules_elsewhere : (classes : FinMap code_cmp Class) (code : List ℕ) (class : Class) (o : Option (List ℕ)) → (o ≡ Some code → ⊥)
+    → option_and_then (λ (c : List ℕ). option_map (λ (it : Class). it.schedule) (get (insert classes code class) c)) o ≡ option_and_then (λ (c : List ℕ). option_map (λ (it : Class). it.schedule) (get classes c)) o
+schedules_elsewhere classes code class None other = refl
+schedules_elsewhere classes code class (Some c) other = ap (option_map (λ (it : Class). it.schedule)) (get_elsewhere classes code class c (λ same. other (ap Some same)))
+
+plan_elsewhere : (classes : FinMap code_cmp Class) (code : List ℕ) (class : Class) (aggregations : List Aggregation) (records : List Record) (r : ℕ) → (class_in aggregations records r ≡ Some code → ⊥) → plan_in (insert classes code class) aggregations records r ≡ plan_in classes aggregations records r
+unfolding plan_in
+plan_elsewhere classes code class aggregations records r other =
+    ap (or_else (option_and_then (λ (head : Record). head.schedule) (numbered records r))) (schedules_elsewhere classes code class (class_in aggregations records r) other)
+
+-- a class that is not the record's, in place of what was there
+pub leaves_other_class : (tree : TreeState) (code : List ℕ) (class : Class) (r : ℕ) → (class_in tree.aggregations tree.records r ≡ Some code → ⊥) → LeavesOutlook tree (put_class tree code class) r
+leaves_other_class tree code class r other =
+    let plans = plan_elsewhere tree.classes code class tree.aggregations tree.records r other in
+    same_outlook tree (put_class tree code class) r plans (ap (option_and_then (get tree.schedules)) plans) (λ _. refl) refl refl
+
 -- ---- an aggregation
 
 put_at_other : {A : Type 0} (xs : List A) (i j : ℕ) (x : A) → i ≤ length xs → (i ≡ j → ⊥) → slice_get (put_at xs i x) j ≡ slice_get xs j
@@ -212,6 +232,16 @@ leaves_aggregations tree others r head sound here keep home =
     (λ schedule. start_in-head others tree.records schedule r head here ∙ start_by_home schedule.trigger tree.aggregations others tree.records head home ∙ sym (start_in-head tree.aggregations tree.records schedule r head here))
     refl refl
 
+-- the class of a record that is there is the same where an aggregation is added
+pub class_next : (tree : TreeState) (a : ℕ) (it : Aggregation) (r : ℕ) (head : Record) → IsSound tree → numbered tree.records r ≡ Some head → a ≡ length tree.aggregations + 1 → class_in (put tree.aggregations a it) tree.records r ≡ class_in tree.aggregations tree.records r
+class_next tree a it r head sound here next =
+    let xs : List Aggregation = tree.aggregations in
+    let same = λ (b : ℕ) (h : b ≤ length xs). numbered_put_other xs a b it (omega (arith, next)) (λ e. omega (arith, next, e, h)) in
+    class_kept xs (put xs a it) tree.records r head (placed_in xs sound.forest sound.names.root_classes) (record {
+      parents = λ b h. ap (option_and_then (λ (x : Aggregation). x.parent)) (same b h);
+      classes = λ b h. ap (option_and_then (λ (x : Aggregation). x.class)) (same b h);
+    }) here (sound.names.homes r head here)
+
 -- a new aggregation
 pub leaves_next_aggregation : (tree : TreeState) (a : ℕ) (it : Aggregation) (r : ℕ) (head : Record) → IsSound tree → numbered tree.records r ≡ Some head → a ≡ length tree.aggregations + 1 → LeavesOutlook tree (put_aggregation tree a it) r
 leaves_next_aggregation tree a it r head sound here next =
@@ -233,6 +263,16 @@ leaves_put_aggregation tree a it old r head sound here there stays class other =
       classes = λ b _. seen_put (λ (o : Option Aggregation). option_and_then (λ (x : Aggregation). x.class) o) xs a b it old there class;
     }) (numbered_put_other xs a head.aggregation it (omega (arith, within.1)) (λ e. other (sym e)))
 
+-- and so it is where an aggregation is put in place of one with the same parent and the same own class
+pub class_put : (tree : TreeState) (a : ℕ) (it old : Aggregation) (r : ℕ) (head : Record) → IsSound tree → numbered tree.records r ≡ Some head → numbered tree.aggregations a ≡ Some old → old.parent ≡ it.parent → old.class ≡ it.class
+    → class_in (put tree.aggregations a it) tree.records r ≡ class_in tree.aggregations tree.records r
+class_put tree a it old r head sound here there parent class =
+    let xs : List Aggregation = tree.aggregations in
+    class_kept xs (put xs a it) tree.records r head (placed_in xs sound.forest sound.names.root_classes) (record {
+      parents = λ b _. seen_put (λ (o : Option Aggregation). option_and_then (λ (x : Aggregation). x.parent) o) xs a b it old there parent;
+      classes = λ b _. seen_put (λ (o : Option Aggregation). option_and_then (λ (x : Aggregation). x.class) o) xs a b it old there class;
+    }) here (sound.names.homes r head here)
+
 -- an aggregation in place of one with the same parent, from which neither the record nor its home inherits
 pub leaves_reclassified : (tree : TreeState) (a : ℕ) (it old : Aggregation) (r : ℕ) (head : Record) → IsSound tree → numbered tree.records r ≡ Some head → numbered tree.aggregations a ≡ Some old → old.parent ≡ it.parent
     → is_heir (put tree.aggregations a it) a head ≡ false → LeavesOutlook tree (put_aggregation tree a it) r
@@ -248,6 +288,11 @@ leaves_reclassified tree a it old r head sound here there parent apart =
     refl refl
 
 -- ---- another record
+
+-- the class of a record that is the same among others
+pub class_by_head : (aggregations : List Aggregation) (records others : List Record) (r : ℕ) → numbered others r ≡ numbered records r → class_in aggregations others r ≡ class_in aggregations records r
+unfolding class_in above_in
+class_by_head aggregations records others r same = λ i. first_some (option_and_then (λ (head : Record). head.class) (same i) ∷ own_classes aggregations (above_head aggregations (same i)))
 
 plan_by_head : (classes : FinMap code_cmp Class) (aggregations : List Aggregation) (records others : List Record) (r : ℕ) → numbered others r ≡ numbered records r → plan_in classes aggregations others r ≡ plan_in classes aggregations records r
 unfolding plan_in class_in above_in

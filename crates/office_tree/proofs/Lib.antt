@@ -17,6 +17,7 @@ pub mod FoundRefs
 pub mod Frames
 pub mod Fronted
 pub mod Grouped
+pub mod GroupedRows
 pub mod Heirs
 pub mod Inherited
 pub mod Inserting

@@ -55,8 +55,7 @@ fn make_aggregation_room(
     aggregations.try_reserve(1)?;
     tallies.try_reserve(1)?;
     homes.make_home_room()?;
-    children.make_home_room()?;
-    children.make_thing_room()?;
+    children.make_child_room()?;
     let alloc = *aggregations.allocator();
     put_ref(index, alloc, ref_text, aggregations.len() as AggNo + 1)
 }
@@ -184,7 +183,7 @@ impl Tree {
         push_row(&mut self.statuses, status);
         push_row(&mut self.outlooks, no_outlook());
         self.homes.add_thing(home);
-        self.grouping.members.add(0);
+        self.grouping.members.add();
         let record_no = self.records.len() as RecordNo;
         let is_later = is_later(&self.tallies, home, day);
         let is_live = status.is_live();

@@ -1,4 +1,4 @@
-use Rattle.std.proofs.Common.{List, ap, sym, subst}
+use Rattle.std.proofs.Common.{◌≤◌, List, length, ap, sym, subst, arith}
 use Rattle.std.specs.FinMap.{FinMap, from_entries}
 use Rattle.office_tree.specs.Homes.{HasLinks}
 use Rattle.office_tree.specs.Indexes.{Indexes, aggregation_refs, record_refs}
@@ -9,6 +9,8 @@ use Rattle.office_tree.specs.Tree.{TreeState, code_cmp}
 use Rattle.office_tree.specs.declared.schedule.Schedule.{Schedule}
 use Rattle.office_tree.specs.declared.tally.Tally.{Tally}
 use Rattle.office_tree.proofs.Kept.{last_additions}
+use Rattle.office_tree.proofs.Linked.{parent_low}
+use Rattle.office_tree.proofs.Places.{numbered_within}
 use Rattle.office_tree.proofs.founding.kept_of.Goals as goal
 use Rattle.office_tree.proofs.founding.kept_of.Goals.{After-deref}
 
@@ -39,8 +41,9 @@ outlooks_of-requires-clause-last c =
 
 pub children_of-requires-clause-within : goal.children_of-requires-clause-within
 children_of-requires-clause-within c = λ a it there.
+    let xs = c.rows.inside.aggregations.now in
     let sound = subst IsSound (sym c.rows.view_is) c.requires in
-    parents_within c.args.rows.now_rows sound a it there
+    parent_low xs a (length xs) it sound.forest there (omega (arith, (numbered_within xs a it there).1))
 
 pub returns-clause-stored : goal.returns-clause-stored
 returns-clause-stored c = record {

@@ -1,16 +1,19 @@
-use Rattle.std.proofs.Common.{◌≡◌, ◌∙◌, List, length, refl, sym, ap, subst, arith}
+use Rattle.std.proofs.Common.{◌≡◌, ◌∙◌, ◌-◌, List, set, length, refl, sym, ap, subst, arith}
 use Rattle.std.specs.FinMap.{from_entries}
 use Rattle.std.specs.Fn.{FnOnceReturnsAtMut}
+use Rattle.std.specs.Prelude.{◌&&◌}
+use Rattle.office_tree.specs.Grouping.{AreGrouped, IsOfClass, NumberMap}
 use Rattle.office_tree.specs.Homes.{HasChildren, HasLinks}
-use Rattle.office_tree.specs.Inheriting.{is_reached}
+use Rattle.office_tree.specs.Inheriting.{is_heir, is_reached}
 use Rattle.office_tree.specs.Lists.{numbered}
 use Rattle.office_tree.specs.Rows.{put_aggregation}
 use Rattle.office_tree.specs.Sound.{IsSound}
-use Rattle.office_tree.specs.Stored.{AreRenewed, IsStored}
+use Rattle.office_tree.specs.Stored.{AreDone, AreRenewed, IsStored}
 use Rattle.office_tree.specs.Tree.{TreeState, code_cmp}
 use Rattle.office_tree.specs.declared.aggregation.Aggregation.{Aggregation}
 use Rattle.office_tree.specs.contracts.tree.Tree.{the_view}
 use Rattle.office_tree.proofs.Edits.{LeavesClass, aggregation_edited, aggregation_place, aggregation_written, linked_put}
+use Rattle.office_tree.proofs.GroupedRows.{grouped_reached}
 use Rattle.office_tree.proofs.Linked.{children_put}
 use Rattle.office_tree.proofs.Places.{numbered_read}
 use Rattle.office_tree.proofs.Putting.{length-put}
@@ -79,9 +82,20 @@ invariant_of-self g c =
     let kept =
     aggregation_edited tree (from_entries {R = code_cmp} c.self.inside.by_aggregation_ref.entries) (from_entries {R = code_cmp} c.self.inside.by_record_ref.entries) c.self.inside.plans c.self.inside.outlooks.items c.renew_reached.new.outlooks.items c.self.inside.tallies.items c.self.inside.homes.last.items c.self.inside.homes.before.items
     c.args.aggregation c.index_mut.result.now c.change.new.arg2 c.args.reclassifies c.self.invariant.0 old stays leaves sound c.renew_reached.ensures.count renewed in
+    let numbers = from_entries {R = code_cmp} c.self.inside.grouping.numbers.entries in
+    let same = c.renew_reached.ensures.same in
+    let done =
+    subst (λ (t : TreeState). AreDone (IsOfClass numbers t.aggregations t.records) t.records (λ head. c.args.reclassifies && is_heir t.aggregations c.args.aggregation head) c.self.inside.grouping.members.class.items c.renew_reached.new.grouping.members.class.items) (sym lent)
+    c.renew_reached.ensures.grouped in
+    let grouped =
+    grouped_reached tree.classes tree c.args.aggregation c.index_mut.result.now c.change.new.arg2 c.args.reclassifies numbers c.self.inside.grouping.members.first.items c.self.inside.grouping.members.next.items c.self.inside.grouping.members.previous.items c.self.inside.grouping.members.class.items
+    c.renew_reached.new.grouping.members.first.items c.renew_reached.new.grouping.members.next.items c.renew_reached.new.grouping.members.previous.items c.renew_reached.new.grouping.members.class.items
+    c.self.invariant.0.sound old stays leaves c.self.invariant.2 c.renew_reached.ensures.first c.renew_reached.ensures.members c.renew_reached.ensures.classed done in
     (subst (λ (t : TreeState). IsStored t (from_entries {R = code_cmp} c.self.inside.by_aggregation_ref.entries) (from_entries {R = code_cmp} c.self.inside.by_record_ref.entries) c.self.inside.plans c.renew_reached.new.outlooks.items c.self.inside.tallies.items c.self.inside.homes.last.items c.self.inside.homes.before.items) written kept,
     subst (λ (its : List Aggregation). HasChildren its c.self.inside.children.last.items c.self.inside.children.before.items) (ap (λ (t : TreeState). t.aggregations) written)
-    (children_put c.self.inside.aggregations.items c.args.aggregation c.index_mut.result.now c.change.new.arg2 c.self.inside.children.last.items c.self.inside.children.before.items old stays.parent c.self.invariant.1))
+    (children_put c.self.inside.aggregations.items c.args.aggregation c.index_mut.result.now c.change.new.arg2 c.self.inside.children.last.items c.self.inside.children.before.items old stays.parent c.self.invariant.1),
+    subst (λ (numbers : NumberMap). AreGrouped tree.classes (set c.self.inside.aggregations.items (c.args.aggregation - 1) c.change.new.arg2) tree.records numbers c.renew_reached.new.grouping.members.first.items c.renew_reached.new.grouping.members.next.items c.renew_reached.new.grouping.members.previous.items c.renew_reached.new.grouping.members.class.items) (λ i. from_entries {R = code_cmp} (sym same i).entries)
+    (subst (λ (its : List Aggregation). AreGrouped tree.classes its tree.records numbers c.renew_reached.new.grouping.members.first.items c.renew_reached.new.grouping.members.next.items c.renew_reached.new.grouping.members.previous.items c.renew_reached.new.grouping.members.class.items) (ap (λ (t : TreeState). t.aggregations) written) grouped))
 
 pub returns : goal.returns
 returns g c =
