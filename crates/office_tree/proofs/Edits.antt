@@ -1,18 +1,21 @@
 -- What is kept beside the rows of a tree is right after a change of one thing that is there.
 use Rattle.std.proofs.Common.{◌≡◌, ◌≢◌, ℕ, ◌-◌, ◌++◌, set, take, ◌==◌, ◌<◌, ◌≤◌, Bool, true, false, cond, List, length, map, Option, Some, None, refl, sym, ap, ◌∙◌, subst, inl, inr, arith}
 use Rattle.std.specs.Prelude.{not, ◌&&◌}
-use Rattle.std.specs.Option.{option_map}
+use Rattle.std.specs.FinMap.{get}
+use Rattle.std.specs.Option.{option_and_then, option_map}
 use Rattle.std.proofs.Math.Seq.{take-append_seam}
 use Rattle.std.proofs.lemmas.Bool.Decides.{nat_tests}
 use Rattle.office_tree.specs.Disposal.{is_ended}
+use Rattle.office_tree.specs.Grouping.{IsOfClass, NumberMap}
 use Rattle.office_tree.specs.Homes.{AreLinked, HasLinks, homes_of}
 use Rattle.office_tree.specs.Indexes.{Indexes, RefMap}
+use Rattle.office_tree.specs.Inheriting.{is_reached}
 use Rattle.office_tree.specs.Lasting.{AggregationStays, HeadStays}
 use Rattle.office_tree.specs.Lists.{numbered, put}
 use Rattle.office_tree.specs.Outlooks.{AreOutlooks, IsOutlook, LeavesOutlook}
 use Rattle.office_tree.specs.Rows.{put_aggregation, put_class, put_record}
 use Rattle.office_tree.specs.Sound.{IsSound}
-use Rattle.office_tree.specs.Stored.{AreRenewed, IsStored, is_meant}
+use Rattle.office_tree.specs.Stored.{AreRenewed, IsStored}
 use Rattle.office_tree.specs.Tallies.{AreTallies, AreTurned, IsTally, IsTurned, is_in_chain, live_below}
 use Rattle.office_tree.specs.Tree.{TreeState}
 use Rattle.office_tree.specs.declared.aggregation.Aggregation.{Aggregation}
@@ -24,11 +27,12 @@ use Rattle.office_tree.specs.declared.status.Status.TheVariants.{Ended}
 use Rattle.office_tree.specs.declared.tally.Tally.{Tally}
 use Rattle.office_tree.proofs.AdditionsPut.{last_addition_put}
 use Rattle.office_tree.proofs.FoundRefs.{numbered_map}
-use Rattle.office_tree.proofs.Frames.{leaves_put_aggregation, leaves_put_record}
+use Rattle.office_tree.proofs.Frames.{leaves_other_class, leaves_put_aggregation, leaves_put_record, leaves_reclassified}
 use Rattle.office_tree.proofs.Linked.{homes_put}
 use Rattle.office_tree.proofs.OutlooksKept.{outlooks_kept}
 use Rattle.office_tree.proofs.PlanThere.{numbered_there}
 use Rattle.office_tree.proofs.Places.{numbered_within}
+use Rattle.office_tree.proofs.Puts.{same_or_not}
 use Rattle.office_tree.proofs.Putting.{length-put, put_same, put_within}
 use Rattle.office_tree.proofs.RefIndexes.{map_put}
 use Rattle.office_tree.proofs.TallyLemmas.{live_few, live-put, live-put_aggregation, records_few, records-put, records-put_aggregation}
@@ -139,28 +143,27 @@ record_edited tree by_aggregation_ref by_record_ref codes looks more_looks count
 -- ---- an aggregation
 
 -- where only the records of the aggregation itself are renewed, its class stays
-abbrev pub LeavesClass : Option ℕ → ℕ → Aggregation → Aggregation → Type 0
-LeavesClass None a old new = Unit {0}
-LeavesClass (Some home) a old new = (home ≡ a) × (old.class ≡ new.class)
+abbrev pub LeavesClass : Bool → Aggregation → Aggregation → Type 0
+LeavesClass reclassifies old new = reclassifies ≡ false → old.class ≡ new.class
 
 apart_from : (home : ℕ) (head : Record) → (head.aggregation == home) ≡ false → head.aggregation ≢ home
 apart_from home head h e = grind (arith, nat_tests)
 
-meant_looks : (codes : List (List ℕ)) (tree : TreeState) (a : ℕ) (old new : Aggregation) (home : Option ℕ) (looks more : List Outlook)
-    → IsSound tree → numbered tree.aggregations a ≡ Some old → AggregationStays old new → LeavesClass home a old new → AreOutlooks codes tree looks → length more ≡ length looks
-    → AreRenewed codes (put_aggregation tree a new) home looks more → AreOutlooks codes (put_aggregation tree a new) more
-meant_looks codes tree a old new home looks more sound there stays leaves right many renewed = record {
+reached_looks : (codes : List (List ℕ)) (tree : TreeState) (a : ℕ) (old new : Aggregation) (reclassifies : Bool) (looks more : List Outlook)
+    → IsSound tree → numbered tree.aggregations a ≡ Some old → AggregationStays old new → LeavesClass reclassifies old new → AreOutlooks codes tree looks → length more ≡ length looks
+    → AreRenewed codes (put_aggregation tree a new) (is_reached (put tree.aggregations a new) a reclassifies) looks more → AreOutlooks codes (put_aggregation tree a new) more
+reached_looks codes tree a old new reclassifies looks more sound there stays leaves right many renewed = record {
   count = many ∙ right.count;
   each = λ r it e.
       let head = across more tree.records r it (many ∙ right.count) e in
       elim (renewed r it head.0 e head.1) [
         | inl is ↦ is
-        | inr kept ↦ outlooks_kept codes tree (put_aggregation tree a new) r it (right.each r it kept.1) (left home leaves r head.0 head.1 kept.0)
+        | inr kept ↦ outlooks_kept codes tree (put_aggregation tree a new) r it (right.each r it kept.1) (left reclassifies leaves r head.0 head.1 kept.0)
       ];
 } where
-  left : (home : Option ℕ) → LeavesClass home a old new → (r : ℕ) (head : Record) → numbered tree.records r ≡ Some head → is_meant home head ≡ false → LeavesOutlook tree (put_aggregation tree a new) r
-  left None leaves r head at meant = absurd cc
-  left (Some h) leaves r head at meant = leaves_put_aggregation tree a new old r head sound at there stays leaves.1 (λ same. apart_from h head meant (same ∙ sym leaves.0))
+  left : (reclassifies : Bool) → LeavesClass reclassifies old new → (r : ℕ) (head : Record) → numbered tree.records r ≡ Some head → is_reached (put tree.aggregations a new) a reclassifies head ≡ false → LeavesOutlook tree (put_aggregation tree a new) r
+  left true leaves r head at apart = leaves_reclassified tree a new old r head sound at there stays.parent apart
+  left false leaves r head at apart = leaves_put_aggregation tree a new old r head sound at there stays (leaves refl) (apart_from a head apart)
 
 kept_tallies : (tree : TreeState) (a : ℕ) (old new : Aggregation) (counts : List Tally) → IsSound tree → numbered tree.aggregations a ≡ Some old → AggregationStays old new → AreTallies tree counts → AreTallies (put_aggregation tree a new) counts
 kept_tallies tree a old new counts sound there stays right = record {
@@ -178,26 +181,34 @@ kept_tallies tree a old new counts sound there stays right = record {
 pub linked_put : (tree : TreeState) (a : ℕ) (new : Aggregation) (last before : List ℕ) → a ≤ length tree.aggregations → HasLinks tree last before → HasLinks (put_aggregation tree a new) last before
 linked_put tree a new last before high right = subst (λ (count : ℕ). AreLinked (homes_of tree.records) count last before) (sym (length-put tree.aggregations a new high)) right
 
-pub aggregation_edited : (tree : TreeState) (by_aggregation_ref by_record_ref : RefMap) (codes : List (List ℕ)) (looks more_looks : List Outlook) (counts : List Tally) (last before : List ℕ) (a : ℕ) (old new : Aggregation) (home : Option ℕ)
-    → IsStored tree by_aggregation_ref by_record_ref codes looks counts last before → numbered tree.aggregations a ≡ Some old → AggregationStays old new → LeavesClass home a old new → IsSound (put_aggregation tree a new)
-    → length more_looks ≡ length looks → AreRenewed codes (put_aggregation tree a new) home looks more_looks
+pub aggregation_edited : (tree : TreeState) (by_aggregation_ref by_record_ref : RefMap) (codes : List (List ℕ)) (looks more_looks : List Outlook) (counts : List Tally) (last before : List ℕ) (a : ℕ) (old new : Aggregation) (reclassifies : Bool)
+    → IsStored tree by_aggregation_ref by_record_ref codes looks counts last before → numbered tree.aggregations a ≡ Some old → AggregationStays old new → LeavesClass reclassifies old new → IsSound (put_aggregation tree a new)
+    → length more_looks ≡ length looks → AreRenewed codes (put_aggregation tree a new) (is_reached (put tree.aggregations a new) a reclassifies) looks more_looks
     → IsStored (put_aggregation tree a new) by_aggregation_ref by_record_ref codes more_looks counts last before
-aggregation_edited tree by_aggregation_ref by_record_ref codes looks more_looks counts last before a old new home kept there stays leaves sound many renewed = record {
+aggregation_edited tree by_aggregation_ref by_record_ref codes looks more_looks counts last before a old new reclassifies kept there stays leaves sound many renewed = record {
   sound = sound;
   aggregations = subst (λ (refs : List (List ℕ)). Indexes by_aggregation_ref refs) (sym (names_put (λ (it : Aggregation). it.ref_text) tree.aggregations a old new there stays.ref_text)) kept.aggregations;
   records = kept.records;
   plans = kept.plans;
-  outlooks = meant_looks codes tree a old new home looks more_looks kept.sound there stays leaves kept.outlooks many renewed;
+  outlooks = reached_looks codes tree a old new reclassifies looks more_looks kept.sound there stays leaves kept.outlooks many renewed;
   tallies = kept_tallies tree a old new counts kept.sound there stays kept.tallies;
   homes = linked_put tree a new last before (numbered_within tree.aggregations a old there).1 kept.homes;
 }
 
 -- ---- a class
 
-pub class_edited : (tree : TreeState) (by_aggregation_ref by_record_ref : RefMap) (codes : List (List ℕ)) (looks more_looks : List Outlook) (counts : List Tally) (last before : List ℕ) (code : List ℕ) (new : Class)
-    → IsStored tree by_aggregation_ref by_record_ref codes looks counts last before → IsSound (put_class tree code new) → length more_looks ≡ length looks → AreRenewed codes (put_class tree code new) None looks more_looks
+other_class : (o : Option (List ℕ)) (numbers : NumberMap) (code : List ℕ) (n m : ℕ) → option_and_then (get numbers) o ≡ Some m → get numbers code ≡ Some n → m ≢ n → o ≡ Some code → ⊥
+other_class o numbers code n m of is apart same =
+    let both : Some m ≡ Some n = sym of ∙ ap (option_and_then (get numbers)) same ∙ is in
+    let equal : m ≡ n = cc in
+    apart equal
+
+pub class_edited : (tree : TreeState) (by_aggregation_ref by_record_ref : RefMap) (codes : List (List ℕ)) (looks more_looks : List Outlook) (counts : List Tally) (last before : List ℕ) (code : List ℕ) (new : Class) (numbers : NumberMap) (class : List ℕ) (n : ℕ)
+    → IsStored tree by_aggregation_ref by_record_ref codes looks counts last before → IsSound (put_class tree code new) → length more_looks ≡ length looks
+    → get numbers code ≡ Some n → length class ≡ length tree.records → ((r c : ℕ) → numbered class r ≡ Some c → IsOfClass numbers tree.aggregations tree.records r c)
+    → ((r : ℕ) → numbered class r ≡ Some n → (it : Outlook) → numbered more_looks r ≡ Some it → IsOutlook codes (put_class tree code new) r it) → ((r : ℕ) → numbered class r ≢ Some n → numbered more_looks r ≡ numbered looks r)
     → IsStored (put_class tree code new) by_aggregation_ref by_record_ref codes more_looks counts last before
-class_edited tree by_aggregation_ref by_record_ref codes looks more_looks counts last before code new kept sound many renewed = record {
+class_edited tree by_aggregation_ref by_record_ref codes looks more_looks counts last before code new numbers class n kept sound many is all grouped here others = record {
   sound = sound;
   aggregations = kept.aggregations;
   records = kept.records;
@@ -205,8 +216,14 @@ class_edited tree by_aggregation_ref by_record_ref codes looks more_looks counts
   outlooks = record {
     count = many ∙ kept.outlooks.count;
     each = λ r it e.
-        let head = across more_looks tree.records r it (many ∙ kept.outlooks.count) e in
-        elim (renewed r it head.0 e head.1) [ inl is ↦ is | inr (meant, before) ↦ absurd cc ];
+        let on = across more_looks class r it (many ∙ kept.outlooks.count ∙ sym all) e in
+        elim (same_or_not on.0 n) [
+          | inl same ↦ here r (on.1 ∙ ap Some same) it e
+          | inr apart ↦
+              let elsewhere : numbered class r ≢ Some n = λ f. let both : Some on.0 ≡ Some n = sym on.1 ∙ f in let equal : on.0 ≡ n = cc in apart equal in
+              outlooks_kept codes tree (put_class tree code new) r it (kept.outlooks.each r it (sym (others r elsewhere) ∙ e))
+              (leaves_other_class tree code new r (other_class _ numbers code n on.0 (grouped r on.0 on.1) is apart))
+        ];
   };
   tallies = record { count = kept.tallies.count; each = λ a it e. let tally = kept.tallies.each a it e in record { last_addition = tally.last_addition; records = tally.records; live = tally.live } };
   homes = kept.homes;

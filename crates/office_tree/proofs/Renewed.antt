@@ -7,7 +7,7 @@ use Rattle.std.proofs.lemmas.Bool.Decides.{nat_tests}
 use Rattle.office_tree.specs.Homes.{IsLastBelow, homes_of}
 use Rattle.office_tree.specs.Lists.{numbered, put}
 use Rattle.office_tree.specs.Outlooks.{AreOutlooks, IsOutlook}
-use Rattle.office_tree.specs.Stored.{AreRenewed, is_meant}
+use Rattle.office_tree.specs.Stored.{AreDone, is_in}
 use Rattle.office_tree.specs.Tree.{TreeState}
 use Rattle.office_tree.specs.declared.head.Record.{Record}
 use Rattle.office_tree.specs.declared.outlook.Outlook.{Outlook}
@@ -32,49 +32,22 @@ pub written_other : {A : Type 0} (xs : List A) (n : ℕ) (x : A) (m : ℕ) → 0
 written_other xs n x m low high other =
     ap (λ zs. numbered zs m) (sym (written xs n x low high)) ∙ numbered_put_other xs n m x (omega (arith, high)) (λ e. other (sym e))
 
+-- what was read at a place is what the next number is
+pub read_at : {A : Type 0} (xs : List A) (i : ℕ) (x : A) → i < length xs → x ≡ get_or xs i x → numbered xs (i + 1) ≡ Some x
+read_at xs i x low is = let place : i ≡ i + 1 - 1 = omega arith in numbered_read xs (i + 1) x (omega arith) (omega (arith, low)) (is ∙ ap (λ k. get_or xs k x) place)
+
 -- what was read at a place of the records is the record of the next number
 pub head_at : (records others : List Record) (i : ℕ) (head : Record) → records ≡ others → i < length records → head ≡ get_or records i head → numbered others (i + 1) ≡ Some head
 head_at records others i head same low is =
-    let place : i ≡ i + 1 - 1 = omega arith in
-    ap (λ (heads : List Record). numbered heads (i + 1)) (sym same) ∙ numbered_read records (i + 1) head (omega arith) (omega (arith, low)) (is ∙ ap (λ k. get_or records k head) place)
+    ap (λ (heads : List Record). numbered heads (i + 1)) (sym same) ∙ read_at records i head low is
 
--- ---- so many records renewed
+-- ---- the records of one aggregation, from the last on
 
-pub record RenewedTo (codes : List (List ℕ)) (tree : TreeState) (i : ℕ) (old new : List Outlook) : Type 0 where
+pub record DoneAbove {A : Type 0} (IsRight : ℕ → A → Type 0) (records : List Record) (home at : ℕ) (old new : List A) : Type 0 where
   pub count : length new ≡ length old
-  pub done : (r : ℕ) (it : Outlook) → r ≤ i → numbered new r ≡ Some it → IsOutlook codes tree r it
-
-none_yet : (looks : List Outlook) (r : ℕ) (it : Outlook) → r ≤ 0 → numbered looks r ≡ Some it → ⊥
-none_yet looks zero it h e = absurd cc
-none_yet looks (suc r) it h e = absurd (omega (arith, h))
-
-pub renewed_none : (codes : List (List ℕ)) (tree : TreeState) (old : List Outlook) → RenewedTo codes tree 0 old old
-renewed_none codes tree old = record { count = λ _. length old; done = λ r it low e. absurd (none_yet old r it low e) }
-
--- one record more
-pub renewed_one : (codes : List (List ℕ)) (tree : TreeState) (i : ℕ) (old new next : List Outlook) → RenewedTo codes tree i old new → length next ≡ length new
-    → ((it : Outlook) → numbered next (i + 1) ≡ Some it → IsOutlook codes tree (i + 1) it) → ((r : ℕ) → r ≢ i + 1 → numbered next r ≡ numbered new r) → RenewedTo codes tree (i + 1) old next
-renewed_one codes tree i old new next so_far many here others = record {
-  count = many ∙ so_far.count;
-  done = λ r it low e. elim (cases_lt i r) [
-    | inl above ↦ let same : i + 1 ≡ r = omega (arith, low, above) in subst (λ n. numbered next n ≡ Some it → IsOutlook codes tree n it) same (here it) e
-    | inr below ↦ so_far.done r it below (sym (others r (λ same. omega (arith, same, below))) ∙ e)
-  ];
-}
-
--- and all are
-pub renewed_all : (codes : List (List ℕ)) (tree : TreeState) (i : ℕ) (old new : List Outlook) → RenewedTo codes tree i old new → length tree.records ≤ i → AreRenewed codes tree None old new
-renewed_all codes tree i old new so_far all = λ r it head e there.
-    let within = numbered_within tree.records r head there in
-    inl (so_far.done r it (omega (arith, all, within.1)) e)
-
--- ---- the records of one aggregation renewed, from the last on
-
-pub record RenewedAbove (codes : List (List ℕ)) (tree : TreeState) (home at : ℕ) (old new : List Outlook) : Type 0 where
-  pub count : length new ≡ length old
-  pub there : 0 < at → numbered (homes_of tree.records) at ≡ Some home
-  pub done : (r : ℕ) (it : Outlook) (head : Record) → at < r → numbered new r ≡ Some it → numbered tree.records r ≡ Some head
-      → IsOutlook codes tree r it ⊎ ((is_meant (Some home) head ≡ false) × (numbered old r ≡ Some it))
+  pub there : 0 < at → numbered (homes_of records) at ≡ Some home
+  pub done : (r : ℕ) (it : A) (head : Record) → at < r → numbered new r ≡ Some it → numbered records r ≡ Some head
+      → IsRight r it ⊎ ((is_in home head ≡ false) × (numbered old r ≡ Some it))
   pub left : (r : ℕ) → r ≤ at → numbered new r ≡ numbered old r
 
 is_same : (m n : ℕ) → (m == n) ≡ true → m ≡ n
@@ -89,21 +62,21 @@ not_meant records home r head there apart true test = absurd (apart (home_told r
 not_meant records home r head there apart false test = test
 
 -- none are yet
-pub renewed_last : (codes : List (List ℕ)) (tree : TreeState) (home at : ℕ) (old : List Outlook) → IsLastBelow (homes_of tree.records) home (length (homes_of tree.records) + 1) at → RenewedAbove codes tree home at old old
-renewed_last codes tree home at old is = record {
+pub done_last : {A : Type 0} (IsRight : ℕ → A → Type 0) (records : List Record) (home at : ℕ) (old : List A) → IsLastBelow (homes_of records) home (length (homes_of records) + 1) at → DoneAbove IsRight records home at old old
+done_last IsRight records home at old is = record {
   count = λ _. length old;
   there = is.there;
   done = λ r it head low e there.
-      let within = numbered_within (homes_of tree.records) r head.aggregation (home_told tree.records r head there) in
-      inr (not_meant tree.records home r head there (is.last r low (omega (arith, within.1))) (head.aggregation == home) refl, e);
+      let within = numbered_within (homes_of records) r head.aggregation (home_told records r head there) in
+      inr (not_meant records home r head there (is.last r low (omega (arith, within.1))) (head.aggregation == home) refl, e);
   left = λ r low. λ _. numbered old r;
 }
 
 -- one record more, and the one before it is the next
-pub renewed_before : (codes : List (List ℕ)) (tree : TreeState) (home at before : ℕ) (old new next : List Outlook) → RenewedAbove codes tree home at old new → length next ≡ length new
-    → ((it : Outlook) → numbered next at ≡ Some it → IsOutlook codes tree at it) → ((r : ℕ) → r ≢ at → numbered next r ≡ numbered new r) → IsLastBelow (homes_of tree.records) home at before
-    → RenewedAbove codes tree home before old next
-renewed_before codes tree home at before old new next so_far many here others is = record {
+pub done_before : {A : Type 0} (IsRight : ℕ → A → Type 0) (records : List Record) (home at before : ℕ) (old new next : List A) → DoneAbove IsRight records home at old new → length next ≡ length new
+    → ((it : A) → numbered next at ≡ Some it → IsRight at it) → ((r : ℕ) → r ≢ at → numbered next r ≡ numbered new r) → IsLastBelow (homes_of records) home at before
+    → DoneAbove IsRight records home before old next
+done_before {A} IsRight records home at before old new next so_far many here others is = record {
   count = many ∙ so_far.count;
   there = is.there;
   done = λ r it head low e there. elim (cases_lt at r) [
@@ -111,17 +84,17 @@ renewed_before codes tree home at before old new next so_far many here others is
     | inr high ↦ elim (cases_lt r at) [
       | inl between ↦
           let was = sym (so_far.left r high) ∙ sym (others r (λ same. omega (arith, same, between))) ∙ e in
-          inr (not_meant tree.records home r head there (is.last r low between) (head.aggregation == home) refl, was)
-      | inr up ↦ let same : at ≡ r = omega (arith, high, up) in inl (subst (λ n. numbered next n ≡ Some it → IsOutlook codes tree n it) same (here it) e)
+          inr (not_meant records home r head there (is.last r low between) (head.aggregation == home) refl, was)
+      | inr up ↦ let same : at ≡ r = omega (arith, high, up) in inl (subst (λ n. numbered next n ≡ Some it → IsRight n it) same (here it) e)
     ]
   ];
   left = λ r low. let below = is.below in others r (λ same. omega (arith, same, low, below)) ∙ so_far.left r (omega (arith, low, below));
 }
 
 -- and all are
-pub renewed_home : (codes : List (List ℕ)) (tree : TreeState) (home at : ℕ) (old new : List Outlook) → RenewedAbove codes tree home at old new → at ≡ 0 → AreRenewed codes tree (Some home) old new
-renewed_home codes tree home at old new so_far none = λ r it head e there.
-    let within = numbered_within tree.records r head there in
+pub done_home : {A : Type 0} (IsRight : ℕ → A → Type 0) (records : List Record) (home at : ℕ) (old new : List A) → DoneAbove IsRight records home at old new → at ≡ 0 → AreDone IsRight records (is_in home) old new
+done_home IsRight records home at old new so_far none = λ r it head e there.
+    let within = numbered_within records r head there in
     so_far.done r it head (omega (arith, none, within.0)) e there
 
 -- ---- so many outlooks

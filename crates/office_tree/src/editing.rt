@@ -10,7 +10,7 @@ ghost use Rattle.office_tree.specs.declared.aggregation.Aggregation.{Aggregation
 ghost use Rattle.office_tree.specs.declared.class.Class.{Class};
 ghost use Rattle.office_tree.specs.declared.head.Record.{Record};
 
-use crate::renewing::{renew, renew_all, renew_meant};
+use crate::renewing::{renew, renew_class, renew_reached};
 use crate::rows::Rows;
 use crate::tally::note_turn;
 use crate::{AggNo, Aggregation, Class, Code, Record, RecordNo, Status, Tree};
@@ -34,7 +34,15 @@ impl Tree {
             records: &self.records,
             statuses: &self.statuses,
         };
-        renew_all(&mut self.outlooks, &rows, &self.plans, &self.tallies);
+        let class = self.grouping.number_of(code);
+        renew_class(
+            &mut self.outlooks,
+            &rows,
+            &self.plans,
+            &self.tallies,
+            &self.grouping.members,
+            class,
+        );
     }
 
     /// Changes an aggregation that is there, maybe in its own class. It takes no memory.
@@ -52,11 +60,6 @@ impl Tree {
         ensures { (old new : Aggregation) × (numbered self.old.aggregations aggregation ≡ Some old) × FnOnceReturnsAtMut F.FnOnce change old tt new × (self.new ≡ put_aggregation self.old aggregation new) }
     {
         change(&mut self.aggregations[aggregation as usize - 1]);
-        let home = if reclassifies {
-            None
-        } else {
-            Some(aggregation)
-        };
         let rows = Rows {
             schedules: &self.schedules,
             classes: &self.classes,
@@ -64,13 +67,16 @@ impl Tree {
             records: &self.records,
             statuses: &self.statuses,
         };
-        renew_meant(
+        renew_reached(
             &mut self.outlooks,
+            &mut self.grouping,
             &rows,
             &self.plans,
             &self.tallies,
             &self.homes,
-            home,
+            &self.children,
+            aggregation,
+            reclassifies,
         );
     }
 
@@ -113,5 +119,6 @@ impl Tree {
             &self.tallies,
             record_no,
         );
+        self.grouping.regroup(&rows, record_no);
     }
 }

@@ -6,11 +6,14 @@ ghost use Rattle.std.specs.Option.{unwrap_or};
 ghost use Rattle.office_tree.specs.Founding.{is_aggregation_named, is_placed, is_record_named, is_there, is_within_limits, tree_of};
 ghost use Rattle.office_tree.specs.Lists.{numbered};
 ghost use Rattle.office_tree.specs.Sound.{IsSound, NamesStand, RootsHaveClasses};
+ghost use Rattle.office_tree.specs.Grouping.{AreGrouped};
+ghost use Rattle.office_tree.specs.Homes.{HasChildren};
 ghost use Rattle.office_tree.specs.Stored.{IsStored};
 ghost use Rattle.office_tree.specs.Tree.{chain, chain_of, code_cmp};
 ghost use Rattle.office_tree.specs.declared.aggregation.Aggregation.{Aggregation};
 
-use crate::homes::{Homes, homes_of};
+use crate::grouping::{Grouping, grouping_of};
+use crate::homes::{Homes, children_of, homes_of};
 use crate::indexing::{index_of_aggregations, index_of_records};
 use crate::outlook::Outlook;
 use crate::plans::{Plans, plans_of};
@@ -235,12 +238,16 @@ struct Kept {
     outlooks: Vec<Outlook>,
     tallies: Vec<Tally>,
     homes: Homes,
+    children: Homes,
+    grouping: Grouping,
 }
 
 /// What is to be kept beside the rows.
 fn kept_of(alloc: Global, rows: &Rows<'_>) -> Result<Kept, Memory>
     requires { IsSound rows.now }
-    ensures { IfOk result (λ kept. IsStored rows.now (from_entries kept.by_aggregation_ref.entries) (from_entries kept.by_record_ref.entries) kept.plans kept.outlooks.items kept.tallies.items kept.homes.last.items kept.homes.before.items) }
+    ensures stored { IfOk result (λ kept. IsStored rows.now (from_entries kept.by_aggregation_ref.entries) (from_entries kept.by_record_ref.entries) kept.plans kept.outlooks.items kept.tallies.items kept.homes.last.items kept.homes.before.items) }
+    ensures grouping { IfOk result (λ kept. AreGrouped rows.now.classes rows.now.aggregations rows.now.records (from_entries kept.grouping.numbers.entries) kept.grouping.members.first.items kept.grouping.members.next.items kept.grouping.members.previous.items kept.grouping.members.class.items) }
+    ensures children { IfOk result (λ kept. HasChildren rows.now.aggregations kept.children.last.items kept.children.before.items) }
 {
     let plans = plans_of(alloc, rows.schedules)?;
     let tallies = tallies_of(alloc, rows.aggregations, rows.records, rows.statuses)?;
@@ -248,6 +255,8 @@ fn kept_of(alloc: Global, rows: &Rows<'_>) -> Result<Kept, Memory>
     let by_aggregation_ref = index_of_aggregations(alloc, rows.aggregations)?;
     let by_record_ref = index_of_records(alloc, rows.records)?;
     let homes = homes_of(alloc, rows.aggregations.len(), rows.records)?;
+    let children = children_of(alloc, rows.aggregations)?;
+    let grouping = grouping_of(alloc, rows)?;
     Ok(Kept {
         by_aggregation_ref,
         by_record_ref,
@@ -255,6 +264,8 @@ fn kept_of(alloc: Global, rows: &Rows<'_>) -> Result<Kept, Memory>
         outlooks,
         tallies,
         homes,
+        children,
+        grouping,
     })
 }
 
@@ -293,6 +304,8 @@ impl Tree {
             outlooks: kept.outlooks,
             tallies: kept.tallies,
             homes: kept.homes,
+            children: kept.children,
+            grouping: kept.grouping,
         }))
     }
 }

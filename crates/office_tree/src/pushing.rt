@@ -8,6 +8,7 @@ ghost use Rattle.office_tree.specs.Tree.{code_cmp};
 ghost use Rattle.office_tree.specs.declared.tally.Tally.{Tally};
 
 use crate::homes::Homes;
+use crate::members::Members;
 use crate::indexing::put_ref;
 use crate::outlook::Outlook;
 use crate::renewing::{renew, renew_home};
@@ -32,6 +33,7 @@ fn make_aggregation_room(
     aggregations: &mut Vec<Aggregation>,
     tallies: &mut Vec<Tally>,
     homes: &mut Homes,
+    children: &mut Homes,
     index: &mut BTreeMap<Text, AggNo>,
     ref_text: &Text,
 ) -> Result<(), Memory>
@@ -40,15 +42,20 @@ fn make_aggregation_room(
     ensures tallies { tallies.new.items ≡ tallies.old.items }
     ensures last { homes.new.last.items ≡ homes.old.last.items }
     ensures before { homes.new.before.items ≡ homes.old.before.items }
+    ensures child_last { children.new.last.items ≡ children.old.last.items }
+    ensures child_before { children.new.before.items ≡ children.old.before.items }
     ensures row_room { OnOk result (vec_len aggregations.new < vec_capacity aggregations.new) }
     ensures tally_room { OnOk result (vec_len tallies.new < vec_capacity tallies.new) }
     ensures home_room { OnOk result (vec_len homes.new.last < vec_capacity homes.new.last) }
+    ensures parent_room { OnOk result (vec_len children.new.last < vec_capacity children.new.last) }
+    ensures child_room { OnOk result (vec_len children.new.before < vec_capacity children.new.before) }
     ensures indexed { OnOk result (from_entries {R = code_cmp} index.new.entries ≡ insert (from_entries index.old.entries) ref_text.now (length aggregations.old.items + 1)) }
     ensures err { OnErr result (from_entries {R = code_cmp} index.new.entries ≡ from_entries index.old.entries) }
 {
     aggregations.try_reserve(1)?;
     tallies.try_reserve(1)?;
     homes.make_home_room()?;
+    children.make_child_room()?;
     let alloc = *aggregations.allocator();
     put_ref(index, alloc, ref_text, aggregations.len() as AggNo + 1)
 }
@@ -59,6 +66,7 @@ fn make_record_room(
     statuses: &mut Vec<Status>,
     outlooks: &mut Vec<Outlook>,
     homes: &mut Homes,
+    members: &mut Members,
     index: &mut BTreeMap<Text, RecordNo>,
     ref_text: &Text,
 ) -> Result<(), Memory>
@@ -68,17 +76,25 @@ fn make_record_room(
     ensures outlooks { outlooks.new.items ≡ outlooks.old.items }
     ensures last { homes.new.last.items ≡ homes.old.last.items }
     ensures before { homes.new.before.items ≡ homes.old.before.items }
+    ensures first { members.new.first.items ≡ members.old.first.items }
+    ensures nexts { members.new.next.items ≡ members.old.next.items }
+    ensures previouses { members.new.previous.items ≡ members.old.previous.items }
+    ensures classes { members.new.class.items ≡ members.old.class.items }
     ensures head_room { OnOk result (vec_len records.new < vec_capacity records.new) }
     ensures status_room { OnOk result (vec_len statuses.new < vec_capacity statuses.new) }
     ensures outlook_room { OnOk result (vec_len outlooks.new < vec_capacity outlooks.new) }
     ensures link_room { OnOk result (vec_len homes.new.before < vec_capacity homes.new.before) }
+    ensures next_room { OnOk result (vec_len members.new.next < vec_capacity members.new.next) }
+    ensures previous_room { OnOk result (vec_len members.new.previous < vec_capacity members.new.previous) }
+    ensures class_room { OnOk result (vec_len members.new.class < vec_capacity members.new.class) }
     ensures indexed { OnOk result (from_entries {R = code_cmp} index.new.entries ≡ insert (from_entries index.old.entries) ref_text.now (length records.old.items + 1)) }
     ensures err { OnErr result (from_entries {R = code_cmp} index.new.entries ≡ from_entries index.old.entries) }
 {
     records.try_reserve(1)?;
     statuses.try_reserve(1)?;
     outlooks.try_reserve(1)?;
-    homes.make_record_room()?;
+    homes.make_thing_room()?;
+    members.make_record_room()?;
     let alloc = *records.allocator();
     put_ref(index, alloc, ref_text, records.len() as RecordNo + 1)
 }
@@ -112,6 +128,8 @@ impl Tree {
         ensures ok { OnOk result (self.new ≡ put_class self.old code class) }
         ensures err { OnErr result (self.new ≡ self.old) }
     {
+        let alloc = *self.records.allocator();
+        self.grouping.add_class(alloc, &code)?;
         self.classes.insert(code, class)?;
         Ok(())
     }
@@ -126,9 +144,11 @@ impl Tree {
             &mut self.aggregations,
             &mut self.tallies,
             &mut self.homes,
+            &mut self.children,
             &mut self.by_aggregation_ref,
             &it.ref_text,
         )?;
+        let parent = it.parent;
         push_row(&mut self.aggregations, it);
         let tally = Tally {
             last_addition: None,
@@ -137,6 +157,8 @@ impl Tree {
         };
         push_row(&mut self.tallies, tally);
         self.homes.add_home();
+        self.children.add_home();
+        self.children.add_child(parent);
         Ok(())
     }
 
@@ -151,6 +173,7 @@ impl Tree {
             &mut self.statuses,
             &mut self.outlooks,
             &mut self.homes,
+            &mut self.grouping.members,
             &mut self.by_record_ref,
             &head.ref_text,
         )?;
@@ -159,7 +182,8 @@ impl Tree {
         push_row(&mut self.records, head);
         push_row(&mut self.statuses, status);
         push_row(&mut self.outlooks, no_outlook());
-        self.homes.add_record(home);
+        self.homes.add_thing(home);
+        self.grouping.members.add();
         let record_no = self.records.len() as RecordNo;
         let is_later = is_later(&self.tallies, home, day);
         let is_live = status.is_live();
@@ -178,6 +202,7 @@ impl Tree {
             &self.tallies,
             record_no,
         );
+        self.grouping.regroup(&rows, record_no);
         if is_later {
             renew_home(
                 &mut self.outlooks,

@@ -3,19 +3,20 @@ ghost use Rattle.std.specs.Prelude.{◌≡◌, ◌&&◌, IsTrue, Some, length};
 ghost use Rattle.std.specs.FinMap.{get};
 ghost use Rattle.std.specs.Ordering.{int_eq};
 ghost use Rattle.office_tree.specs.Disposal.{is_disposal, same_action};
+ghost use Rattle.office_tree.specs.Inheriting.{has_own_class};
 ghost use Rattle.office_tree.specs.Lists.{holds_of};
 ghost use Rattle.office_tree.specs.Outlooks.{IsOutlook, candidate_by};
 ghost use Rattle.office_tree.specs.Plans.{ArePlanned};
 ghost use Rattle.office_tree.specs.Sound.{IsSound};
 ghost use Rattle.office_tree.specs.Tallies.{AreLastAdditions};
-ghost use Rattle.office_tree.specs.Tree.{has_record, plan_of, schedule_of};
+ghost use Rattle.office_tree.specs.Tree.{has_aggregation, has_record, plan_of, schedule_of};
 
 use crate::classifying::class_in;
 use crate::outlook::Outlook;
 use crate::plans::Plans;
 use crate::scheduling::{due_by, start_in};
 use crate::tally::Tally;
-use crate::{Action, Aggregation, Class, Code, Confirmation, Record, RecordNo, Schedule, Status};
+use crate::{Action, AggNo, Aggregation, Class, Code, Confirmation, Record, RecordNo, Schedule, Status};
 use office_days::DueDay;
 use std::collections::BTreeMap;
 use std::marker::Model;
@@ -78,6 +79,14 @@ fn is_candidate(head: &Record, status: Status, action: Action, due: Option<DueDa
 }
 
 impl<'a> Rows<'a> {
+    /// Whether the aggregation has a class of its own.
+    pub(crate) fn has_own_class(&self, aggregation: AggNo) -> bool
+        requires { IsTrue (has_aggregation self.now aggregation) }
+        ensures { result ≡ has_own_class self.now.aggregations aggregation }
+    {
+        self.aggregations[aggregation as usize - 1].class.is_some()
+    }
+
     /// The code of the record's plan: its own schedule, else the schedule of its class.
     pub(crate) fn plan_of(&self, record_no: RecordNo) -> &'a Code
         requires sound { IsSound self.now }

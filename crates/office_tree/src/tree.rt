@@ -1,6 +1,7 @@
 ghost use Rattle.std.specs.Prelude.{◌≡◌, ◌≤◌, length};
 ghost use Rattle.office_tree.specs.Tree.{empty_tree, has_aggregation, has_record};
 
+use crate::grouping::Grouping;
 use crate::homes::Homes;
 use crate::outlook::Outlook;
 use crate::plans::Plans;
@@ -27,11 +28,15 @@ pub struct Tree {
     pub(crate) outlooks: Vec<Outlook>,
     pub(crate) tallies: Vec<Tally>,
     pub(crate) homes: Homes,
+    pub(crate) children: Homes,
+    pub(crate) grouping: Grouping,
 }
 
 impl Model for Tree {
     ghost use Rattle.std.specs.FinMap.{from_entries};
     ghost use Rattle.office_tree.specs.Tree.{TreeState};
+    ghost use Rattle.office_tree.specs.Grouping.{AreGrouped};
+    ghost use Rattle.office_tree.specs.Homes.{HasChildren};
     ghost use Rattle.office_tree.specs.Stored.{IsStored};
     ghost use Rattle.std.specs.Coded.{codes};
     ghost use Rattle.std.specs.FinMap as map;
@@ -54,7 +59,9 @@ impl Model for Tree {
       aggregations = t.aggregations.items;
       records = t.records.items;
       statuses = t.statuses.items;
-    }) (from_entries t.by_aggregation_ref.entries) (from_entries t.by_record_ref.entries) t.plans t.outlooks.items t.tallies.items t.homes.last.items t.homes.before.items };
+    }) (from_entries t.by_aggregation_ref.entries) (from_entries t.by_record_ref.entries) t.plans t.outlooks.items t.tallies.items t.homes.last.items t.homes.before.items
+    × HasChildren t.aggregations.items t.children.last.items t.children.before.items
+    × AreGrouped (from_entries t.classes.entries) t.aggregations.items t.records.items (from_entries t.grouping.numbers.entries) t.grouping.members.first.items t.grouping.members.next.items t.grouping.members.previous.items t.grouping.members.class.items };
 }
 
 impl Tree {
@@ -74,6 +81,8 @@ impl Tree {
             outlooks: Vec::new(alloc),
             tallies: Vec::new(alloc),
             homes: Homes::new(alloc),
+            children: Homes::new(alloc),
+            grouping: Grouping::new(alloc),
         }
     }
 

@@ -1,4 +1,4 @@
-use Rattle.std.proofs.Common.{List, ap, sym, subst}
+use Rattle.std.proofs.Common.{◌≤◌, List, length, ap, sym, subst, arith}
 use Rattle.std.specs.FinMap.{FinMap, from_entries}
 use Rattle.office_tree.specs.Homes.{HasLinks}
 use Rattle.office_tree.specs.Indexes.{Indexes, aggregation_refs, record_refs}
@@ -9,6 +9,8 @@ use Rattle.office_tree.specs.Tree.{TreeState, code_cmp}
 use Rattle.office_tree.specs.declared.schedule.Schedule.{Schedule}
 use Rattle.office_tree.specs.declared.tally.Tally.{Tally}
 use Rattle.office_tree.proofs.Kept.{last_additions}
+use Rattle.office_tree.proofs.Linked.{parent_low}
+use Rattle.office_tree.proofs.Places.{numbered_within}
 use Rattle.office_tree.proofs.founding.kept_of.Goals as goal
 use Rattle.office_tree.proofs.founding.kept_of.Goals.{After-deref}
 
@@ -37,13 +39,19 @@ outlooks_of-requires-clause-last c =
     subst (λ (tallies : List Tally). AreLastAdditions tallies c.args.rows.now.aggregations c.args.rows.now.records) (sym c.deref.ensures.value)
     (last_additions c.args.rows.now c.in_ok-tallies.tallies.items (tallied (goal.at.outlooks_of-requires-clause-last c).After-deref))
 
-pub returns : goal.returns
-returns c = record {
+pub children_of-requires-clause-within : goal.children_of-requires-clause-within
+children_of-requires-clause-within c = λ a it there.
+    let xs = c.rows.inside.aggregations.now in
+    let sound = subst IsSound (sym c.rows.view_is) c.requires in
+    parent_low xs a (length xs) it sound.forest there (omega (arith, (numbered_within xs a it there).1))
+
+pub returns-clause-stored : goal.returns-clause-stored
+returns-clause-stored c = record {
   sound = c.requires;
   aggregations = subst (λ its. Indexes (from_entries {R = code_cmp} c.in_ok-by_aggregation_ref.by_aggregation_ref.entries) (aggregation_refs its)) (ap (λ t. t.aggregations) c.rows.view_is) c.in_ok-by_aggregation_ref.ensures;
   records = subst (λ its. Indexes (from_entries {R = code_cmp} c.in_ok-by_record_ref.by_record_ref.entries) (record_refs its)) (ap (λ t. t.records) c.rows.view_is) c.in_ok-by_record_ref.ensures;
-  plans = planned (goal.at.returns c).After-deref;
+  plans = planned (goal.at.returns-clause-stored c).After-deref;
   outlooks = c.in_ok-outlooks.ensures;
-  tallies = tallied (goal.at.returns c).After-deref;
+  tallies = tallied (goal.at.returns-clause-stored c).After-deref;
   homes = subst (λ (t : TreeState). HasLinks t c.in_ok-homes.homes.last.items c.in_ok-homes.homes.before.items) c.rows.view_is c.in_ok-homes.ensures;
 }

@@ -7,12 +7,12 @@ use Rattle.office_tree.proofs.Kept.{last_additions}
 use Rattle.office_tree.proofs.tree.Tree.start_of.Goals as goal
 
 pub start_in-requires-clause-home : goal.start_in-requires-clause-home
-start_in-requires-clause-home c = rw (c.deref.ensures.value, c.deref-3.ensures.value) (c.self.invariant.sound.names.homes c.args.record_no)
+start_in-requires-clause-home c = rw (c.deref.ensures.value, c.deref-3.ensures.value) (c.self.invariant.0.sound.names.homes c.args.record_no)
 
 pub start_in-requires-clause-last : goal.start_in-requires-clause-last
 start_in-requires-clause-last c =
     rw (c.deref.ensures.value, c.deref-2.ensures.value, c.deref-3.ensures.value)
-    (last_additions (the_view c.self.inside) c.self.inside.tallies.items c.self.invariant.tallies)
+    (last_additions (the_view c.self.inside) c.self.inside.tallies.items c.self.invariant.0.tallies)
 
 pub returns : goal.returns
 returns c =
