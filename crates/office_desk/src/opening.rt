@@ -13,24 +13,12 @@ ghost use Rattle.office_desk.specs.Leaving.{StandsAt};
 ghost use Rattle.office_desk.specs.Opening.{StandFor, StandForNone};
 
 use crate::Desk;
-use office_machine::{Builder, Machine, Rebuild};
+use office_machine::{Builder, Machine};
 use office_rules::laws::soundness::law_of_soundness;
 use office_store::laws::{law_of_found_rows, law_of_read_rows};
-use office_store::{Fault, Store};
+use office_store::{Fault, Store, of_rebuild};
 use sqlite::{Alter, Connection};
 use std::alloc::Global;
-
-/// The fault of tables of which nothing is built.
-fn of_rebuild(error: Rebuild) -> Fault
-    ensures memory { error ≡ Rebuild.Memory → result ≡ Fault.Memory }
-    ensures damaged { error ≡ Rebuild.Damaged → result ≡ Fault.Damaged }
-    ensures only { result ≡ Fault.Damaged → error ≡ Rebuild.Damaged }
-{
-    match error {
-        Rebuild::Memory => Fault::Memory,
-        Rebuild::Damaged => Fault::Damaged,
-    }
-}
 
 /// An office in which nothing is is sound.
 fn law_of_the_first_state()

@@ -1,6 +1,6 @@
 -- The rows of the eleven tables as they come from a file, and when they stand for a state. Source: own.
 use Rattle.std.specs.Prelude.{◌≡◌, ◌≢◌, ◌∷◌, ◌++◌, [], ℕ, ℤ, List, map}
-use Rattle.std.specs.List.{list_any}
+use Rattle.std.specs.List.{fold, list_any}
 use Rattle.std.specs.String.{string_bytes}
 use Rattle.office_tree.specs.declared.aggregation.Aggregation.{Aggregation}
 use Rattle.office_tree.specs.declared.class.Class.{Class}
@@ -52,8 +52,7 @@ with_row t (row.Certificate run text) = record t { certificates = t.certificates
 
 -- rows, one after another
 abbrev pub with_rows : TableLists → List Row → TableLists
-with_rows t [] = t
-with_rows t (r ∷ rs) = with_rows (with_row t r) rs
+with_rows t rows = fold with_row t rows
 
 -- the rows of tables that are in memory whole
 abbrev pub lists_of : Tables → TableLists

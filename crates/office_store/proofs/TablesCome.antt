@@ -17,7 +17,7 @@ use Rattle.office_tree.specs.declared.schedule.Schedule.{Schedule}
 use Rattle.office_holds.specs.declared.row.HoldRow.{HoldRow}
 use Rattle.office_holds.specs.declared.target.Target.{Target}
 use Rattle.office_proof.specs.declared.entry.Entry.{Entry}
-use Rattle.office_rules.specs.Tables.{TableLists, with_row}
+use Rattle.office_rules.specs.Tables.{TableLists, with_row, with_rows}
 use Rattle.office_rules.specs.declared.rows.RecordRow.{RecordRow}
 use Rattle.office_rules.specs.declared.run.Run.{Run}
 use Rattle.office_rules.specs.declared.table_row.Row.{Row as TableRow}
@@ -26,7 +26,7 @@ use Rattle.office_sql.specs.declared.reading.OfficeTable.{OfficeTable}
 use Rattle.office_sql.specs.declared.reading.OfficeTable.TheVariants as table
 use Rattle.office_saving.specs.Encoded.{entry_shown}
 use Rattle.office_store.specs.Stored.{aggregation_handed, aggregation_pair, certificate_handed, certificate_pair, class_handed, class_pair, entry_handed, hold_handed, hold_pair, number_handed, number_row, record_handed, record_pair, run_handed, run_pair, schedule_handed, schedule_pair, target_handed, target_pair, text_row}
-use Rattle.office_store.specs.Taken.{HaveCome, HaveRowsCome, with_rows}
+use Rattle.office_store.specs.Taken.{HaveCome, HaveRowsCome}
 use Rattle.office_store.proofs.Fronts.{shows_none}
 
 -- what is handed on of a list is put at the end of its table

@@ -16,7 +16,7 @@ use Rattle.sqlite.specs.State.{CommitsShowing, HasCleanDisk, IsUnchanged, Surviv
 use Rattle.sqlite.specs.Listing.{understood}
 use Rattle.sqlite.proofs.Callers.{IsPlain, begun_plain, unchanged_then}
 use Rattle.sqlite.proofs.StateLemmas.{unchanged}
-use Rattle.office_rules.specs.Tables.{TableLists, with_row}
+use Rattle.office_rules.specs.Tables.{TableLists, with_row, with_rows}
 use Rattle.office_rules.specs.declared.table_row.Row.{Row as TableRow}
 use Rattle.office_sql.specs.Office.{IsAtRest, IsOffice}
 use Rattle.office_sql.specs.Reads.{IsByKey, bag_of, key_of, text_of}
@@ -24,7 +24,7 @@ use Rattle.office_sql.specs.declared.reading.OfficeTable.{OfficeTable}
 use Rattle.office_sql.proofs.Inside.{quiet_same, quiet_then}
 use Rattle.office_sql.proofs.ReadLemmas.{clean_before, query_quiet}
 use Rattle.office_sql.proofs.RowByRow.{plain_text, table_begun, table_shown}
-use Rattle.office_store.specs.Taken.{IsFrontOfNone, StartsAt, TakesRows, with_rows}
+use Rattle.office_store.specs.Taken.{IsFrontOfNone, StartsAt, TakesRows}
 use Rattle.office_store.specs.declared.fault.Fault.{Fault}
 use Rattle.office_store.specs.declared.fault.Fault.TheVariants as fault
 

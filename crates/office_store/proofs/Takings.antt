@@ -5,14 +5,14 @@ use Rattle.sqlite_value.specs.Order.{Row}
 use Rattle.sqlite_trees.specs.Tree.{Trees}
 use Rattle.sqlite.specs.Effect.{Database}
 use Rattle.sqlite.specs.State.{State, HasCleanDisk}
-use Rattle.office_rules.specs.Tables.{TableLists}
+use Rattle.office_rules.specs.Tables.{TableLists, with_rows}
 use Rattle.office_rules.specs.declared.table_row.Row.{Row as TableRow}
 use Rattle.office_sql.specs.Office.{IsAtRest}
 use Rattle.office_sql.specs.Reads.{IsByKey, bag_of, key_of}
 use Rattle.office_sql.specs.declared.reading.OfficeTable.{OfficeTable}
 use Rattle.office_store.specs.Adopted.{HoldNoOffice}
 use Rattle.office_store.specs.Stored.{AllReadable}
-use Rattle.office_store.specs.Taken.{HaveCome, IsFrontOfNone, TakesIn, TakesRows, with_rows}
+use Rattle.office_store.specs.Taken.{HaveCome, IsFrontOfNone, TakesIn, TakesRows}
 use Rattle.office_store.specs.declared.fault.Fault.{Fault}
 use Rattle.office_store.proofs.Fronts.{none_held}
 use Rattle.office_store.proofs.ReadableRows.{rows_readable}

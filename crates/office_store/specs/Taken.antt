@@ -1,13 +1,12 @@
 -- How the rows of tables are taken in one after the other, by what takes them in. Source: own.
 use Rattle.std.specs.Prelude.{◌≡◌, ◌≢◌, ◌⊎◌, ◌++◌, All, ℕ, Bool, true, false, List, [], map, nat_lt, IsTrue, IsUtf8, Result, IfErr, OnOk}
-use Rattle.std.specs.List.{fold}
 use Rattle.sqlite_value.specs.Order.{Row}
 use Rattle.sqlite_trees.specs.Tree.{Trees}
 use Rattle.sqlite_trees.specs.declared.store.Store.{Ghosts}
 use Rattle.sqlite.specs.Given.{HasGiven}
 use Rattle.sqlite.specs.Held.{Held, state}
 use Rattle.sqlite.specs.State.{State, HasCleanDisk}
-use Rattle.office_rules.specs.Tables.{Begins, StandForNone, TableLists, no_rows, with_row}
+use Rattle.office_rules.specs.Tables.{Begins, StandForNone, TableLists, no_rows, with_rows}
 use Rattle.office_rules.specs.declared.table_row.Row.{Row as TableRow}
 use Rattle.office_sql.specs.Office.{IsAtRest}
 use Rattle.office_sql.specs.Reads.{IsByKey, bag_of, key_of, text_of}
@@ -19,10 +18,6 @@ use Rattle.office_store.specs.Adopted.{HoldNoOffice, IsOfficeRead, IsOtherVersio
 use Rattle.office_store.specs.Stored.{aggregation_pair, class_pair, hold_pair, number_row, record_pair, run_pair, schedule_pair, target_pair, text_row}
 use Rattle.office_store.specs.declared.fault.Fault.{Fault}
 use Rattle.office_store.specs.declared.fault.Fault.TheVariants as fault
-
--- these rows, one after another
-abbrev pub with_rows : TableLists → List TableRow → TableLists
-with_rows t rows = fold with_row t rows
 
 -- the rows of a table have come whole, or the first of them, or none
 abbrev pub HaveRowsCome : Bool → Bool → OfficeTable → Trees → List Row → Type 0

@@ -8,9 +8,9 @@ ghost use Rattle.office_sql.specs.declared.reading.OfficeTable.{OfficeTable};
 ghost use Rattle.office_store.specs.Taken.{IsFrontOfNone, StartsAt, TakesRows};
 
 use crate::Fault;
+use crate::fault::of_rebuild;
 use crate::stored::Stored;
 use crate::tables::{of_database, of_value};
-use office_rows::Rebuild;
 use office_rules::{Intake, Row as TableRow};
 use office_sql::OfficeTable;
 use sqlite::{Alter, Connection, Row, Rows};
@@ -73,17 +73,4 @@ pub(crate) fn give<I: Intake>(row: TableRow, intake: &mut I) -> Result<(), Fault
     ensures faults { IfErr result (λ fault. (fault ≡ Fault.Memory) ⊎ (fault ≡ Fault.Damaged)) }
 {
     intake.row(row).map_err(of_rebuild)
-}
-
-// The fault of what takes no more rows in.
-fn of_rebuild(error: Rebuild) -> Fault
-    ensures memory { error ≡ Rebuild.Memory → result ≡ Fault.Memory }
-    ensures damaged { error ≡ Rebuild.Damaged → result ≡ Fault.Damaged }
-    ensures only { result ≡ Fault.Damaged → error ≡ Rebuild.Damaged }
-    ensures faults { (result ≡ Fault.Memory) ⊎ (result ≡ Fault.Damaged) }
-{
-    match error {
-        Rebuild::Memory => Fault::Memory,
-        Rebuild::Damaged => Fault::Damaged,
-    }
 }

@@ -2,6 +2,7 @@
 use crate::acts::{answered, is_act};
 use crate::disks::{Image, Stop};
 use crate::failures::failure;
+use crate::intakes::taken_over;
 use crate::program::tell_program;
 use crate::readings::{fault_text, told};
 use crate::rows::{Way, tell_rows};
@@ -32,6 +33,8 @@ pub(crate) enum Errand<'a> {
     Counts,
     /// The rows of the tables are told.
     Tables,
+    /// The office is taken over with memory for so many rows.
+    TakenOver(usize),
 }
 
 /// What is told of acts and readings, a line for each.
@@ -59,7 +62,8 @@ fn done_at<S: Alter>(
         Errand::Rows(way, rows) => tell_rows(alloc, desk, way, rows)?,
         Errand::Asks(asks) => return told_of(alloc, desk, asks),
         Errand::Meeting(rt, listener, meeting) => serve(rt, listener, desk, meeting)?,
-        Errand::Program(_) | Errand::Statements(_) | Errand::Counts | Errand::Tables => {}
+        Errand::Program(_) | Errand::Statements(_) => {}
+        Errand::Counts | Errand::Tables | Errand::TakenOver(_) => {}
     }
     Ok(String::new(alloc))
 }
@@ -93,6 +97,7 @@ fn done_over<S: Alter + Drop>(
         Errand::Statements(statements) => change(alloc, conn, statements),
         Errand::Counts => counts_text(alloc, conn),
         Errand::Tables => tables_text(alloc, conn),
+        Errand::TakenOver(rows) => taken_over(alloc, conn, rows),
         _ => done_at_desk(alloc, conn, errand),
     }
 }

@@ -14,6 +14,7 @@
 //! | `## in the tables` | statements of SQL that change the tables |
 //! | `## tried on the tables` | `opened after` or `fault 33 after` statements, each on the office as it is |
 //! | `## counts of the tables` | how many rows the ten tables have |
+//! | `## taken over by memory` | `with 16 rows`: with memory for fewer the office is not taken over, and its tables stay |
 //! | `## closed` | none: the database is closed, and its log goes back into its file |
 //! | `## asked while a disk stops` | acts with their answers, or what is read, and how often a disk stops it at least |
 //! | `## resumed while a disk stops` | `by 11 steps = closed 1, at least 25`; `steps again` where each resumption is stopped once more |
@@ -63,6 +64,8 @@ mod filing_stories;
 mod hold_stories;
 #[cfg(test)]
 mod hostile_stories;
+#[cfg(test)]
+mod intakes;
 #[cfg(test)]
 mod limit_stories;
 #[cfg(test)]

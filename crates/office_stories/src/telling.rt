@@ -2,6 +2,7 @@
 use crate::disks::Image;
 use crate::errands::{Errand, close, do_all};
 use crate::failures::failure;
+use crate::intakes::tell_taken_over;
 use crate::office::{BASE, BUSY};
 use crate::repeating::{FOR_EACH, copies, number};
 use crate::rows::Way;
@@ -17,6 +18,7 @@ fn tell_apart(alloc: Global, image: &mut Image, place: &str, row: &str) -> Resul
         "in the tables" => do_all(alloc, image, Errand::Statements(row)),
         "tried on the tables" => tell_opening(alloc, image, row),
         "counts of the tables" => tell_counts(alloc, image, row),
+        "taken over by memory" => tell_taken_over(alloc, image, row),
         "asked while a disk stops" => tell_asked(alloc, image, row),
         "resumed while a disk stops" => tell_resumed(alloc, image, row),
         _ => Err(failure("no such place", place)),

@@ -58,23 +58,32 @@ heirs_last IsRight records xs from child old new many done is = record {
   there = is.there;
   done = λ r it head e there. elim (done r it head e there) [
     | inl right ↦ inl right
-    | inr kept ↦ inr ((apart_from head.aggregation from kept.0, λ c above heir.
-        let home = parent_home xs c from heir.parent in
-        let within = numbered_within (parents_of xs) c from home in
-        absurd (is.last c above (omega (arith, within.1)) home)), kept.1)
+    | inr kept ↦ inr (
+      (
+        apart_from head.aggregation from kept.0,
+        λ c above heir.
+            let home = parent_home xs c from heir.parent in
+            let within = numbered_within (parents_of xs) c from home in
+            absurd (is.last c above (omega (arith, within.1)) home),
+      ),
+      kept.1,
+    )
   ];
 }
 
 -- one child is passed
 left_on : (xs : List Aggregation) (from child next home : ℕ) → IsLastBelow (parents_of xs) from child next → IsLeft xs from child home → (IsHeirChild xs from child → inherits xs child home ≡ false) → IsLeft xs from next home
-left_on xs from child next home is left here = (left.0, λ c above heir. elim (cases_lt child c) [
-  | inl over ↦ left.1 c over heir
-  | inr up ↦ elim (cases_lt c child) [
-    | inl between ↦ absurd (is.last c above between (parent_home xs c from heir.parent))
-    | inr down ↦ let same : child ≡ c = omega (arith, up, down) in
-        subst (λ (k : ℕ). inherits xs k home ≡ false) same (here (subst (λ (k : ℕ). IsHeirChild xs from k) (sym same) heir))
-  ]
-])
+left_on xs from child next home is left here = (
+  left.0,
+  λ c above heir. elim (cases_lt child c) [
+    | inl over ↦ left.1 c over heir
+    | inr up ↦ elim (cases_lt c child) [
+      | inl between ↦ absurd (is.last c above between (parent_home xs c from heir.parent))
+      | inr down ↦ let same : child ≡ c = omega (arith, up, down) in
+          subst (λ (k : ℕ). inherits xs k home ≡ false) same (here (subst (λ (k : ℕ). IsHeirChild xs from k) (sym same) heir))
+    ]
+  ],
+)
 
 both : (b : Bool) → b ≡ true → b ≡ false → ⊥
 both true e f = absurd cc

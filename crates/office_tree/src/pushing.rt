@@ -8,8 +8,8 @@ ghost use Rattle.office_tree.specs.Tree.{code_cmp};
 ghost use Rattle.office_tree.specs.declared.tally.Tally.{Tally};
 
 use crate::homes::Homes;
-use crate::members::Members;
 use crate::indexing::put_ref;
+use crate::members::Members;
 use crate::outlook::Outlook;
 use crate::renewing::{renew, renew_home};
 use crate::rows::Rows;

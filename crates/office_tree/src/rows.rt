@@ -16,7 +16,9 @@ use crate::outlook::Outlook;
 use crate::plans::Plans;
 use crate::scheduling::{due_by, start_in};
 use crate::tally::Tally;
-use crate::{Action, AggNo, Aggregation, Class, Code, Confirmation, Record, RecordNo, Schedule, Status};
+use crate::{
+    Action, AggNo, Aggregation, Class, Code, Confirmation, Record, RecordNo, Schedule, Status,
+};
 use office_days::DueDay;
 use std::collections::BTreeMap;
 use std::marker::Model;

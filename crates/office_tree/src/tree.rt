@@ -60,8 +60,8 @@ impl Model for Tree {
       records = t.records.items;
       statuses = t.statuses.items;
     }) (from_entries t.by_aggregation_ref.entries) (from_entries t.by_record_ref.entries) t.plans t.outlooks.items t.tallies.items t.homes.last.items t.homes.before.items
-    × HasChildren t.aggregations.items t.children.last.items t.children.before.items
-    × AreGrouped (from_entries t.classes.entries) t.aggregations.items t.records.items (from_entries t.grouping.numbers.entries) t.grouping.members.first.items t.grouping.members.next.items t.grouping.members.previous.items t.grouping.members.class.items };
+        × HasChildren t.aggregations.items t.children.last.items t.children.before.items
+        × AreGrouped (from_entries t.classes.entries) t.aggregations.items t.records.items (from_entries t.grouping.numbers.entries) t.grouping.members.first.items t.grouping.members.next.items t.grouping.members.previous.items t.grouping.members.class.items };
 }
 
 impl Tree {

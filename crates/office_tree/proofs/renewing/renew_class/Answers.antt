@@ -35,11 +35,11 @@ loop-at-preserved c =
     record {
       count = c.renew.ensures.count ∙ c.loop-at.invariant.count;
       walked =
-        walk_goes m.first.items m.next.items m.previous.items m.class.items c.requires.members c.args.class at c.next-at.result
-        (λ r. (it : Outlook) → numbered c.loop-at.outlooks.items r ≡ Some it → IsOutlook c.args.plans.now c.args.rows.now r it)
-        (λ r. (it : Outlook) → numbered c.renew.new.outlooks.items r ≡ Some it → IsOutlook c.args.plans.now c.args.rows.now r it)
-        some c.next-at.ensures c.loop-at.invariant.walked c.renew.ensures.here
-        (λ r other done it e. done it (sym (c.renew.ensures.others r other) ∙ e));
+          walk_goes m.first.items m.next.items m.previous.items m.class.items c.requires.members c.args.class at c.next-at.result
+          (λ r. (it : Outlook) → numbered c.loop-at.outlooks.items r ≡ Some it → IsOutlook c.args.plans.now c.args.rows.now r it)
+          (λ r. (it : Outlook) → numbered c.renew.new.outlooks.items r ≡ Some it → IsOutlook c.args.plans.now c.args.rows.now r it)
+          some c.next-at.ensures c.loop-at.invariant.walked c.renew.ensures.here
+          (λ r other done it e. done it (sym (c.renew.ensures.others r other) ∙ e));
       others = λ r apart. c.renew.ensures.others r (λ same. apart (ap (numbered m.class.items) same ∙ its)) ∙ c.loop-at.invariant.others r apart;
     }
 

@@ -94,6 +94,9 @@ invariant_of-self-2 c =
     let indexed =
     subst (λ (index : RefMap). IsStored (put_aggregation tree (length tree.aggregations + 1) c.args.it) index by_record_ref c.self.inside.plans c.self.inside.outlooks.items counts c.add_home.new.self.last.items c.add_home.new.self.before.items) (sym c.in_ok-make_aggregation_room.ensures.indexed) kept in
     let counted : counts ≡ c.push_row-2.new.rows.items = ap (λ (its : List Tally). its ++ no_tally ∷ []) (sym c.make_aggregation_room.ensures.tallies) ∙ sym c.push_row-2.ensures in
-    let index : RefMap = from_entries {R = code_cmp} c.make_aggregation_room.new.index.entries in
-    (subst (λ (its : List Tally). IsStored (record tree { aggregations = c.push_row.new.rows.items }) index by_record_ref c.self.inside.plans c.self.inside.outlooks.items its c.add_home.new.self.last.items c.add_home.new.self.before.items) counted
-    (subst (λ (t : TreeState). IsStored t index by_record_ref c.self.inside.plans c.self.inside.outlooks.items counts c.add_home.new.self.last.items c.add_home.new.self.before.items) (written c) indexed), children c, grouped c)
+    let index : RefMap = from_entries {R = code_cmp} c.make_aggregation_room.new.index.entries in (
+      subst (λ (its : List Tally). IsStored (record tree { aggregations = c.push_row.new.rows.items }) index by_record_ref c.self.inside.plans c.self.inside.outlooks.items its c.add_home.new.self.last.items c.add_home.new.self.before.items) counted
+          (subst (λ (t : TreeState). IsStored t index by_record_ref c.self.inside.plans c.self.inside.outlooks.items counts c.add_home.new.self.last.items c.add_home.new.self.before.items) (written c) indexed),
+      children c,
+      grouped c,
+    )
