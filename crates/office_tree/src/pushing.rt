@@ -1,10 +1,13 @@
 //! New classes, aggregations and records.
-ghost use Rattle.std.specs.Prelude.{◌≡◌, ◌+◌, ◌<◌, ◌≤◌, ◌++◌, ◌∷◌, ◌⊎◌, [], OnOk, OnErr, Some, None, false, length, vec_len, vec_capacity};
+ghost use Rattle.std.specs.Prelude.{◌≡◌, ◌+◌, ◌<◌, ◌≤◌, ◌++◌, ◌∷◌, ◌⊎◌, ℕ, List, [], OnOk, OnErr, Some, None, false, length, vec_len, vec_capacity};
 ghost use Rattle.std.specs.FinMap.{contains_key, from_entries, insert};
+ghost use Rattle.office_tree.specs.Homes.{AreLinked};
 ghost use Rattle.office_tree.specs.Lists.{later, numbered};
+ghost use Rattle.office_tree.specs.Members.{AreMembers};
 ghost use Rattle.office_tree.specs.Rows.{put_aggregation, put_class, put_record};
 ghost use Rattle.office_tree.specs.Sound.{IsSound};
 ghost use Rattle.office_tree.specs.Tree.{code_cmp};
+ghost use Rattle.office_tree.specs.declared.outlook.Outlook.{Outlook};
 ghost use Rattle.office_tree.specs.declared.tally.Tally.{Tally};
 
 use crate::homes::Homes;
@@ -120,6 +123,43 @@ fn no_outlook() -> Outlook {
     }
 }
 
+/// Puts one more record in with its status, for which there is room: an outlook that is yet to be renewed, its place
+/// in its aggregation, and its place on the list of a class, which is none yet.
+fn push_rows(
+    records: &mut Vec<Record>,
+    statuses: &mut Vec<Status>,
+    outlooks: &mut Vec<Outlook>,
+    homes: &mut Homes,
+    members: &mut Members,
+    head: Record,
+    status: Status,
+)
+    requires head_room { vec_len records.old < vec_capacity records.old }
+    requires status_room { vec_len statuses.old < vec_capacity statuses.old }
+    requires outlook_room { vec_len outlooks.old < vec_capacity outlooks.old }
+    requires link_room { vec_len homes.old.before < vec_capacity homes.old.before }
+    requires next_room { vec_len members.old.next < vec_capacity members.old.next }
+    requires previous_room { vec_len members.old.previous < vec_capacity members.old.previous }
+    requires class_room { vec_len members.old.class < vec_capacity members.old.class }
+    requires few { length homes.old.before.items ≤ 200_000 }
+    requires low { 0 < head.aggregation }
+    requires high { head.aggregation ≤ length homes.old.last.items }
+    requires members { AreMembers members.old.first.items members.old.next.items members.old.previous.items members.old.class.items }
+    ensures heads { records.new.items ≡ records.old.items ++ head ∷ [] }
+    ensures statuses { statuses.new.items ≡ statuses.old.items ++ status ∷ [] }
+    ensures looks { (it : Outlook) × (outlooks.new.items ≡ outlooks.old.items ++ it ∷ []) }
+    ensures linked { (homes_in : List ℕ) (count : ℕ) → AreLinked homes_in count homes.old.last.items homes.old.before.items → AreLinked (homes_in ++ head.aggregation ∷ []) count homes.new.last.items homes.new.before.items }
+    ensures members { AreMembers members.new.first.items members.new.next.items members.new.previous.items members.new.class.items }
+    ensures classes { length members.new.first.items ≡ length members.old.first.items }
+    ensures class { members.new.class.items ≡ members.old.class.items ++ 0 ∷ [] }
+{
+    homes.add_thing(head.aggregation);
+    members.add();
+    push_row(records, head);
+    push_row(statuses, status);
+    push_row(outlooks, no_outlook());
+}
+
 impl Tree {
     /// Puts a new class in under its code.
     pub(crate) fn push_class(&mut self, code: Code, class: Class) -> Result<(), Memory>
@@ -179,11 +219,15 @@ impl Tree {
         )?;
         let home = head.aggregation;
         let day = head.added;
-        push_row(&mut self.records, head);
-        push_row(&mut self.statuses, status);
-        push_row(&mut self.outlooks, no_outlook());
-        self.homes.add_thing(home);
-        self.grouping.members.add();
+        push_rows(
+            &mut self.records,
+            &mut self.statuses,
+            &mut self.outlooks,
+            &mut self.homes,
+            &mut self.grouping.members,
+            head,
+            status,
+        );
         let record_no = self.records.len() as RecordNo;
         let is_later = is_later(&self.tallies, home, day);
         let is_live = status.is_live();
