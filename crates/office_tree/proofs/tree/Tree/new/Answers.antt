@@ -1,5 +1,3 @@
-use Rattle.std.proofs.Common.{List, ℕ, sym, subst}
-use Rattle.office_tree.specs.Grouping.{AreGrouped, NumberMap}
 use Rattle.office_tree.proofs.GroupedRows.{grouped_empty}
 use Rattle.office_tree.proofs.Linked.{linked_none}
 use Rattle.office_tree.proofs.ReadKept.{stored_empty}
