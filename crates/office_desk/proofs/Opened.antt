@@ -1,12 +1,5 @@
 -- What opening finds: the state for which the tables stand, with the contents that they have.
-use Rattle.std.proofs.Common.{◌≡◌, ◌∙◌, ℕ, Bool, true, false, codes, is_some, List, Option, Some, None, nat_cmp, refl, sym, ap, subst}
-use Rattle.std.specs.Prelude.{IsUtf8, String}
-use Rattle.std.specs.FinMap.{get-entries}
-use Rattle.std.specs.FinMap.Entries.{find}
-use Rattle.std.specs.Global.{Global}
-use Rattle.std.specs.Option.{option_map}
-use Rattle.std.specs.String.{string_bytes}
-use Rattle.std.proofs.lemmas.Str.{IsUtf8-string_bytes}
+use Rattle.std.proofs.Common.{◌≡◌, Bool, true, false, codes, is_some, refl, subst}
 use Rattle.sqlite.specs.State as sqlite
 use Rattle.sqlite_schema.specs.Names.{same_name, table_named}
 use Rattle.sqlite_trees.specs.Tree.{Trees}

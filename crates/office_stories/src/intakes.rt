@@ -10,6 +10,7 @@ use std::alloc::Global;
 use std::test::Fail;
 
 /// What takes so many rows in; there is no memory for the next.
+#[derive(Drop)]
 struct Refusing {
     builder: Builder,
     left: usize,

@@ -9,7 +9,7 @@
 //! Each act on the tree comes as a pair: `check_..` says why it is refused, with the least number,
 //! or `None`; `apply_..` asks that its check gives `None` and makes the change, or answers
 //! [`Memory`] and leaves the tree as it was. Readings take no memory. Rows that were stored come
-//! back by `put_..`, which asks that the tree stays sound.
+//! back by `put_..`, which asks that the tree stays sound, and that what never changes in a row stays.
 #![tactic(auto)]
 
 mod action;
