@@ -33,8 +33,8 @@ with 22 rows
 # An office of 20,000 records is opened as one of three
 ## at the desk of the base office
 ## in the tables
-WITH RECURSIVE n(i) AS (SELECT 4 UNION ALL SELECT i + 1 FROM n WHERE i < 20000) INSERT INTO records(num, ref, title, originated, added, aggregation, size, digest, status) SELECT i, 'r' || i, 'x', 19724, 19724, 1, 3, 'ba7816bf8f01cfea414140de5dae2223b00361a396177a9cb410ff61f20015ad', 'here' FROM n
-WITH RECURSIVE n(i) AS (SELECT 4 UNION ALL SELECT i + 1 FROM n WHERE i < 20000) INSERT INTO contents SELECT i, x'616263' FROM n
+INSERT INTO records(num, ref, title, originated, added, aggregation, size, digest, status) WITH RECURSIVE n(i) AS (SELECT 4 UNION ALL SELECT i + 1 FROM n WHERE i < 20000) SELECT i, 'r' || i, 'x', 19724, 19724, 1, 3, 'ba7816bf8f01cfea414140de5dae2223b00361a396177a9cb410ff61f20015ad', 'here' FROM n
+INSERT INTO contents WITH RECURSIVE n(i) AS (SELECT 4 UNION ALL SELECT i + 1 FROM n WHERE i < 20000) SELECT i, x'616263' FROM n
 ## counts of the tables
 [1, 2, 2, 20000, 20000, 0, 0, 0, 0, 0]
 ## at the desk
