@@ -8,3 +8,5 @@ pub mod OneFates
 pub mod Opened
 pub mod RunSteps
 pub mod StepFates
+pub mod StepsSoFar
+pub mod Ended

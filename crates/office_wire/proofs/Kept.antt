@@ -12,6 +12,7 @@ use Rattle.office_rules.specs.declared.answer.Answer.{Answer}
 use Rattle.office_store.specs.Stands.{HoldsRows}
 use Rattle.office_store.specs.declared.fault.Fault.{Fault}
 use Rattle.office_store.specs.declared.fault.Fault.TheVariants as fault
+use Rattle.office_desk.specs.Calling.{AreStopped, EndActs}
 use Rattle.office_desk.specs.Desk.{DeskState}
 use Rattle.office_desk.specs.Leaving.{IsFrontAnswered, StandsAt, StopsAt, StopsLeaving}
 
@@ -36,16 +37,13 @@ stands_stopped g old new t fault.Damaged n front given it stops leaves stands = 
 stands_stopped g old new t fault.Version n front given it stops leaves stands = absurd stops
 
 -- whether it was done or not
-pub stands_kept : {S : Type 0} (g : Ghosts S) (old new : DeskState S) (t : State) (done : Result (Unit {0}) Fault) (front given : List Answer)
-    → HasCleanDisk (state g new.held) → StandsAt g t old → OnOk done (StandsAt g (after t none) new)
-    → IfErr done (λ f. (n : ℕ) × IsFrontAnswered t none front given f n × StopsAt (after t (take n none)).office f new
-    × (HasCleanDisk (state g new.held) → StandsAt g t old → StopsLeaving (after t (take n none)) (after t (take (n + 1) none)) f (state g new.held)))
-    → StandsAt g t new
-stands_kept g old new t (Ok it) front given clean stands ok err = ok
-stands_kept g old new t (Err f) front given clean stands ok err = stands_stopped g old new t f err.0 front given err.1 err.2 (err.3 clean stands) stands
+pub stands_kept : {S : Type 0} (g : Ghosts S) (old new : DeskState S) (t : State) (done : Result (Unit {0}) Fault) (front given : List Answer) (At : Type 0)
+    → EndActs g t none front given done new At → At → StandsAt g t old → StandsAt g t new
+stands_kept g old new t (Ok it) front given At end at stands = end.stands at
+stands_kept g old new t (Err f) front given At end at stands = stands_stopped g old new t f end.count front given end.front end.stops (end.left at) stands
 
 -- where it answers 32, it was given up
-pub told_gone : {S : Type 0} (t : State) (new : DeskState S) (front given : List Answer) (b : Bool)
-    → (b ≡ false → (n : ℕ) × IsFrontAnswered t none front given fault.Reopen n × StopsAt (after t (take n none)).office fault.Reopen new) → true ≡ b
-told_gone t new front given true err = refl
-told_gone t new front given false err = let it = err refl in absurd (omega (arith, it.1.one_more (λ e. cc)))
+pub told_gone : {S : Type 0} (g : Ghosts S) (t : State) (new : DeskState S) (front given : List Answer) (At : Type 0) (b : Bool)
+    → (b ≡ false → AreStopped g t none front given fault.Reopen new At) → true ≡ b
+told_gone g t new front given At true err = refl
+told_gone g t new front given At false err = let it = err refl in absurd (omega (arith, it.front.one_more (λ e. cc)))

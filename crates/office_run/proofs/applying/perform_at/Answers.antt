@@ -15,8 +15,8 @@ returns-in-Ok-clause-performs g c =
     let given = c.perform_all-done.new.answers.items in
     told_performs (HasCleanDisk (state g.S.Store desk.held)) (λ (t : State). StandsAt g.S.Store t old) c.args.acts.now (state g.S.Store desk.held) _ _ c.perform_all-done.result given _
     (rw c.as_slice-in-Ok.ensures.value at c.of_acts.ensures) (rw c.as_slice.ensures.value at c.in-Ok.ensures)
-    (λ t clean stands. done_at g.S.Store c.args.acts.now t desk c.perform_all-done.result _ given c.new-answers.ensures.items (it.answered t c.requires (sym stands.office)) (it.stands t clean stands) (it.fates t clean stands))
-    (λ t clean stands. stopped_at g.S.Store c.args.acts.now t old desk c.perform_all-done.result _ given c.new-answers.ensures.items (it.err t c.requires (sym stands.office)) clean stands (it.fates t clean stands))
+    (λ t clean stands. done_at g.S.Store c.args.acts.now t desk c.perform_all-done.result _ given _ c.new-answers.ensures.items (it.called.did t c.requires (sym stands.office)) (clean, stands))
+    (λ t clean stands. stopped_at g.S.Store c.args.acts.now t desk c.perform_all-done.result _ given _ c.new-answers.ensures.items (it.called.did t c.requires (sym stands.office)) (clean, stands))
 
 pub returns-clause-performs : goal.returns-clause-performs
 returns-clause-performs g c =
@@ -25,5 +25,5 @@ returns-clause-performs g c =
     let it = c.perform_all-done.ensures in
     let given = c.perform_all-done.new.answers.items in
     untold_performs (HasCleanDisk (state g.S.Store desk.held)) (λ (t : State). StandsAt g.S.Store t old) c.args.acts.now (state g.S.Store desk.held) (g.W.Write.contents c.args.out.now) (g.W.Write.contents c.write_answers.new.out) c.perform_all-done.result given
-    (λ t clean stands. done_at g.S.Store c.args.acts.now t desk c.perform_all-done.result _ given c.new-answers.ensures.items (it.answered t c.requires (sym stands.office)) (it.stands t clean stands) (it.fates t clean stands))
-    (λ t clean stands. stopped_at g.S.Store c.args.acts.now t old desk c.perform_all-done.result _ given c.new-answers.ensures.items (it.err t c.requires (sym stands.office)) clean stands (it.fates t clean stands))
+    (λ t clean stands. done_at g.S.Store c.args.acts.now t desk c.perform_all-done.result _ given _ c.new-answers.ensures.items (it.called.did t c.requires (sym stands.office)) (clean, stands))
+    (λ t clean stands. stopped_at g.S.Store c.args.acts.now t desk c.perform_all-done.result _ given _ c.new-answers.ensures.items (it.called.did t c.requires (sym stands.office)) (clean, stands))

@@ -1,7 +1,8 @@
-use Rattle.std.proofs.Common.{sym}
+use Rattle.std.proofs.Common.{refl, sym, rules}
+use Rattle.std.specs.FinMap.{empty}
 use Rattle.sqlite.specs.Held.{state}
 use Rattle.sqlite.specs.State.{HasCleanDisk}
-use Rattle.office_rules.specs.State.{State}
+use Rattle.office_rules.specs.State.{State, with_contents}
 use Rattle.office_desk.specs.Leaving.{StandsAt}
 use Rattle.office_http.specs.Replies.{Response}
 use Rattle.office_wire.specs.Answering.{ArePerformed}
@@ -17,7 +18,7 @@ returns-clause-ok g c =
     let desk = c.perform_all.new.self in
     let it = c.in-Err.ensures in
     told_ok c.stopped_reply.result _ (λ (Told : Response → Type 0). (t : State) → HasCleanDisk (state g.S.Store desk.held) → StandsAt g.S.Store t old → ArePerformed Told g.S.Store t c.args.acts.now desk) c.stopped_reply.ensures
-    (λ Told told t clean stands. stopped g.S.Store c.args.acts.now t old desk c.in-Err.fault _ c.perform_all.new.answers.items _ c.new-answers.ensures.items c.as_slice-in-Err.ensures.value (it.err t stands.is_open (sym stands.office)) clean stands (it.fates t clean stands) Told told)
+    (λ Told told t clean stands. stopped g.S.Store c.args.acts.now t desk c.in-Err.fault _ c.perform_all.new.answers.items _ _ c.new-answers.ensures.items c.as_slice-in-Err.ensures.value (it.called.did t stands.is_open (sym stands.office)) (clean, stands) Told told)
 
 pub returns-clause-err : goal.returns-clause-err
 returns-clause-err g c =
@@ -25,7 +26,11 @@ returns-clause-err g c =
     let desk = c.perform_all.new.self in
     let it = c.in-Err.ensures in
     told_err c.stopped_reply.result _ (λ (Told : Response → Type 0). (t : State) → HasCleanDisk (state g.S.Store desk.held) → StandsAt g.S.Store t old → ArePerformed Told g.S.Store t c.args.acts.now desk)
-    (λ Told told t clean stands. stopped g.S.Store c.args.acts.now t old desk c.in-Err.fault _ c.perform_all.new.answers.items _ c.new-answers.ensures.items c.as_slice-in-Err.ensures.value (it.err t stands.is_open (sym stands.office)) clean stands (it.fates t clean stands) Told told)
+    (λ Told told t clean stands. stopped g.S.Store c.args.acts.now t desk c.in-Err.fault _ c.perform_all.new.answers.items _ _ c.new-answers.ensures.items c.as_slice-in-Err.ensures.value (it.called.did t stands.is_open (sym stands.office)) (clean, stands) Told told)
 
 pub returns-clause-told : goal.returns-clause-told
 returns-clause-told g c = λ is_open gone. stopped_unavailable response c.stopped_reply.result _ _ c.stopped_reply.ensures
+
+-- a desk that ended by an answer is open
+pub returns-in-Ok-clause-told : goal.returns-in-Ok-clause-told
+returns-in-Ok-clause-told g c = λ is_open. let still = (c.in-Ok.ensures.called.did (with_contents c.args.desk.now.office empty) is_open refl).ends.is_open in search rules

@@ -7,8 +7,8 @@ pub returns-in-Err-Reopen-clause-kept : goal.returns-in-Err-Reopen-clause-kept
 returns-in-Err-Reopen-clause-kept g c =
     let it = c.perform_all.ensures in
     record {
-      clean = it.clean;
-      stands = λ t clean stands. stands_kept g.S.Store c.args.desk.now c.perform_all.new.self t c.perform_all.result _ _ clean stands (it.stands t clean stands) (it.err t stands.is_open (sym stands.office));
+      clean = it.called.clean;
+      stands = λ t clean stands. stands_kept g.S.Store c.args.desk.now c.perform_all.new.self t c.perform_all.result _ _ _ (it.called.did t stands.is_open (sym stands.office)).ends (clean, stands) stands;
       gone = λ gone. (it.gone gone).2;
     }
 
@@ -16,13 +16,13 @@ pub returns-clause-kept : goal.returns-clause-kept
 returns-clause-kept g c =
     let it = c.perform_all.ensures in
     record {
-      clean = it.clean;
-      stands = λ t clean stands. stands_kept g.S.Store c.args.desk.now c.perform_all.new.self t c.perform_all.result _ _ clean stands (it.stands t clean stands) (it.err t stands.is_open (sym stands.office));
+      clean = it.called.clean;
+      stands = λ t clean stands. stands_kept g.S.Store c.args.desk.now c.perform_all.new.self t c.perform_all.result _ _ _ (it.called.did t stands.is_open (sym stands.office)).ends (clean, stands) stands;
       gone = λ gone. (it.gone gone).2;
     }
 
 pub returns-in-Err-Reopen-clause-told : goal.returns-in-Err-Reopen-clause-told
 returns-in-Err-Reopen-clause-told g c =
     let s : State = record empty_state { office = c.args.desk.now.office } in
-    told_gone s c.perform_all.new.self _ _ c.args.desk.now.is_given_up
-    (λ is_open. let it = rw c.in-Err-Reopen.field-0-is at (c.in-Err-Reopen.ensures.err s is_open refl) in (it.0, it.1, it.2))
+    told_gone g.S.Store s c.perform_all.new.self _ _ _ c.args.desk.now.is_given_up
+    (λ is_open. let it = rw c.in-Err-Reopen.field-0-is at (c.in-Err-Reopen.ensures.called.did s is_open refl).ends in it)

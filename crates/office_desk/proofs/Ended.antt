@@ -1,0 +1,86 @@
+-- What a crash leaves where acts and steps end.
+use Rattle.std.proofs.Common.{◌≡◌, ℕ, suc, ◌+◌, false, take, List, None, Some, Result, Ok, Err, arith, refl, sym, ap, subst, ◌∙◌, append-nil}
+use Rattle.sqlite.specs.Held.{state}
+use Rattle.sqlite_trees.specs.declared.store.Store.{Ghosts}
+use Rattle.office_rules.specs.Acts.{after}
+use Rattle.office_rules.specs.Runs.{IsMidway, after_steps, open_run, whole}
+use Rattle.office_rules.specs.State.{State}
+use Rattle.office_rules.specs.declared.act.Act.{Act}
+use Rattle.office_rules.specs.declared.answer.Answer.{Answer}
+use Rattle.office_store.specs.declared.fault.Fault.{Fault}
+use Rattle.office_store.specs.declared.fault.Fault.TheVariants as fault
+use Rattle.office_desk.specs.Calling.{EndActs, EndSteps, Performed, Resumed}
+use Rattle.office_desk.specs.Desk.{DeskState}
+use Rattle.office_desk.specs.Leaving.{StandsAt}
+use Rattle.office_desk.proofs.LeftFates.{AreFatesTold, fates_after, fates_at, fates_done}
+use Rattle.office_desk.proofs.LeftOffices.{offices_standing, offices_stopped}
+use Rattle.office_desk.proofs.RunSteps.{GoesOn, leaves_standing, midway_left, midway_resumed, midway_steps, none_resumed, steps_none}
+use Rattle.office_desk.proofs.StepFates.{fates_resumed}
+
+-- where no run is open any more it is the whole of the run
+abbrev pub Closes : Type 0
+Closes = (s t : State) (run : ℕ) → open_run s.office ≡ Some run → IsMidway s run t → open_run t.office ≡ None → t ≡ whole s run
+
+module _ (told : AreFatesTold) {S : Type 0} (g : Ghosts S) (s : State) (acts : List Act) (At : Type 0) where
+  -- no act was begun, for want of memory
+  pub none_begun : {T : Type 0} (given found : List Answer) (desk : DeskState S) → found ≡ given → desk.is_given_up ≡ false → s.office ≡ desk.office → (At → StandsAt g s desk)
+      → Performed {T = T} g s acts given found (Err fault.Memory) desk At
+  none_begun given found desk silent is_open same at = record {
+    ends = record {
+      count = 0;
+      front = record { within = omega arith; one_more = λ no. absurd (no refl); answered = ◌∙◌ {A = List Answer} silent (sym (append-nil given)) };
+      stops = (sym same, is_open);
+      left = λ a. (at a).rows;
+    };
+    offices = λ a. offices_standing g s desk (at a);
+    fates = λ a. fates_after told s acts (at a).sound 0 (state g desk.held) (omega arith) (at a).rows;
+    midway = λ begun run all is_run m a. leaves_standing g begun s run desk m (at a);
+  }
+
+  pub performed : {T : Type 0} → GoesOn → (result : Result T Fault) (given found : List Answer) (old new : DeskState S) → (At → StandsAt g s old) → EndActs g s acts given found result new At
+      → Performed g s acts given found result new At
+  performed on (Ok x) given found old new at it = record {
+    ends = it;
+    offices = λ a. offices_standing g (after s acts) new (it.stands a);
+    fates = λ a. fates_done told s acts (at a).sound (state g new.held) (it.stands a).rows;
+    midway = λ begun run all is_run m a. midway_left g (Ok x) begun s run acts new on all is_run m (it.stands a) tt;
+  }
+  performed {T} on (Err f) given found old new at it =
+      let r : Result T Fault = Err f in
+      record {
+        ends = it;
+        offices = λ a. offices_stopped (after s (take it.count acts)) (after s (take (it.count + 1) acts)) f (state g new.held) (it.left a);
+        fates = λ a. fates_at told s acts (at a).sound it.count f (state g new.held) it.front.within it.front.one_more (it.left a);
+        midway = λ begun run all is_run m a. midway_left g r begun s run acts new on all is_run m tt (it.count, it.left a);
+      }
+
+module _ (told : AreFatesTold) (on : GoesOn) (closes : Closes) {S : Type 0} (g : Ghosts S) (s : State) (At : Type 0) where
+  pub resumed : (result : Result Answer Fault) (old new : DeskState S) → s.office ≡ old.office → (At → StandsAt g s old) → EndSteps g s result old new At → Resumed g s result old new At
+  resumed (Ok answer) old new same at it =
+      let r : Result Answer Fault = Ok answer in
+      let leads : (begun : State) (run : ℕ) → open_run begun.office ≡ Some run → IsMidway begun run s → after_steps s it.count ≡ whole begun run =
+      λ begun run is m. closes begun (after_steps s it.count) run is (midway_steps on it.count begun s run is m) it.ended in
+      let stays : open_run s.office ≡ None → At → StandsAt g s new = λ none a. subst (λ (u : State). StandsAt g u new) (steps_none it.count s none) (it.stands a) in
+      record {
+        ends = record {
+          answered = it.answered;
+          is_open = it.is_open;
+          office = λ begun run is m. it.office ∙ ap (λ (u : State). u.office) (leads begun run is m);
+          whole = λ begun run is m a. subst (λ (u : State). StandsAt g u new) (leads begun run is m) (it.stands a);
+          same = λ none. it.office ∙ ap (λ (u : State). u.office) (steps_none it.count s (ap open_run same ∙ none)) ∙ same;
+          none = stays;
+        };
+        left = λ none a. none_resumed g r s new none (stays none a) tt;
+        midway = λ begun run is m a. midway_resumed g r begun s run new on is m (it.count, it.ended, it.stands a) tt;
+        offices = λ a. offices_standing g (after_steps s it.count) new (it.stands a);
+        fates = λ a. fates_resumed told g s new r old (at a) (it.count, it.ended, it.stands a) tt;
+      }
+  resumed (Err f) old new same at it =
+      let r : Result Answer Fault = Err f in
+      record {
+        ends = it;
+        left = λ none a. none_resumed g r s new none tt (it.count, it.left a);
+        midway = λ begun run is m a. midway_resumed g r begun s run new on is m tt (it.count, it.left a);
+        offices = λ a. offices_stopped (after_steps s it.count) (after_steps s (suc it.count)) f (state g new.held) (it.left a);
+        fates = λ a. fates_resumed told g s new r old (at a) tt (it.count, it.left a);
+      }

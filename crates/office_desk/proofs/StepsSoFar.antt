@@ -1,0 +1,89 @@
+-- Steps of the open run so far, and one more.
+use Rattle.std.proofs.Common.{◌≡◌, ◌≢◌, ℕ, suc, false, None, refl, sym, ap, subst, ◌∙◌}
+use Rattle.std.specs.FinMap.{empty}
+use Rattle.sqlite.specs.Held.{state}
+use Rattle.sqlite_trees.specs.declared.store.Store.{Ghosts}
+use Rattle.office_proof.specs.declared.outcome.Outcome.{Outcome}
+use Rattle.office_rules.specs.Acts.{step}
+use Rattle.office_rules.specs.Runs.{after_steps, open_run}
+use Rattle.office_rules.specs.State.{State, Office, with_contents}
+use Rattle.office_rules.specs.declared.act.Act.TheVariants as act
+use Rattle.office_rules.specs.declared.answer.Answer.{Answer}
+use Rattle.office_rules.specs.declared.answer.Answer.TheVariants.{Step}
+use Rattle.office_store.specs.declared.fault.Fault.{Fault}
+use Rattle.office_desk.specs.Calling.{AreStepsDone, AreStepsStopped, Called, IsDone, IsFaulted}
+use Rattle.office_desk.specs.Desk.{DeskState}
+use Rattle.office_desk.specs.Leaving.{StandsAt, StopsAt, StopsLeaving}
+use Rattle.office_desk.specs.Resuming.{resumed_answer}
+use Rattle.office_desk.proofs.RunSteps.{IsLast, IsTaken, after_more, last_in, taken_in}
+
+-- so many steps were taken
+pub record AreTaken {S : Type 0} (g : Ghosts S) (s : State) (new : DeskState S) (At : Type 0) : Type 0 where
+  pub count : ℕ
+  pub office : new.office ≡ (after_steps s count).office
+  pub stands : At → StandsAt g (after_steps s count) new
+
+abbrev pub CalledSteps : {S : Type 0} (g : Ghosts S) (old new : DeskState S) → Type 0
+CalledSteps g old new = Called g old new (λ s At. AreTaken g s new At)
+
+abbrev pub CalledStep : {S : Type 0} (g : Ghosts S) (old new : DeskState S) (answer : Answer) → Type 0
+CalledStep g old new answer = Called g old new (λ s At. IsDone g s act.RunStep answer new At)
+
+module _ {S : Type 0} (g : Ghosts S) (mid new : DeskState S) (answer : Answer) (still : mid.is_given_up ≡ false) (one : CalledStep g mid new answer) where
+  pub still_open : new.is_given_up ≡ false
+  still_open = (one.did (with_contents mid.office empty) still refl).is_open
+
+  pub is_taken : (r : ℕ) (outcome : Outcome) → answer ≡ Step r outcome → IsTaken mid.office new.office
+  is_taken r outcome is = taken_in mid.office new.office answer r outcome is (λ s same. (one.did s still same).answered) (λ s same. (one.did s still same).office)
+
+  is_last : ((r : ℕ) (outcome : Outcome) → answer ≢ Step r outcome) → IsLast mid.office new.office answer
+  is_last none = last_in mid.office new.office answer none (λ s same. (one.did s still same).answered) (λ s same. (one.did s still same).office)
+
+  pub one_taken : (old : DeskState S) → CalledSteps g old mid → CalledSteps g old new
+  one_taken old so_far = record {
+    clean = λ clean. so_far.clean (one.clean clean);
+    did = λ s is_open same.
+        let so = so_far.did s is_open same in
+        let it = one.did (after_steps s so.count) still (sym so.office) in
+        record {
+          count = suc so.count;
+          office = it.office ∙ sym (ap (λ (t : State). t.office) (after_more so.count s));
+          stands = λ at. subst (λ (t : State). StandsAt g t new) (sym (after_more so.count s)) (it.stands (at.0, so.stands (one.clean at.0, at.1)));
+        };
+  }
+
+  pub steps_done : (old : DeskState S) → CalledSteps g old mid → open_run mid.office ≡ open_run old.office → ((r : ℕ) (outcome : Outcome) → answer ≢ Step r outcome)
+      → Called g old new (λ s At. AreStepsDone g s answer old new At)
+  steps_done old so_far same_run none =
+      let all = one_taken old so_far in
+      let last = is_last none in
+      record {
+        clean = all.clean;
+        did = λ s is_open same.
+            let so = all.did s is_open same in
+            record {
+              answered = last.answered ∙ ap resumed_answer same_run;
+              is_open = still_open;
+              count = so.count;
+              ended = ap open_run (sym so.office) ∙ last.ended;
+              office = so.office;
+              stands = so.stands;
+            };
+      }
+
+pub steps_stopped : {S : Type 0} (g : Ghosts S) (old mid new : DeskState S) (f : Fault) → mid.is_given_up ≡ false → CalledSteps g old mid → (open_run old.office ≡ None → mid ≡ old)
+    → Called g mid new (λ s At. IsFaulted g s (step s act.RunStep).1 f mid new At) → Called g old new (λ s At. AreStepsStopped g s f old new At)
+steps_stopped g old mid new f still so_far first one = record {
+  clean = λ clean. so_far.clean (one.clean clean);
+  did = λ s is_open same.
+      let so = so_far.did s is_open same in
+      let it = one.did (after_steps s so.count) still (sym so.office) in
+      record {
+        memory = λ none is. it.memory is ∙ first none;
+        count = so.count;
+        stops = subst (λ (o : Office). StopsAt o f new) so.office it.stops;
+        left = λ at.
+            subst (λ (t : State). StopsLeaving (after_steps s so.count) t f (state g new.held)) (sym (after_more so.count s))
+            (it.left (at.0, so.stands (one.clean at.0, at.1)));
+      };
+}

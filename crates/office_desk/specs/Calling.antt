@@ -1,0 +1,116 @@
+-- What a call of a desk does, from each state with its office, and what it leaves of the tables. Source: own.
+use Rattle.std.specs.Prelude.{◌≡◌, ◌+◌, ℕ, suc, false, List, ◌++◌, take, Result, MatchResult, IsTrue, Some, None}
+use Rattle.sqlite.specs.Held.{state}
+use Rattle.sqlite.specs.State.{HasCleanDisk}
+use Rattle.sqlite_trees.specs.declared.store.Store.{Ghosts}
+use Rattle.office_rules.specs.Acts.{after, answers, step}
+use Rattle.office_rules.specs.Rows.{rows_of}
+use Rattle.office_rules.specs.Runs.{IsMidway, after_steps, open_run, whole}
+use Rattle.office_rules.specs.State.{State}
+use Rattle.office_rules.specs.Writes.{all_office_writes, all_writes}
+use Rattle.office_rules.specs.declared.act.Act.{Act}
+use Rattle.office_rules.specs.declared.answer.Answer.{Answer}
+use Rattle.office_rules.specs.declared.change.Change.{Change}
+use Rattle.office_store.specs.Stands.{HoldsRows, LeavesOffices}
+use Rattle.office_store.specs.declared.fault.Fault.{Fault}
+use Rattle.office_store.specs.declared.fault.Fault.TheVariants as fault
+use Rattle.office_desk.specs.Desk.{DeskState}
+use Rattle.office_desk.specs.Fates.{LeavesFates, LeavesStepFates}
+use Rattle.office_desk.specs.Leaving.{IsFrontAnswered, LeavesRowsOf, StandsAt, StopsAt, StopsLeaving}
+use Rattle.office_desk.specs.Resuming.{AreRunSteps, LeavesMidway, resumed_answer}
+
+-- by a desk that is open: what was done from each state with its office, where `At` is that its tables stood there and the disk was clean
+pub record Called {S : Type 0} (g : Ghosts S) (old new : DeskState S) (Did : State → Type 0 → Type 0) : Type 0 where
+  pub clean : HasCleanDisk (state g new.held) → HasCleanDisk (state g old.held)
+  pub did : (s : State) → old.is_given_up ≡ false → s.office ≡ old.office → Did s (HasCleanDisk (state g new.held) × StandsAt g s old)
+
+-- a change was done in memory, and is answered
+pub record IsMade {S : Type 0} (change : Change) (answer : Answer) (old new : DeskState S) : Type 0 where
+  pub answered : answer ≡ change.answer
+  pub office : new.office ≡ all_office_writes change.writes.items old.office
+  pub same : new.is_given_up ≡ old.is_given_up
+
+-- a growth was refused, and the desk is given up
+pub record IsGivenUp {S : Type 0} (f : Fault) (new : DeskState S) : Type 0 where
+  pub reopen : f ≡ fault.Reopen
+  pub gone : IsTrue new.is_given_up
+
+-- a change was saved and made
+pub record IsSaved {S : Type 0} (g : Ghosts S) (s : State) (change : Change) (answer : Answer) (old new : DeskState S) (At : Type 0) : Type 0 where
+  pub made : IsMade change answer old new
+  pub rows : At → HoldsRows (rows_of (all_writes change.writes.items s)) (state g new.held)
+
+-- a fault on the way from a state to the next
+pub record IsFaulted {S : Type 0} (g : Ghosts S) (s next : State) (f : Fault) (old new : DeskState S) (At : Type 0) : Type 0 where
+  pub memory : f ≡ fault.Memory → new ≡ old
+  pub stops : StopsAt old.office f new
+  pub left : At → StopsLeaving s next f (state g new.held)
+
+-- an act was done, and is answered
+pub record IsDone {S : Type 0} (g : Ghosts S) (s : State) (a : Act) (answer : Answer) (new : DeskState S) (At : Type 0) : Type 0 where
+  pub answered : answer ≡ (step s a).0
+  pub office : new.office ≡ (step s a).1.office
+  pub is_open : new.is_given_up ≡ false
+  pub stands : At → StandsAt g (step s a).1 new
+
+-- acts were done, and are answered behind those that were given
+pub record AreDone {S : Type 0} (g : Ghosts S) (s : State) (acts : List Act) (given found : List Answer) (new : DeskState S) (At : Type 0) : Type 0 where
+  pub answered : found ≡ given ++ answers s acts
+  pub office : new.office ≡ (after s acts).office
+  pub is_open : new.is_given_up ≡ false
+  pub stands : At → StandsAt g (after s acts) new
+
+-- acts were stopped by a fault after so many
+pub record AreStopped {S : Type 0} (g : Ghosts S) (s : State) (acts : List Act) (given found : List Answer) (f : Fault) (new : DeskState S) (At : Type 0) : Type 0 where
+  pub count : ℕ
+  pub front : IsFrontAnswered s acts given found f count
+  pub stops : StopsAt (after s (take count acts)).office f new
+  pub left : At → StopsLeaving (after s (take count acts)) (after s (take (count + 1) acts)) f (state g new.held)
+
+-- so acts end
+abbrev pub EndActs : {S T : Type 0} (g : Ghosts S) (s : State) (acts : List Act) (given found : List Answer) (result : Result T Fault) (new : DeskState S) (At : Type 0) → Type 0
+EndActs g s acts given found result new At = MatchResult result (λ _. AreDone g s acts given found new At) (λ f. AreStopped g s acts given found f new At)
+
+-- and what a crash leaves at each end
+pub record Performed {S T : Type 0} (g : Ghosts S) (s : State) (acts : List Act) (given found : List Answer) (result : Result T Fault) (new : DeskState S) (At : Type 0) : Type 0 where
+  pub ends : EndActs g s acts given found result new At
+  pub offices : At → LeavesOffices (state g new.held)
+  pub fates : At → LeavesFates s acts (state g new.held)
+  pub midway : (begun : State) (run : ℕ) → AreRunSteps acts → open_run begun.office ≡ Some run → IsMidway begun run s → At → LeavesMidway begun run (state g new.held)
+
+-- steps were taken until no run was open
+pub record AreStepsDone {S : Type 0} (g : Ghosts S) (s : State) (answer : Answer) (old new : DeskState S) (At : Type 0) : Type 0 where
+  pub answered : answer ≡ resumed_answer (open_run old.office)
+  pub is_open : new.is_given_up ≡ false
+  pub count : ℕ
+  pub ended : open_run (after_steps s count).office ≡ None
+  pub office : new.office ≡ (after_steps s count).office
+  pub stands : At → StandsAt g (after_steps s count) new
+
+-- steps were stopped by a fault after so many
+pub record AreStepsStopped {S : Type 0} (g : Ghosts S) (s : State) (f : Fault) (old new : DeskState S) (At : Type 0) : Type 0 where
+  pub memory : open_run old.office ≡ None → f ≡ fault.Memory → new ≡ old
+  pub count : ℕ
+  pub stops : StopsAt (after_steps s count).office f new
+  pub left : At → StopsLeaving (after_steps s count) (after_steps s (suc count)) f (state g new.held)
+
+-- so steps end
+abbrev pub EndSteps : {S : Type 0} (g : Ghosts S) (s : State) (result : Result Answer Fault) (old new : DeskState S) (At : Type 0) → Type 0
+EndSteps g s result old new At = MatchResult result (λ answer. AreStepsDone g s answer old new At) (λ f. AreStepsStopped g s f old new At)
+
+-- the run was closed as one that never stopped, or none was open
+pub record IsResumed {S : Type 0} (g : Ghosts S) (s : State) (answer : Answer) (old new : DeskState S) (At : Type 0) : Type 0 where
+  pub answered : answer ≡ resumed_answer (open_run old.office)
+  pub is_open : new.is_given_up ≡ false
+  pub office : (begun : State) (run : ℕ) → open_run begun.office ≡ Some run → IsMidway begun run s → new.office ≡ (whole begun run).office
+  pub whole : (begun : State) (run : ℕ) → open_run begun.office ≡ Some run → IsMidway begun run s → At → StandsAt g (whole begun run) new
+  pub same : open_run old.office ≡ None → new.office ≡ old.office
+  pub none : open_run s.office ≡ None → At → StandsAt g s new
+
+-- and what a crash leaves
+pub record Resumed {S : Type 0} (g : Ghosts S) (s : State) (result : Result Answer Fault) (old new : DeskState S) (At : Type 0) : Type 0 where
+  pub ends : MatchResult result (λ answer. IsResumed g s answer old new At) (λ f. AreStepsStopped g s f old new At)
+  pub left : open_run s.office ≡ None → At → LeavesRowsOf s (state g new.held)
+  pub midway : (begun : State) (run : ℕ) → open_run begun.office ≡ Some run → IsMidway begun run s → At → LeavesMidway begun run (state g new.held)
+  pub offices : At → LeavesOffices (state g new.held)
+  pub fates : At → LeavesStepFates s (state g new.held)
