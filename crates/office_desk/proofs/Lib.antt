@@ -1,4 +1,5 @@
 pub mod AllFates
+pub mod BroughtUp
 pub mod DecidedSteps
 pub mod Found
 pub mod Fronts

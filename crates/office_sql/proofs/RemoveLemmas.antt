@@ -111,7 +111,7 @@ module _ (tree : ℕ) (filters : List Term) (low : nat_le (2 ^ 31) tree ≡ fals
     pub left_is : without_all (db tree) (ids_of rows) ≡ filter (λ r. not (passes r)) (db tree)
     left_is = without_named (ids_of rows) (db tree) ∙ filter_same_on _ _ (db tree) (λ r h. ap not (same_tests _ _ (named_passes r h) (passes_named r h)))
 
-same_or_not : (a b : ℕ) → (a ≡ b) ⊎ (a ≢ b)
+pub same_or_not : (a b : ℕ) → (a ≡ b) ⊎ (a ≢ b)
 same_or_not a b = elim (eqb_tells a b) [ inl same ↦ inl same.1 | inr apart ↦ inr apart.1 ]
 
 -- some rows of one table are left out
@@ -160,7 +160,7 @@ module _ (place : ℕ) (table : Table) (found_at : slice_get office_schema.table
       let p = passes table.tree filters low params trees read.0 (read.1.answer Null) in
       let to : step.0 ≡ after.now.trees = sym next ∙ ap (λ (d : Database). d.trees) (sym after_is) in
       record {
-        office = record { schema = ap (λ (d : Database). d.schema) after_is; shaped = subst (λ d. AllByRecursion (λ t. IsShaped shape.Table (d t.tree)) office_schema.tables) to (fewer_shaped table trees step.0 p left did.tables here office.shaped) };
+        office = record { database = w.sound; schema = ap (λ (d : Database). d.schema) after_is; shaped = subst (λ d. AllByRecursion (λ t. IsShaped shape.Table (d t.tree)) office_schema.tables) to (fewer_shaped table trees step.0 p left did.tables here office.shaped) };
         removed = subst (λ d. rows_of table d ≡ filter (λ r. not (share keys r key)) (rows_of table trees)) to (fewer_rows table trees step.0 p left did.tables keys key tests);
         others = subst (λ d. AllByRecursion (λ t. t.tree ≢ table.tree → d t.tree ≡ trees t.tree) office_schema.tables) to did.tables;
       }

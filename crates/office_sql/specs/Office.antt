@@ -6,17 +6,27 @@ use Rattle.sqlite_trees.specs.Tree.{Trees}
 use Rattle.sqlite_trees.specs.View.{IsShaped}
 use Rattle.sqlite_trees.specs.declared.store.Shape.TheVariants as shape
 use Rattle.sqlite_schema.specs.declared.schema.Table.{Table}
-use Rattle.sqlite.specs.Effect.{Database}
+use Rattle.sqlite.specs.Effect.{Database, IsDatabase}
 use Rattle.sqlite.specs.State.{State, HasCleanDisk, KeepsCommit, Survives}
 use Rattle.sqlite.specs.declared.error.Error.{Error}
+use Rattle.office_sql.specs.Editions.{Edition, schema_of, version_two}
 use Rattle.office_sql.specs.Schema.{office_schema, no_schema, office, at}
 use Rattle.office_sql.specs.Bags.{rows_of, share, IsPut}
 use Rattle.office_sql.specs.Shown.{office_row}
 
--- the database has the office's tables and nothing else, and in each of them the rowids rise
-pub record IsOffice (db : Database) : Type 0 where
-  pub schema : db.schema ≡ office_schema
-  pub shaped : AllByRecursion (λ t. IsShaped shape.Table (db.trees t.tree)) office_schema.tables
+-- a database of the office's tables over these trees
+abbrev pub office_over : Edition → Trees → Database
+office_over e trees = record { schema = schema_of e; trees = trees }
+
+-- the database has the office's tables of that version and nothing else, and lists them, and in each of them the rowids rise
+pub record IsOfficeOf (e : Edition) (db : Database) : Type 0 where
+  pub database : IsDatabase db
+  pub schema : db.schema ≡ schema_of e
+  pub shaped : AllByRecursion (λ t. IsShaped shape.Table (db.trees t.tree)) (schema_of e).tables
+
+-- so it is of version 2
+abbrev pub IsOffice : Database → Type 0
+IsOffice db = IsOfficeOf version_two db
 
 -- the row is put in: those that share one of the keys with it are out, the other tables as they were
 pub record Wrote (table : Table) (keys : List (List ℕ)) (row : Row) (old new : Database) : Type 0 where
@@ -36,14 +46,18 @@ pub record GoesInside {X : Type 0} (Changes : Database → Database → Type 0) 
   pub err : HasCleanDisk new → IsInside old → OnErr result (KeepsCommit old new)
   pub survives : Survives old new (λ _. ⊥)
 
--- between calls: open, outside a transaction, and a crash leaves just what the last commit left
-pub record IsAtRest (s : State) : Type 0 where
+-- between calls over tables of that version: open, outside a transaction, and a crash leaves just what the last commit left
+pub record IsAtRestOver (e : Edition) (s : State) : Type 0 where
   pub is_open : IsTrue s.is_open
   pub autocommit : s.in_transaction ≡ false
   pub settled : s.now ≡ s.committed
-  pub office : IsOffice s.now
+  pub office : IsOfficeOf e s.now
   pub only : (db : Trees) → s.may_leave db → db ≡ s.now.trees
   pub stays : s.may_leave s.now.trees
+
+-- over those of version 2
+abbrev pub IsAtRest : State → Type 0
+IsAtRest s = IsAtRestOver version_two s
 
 -- the same of a database that has no table yet
 pub record IsBlank (s : State) : Type 0 where
@@ -54,9 +68,9 @@ pub record IsBlank (s : State) : Type 0 where
   pub only : (db : Trees) → s.may_leave db → db ≡ s.now.trees
   pub stays : s.may_leave s.now.trees
 
--- version 1, and the first day there is
+-- version 2, and the first day there is
 abbrev pub first_row : Row
-first_row = office_row (pos 1) (pos 1) (neg_ℤ (pos 719_162))
+first_row = office_row (pos 1) (pos 2) (neg_ℤ (pos 719_162))
 
 -- the table `office` has that row alone, and no other table has a row
 pub record IsNewOffice (db : Database) : Type 0 where

@@ -1,11 +1,9 @@
 -- When the tables in the database stand for the rows of an office. Source: own.
 use Rattle.std.specs.Prelude.{◌≡◌, ◌⊎◌, ℕ, Bool, pos, List, [], ◌∷◌, map, IsPermutation}
-use Rattle.std.specs.List.{AllByRecursion, list_any}
+use Rattle.std.specs.List.{list_any}
 use Rattle.std.specs.FinMap as finmap
 use Rattle.sqlite_value.specs.Order.{Row}
 use Rattle.sqlite_trees.specs.Tree.{Trees}
-use Rattle.sqlite_trees.specs.View.{IsShaped}
-use Rattle.sqlite_trees.specs.declared.store.Shape.TheVariants as shape
 use Rattle.sqlite_schema.specs.declared.schema.Table.{Table}
 use Rattle.sqlite.specs.State.{State}
 use Rattle.office_holds.specs.Founding.{is_pair}
@@ -13,8 +11,9 @@ use Rattle.office_holds.specs.declared.target.Target.{Target}
 use Rattle.office_rules.specs.Rows.{TableRows, rows_of}
 use Rattle.office_rules.specs.State.{ByteMap, empty_state}
 use Rattle.office_sql.specs.Bags as bags
-use Rattle.office_sql.specs.Office.{IsAtRest}
-use Rattle.office_sql.specs.Schema.{at, aggregations, certificates, classes, contents, entries, holds, office, office_schema, records, runs, schedules, targets}
+use Rattle.office_sql.specs.Editions.{Edition, plans_of, version_of, version_one, version_two}
+use Rattle.office_sql.specs.Office.{IsAtRest, IsAtRestOver, IsOffice, office_over}
+use Rattle.office_sql.specs.Schema.{at, aggregations, certificates, classes, contents, entries, events, holds, office, records, runs, schedules, targets}
 use Rattle.office_sql.specs.Shown.{certificate_row, content_row, office_row}
 use Rattle.office_saving.specs.Encoded.{aggregation_shown, class_shown, entry_shown, hold_shown, record_shown, run_shown, schedule_shown, target_shown}
 
@@ -32,10 +31,15 @@ HasTargets db is_target =
 abbrev pub HasContents : Trees → ByteMap → Type 0
 HasContents db bytes = Has (at 9 contents) db (map (λ e. content_row (pos e.0) e.1) (finmap.entries bytes))
 
--- the eleven tables have these rows; `office` has one, of version 1
-pub record Stands (t : TableRows) (db : Trees) : Type 0 where
-  pub office : Has (at 0 office) db (office_row (pos 1) (pos 1) t.day ∷ [])
-  pub schedules : Has (at 1 schedules) db (map (λ e. schedule_shown e.0 e.1) t.schedules)
+-- `schedules` and `events` have no row in version 2
+abbrev pub IsEmptied : Edition → Trees → Type 0
+IsEmptied version_one db = Unit {0}
+IsEmptied version_two db = Has (at 1 schedules) db [] × Has (at 20 events) db []
+
+-- the tables of that version have these rows; `office` has one, of that version
+pub record StandsIn (e : Edition) (t : TableRows) (db : Trees) : Type 0 where
+  pub office : Has (at 0 office) db (office_row (pos 1) (version_of e) t.day ∷ [])
+  pub schedules : Has (plans_of e) db (map (λ e. schedule_shown e.0 e.1) t.schedules)
   pub classes : Has (at 3 classes) db (map (λ e. class_shown e.0 e.1) t.classes)
   pub aggregations : Has (at 5 aggregations) db (map (λ e. aggregation_shown e.0 e.1) t.aggregations)
   pub records : Has (at 7 records) db (map (λ e. record_shown e.0 e.1) t.records)
@@ -45,15 +49,29 @@ pub record Stands (t : TableRows) (db : Trees) : Type 0 where
   pub runs : Has (at 14 runs) db (map (λ e. run_shown e.0 e.1) t.runs)
   pub entries : Has (at 15 entries) db (map (λ e. entry_shown e.1) t.entries_by)
   pub certificates : Has (at 17 certificates) db (map (λ e. certificate_row (pos e.0) e.1) t.certificates)
+  pub emptied : IsEmptied e db
+
+-- those of version 2
+abbrev pub Stands : TableRows → Trees → Type 0
+Stands t db = StandsIn version_two t db
+
+-- those of version 1
+abbrev pub OldStands : TableRows → Trees → Type 0
+OldStands t db = StandsIn version_one t db
 
 -- between calls: the tables have these rows, and a crash leaves just these
 pub record HoldsRows (t : TableRows) (s : State) : Type 0 where
   pub rest : IsAtRest s
   pub stands : Stands t s.now.trees
 
--- the tables are such as opening asks of an office: in each of them the rowids rise
+-- the same of an office of version 1
+pub record HoldsOldRows (t : TableRows) (s : State) : Type 0 where
+  pub rest : IsAtRestOver version_one s
+  pub stands : OldStands t s.now.trees
+
+-- the tables are such as opening asks of an office: they list just an office's, soundly, and in each of them the rowids rise
 abbrev pub AreOfficeTables : Trees → Type 0
-AreOfficeTables db = AllByRecursion (λ t. IsShaped shape.Table (db t.tree)) office_schema.tables
+AreOfficeTables db = IsOffice (office_over version_two db)
 
 -- whatever tables a crash leaves, they are an office's again
 abbrev pub LeavesOffices : State → Type 0
@@ -63,6 +81,10 @@ LeavesOffices s = (db : Trees) → s.may_leave db → AreOfficeTables db
 pub record LeavesWithin (t u : TableRows) (s : State) : Type 0 where
   pub offices : LeavesOffices s
   pub either : (db : Trees) → s.may_leave db → Stands t db ⊎ Stands u db
+
+-- a crash leaves what was there, or the tables of version 2 that have these rows
+abbrev pub LeavesMoved : TableRows → State → State → Type 0
+LeavesMoved t old new = (db : Trees) → new.may_leave db → (db ≡ old.now.trees) ⊎ (Stands t db × AreOfficeTables db)
 
 -- a crash leaves what was there, or the tables of a new office
 abbrev pub LeavesFirst : State → State → Type 0
