@@ -13,7 +13,7 @@ use Rattle.sqlite.specs.declared.error.Error.{Error}
 use Rattle.office_sql.specs.Bags.{shown, rows_of, share}
 use Rattle.office_sql.specs.Made.{AreLaterMade, MakesInside}
 use Rattle.office_sql.specs.Migrated.{IsMigrated, IsReadyToMove, Moved, MovedOver, Raised}
-use Rattle.office_sql.specs.Editions.{version_one}
+use Rattle.office_sql.specs.declared.editions.Edition.TheVariants as edition
 use Rattle.office_sql.specs.Office.{GoesInside, IsOffice, IsOfficeOf, Removed}
 use Rattle.office_sql.specs.Schema.{at, office, office_schema, old_schema, schedules, schedules2, with_certificates}
 use Rattle.office_sql.proofs.Inside.{early, quiet_then}
@@ -80,7 +80,7 @@ pub still_one : (day : ℤ) (a b : Database) → IsReadyToMove day a.trees → E
 still_one day a b ready left = same_rows (at 0 office) a.trees b.trees (left.others.0 (λ e. cc) (λ e. cc))
 
 -- the later tables are made over those of version 1
-pub later_office : (old new : Database) → IsOfficeOf version_one old → AreLaterMade old new → IsOffice new
+pub later_office : (old new : Database) → IsOfficeOf edition.One old → AreLaterMade old new → IsOffice new
 later_office old new was made =
     let shaped : AllByRecursion (λ t. IsShaped shape.Table (new.trees t.tree)) old_schema.tables =
     all_both (λ (t : Table). IsShaped shape.Table (old.trees t.tree)) (λ t. new.trees t.tree ≡ old.trees t.tree) (λ t. IsShaped shape.Table (new.trees t.tree)) (λ t had same. subst (IsShaped shape.Table) (sym same) had) old_schema.tables was.shaped made.others in
@@ -154,7 +154,7 @@ migrated day a b c made over = record {
 }
 
 -- the later tables are made, and the schedules moved over
-pub migrates_then : (day : ℤ) (a b c : State) {X Y : Type 0} {x : X} (r : Result Y Error) → IsOfficeOf version_one a.now → IsReadyToMove day a.now.trees → MakesInside AreLaterMade with_certificates a b (Ok x) → Survives b c (λ _. ⊥)
+pub migrates_then : (day : ℤ) (a b c : State) {X Y : Type 0} {x : X} (r : Result Y Error) → IsOfficeOf edition.One a.now → IsReadyToMove day a.now.trees → MakesInside AreLaterMade with_certificates a b (Ok x) → Survives b c (λ _. ⊥)
     → (b.now.trees 18 ≡ [] → IsReadyToMove day b.now.trees → GoesInside (MovedOver day) b c r) → MakesInside (IsMigrated day) old_schema a c r
 migrates_then day a b c (Ok y) was ready made quiet over = record {
   ok = λ clean was_open inside has.

@@ -9,7 +9,9 @@ use Rattle.sqlite_schema.specs.declared.schema.Table.{Table}
 use Rattle.sqlite.specs.Effect.{Database, IsDatabase}
 use Rattle.sqlite.specs.State.{State, HasCleanDisk, KeepsCommit, Survives}
 use Rattle.sqlite.specs.declared.error.Error.{Error}
-use Rattle.office_sql.specs.Editions.{Edition, schema_of, version_two}
+use Rattle.office_sql.specs.Editions.{schema_of}
+use Rattle.office_sql.specs.declared.editions.Edition.{Edition}
+use Rattle.office_sql.specs.declared.editions.Edition.TheVariants as edition
 use Rattle.office_sql.specs.Schema.{office_schema, no_schema, office, at}
 use Rattle.office_sql.specs.Bags.{rows_of, share, IsPut}
 use Rattle.office_sql.specs.Shown.{office_row}
@@ -26,7 +28,7 @@ pub record IsOfficeOf (e : Edition) (db : Database) : Type 0 where
 
 -- so it is of version 2
 abbrev pub IsOffice : Database → Type 0
-IsOffice db = IsOfficeOf version_two db
+IsOffice db = IsOfficeOf edition.Two db
 
 -- the row is put in: those that share one of the keys with it are out, the other tables as they were
 pub record Wrote (table : Table) (keys : List (List ℕ)) (row : Row) (old new : Database) : Type 0 where
@@ -57,7 +59,7 @@ pub record IsAtRestOver (e : Edition) (s : State) : Type 0 where
 
 -- over those of version 2
 abbrev pub IsAtRest : State → Type 0
-IsAtRest s = IsAtRestOver version_two s
+IsAtRest s = IsAtRestOver edition.Two s
 
 -- the same of a database that has no table yet
 pub record IsBlank (s : State) : Type 0 where

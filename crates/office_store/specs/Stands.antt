@@ -11,7 +11,9 @@ use Rattle.office_holds.specs.declared.target.Target.{Target}
 use Rattle.office_rules.specs.Rows.{TableRows, rows_of}
 use Rattle.office_rules.specs.State.{ByteMap, empty_state}
 use Rattle.office_sql.specs.Bags as bags
-use Rattle.office_sql.specs.Editions.{Edition, plans_of, version_of, version_one, version_two}
+use Rattle.office_sql.specs.Editions.{schedules_of, version_of}
+use Rattle.office_sql.specs.declared.editions.Edition.{Edition}
+use Rattle.office_sql.specs.declared.editions.Edition.TheVariants as edition
 use Rattle.office_sql.specs.Office.{IsAtRest, IsAtRestOver, IsOffice, office_over}
 use Rattle.office_sql.specs.Schema.{at, aggregations, certificates, classes, contents, entries, events, holds, office, records, runs, schedules, targets}
 use Rattle.office_sql.specs.Shown.{certificate_row, content_row, office_row}
@@ -33,13 +35,13 @@ HasContents db bytes = Has (at 9 contents) db (map (λ e. content_row (pos e.0) 
 
 -- `schedules` and `events` have no row in version 2
 abbrev pub IsEmptied : Edition → Trees → Type 0
-IsEmptied version_one db = Unit {0}
-IsEmptied version_two db = Has (at 1 schedules) db [] × Has (at 20 events) db []
+IsEmptied edition.One db = Unit {0}
+IsEmptied edition.Two db = Has (at 1 schedules) db [] × Has (at 20 events) db []
 
 -- the tables of that version have these rows; `office` has one, of that version
 pub record StandsIn (e : Edition) (t : TableRows) (db : Trees) : Type 0 where
   pub office : Has (at 0 office) db (office_row (pos 1) (version_of e) t.day ∷ [])
-  pub schedules : Has (plans_of e) db (map (λ e. schedule_shown e.0 e.1) t.schedules)
+  pub schedules : Has (schedules_of e) db (map (λ e. schedule_shown e.0 e.1) t.schedules)
   pub classes : Has (at 3 classes) db (map (λ e. class_shown e.0 e.1) t.classes)
   pub aggregations : Has (at 5 aggregations) db (map (λ e. aggregation_shown e.0 e.1) t.aggregations)
   pub records : Has (at 7 records) db (map (λ e. record_shown e.0 e.1) t.records)
@@ -53,11 +55,11 @@ pub record StandsIn (e : Edition) (t : TableRows) (db : Trees) : Type 0 where
 
 -- those of version 2
 abbrev pub Stands : TableRows → Trees → Type 0
-Stands t db = StandsIn version_two t db
+Stands t db = StandsIn edition.Two t db
 
 -- those of version 1
 abbrev pub OldStands : TableRows → Trees → Type 0
-OldStands t db = StandsIn version_one t db
+OldStands t db = StandsIn edition.One t db
 
 -- between calls: the tables have these rows, and a crash leaves just these
 pub record HoldsRows (t : TableRows) (s : State) : Type 0 where
@@ -66,12 +68,12 @@ pub record HoldsRows (t : TableRows) (s : State) : Type 0 where
 
 -- the same of an office of version 1
 pub record HoldsOldRows (t : TableRows) (s : State) : Type 0 where
-  pub rest : IsAtRestOver version_one s
+  pub rest : IsAtRestOver edition.One s
   pub stands : OldStands t s.now.trees
 
 -- the tables are such as opening asks of an office: they list just an office's, soundly, and in each of them the rowids rise
 abbrev pub AreOfficeTables : Trees → Type 0
-AreOfficeTables db = IsOffice (office_over version_two db)
+AreOfficeTables db = IsOffice (office_over edition.Two db)
 
 -- whatever tables a crash leaves, they are an office's again
 abbrev pub LeavesOffices : State → Type 0

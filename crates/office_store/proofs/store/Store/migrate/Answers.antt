@@ -3,7 +3,7 @@ use Rattle.std.proofs.lemmas.Result.{IfOk-weaker, IfErr-weaker}
 use Rattle.sqlite.specs.Effect.{Database}
 use Rattle.sqlite.specs.Held.{state}
 use Rattle.office_rules.specs.Rows.{rows_of}
-use Rattle.office_sql.specs.Editions.{version_two}
+use Rattle.office_sql.specs.declared.editions.Edition.TheVariants as edition
 use Rattle.office_sql.specs.Migrated.{Migrates}
 use Rattle.office_store.specs.Stands.{AreOfficeTables, HoldsOldRows, HoldsRows, LeavesMoved, OldStands, Stands}
 use Rattle.office_store.proofs.Saved.{over_trees}
@@ -27,7 +27,7 @@ returns-clause-err g c s clean holds =
     let moves : Migrates day old new c.migrate_all.result = subst (λ h. Migrates day (state g.S.Store h) new c.migrate_all.result) c.self.view_is (c.migrate_all.ensures.migrates day) in
     let left : OnErr c.migrate_all.result (LeavesMoved (rows_of s) old new) = IfErr-weaker c.migrate_all.result _ _ (λ x it db may. elim (it db may) [
       | inl same ↦ inl same
-      | inr next ↦ inr (subst (Stands (rows_of s)) (sym next.2) (moved_stand (rows_of s) old.now next.0 holds.stands next.1), subst AreOfficeTables (sym next.2) (over_trees version_two next.0 next.1.is_office))
+      | inr next ↦ inr (subst (Stands (rows_of s)) (sym next.2) (moved_stand (rows_of s) old.now next.0 holds.stands next.1), subst AreOfficeTables (sym next.2) (over_trees edition.Two next.0 next.1.is_office))
     ]) (moves.err clean holds.rest (ready_to_move (rows_of s) old.now.trees holds.stands)) in
     search rules
 

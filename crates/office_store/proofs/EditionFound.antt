@@ -1,0 +1,79 @@
+-- The tables are those of the version that `office` names, as it is found out table by table.
+use Rattle.std.proofs.Common.{◌≡◌, ◌≢◌, ◌==◌, Option, Some, false, true, not, ne_eqb, arith, List, [], ◌∷◌, length, Result, Ok, Err, refl, sym, ap, ◌∙◌, IsPermutation}
+use Rattle.std.proofs.lemmas.List.{nil_from_length}
+use Rattle.std.proofs.lemmas.List.Sorted.{length_permutation}
+use Rattle.std.proofs.lemmas.Result.{IfErr-weaker, IfOk-weaker}
+use Rattle.sqlite_value.specs.Order.{Row}
+use Rattle.sqlite_trees.proofs.ListLemmas.{IsPermutation-same}
+use Rattle.sqlite.specs.Effect.{Database}
+use Rattle.sqlite.specs.State.{State, HasCleanDisk}
+use Rattle.office_sql.specs.declared.editions.Edition.{Edition}
+use Rattle.office_sql.specs.declared.editions.Edition.TheVariants as edition
+use Rattle.office_sql.specs.Office.{IsAtRestOver}
+use Rattle.office_sql.specs.declared.reading.OfficeTable.TheVariants as table
+use Rattle.office_sql.specs.Reads.{bag_of}
+use Rattle.office_store.specs.Adopted.{ConfirmsEdition, FindsNone}
+use Rattle.office_store.specs.declared.fault.Fault.{Fault}
+
+pub is_nil : (rows : List Row) → not (length rows == 0) ≡ false → rows ≡ []
+is_nil [] h = refl
+is_nil (row ∷ rows) h = let some : ◌==◌ (length (row ∷ rows)) 0 ≡ false = ne_eqb (length (row ∷ rows)) 0 (λ e. omega (arith, e)) in absurd cc
+
+pub not_nil : (rows : List Row) → not (length rows == 0) ≡ true → rows ≢ []
+not_nil [] h = λ e. absurd cc
+not_nil (row ∷ rows) h = λ e. cc
+
+pub none_in : {bag rows : List Row} → IsPermutation bag rows → rows ≡ [] → bag ≡ []
+none_in {bag = bag} {rows = rows} same none = nil_from_length bag (sym (length_permutation bag rows same) ∙ ap length none)
+
+pub none_shown : {bag rows : List Row} → IsPermutation bag rows → bag ≡ [] → rows ≡ []
+none_shown {bag = bag} {rows = rows} same none = nil_from_length rows (length_permutation bag rows same ∙ ap length none)
+
+none_had : {bag : List Row} → IsPermutation [] bag → bag ≡ []
+none_had {bag = bag} has = nil_from_length bag (length_permutation [] bag has)
+
+-- the names of the tables are those of version 2
+abbrev NamesTwo : Edition → State → Type 0
+NamesTwo ed old = IsAtRestOver ed old → Some edition.Two ≡ Some ed
+
+-- so they are of no office of version 1
+not_one : (old : State) → NamesTwo edition.One old → IsAtRestOver edition.One old → ⊥
+not_one old named rest = let two : Some edition.Two ≡ Some edition.One = named rest in cc
+
+-- the first of the two tables has a row, or is not read
+pub first_fails : (ed : Edition) (old new : State) → NamesTwo ed old → (f : Fault) → FindsNone {X = Unit {0}} edition.Two table.OldSchedules old new (Err f) → ConfirmsEdition ed edition.Two old new (Err f)
+first_fails edition.One old new named f it =
+    record { is = λ clean rest. tt; same = λ clean rest. tt; damaged = λ clean rest. absurd (not_one old named rest); leaves = λ clean rest. absurd (not_one old named rest) }
+first_fails edition.Two old new named f it =
+    record { is = λ clean rest. tt; same = λ clean rest. tt; damaged = λ clean rest wrong now emptied. it.damaged clean rest wrong (none_had emptied.0); leaves = it.leaves }
+
+-- the second is looked at, where the first has no row
+pub second_looked : (ed : Edition) (old mid new : State) → NamesTwo ed old → (result : Result (Unit {0}) Fault) → FindsNone {X = Unit {0}} edition.Two table.OldSchedules old mid (Ok tt) → (HasCleanDisk new → HasCleanDisk mid)
+    → FindsNone {X = Unit {0}} edition.Two table.Events mid new result → ConfirmsEdition ed edition.Two old new result
+second_looked edition.One old mid new named result it disk next =
+    let never = not_one old named in
+    record { is = λ clean rest. absurd (never rest); same = λ clean rest. absurd (never rest); damaged = λ clean rest. absurd (never rest); leaves = λ clean rest. absurd (never rest) }
+second_looked edition.Two old mid new named result it disk next =
+    let first = λ (clean : HasCleanDisk new) (rest : IsAtRestOver edition.Two old). it.none (disk clean) rest in
+    let events = λ (clean : HasCleanDisk new) (rest : IsAtRestOver edition.Two old). ap (λ (d : Database). bag_of table.Events d.trees) (first clean rest).2 in
+    record {
+      is = λ clean rest. IfOk-weaker result _ _ (λ x none. (refl, (IsPermutation-same _ _ (sym (first clean rest).0), IsPermutation-same _ _ (sym (sym (events clean rest) ∙ none.0))))) (next.none clean (first clean rest).1);
+      same = λ clean rest. IfOk-weaker result _ _ (λ x none. (none.1, none.2 ∙ (first clean rest).2)) (next.none clean (first clean rest).1);
+      damaged = λ clean rest. IfErr-weaker result _ _ (λ f some wrong now emptied. some wrong (events clean rest ∙ none_had emptied.1)) (next.damaged clean (first clean rest).1);
+      leaves = λ clean rest db may. it.leaves (disk clean) rest db (next.leaves clean (first clean rest).1 db may);
+    }
+
+-- the names are those of version 1, of which no table is to have no row
+pub one_confirmed : (ed : Edition) (old : State) → (IsAtRestOver ed old → Some edition.One ≡ Some ed) → ConfirmsEdition ed edition.One old old (Ok tt)
+one_confirmed edition.One old named = record { is = λ clean rest. (refl, tt); same = λ clean rest. (rest, refl); damaged = λ clean rest. tt; leaves = λ clean rest db may. may }
+one_confirmed edition.Two old named =
+    record { is = λ clean rest. absurd (let one : Some edition.One ≡ Some edition.Two = named rest in cc); same = λ clean rest. (rest, refl); damaged = λ clean rest. tt; leaves = λ clean rest db may. may }
+
+-- the names are not those of the version
+pub other_names : (ed named : Edition) (found : Option Edition) → found ≢ Some named → (old : State) → (IsAtRestOver ed old → found ≡ Some ed) → (f : Fault) → ConfirmsEdition ed named old old (Err f)
+other_names ed named found differ old told f = record {
+  is = λ clean rest. tt;
+  same = λ clean rest. tt;
+  damaged = λ clean rest wrong now emptied. differ (told rest ∙ ap Some (sym now));
+  leaves = λ clean rest db may. may;
+}

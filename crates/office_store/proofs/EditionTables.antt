@@ -1,0 +1,72 @@
+-- The schedules of either version are read of their own table, and what is told of the version by the names of tables.
+use Rattle.std.proofs.Common.{◌≡◌, All, List, [], ◌∷◌, Some, refl}
+use Rattle.sqlite_value.specs.Order.{Row}
+use Rattle.sqlite_schema.specs.Names.{same_name}
+use Rattle.sqlite_trees.specs.Tree.{Trees}
+use Rattle.office_sql.specs.Bags.{rows_of}
+use Rattle.office_sql.specs.Editions.{IsTableOf, schedules_of, schedules_table, schema_of}
+use Rattle.office_sql.specs.declared.editions.Edition.{Edition}
+use Rattle.office_sql.specs.declared.editions.Edition.TheVariants as edition
+use Rattle.office_sql.specs.Names.{layout_of}
+use Rattle.office_sql.specs.declared.reading.OfficeTable.TheVariants as table
+use Rattle.office_sql.specs.Reads.{IsByKey, bag_of, key_of}
+
+pub schedules_by_key : (ed : Edition) (db : Trees) (rows : List Row) → IsByKey (key_of (schedules_table ed)) (bag_of (schedules_table ed) db) rows → IsByKey (0 ∷ []) (rows_of (schedules_of ed) db) rows
+schedules_by_key edition.One db rows by = by
+schedules_by_key edition.Two db rows by = by
+
+pub all_schedules_too : (P : Row → Type 0) (ed : Edition) (db : Trees) → All P (rows_of (schedules_of ed) db) → All P (bag_of (schedules_table ed) db)
+all_schedules_too P edition.One db all = all
+all_schedules_too P edition.Two db all = all
+
+pub schedules_are_a_table : (ed : Edition) → IsTableOf ed (schedules_table ed)
+schedules_are_a_table edition.One = tt
+schedules_are_a_table edition.Two = tt
+
+-- the names of the tables are those of one version
+pub layout_is : (ed : Edition) → layout_of (schema_of ed) ≡ Some ed
+unfolding same_name
+layout_is edition.One = refl
+layout_is edition.Two = refl
+
+-- the tables of both versions
+
+pub classes_in : (ed : Edition) → IsTableOf ed table.Classes
+classes_in edition.One = tt
+classes_in edition.Two = tt
+
+pub aggregations_in : (ed : Edition) → IsTableOf ed table.Aggregations
+aggregations_in edition.One = tt
+aggregations_in edition.Two = tt
+
+pub records_in : (ed : Edition) → IsTableOf ed table.Records
+records_in edition.One = tt
+records_in edition.Two = tt
+
+pub contents_in : (ed : Edition) → IsTableOf ed table.Contents
+contents_in edition.One = tt
+contents_in edition.Two = tt
+
+pub holds_in : (ed : Edition) → IsTableOf ed table.Holds
+holds_in edition.One = tt
+holds_in edition.Two = tt
+
+pub targets_in : (ed : Edition) → IsTableOf ed table.Targets
+targets_in edition.One = tt
+targets_in edition.Two = tt
+
+pub runs_in : (ed : Edition) → IsTableOf ed table.Runs
+runs_in edition.One = tt
+runs_in edition.Two = tt
+
+pub entries_in : (ed : Edition) → IsTableOf ed table.Entries
+entries_in edition.One = tt
+entries_in edition.Two = tt
+
+pub certificates_in : (ed : Edition) → IsTableOf ed table.Certificates
+certificates_in edition.One = tt
+certificates_in edition.Two = tt
+
+pub old_schedules_in : (ed : Edition) → IsTableOf ed table.OldSchedules
+old_schedules_in edition.One = tt
+old_schedules_in edition.Two = tt
