@@ -5,5 +5,6 @@ pub mod Endings
 pub mod Exports
 pub mod Imports
 pub mod Openings
+pub mod Reopenings
 pub mod Resumptions
 pub mod Services

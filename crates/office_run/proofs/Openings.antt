@@ -1,5 +1,6 @@
 -- What a connection is to files that were opened: at rest over the office that they held, or without a table.
 use Rattle.std.proofs.Common.{◌≡◌, ◌∙◌, ap, ap₂, sym, subst, refl, [], IsTrue}
+use Rattle.std.proofs.Math.Logic.{∥∥₁_elim}
 use Rattle.sqlite_catalog.specs.Listing.{Lists}
 use Rattle.sqlite_catalog.proofs.ReadLemmas.{lists_once}
 use Rattle.sqlite_disk.specs.declared.Disk.{Ghosts}
@@ -9,14 +10,16 @@ use Rattle.sqlite_trees.specs.Objects.{catalog_tree}
 use Rattle.sqlite_trees.specs.Sound.{is_sound_list}
 use Rattle.sqlite_trees.specs.Tree.{Trees}
 use Rattle.sqlite_wal.specs.Recovery.{Image}
-use Rattle.sqlite.specs.Effect.{Database, IsDatabase}
+use Rattle.sqlite.specs.Effect.{Database}
 use Rattle.sqlite.specs.Files.{IsEmpty, IsOpened, file_state}
 use Rattle.sqlite.specs.Held.{Held}
 use Rattle.sqlite.specs.Start.{FindsIn}
 use Rattle.sqlite.specs.State.{State, HasCleanDisk, IsLive, Opens}
-use Rattle.office_sql.specs.Office.{IsAtRest, IsBlank, IsOffice}
-use Rattle.office_sql.specs.Schema.{no_schema, office_schema}
-use Rattle.office_run.specs.Files.{IsOpenedFrom, office_over}
+use Rattle.office_sql.specs.declared.editions.Edition.{Edition}
+use Rattle.office_sql.specs.Editions.{schema_of}
+use Rattle.office_sql.specs.Office.{IsAtRestOver, IsBlank, IsOfficeOf, office_over}
+use Rattle.office_sql.specs.Schema.{no_schema}
+use Rattle.office_run.specs.Files.{IsOpenedFrom}
 
 -- no object is listed where no table is there
 none_listed : Lists [] no_schema
@@ -34,13 +37,13 @@ module _ (s : State) (opened : Opens s) (live : IsLive s) (only : (db : Trees) �
   left_at_all = subst s.may_leave (sym same_trees) stays
 
   -- over the trees of an office
-  rests : (trees : Trees) → s.committed.trees ≡ trees → IsDatabase (office_over trees) → IsOffice (office_over trees) → IsAtRest s × (s.now.trees ≡ trees)
-  rests trees held database office =
+  rests : (ed : Edition) (trees : Trees) → s.committed.trees ≡ trees → IsOfficeOf ed (office_over ed trees) → IsAtRestOver ed s × (s.now.trees ≡ trees)
+  rests ed trees held office =
       let same : s.now.trees ≡ trees = same_trees ∙ held in
-      let schema : s.now.schema ≡ office_schema =
-      lists_once (trees catalog_tree) s.now.schema office_schema (subst (λ (t : Trees). Lists (t catalog_tree) s.now.schema) same (live opened.is_open).0.lists) database.lists in
-      let over : s.now ≡ office_over trees = ap₂ (λ (a : Schema) (b : Trees). let d : Database = record { schema = a; trees = b } in d) schema same in
-      (record { is_open = opened.is_open; autocommit = opened.autocommit; settled = opened.clean; office = subst IsOffice (sym over) office; only = left_alone; stays = left_at_all }, same)
+      let schema : s.now.schema ≡ schema_of ed =
+      lists_once (trees catalog_tree) s.now.schema (schema_of ed) (subst (λ (t : Trees). Lists (t catalog_tree) s.now.schema) same (live opened.is_open).0.lists) office.database.lists in
+      let over : s.now ≡ office_over ed trees = ap₂ (λ (a : Schema) (b : Trees). let d : Database = record { schema = a; trees = b } in d) schema same in
+      (record { is_open = opened.is_open; autocommit = opened.autocommit; settled = opened.clean; office = subst (IsOfficeOf ed) (sym over) office; only = left_alone; stays = left_at_all }, same)
 
   -- over empty trees
   blanks : IsEmpty s.now.trees → IsBlank s
@@ -62,9 +65,9 @@ pub opened_from :
     → IsOpenedFrom image was last
 opened_from image was last clean opened found only stays = record {
   found = λ so. let it = opened (clean so) in let at = found (clean so) in rw (same_trees (file_state was) it.0 it.1 (only it.0.is_open) (stays it.0.is_open)) at.reads;
-  rest = λ so trees held.
+  rest = λ so ed trees held.
       let it = opened (clean so) in
       let at = found (clean so) in
-      rests (file_state was) it.0 it.1 (only it.0.is_open) (stays it.0.is_open) trees (at.holds trees held.held) held.database held.office;
+      rests (file_state was) it.0 it.1 (only it.0.is_open) (stays it.0.is_open) ed trees (∥∥₁_elim held.held (Trees-set _ _) (at.holds trees)) held.office;
   blank = λ so. let it = opened (clean so) in blanks (file_state was) it.0 it.1 (only it.0.is_open) (stays it.0.is_open);
 }

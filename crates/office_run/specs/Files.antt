@@ -6,12 +6,11 @@ use Rattle.sqlite_trees.specs.Tree.{Trees}
 use Rattle.sqlite_wal.specs.Reads.{AreClean}
 use Rattle.sqlite_wal.specs.Recovery.{Image}
 use Rattle.sqlite.specs.Closing.{IsCopied}
-use Rattle.sqlite.specs.Effect.{Database, IsDatabase}
 use Rattle.sqlite.specs.Files.{AreFoundIn, HoldsDatabase, IsClosed, IsEmpty, file_state, over_files}
 use Rattle.sqlite.specs.Held.{Held}
-use Rattle.sqlite.specs.State.{HasCleanDisk}
-use Rattle.office_sql.specs.Office.{IsAtRest, IsBlank, IsOffice}
-use Rattle.office_sql.specs.Schema.{office_schema}
+use Rattle.sqlite.specs.State.{State as FileState, HasCleanDisk}
+use Rattle.office_sql.specs.declared.editions.Edition.{Edition}
+use Rattle.office_sql.specs.Office.{IsAtRestOver, IsBlank, IsOfficeOf, office_over}
 use Rattle.office_store.specs.declared.fault.Fault.TheVariants as fault
 use Rattle.office_words.specs.Orders.{Ordered}
 use Rattle.office_run.specs.Running.{RunEnds}
@@ -21,20 +20,19 @@ use Rattle.office_run.specs.declared.ending.Ending.TheVariants as how
 use Rattle.office_run.specs.declared.opening.FilesLeft.{FilesLeft}
 use Rattle.office_run.specs.declared.opening.FilesLeft.TheVariants as files
 
--- a database of the office's tables
-abbrev pub office_over : Trees → Database
-office_over trees = record { schema = office_schema; trees = trees }
+-- the two files held this database, which has the office's tables of that version and nothing else
+pub record HeldOffice (ed : Edition) (image : Image) (trees : Trees) : Type 0 where
+  pub held : ∥ HoldsDatabase image trees ∥₁
+  pub office : IsOfficeOf ed (office_over ed trees)
 
--- the two files held this database, which has the office's tables and nothing else
-pub record HeldOffice (image : Image) (trees : Trees) : Type 0 where
-  pub held : HoldsDatabase image trees
-  pub database : IsDatabase (office_over trees)
-  pub office : IsOffice (office_over trees)
+-- whatever tables a crash leaves, they are an office's, of one version or the other
+abbrev pub LeavesAnOffice : FileState → Type 0
+LeavesAnOffice s = (db : Trees) → s.may_leave db → (ed : Edition) × IsOfficeOf ed (office_over ed db)
 
 -- files that held this were opened as that connection, as far as a later one is clean: it is at rest over the office that they held, or has no table yet where it found nothing
 pub record IsOpenedFrom {D : Type 0} {g : Ghosts D} (image : Image) (was last : Held (FileStore D g)) : Type 0 where
   pub found : HasCleanDisk (file_state last) → AreFoundIn image (file_state was).now.trees
-  pub rest : HasCleanDisk (file_state last) → (trees : Trees) → HeldOffice image trees → IsAtRest (file_state was) × ((file_state was).now.trees ≡ trees)
+  pub rest : HasCleanDisk (file_state last) → (ed : Edition) (trees : Trees) → HeldOffice ed image trees → IsAtRestOver ed (file_state was) × ((file_state was).now.trees ≡ trees)
   pub blank : HasCleanDisk (file_state last) → IsEmpty (file_state was).now.trees → IsBlank (file_state was)
 
 -- files that held this were opened, and so it ended over the connection, which is this one then

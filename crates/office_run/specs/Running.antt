@@ -17,7 +17,7 @@ use Rattle.office_run.specs.Resuming.{ResumeEnds}
 
 -- the line that tells the version of the office's file
 abbrev pub version_line : List ℕ
-version_line = codes "version 1" ++ 10 ∷ []
+version_line = codes "version 2" ++ 10 ∷ []
 
 -- the line that tells where a service listens
 abbrev pub listening_line : ℕ → List ℕ

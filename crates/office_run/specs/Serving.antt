@@ -5,10 +5,11 @@ use Rattle.sqlite_trees.specs.declared.store.Store.{Ghosts}
 use Rattle.sqlite.specs.Held.{Held, state}
 use Rattle.sqlite.specs.State.{HasCleanDisk}
 use Rattle.office_rules.specs.State.{State, empty_state}
-use Rattle.office_sql.specs.Office.{IsAtRest, IsBlank}
+use Rattle.office_sql.specs.declared.editions.Edition.TheVariants as edition
+use Rattle.office_sql.specs.Office.{IsAtRest, IsAtRestOver, IsBlank}
 use Rattle.office_desk.specs.Desk.{DeskState}
 use Rattle.office_desk.specs.Leaving.{StandsAt}
-use Rattle.office_desk.specs.Opening.{StandFor}
+use Rattle.office_desk.specs.Opening.{OldStandFor, StandFor}
 use Rattle.office_wire.specs.Connections.{Turns}
 use Rattle.office_run.specs.declared.ending.Ending.{Ending}
 use Rattle.office_run.specs.declared.ending.Ending.TheVariants as how
@@ -21,6 +22,7 @@ pub record IsDeskOf {S : Type 0} (g : Ghosts S) (conn : Held S) (desk : DeskStat
   pub is_open : desk.is_given_up ≡ false
   pub made : HasCleanDisk (state g desk.held) → IsBlank (state g conn) → StandsAt g empty_state desk
   pub found : HasCleanDisk (state g desk.held) → IsAtRest (state g conn) → (s : State) × StandFor (state g conn).now.trees s × StandsAt g s desk
+  pub moved : HasCleanDisk (state g desk.held) → IsAtRestOver edition.One (state g conn) → (s : State) × OldStandFor (state g conn).now.trees s × StandsAt g s desk
 
 -- a desk was served, by the ending: where it listens was not told, and nothing is served; or connections were, one after another, as many as were asked for or fewer where the desk was given up
 abbrev pub ServesAt : {S : Type 0} → Ghosts S → ℕ → ℕ → DeskState S → DeskState S → Option (List ℕ) → Option (List ℕ) → Ending → Type 0

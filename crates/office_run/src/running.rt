@@ -27,7 +27,7 @@ fn tell_version<W: Write>(out: &mut W) -> Ending
     ensures endings { (result ≡ Ending.Done) ⊎ (result ≡ Ending.File) }
     ensures written { result ≡ Ending.Done → Appends (W.contents out.old) (W.contents out.new) version_line }
 {
-    match write_out(b"version 1\n", out) {
+    match write_out(b"version 2\n", out) {
         Ok(()) => Ending::Done,
         Err(Io) => Ending::File,
     }

@@ -19,6 +19,7 @@ returns-in-Ok-clause-ends g c =
     record {
       made = λ clean blank. told empty_state clean (opened.made (ended.clean clean) blank);
       found = λ clean rest. let f = opened.found (ended.clean clean) rest in (f.0, f.1, told f.0 clean f.2);
+      moved = λ clean rest. let f = opened.found_old (ended.clean clean) rest in (f.0, f.1, told f.0 clean f.2);
     })
     _ new _ _ _ ended.applies)
 

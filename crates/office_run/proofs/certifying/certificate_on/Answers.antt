@@ -13,6 +13,7 @@ returns-in-Ok-clause-ends g c =
     let opened : IsOpened old new = record {
       made = λ clean blank. (it.made clean blank).rows;
       found = λ clean rest. let f = it.found clean rest in (f.0, f.1, f.2.rows, f.3);
+      moved = λ clean rest. let f = it.found_old clean rest in (f.0, f.1, f.2.rows);
     } in
     closed_certifies g.S.Store c.args.run old c.in-Ok.desk.held _ _ _ c.certificate_at-ending.result c.close.ensures.same opened
     (certifies_of (λ (P : State → Type 0). (s : State) → s.office ≡ c.in-Ok.desk.office → P s) (IsOfOpened old new)
@@ -20,6 +21,7 @@ returns-in-Ok-clause-ends g c =
     record {
       made = λ clean blank. told empty_state (sym (it.made clean blank).office);
       found = λ clean rest. let f = it.found clean rest in (f.0, f.1, told f.0 (sym f.2.office));
+      moved = λ clean rest. let f = it.found_old clean rest in (f.0, f.1, told f.0 (sym f.2.office));
     })
     c.args.run _ _ _ c.certificate_at-ending.ensures)
 

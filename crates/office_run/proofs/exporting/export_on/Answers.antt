@@ -14,6 +14,7 @@ returns-in-Ok-clause-ends g c =
     let opened : IsOpened old new = record {
       made = λ clean blank. (it.made clean blank).rows;
       found = λ clean rest. let f = it.found clean rest in (f.0, f.1, f.2.rows, f.3);
+      moved = λ clean rest. let f = it.found_old clean rest in (f.0, f.1, f.2.rows);
     } in
     closed_exports g.S.Store c.args.register old c.in-Ok.desk.held _ _ _ c.export_at-ending.result
     (c.close.ensures.same ∙ ap (λ (d : DeskState _). d.held) c.export_at-ending.ensures.kept) opened
@@ -22,6 +23,7 @@ returns-in-Ok-clause-ends g c =
     record {
       made = λ clean blank. told empty_state (sym (it.made clean blank).office);
       found = λ clean rest. let f = it.found clean rest in (f.0, f.1, told f.0 (sym f.2.office));
+      moved = λ clean rest. let f = it.found_old clean rest in (f.0, f.1, told f.0 (sym f.2.office));
     })
     c.args.register _ _ _ c.export_at-ending.ensures.exports)
 

@@ -9,6 +9,7 @@ returns-in-Ok-clause-ends g c =
     let opened : IsOpened (state g.S.Store c.args.conn) (state g.S.Store c.in-Ok.desk.held) = record {
       made = λ clean blank. (c.in-Ok.ensures.made clean blank).rows;
       found = λ clean rest. let f = c.in-Ok.ensures.found clean rest in (f.0, f.1, f.2.rows, f.3);
+      moved = λ clean rest. let f = c.in-Ok.ensures.found_old clean rest in (f.0, f.1, f.2.rows);
     } in
     opened-ends _ _ _ _ _ c.tell_version.ensures.endings c.tell_version.ensures.written
     (subst (λ (h : _). IsOpened (state g.S.Store c.args.conn) (state g.S.Store h)) (sym c.close.ensures.same) opened)

@@ -9,6 +9,7 @@ returns-in-Ok-clause-ends g c =
       is_open = it.open;
       made = it.made;
       found = λ clean rest. let f = it.found clean rest in (f.0, f.1, f.2);
+      moved = it.found_old;
     } in
     inr (c.in-Ok.desk, c.serve_at-ending.new.desk, opened, c.serve_at-ending.ensures.serves, c.close.ensures.same)
 

@@ -1,0 +1,33 @@
+//! What one run of the program leaves of an office's files is what the next one opens.
+ghost use Rattle.std.specs.Prelude.{IsTrue};
+ghost use Rattle.sqlite_disk.specs.declared.Files.{Files};
+ghost use Rattle.sqlite_store.specs.FileStore.{state as store_state, view};
+ghost use Rattle.sqlite_store.specs.declared.store.FileStore.{FileStore};
+ghost use Rattle.sqlite_trees.specs.Tree.{Trees};
+ghost use Rattle.sqlite_wal.specs.Files.{outcomes};
+ghost use Rattle.sqlite_wal.specs.Reads.{AreClean};
+ghost use Rattle.sqlite_wal.specs.Recovery.{Image};
+ghost use Rattle.sqlite.specs.Files.{file_state, image_of};
+ghost use Rattle.sqlite.specs.Held.{Held};
+ghost use Rattle.office_sql.specs.declared.editions.Edition.{Edition};
+ghost use Rattle.office_sql.specs.Office.{IsOfficeOf, office_over};
+ghost use Rattle.office_run.specs.Files.{HeldOffice, IsLeftOf, LeavesAnOffice};
+ghost use Rattle.office_run.specs.declared.opening.FilesLeft.TheVariants as files;
+
+use sqlite_disk::Disk;
+
+/// Where the last commit of a connection is an office's, the files that its closing left hold that office, as
+/// they read now (`closed`) and after any crash (`after_closing`). Where the process ended with a connection
+/// of which a crash leaves an office whatever happens, the files hold one of those offices (`crashed`). So the
+/// next opening of the files finds what is said here: it is [`crate::open_and_run`]'s `IsOpenedFrom`, `rest`.
+///
+/// That the store of the connection is numbered (`is_numbered`) is a premise of `crashed`: the database promises it
+/// of a store that is given back, and has no public clause that says it of one behind a connection.
+pub fn law_of_the_next_word<D: Disk + Drop>()
+    ensures closed { (last : Held (FileStore D D.Disk)) (it : Files D) (ed : Edition) → IsLeftOf last (files.Closed it) → AreClean D.Disk it.log it.db
+        → IsOfficeOf ed (office_over ed (file_state last).committed.trees) → HeldOffice ed (image_of D.Disk it) (file_state last).committed.trees }
+    ensures after_closing { (last : Held (FileStore D D.Disk)) (it : Files D) (ed : Edition) → IsLeftOf last (files.Closed it) → AreClean D.Disk it.log it.db
+        → IsOfficeOf ed (office_over ed (file_state last).committed.trees) → (image : Image) → outcomes D.Disk it.log it.db image → HeldOffice ed image (file_state last).committed.trees }
+    ensures crashed { (last : Held (FileStore D D.Disk)) → IsTrue (view last.store).is_numbered → LeavesAnOffice (file_state last) → (left : Image) → (store_state last.store).may_leave left
+        → ∥ ((trees : Trees) × (ed : Edition) × (file_state last).may_leave trees × HeldOffice ed left trees) ∥₁ }
+{}
