@@ -30,6 +30,6 @@ Certifies Of run written after how.SomeFailed = ⊥
 Certifies Of run written after how.File = (text : List ℕ) × Of (IsCertificate run (Some text))
 Certifies Of run written after (how.Fault f) = (f ≡ fault.Memory) × (after ≡ written)
 
--- `certificate FILE N`, by its ending; an office that was opened stays as it was
+-- `certificate FILE N`, by its ending; an office of version 2 that was opened stays as it was
 abbrev pub CertificateEnds : ℕ → FileState → FileState → Option (List ℕ) → Option (List ℕ) → Ending → Type 0
 CertificateEnds run old new written after ending = IsNotOpened old new written after ending ⊎ IsOpened old new × Certifies (IsOfOpened old new) run written after ending

@@ -33,6 +33,6 @@ Exports Of it written after how.SomeFailed = ⊥
 Exports Of it written after how.File = ⊤
 Exports Of it written after (how.Fault f) = f ≡ fault.Memory
 
--- `export FILE entries` or `export FILE DAY`, by its ending; an office that was opened stays as it was
+-- `export FILE entries` or `export FILE DAY`, by its ending; an office of version 2 that was opened stays as it was
 abbrev pub ExportEnds : Register → FileState → FileState → Option (List ℕ) → Option (List ℕ) → Ending → Type 0
 ExportEnds it old new written after ending = IsNotOpened old new written after ending ⊎ IsOpened old new × Exports (IsOfOpened old new) it written after ending
