@@ -97,6 +97,8 @@ impl Gathering {
 impl Intake for Gathering {
     ghost content = { λ g. g };
 
+    ghost examines = { Unit {0} };
+
     fn row(&mut self, row: Row) -> Result<(), Rebuild> {
         match row {
             Row::Office { day } => self.put_day(day),

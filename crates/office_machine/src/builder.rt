@@ -66,6 +66,8 @@ impl Builder {
 impl Intake for Builder {
     ghost content = { λ b. b };
 
+    ghost examines = { Unit {0} };
+
     fn row(&mut self, row: Row) -> Result<(), Rebuild> {
         self.gathering.row(row)
     }

@@ -19,6 +19,8 @@ struct Refusing {
 impl Intake for Refusing {
     ghost content = { λ it. it.builder };
 
+    ghost examines = { Unit {0} };
+
     fn row(&mut self, row: Row) -> Result<(), Rebuild> {
         if self.left == 0 {
             return Err(Rebuild::Memory);
