@@ -46,9 +46,11 @@ def readings(text: str, first_year: int | None) -> dict[str, datetime.date]:
         found["mdy"] = day(int(it[4]), int(it[1]), int(it[3]))
     elif first_year is not None and (it := SHORT_YEAR.fullmatch(text)):
         first, second, third = (int(it[n]) for n in (1, 3, 4))
-        found["dmy"] = day(long_year(third, first_year), second, first)
-        found["mdy"] = day(long_year(third, first_year), first, second)
-        found["ymd"] = day(long_year(first, first_year), second, third)
+        if len(it[4]) == 2:
+            found["dmy"] = day(long_year(third, first_year), second, first)
+            found["mdy"] = day(long_year(third, first_year), first, second)
+        if len(it[1]) == 2:
+            found["ymd"] = day(long_year(first, first_year), second, third)
     return {order: it for order, it in found.items() if it is not None}
 
 

@@ -8,7 +8,7 @@ from dataclasses import dataclass, field
 
 from spreadsheet.cells import Files, Wrong, code_of, content_of, in_one_line, note_of, number_of, text_of
 from spreadsheet.columns import NAMES, Columns
-from spreadsheet.days import day_read, order_of, why_no_day
+from spreadsheet.days import Order, day_read, order_of, why_no_day
 from spreadsheet.sheet import Row, in_quotes, place
 
 
@@ -43,6 +43,7 @@ class Turner:
     def __init__(self, columns: Columns, files: Files | None, first_year: int | None, join_lines: bool) -> None:
         self.columns, self.files, self.first_year, self.join_lines = columns, files, first_year, join_lines
         self.refs: dict[str, int] = {}
+        self.order = Order("ymd", None)
 
     def all(self, rows: list[Row], days: str | None) -> Findings:
         """All rows, by the order of days that is asked for, else by the one that the column shows."""
