@@ -3,10 +3,11 @@ from __future__ import annotations
 
 import json
 from collections.abc import Iterator
+from typing import Any
 
 DAY = "2024-01-02"
 # an act of each kind that reads
-ACTS = [
+ACTS: list[dict[str, Any]] = [
     {"act": "add-schedule", "day": DAY, "code": "D1", "trigger": "added", "unit": "years", "count": 2, "offset": "none",
      "action": "destroy"},
     {"act": "add-class", "day": DAY, "code": "FIN", "title": "Finance", "schedule": "D1"},
@@ -27,11 +28,11 @@ ACTS = [
     {"act": "open-run", "day": DAY, "by": "registrar"},
     {"act": "run-step"},
 ]
-OF_KIND = {it["act"]: it for it in ACTS}
+OF_KIND: dict[str, dict[str, Any]] = {it["act"]: it for it in ACTS}
 LONGEST = {"days": 182_500, "weeks": 26_000, "months": 6_000, "years": 500}
 NUMBERS = [0, -1, 1.0, 4_294_967_296, "1", True, [1]]
 # values of which none is of the member's form; each act with the member takes the next one
-WRONG = {
+WRONG: dict[str, list[Any]] = {
     "act": ["add-records", "Add-Record", "", 1, None, ["run-step"]],
     "day": ["31.12.2020", "2023-02-29", "3000-01-01", "2024-1-2", "0000-01-01", 20240102, None, " 2024-01-02",
             "2024-01-02T00:00"],
@@ -56,7 +57,7 @@ WRONG = {
     "target": ["class:FIN_1", "record:01", "record:0", "records:1", "aggregation:4294967296", "FIN", 1],
     "content": ["YWJj\nYWJj", "YWJ", "YWJj=", "YQ", "YR==", "-_-_", "a lease", None, 5, "YWJj" * 87_382],
 }
-MORE_WRONG = [
+MORE_WRONG: list[Any] = [
     *(OF_KIND["add-schedule"] | {"unit": unit, "count": most + 1} for unit, most in LONGEST.items()),
     OF_KIND["add-schedule"] | {"unit": "hours", "count": "2"},
     OF_KIND["reclassify"] | {"target": "class:FIN"},

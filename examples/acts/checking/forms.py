@@ -105,8 +105,8 @@ TEXT_WHYS: dict[str, Callable[[str], str]] = {
 }
 
 
-def number_why(value: int | float) -> str:
-    if isinstance(value, float) or value < 0:
+def number_why(value: object) -> str:
+    if isinstance(value, float) or not is_count(value):
         return "is no whole number in digits alone"
     return f"is not from 1 to {LARGEST}"
 

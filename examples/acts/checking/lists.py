@@ -5,13 +5,15 @@ import codecs
 import datetime
 import difflib
 import json
-import re
+from collections.abc import Callable, Iterable
 from dataclasses import dataclass
+from typing import Optional, cast
 
 from checking.forms import is_count, shown, why
 from fuzzing import wire
 
-SPACE = re.compile(r"[ \t\r\n]*")
+Part = Callable[[object], Optional[int]]
+SPACE = " \t\r\n"
 LATE = ("is after today, {today}. Once it is done, the office takes no act of an earlier day any more, no hold either, "
         "and records may be destroyed early. Correct it, or say --late where it is meant")
 
@@ -76,13 +78,23 @@ def json_why(fault: BaseException | None) -> str:
 def lines_of(text: str, count: int) -> list[int]:
     """The line in which each item of a list begins; the text is a list with so many items."""
     decoder = json.JSONDecoder()
-    at, found = SPACE.match(text).end() + 1, []
+    at, line, found = text.index("[") + 1, 1, []
+    done = 0
     for _ in range(count):
-        at = SPACE.match(text, at).end()
-        found.append(text.count("\n", 0, at) + 1)
+        at = past_space(text, at)
+        line += text.count("\n", done, at)
+        done = at
+        found.append(line)
         _, at = decoder.raw_decode(text, at)
-        at = SPACE.match(text, at).end() + 1
+        # past the comma, or the end of the list
+        at = past_space(text, at) + 1
     return found
+
+
+def past_space(text: str, at: int) -> int:
+    while text[at] in SPACE:
+        at += 1
+    return at
 
 
 def kind_of(value: object) -> str:
@@ -101,7 +113,7 @@ def faults_of(act: Act) -> list[str]:
     kind = value.get("act")
     if not isinstance(kind, str) or kind not in wire.ACTS:
         return [unknown_why(value)]
-    parts = wire.ACTS[kind] if kind == "run-step" else {"day": wire.DAY, **wire.ACTS[kind]}
+    parts = parts_of(kind)
     wrong = [name for name, part in parts.items()
              if (wire.count_part(value) if name == "count" else part(value.get(name)))]
     if "unit" in wrong and is_count(value.get("count")):
@@ -111,19 +123,25 @@ def faults_of(act: Act) -> list[str]:
     return [*strange, *(why(value, name) for name in wrong)]
 
 
+def parts_of(kind: str) -> dict[str, Part]:
+    """The members of a kind of act beside `act`, each with what says its refusal."""
+    members = cast(dict[str, Part], wire.ACTS[kind])
+    return members if kind == "run-step" else {"day": wire.DAY, **members}
+
+
 def unknown_why(value: dict[str, object]) -> str:
     if "act" not in value:
         return f"has no member \"act\"; it is one of {', '.join(wire.ACTS)}"
     return f"act {shown(value['act'])} is unknown{guess(value['act'], wire.ACTS)}; there are {', '.join(wire.ACTS)}"
 
 
-def strange_why(name: str, value: dict[str, object], parts: dict[str, object]) -> str:
+def strange_why(name: str, value: dict[str, object], parts: dict[str, Part]) -> str:
     missing = [it for it in parts if it not in value]
     names = ", ".join(["act", *parts])
     return f"member {shown(name)} is strange{guess(name, missing)}; there are {names}"
 
 
-def guess(word: object, words: object) -> str:
+def guess(word: object, words: Iterable[str]) -> str:
     near = difflib.get_close_matches(word.lower(), list(words), 1) if isinstance(word, str) else []
     return f" (is {near[0]} meant?)" if near else ""
 

@@ -10,7 +10,7 @@ from spreadsheet.sheet import Row, Unreadable, letters
 NAMES = ["ref", "title", "originated", "aggregation", "class", "schedule", "content"]
 NEEDED = ["ref", "title", "originated", "aggregation"]
 # other names that sheets have for them, as `plain` makes them
-SYNONYMS = {
+SYNONYMS: dict[str, list[str]] = {
     "ref": ["reference", "reference no", "reference number", "ref no", "file no", "file number", "record no"],
     "title": ["name", "subject"],
     "originated": ["date", "day", "document date", "date of document", "originated on"],
@@ -59,7 +59,7 @@ def plain(name: str) -> str:
 
 def column_named(name: str) -> str | None:
     """The import's column that a name of a header is for."""
-    return next((it for it in NAMES if plain(name) in (it, *SYNONYMS[it])), None)
+    return next((it for it in NAMES if plain(name) == it or plain(name) in SYNONYMS[it]), None)
 
 
 def known(header: list[str]) -> int:

@@ -65,7 +65,8 @@ def order_of(cells: Iterable[tuple[str, str]], asked: str | None, first_year: in
     """
     if asked:
         return Order(asked, None)
-    fits, shown, seen = list(ORDERS), None, []
+    fits, shown = list(ORDERS), None
+    seen: list[tuple[str, str, dict[str, datetime.date]]] = []
     for where, text in cells:
         read = readings(text, first_year)
         if not read or YEAR_FIRST.fullmatch(text):
