@@ -214,10 +214,11 @@ def or_null(part):
 
 LONGEST = {"days": 182_500, "weeks": 26_000, "months": 6_000, "years": 500}
 DAY, CODE, TEXT, NUMBER = text_part(is_day), text_part(is_code), text_part(is_text), number_part
-ACTION = word_part("keep review transfer destroy")
+TRIGGERS, ACTIONS = "origin added closed last-addition review", "keep review transfer destroy"
+ACTION = word_part(ACTIONS)
 OFFSETS = "none month quarter " + " ".join(f"from-month-{it}" for it in range(1, 13))
 ACTS = {
-    "add-schedule": {"code": CODE, "trigger": word_part("origin added closed last-addition review"), "unit": word_part("days weeks months years"),
+    "add-schedule": {"code": CODE, "trigger": word_part(TRIGGERS), "unit": word_part(" ".join(LONGEST)),
                      "count": None, "offset": word_part(OFFSETS), "action": ACTION},
     "add-class": {"code": CODE, "title": TEXT, "schedule": CODE},
     "set-class-schedule": {"class": CODE, "schedule": CODE},
