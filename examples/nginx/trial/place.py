@@ -9,6 +9,7 @@ import shutil
 import socket
 import ssl
 import subprocess
+import threading
 import time
 from typing import NamedTuple
 
@@ -99,6 +100,39 @@ class Office:
         self.process.wait(timeout=30)
 
 
+class StandIn:
+    """In place of an office: it serves one connection after another too, and answers each with this body."""
+
+    def __init__(self, port: int, body: bytes) -> None:
+        self.body = body
+        self.listening = socket.create_server(("127.0.0.1", port))
+        threading.Thread(target=self.serve, daemon=True).start()
+
+    def serve(self) -> None:
+        while True:
+            try:
+                conn, _ = self.listening.accept()
+            except OSError:
+                return
+            with conn, conn.makefile("rb") as asked:
+                length = 0
+                while (line := asked.readline()) not in (b"\r\n", b""):
+                    if line.lower().startswith(b"content-length:"):
+                        length = int(line.split(b":")[1])
+                asked.read(length)
+                conn.sendall(b"HTTP/1.1 200 OK\r\nContent-Length: %d\r\nConnection: close\r\n\r\n" % len(self.body) + self.body)
+
+    def __enter__(self) -> "StandIn":
+        return self
+
+    def __exit__(self, *_: object) -> None:
+        self.end()
+
+    def end(self) -> None:
+        self.listening.shutdown(socket.SHUT_RDWR)
+        self.listening.close()
+
+
 def context() -> ssl.SSLContext:
     return ssl.create_default_context(cafile=CERTIFICATE)
 
@@ -110,7 +144,7 @@ def authorization(name: str = "registrar", password: str = PASSWORD) -> dict[str
 def ask(method: str, path: str, body: bytes | None = None, name: str | None = "registrar", password: str = PASSWORD,
         fields: dict[str, str] | None = None, source: str = "127.0.0.1") -> Answer:
     """A program asks nginx, by this name and password, from an address of its own."""
-    conn = http.client.HTTPSConnection("localhost", context=context(), timeout=60, source_address=(source, 0))
+    conn = http.client.HTTPSConnection("localhost", context=context(), timeout=120, source_address=(source, 0))
     who = {} if name is None else authorization(name, password)
     try:
         conn.request(method, path, body, {**who, **(fields or {})})
