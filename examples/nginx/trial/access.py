@@ -77,7 +77,7 @@ def gone(folder: str) -> None:
 
 
 SECONDS = 8
-OTHER = (f"curl --silent --output /dev/null --write-out '%{{http_code}}' --max-time 10 --interface 127.0.0.8 --cacert {place.CERTIFICATE} "
+OTHER = (f"curl --silent --output /dev/null --write-out '%{{http_code}}' --max-time 20 --interface 127.0.0.8 --cacert {place.CERTIFICATE} "
          '--user registrar:"$PASSWORD" https://localhost')
 
 
@@ -107,7 +107,7 @@ def passwords(folder: str) -> None:
         it.join()
     tried = seen.count(401)
     print(f"    guesses in {SECONDS} seconds: {tried} answered 401, {seen.count(429)} answered 429")
-    judge("16 guesses in two seconds at most", 0 < tried <= 16 * (SECONDS / 2 + 1), tried)
+    judge("eight guesses in two seconds at most", 0 < tried <= 8 * (SECONDS / 2 + 1), tried)
     judge("the others are refused before the password is looked at", seen.count(429) > 0 and set(seen) == {401, 429}, set(seen))
     same("another address is served", set(others), {"404"})
     run("nft -f /etc/office.nft")

@@ -128,3 +128,15 @@ def rotated(folder: str) -> None:
     attributes = run(f"lsattr {JOURNAL} {old[0]}").stdout
     same("both can only be appended to", [line.split()[0].replace("-", "").replace("e", "") for line in attributes.splitlines()], ["a", "a"])
     protected()
+
+
+def full(folder: str, port: int) -> None:
+    """A journal for which the disk has no room: the act is done, the line is missing, and the log of errors says so."""
+    run(f"mount -t tmpfs -o size=8k tmpfs {JOURNAL.parent} && install -m 640 -o www-data -g adm /dev/null {JOURNAL} && nginx -s reopen && sleep 1")
+    acts = [{**HOLD, "code": f"F-{number}"} for number in range(200)]
+    with place.StandIn(port, b"[]"):
+        same("without room for its line an act is done", post(f"{folder}acts", acts).status, 200)
+    time.sleep(0.5)
+    said = run("cat /var/log/nginx/office.error.log").stdout
+    judge("and the log of errors says so", "No space left on device" in said and "acts.log" in said, said[-400:])
+    run(f"umount {JOURNAL.parent}")
