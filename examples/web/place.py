@@ -1,7 +1,7 @@
 """A place to try the page in: an office that `office serve` serves, and nginx with the site examples/nginx/office.conf before it.
 
-The site is the one of the repository, with the files that it includes; ports, folders and files of this trial are put in place of those
-that it names.
+The site is the one of the repository, with the files that it includes. Ports, folders and files of this trial are put
+in place of those that it names.
 """
 import base64
 import http.client

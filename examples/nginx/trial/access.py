@@ -25,7 +25,8 @@ def reader(folder: str) -> None:
     error("nor by a doubled slash", post(f"{folder}/acts", [], "reader"), 403, "name")
     error("nor by an escaped letter", post(f"{folder}%61cts", [], "reader"), 403, "name")
     same("a registrar does", post(f"{folder}acts", []).status, 200)
-    error("without the password nobody learns who may act", post(f"{folder}acts", [], "reader", password="wrong"), 401, "password")
+    wrong = post(f"{folder}acts", [], "reader", password="wrong")
+    error("without the password nobody learns who may act", wrong, 401, "password")
     error("of a name that is not there neither", post(f"{folder}acts", [], "nobody"), 401, "password")
 
 
@@ -34,20 +35,24 @@ def shaken(name: str | None) -> bool:
     any_name = ssl.create_default_context()
     any_name.check_hostname, any_name.verify_mode = False, ssl.CERT_NONE
     try:
-        with socket.create_connection(("127.0.0.1", 443), timeout=10) as conn, any_name.wrap_socket(conn, server_hostname=name):
+        with socket.create_connection(("127.0.0.1", 443), timeout=10) as conn:
+            any_name.wrap_socket(conn, server_hostname=name).close()
             return True
     except ssl.SSLError:
         return False
 
 
 def names() -> None:
-    same("TLS for localhost, evil.example, no name", [shaken(it) for it in ("localhost", "evil.example", None)], [True, False, False])
+    served = [shaken(it) for it in ("localhost", "evil.example", None)]
+    same("TLS for localhost, evil.example, no name", served, [True, False, False])
+    other = {"Host": "evil.example", "Origin": "https://evil.example"}
     same("another name in Host", ask("GET", "/", fields={"Host": "evil.example"}).status, 421)
-    same("and its Origin", ask("POST", "/acts", b"[]", fields={"Host": "evil.example", "Origin": "https://evil.example"}).status, 421)
+    same("and its Origin", ask("POST", "/acts", b"[]", fields=other).status, 421)
     conn = http.client.HTTPConnection("localhost", timeout=10)
     conn.request("GET", "/web/", headers={"Host": "evil.example"})
     reply = conn.getresponse()
-    same("port 80 sends to TLS, at the site's own name", (reply.status, reply.getheader("Location")), (301, "https://localhost/web/"))
+    sent = reply.status, reply.getheader("Location")
+    same("port 80 sends to TLS, at the site's own name", sent, (301, "https://localhost/web/"))
 
 
 def answers(folder: str) -> None:
@@ -59,17 +64,18 @@ def answers(folder: str) -> None:
     error("a wrong password", wrong, 401, "password")
     same("a browser asks again", wrong.head.get("WWW-Authenticate"), 'Basic realm="office"')
     error("a POST from nowhere", ask("POST", f"{folder}acts", b"[]"), 403, "origin")
-    error("a POST of another page", ask("POST", f"{folder}acts", b"[]", fields={"Origin": "https://evil.example"}), 403, "origin")
+    other = {"Origin": "https://evil.example"}
+    error("a POST of another page", ask("POST", f"{folder}acts", b"[]", fields=other), 403, "origin")
     error("no such path", ask("GET", "/nothing"), 404, "path")
     error("no such file", ask("GET", f"{folder}web/nothing.js"), 404, "path")
     error("a method that a file has not", ask("PUT", f"{folder}web/office.js", b""), 405, "method")
     error("more than 1 MiB", post(f"{folder}acts", b" " * 1_048_577), 413, "size")
     page = ask("GET", f"{folder}web/office.js")
     same("a file of the page", (page.status, page.head.get("Content-Type")), (200, "text/javascript"))
+    fields = {"Strict-Transport-Security": "max-age=31536000", "Cache-Control": "no-store",
+              "X-Content-Type-Options": "nosniff"}
     for it in (first, page, ask("GET", f"{folder}records/1")):
-        kept = {name: it.head.get(name) for name in ("Strict-Transport-Security", "Cache-Control", "X-Content-Type-Options")}
-        same(f"its field lines, of {it.status}", kept, {"Strict-Transport-Security": "max-age=31536000", "Cache-Control": "no-store",
-                                                        "X-Content-Type-Options": "nosniff"})
+        same(f"its field lines, of {it.status}", {name: it.head.get(name) for name in fields}, fields)
 
 
 def gone(folder: str) -> None:
@@ -77,12 +83,12 @@ def gone(folder: str) -> None:
 
 
 SECONDS = 8
-OTHER = (f"curl --silent --output /dev/null --write-out '%{{http_code}}' --max-time 20 --interface 127.0.0.8 --cacert {place.CERTIFICATE} "
-         '--user registrar:"$PASSWORD" https://localhost')
+OTHER = ("curl --silent --output /dev/null --write-out '%{http_code}' --max-time 20 --interface 127.0.0.8 "
+         f'--cacert {place.CERTIFICATE} --user registrar:"$PASSWORD" https://localhost')
 
 
 def guess(path: str, until: float, seen: list[int]) -> None:
-    conn = http.client.HTTPSConnection("localhost", context=place.context(), timeout=30, source_address=("127.0.0.7", 0))
+    conn = place.connection("127.0.0.7", 30)
     while time.monotonic() < until:
         conn.request("GET", path, headers=place.authorization(password="wrong"))
         reply = conn.getresponse()
@@ -108,7 +114,7 @@ def passwords(folder: str) -> None:
     tried = seen.count(401)
     print(f"    guesses in {SECONDS} seconds: {tried} answered 401, {seen.count(429)} answered 429")
     judge("eight guesses in two seconds at most", 0 < tried <= 8 * (SECONDS / 2 + 1), tried)
-    judge("the others are refused before the password is looked at", seen.count(429) > 0 and set(seen) == {401, 429}, set(seen))
+    same("the others are refused before the password is looked at", set(seen), {401, 429})
     same("another address is served", set(others), {"404"})
     run("nft -f /etc/office.nft")
 

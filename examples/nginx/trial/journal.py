@@ -6,13 +6,13 @@ import time
 
 from trial import place
 from trial.judging import absent, judge, same
-from trial.place import JOURNAL, ask, post, run
+from trial.place import HERE, JOURNAL, ask, post, run
 
 SECRET = b"the secret of the content"
-HOLD = {"act": "place-hold", "day": "2025-01-02", "code": "Q-1", "reason": "a \"claim\" of Müller", "by": "Somebody Else"}
+HOLD = {"act": "place-hold", "day": "2025-01-02", "code": "Q-1", "reason": "a \"claim\" of Müller", "by": "Another"}
 LIFT = {"act": "lift-hold", "day": "2025-01-02", "hold": "Q-1"}
-RECORD = {"act": "add-record", "day": "2025-01-02", "ref": "r1", "title": "t", "originated": "2025-01-01", "aggregation": 1,
-          "content": base64.b64encode(SECRET).decode()}
+RECORD = {"act": "add-record", "day": "2025-01-02", "ref": "r1", "title": "t", "originated": "2025-01-01",
+          "aggregation": 1, "content": base64.b64encode(SECRET).decode()}
 
 
 def lines() -> list[dict[str, object]]:
@@ -51,12 +51,14 @@ def whole(folder: str) -> None:
     same("it has the acts", acts_of(line), [HOLD, LIFT])
     same("and place and status", (line["path"], line["status"], line["from"]), (f"{folder}acts", 200, "127.0.0.1"))
     line = one(f"{folder}run/resume", b"")
-    same("to resume a run is a line", (line["name"], line["path"], line["status"], line["acts"]), ("registrar", f"{folder}run/resume", 409, ""))
+    seen = line["name"], line["path"], line["status"], line["acts"]
+    same("to resume a run is a line", seen, ("registrar", f"{folder}run/resume", 409, ""))
 
 
 def long_list(folder: str, port: int) -> None:
-    """A list of acts as long as nginx lets it be. (What takes it is no office, which would need long for so many refusals.)"""
-    acts = [{"act": "confirm", "day": "2025-01-02", "record": number, "action": "destroy", "by": "x"} for number in range(1, 11_701)]
+    """A list of acts as long as nginx lets it be. (What takes it is no office, which would need long for so many.)"""
+    acts = [{"act": "confirm", "day": "2025-01-02", "record": number, "action": "destroy", "by": "x"}
+            for number in range(1, 11_701)]
     size = len(json.dumps(acts))
     with place.StandIn(port, b"[]"):
         line = one(f"{folder}acts", acts)
@@ -76,10 +78,9 @@ def left_out(folder: str) -> None:
         ("no JSON", b"content " + SECRET, "left out: nothing was done"),
     ):
         same(f"{name}: the line says so", one(f"{folder}acts", acts)["acts"], says)
-    chunked = run(f"""printf '%s' '{json.dumps([{**RECORD, "content": long}])}' | curl --silent --cacert {place.CERTIFICATE} \
-        --user registrar:"$PASSWORD" --header 'Origin: https://localhost' --header 'Transfer-Encoding: chunked' --data-binary @- \
-        https://localhost{folder}acts""")
-    judge("a content in chunks is filed", '"number"' in chunked.stdout or '"refused"' in chunked.stdout, chunked.stdout)
+    chunks = [json.dumps([{**RECORD, "content": long}])[at:at + 100].encode() for at in range(0, 10_000, 100)]
+    chunked = ask("POST", f"{folder}acts", (chunk for chunk in chunks if chunk), fields=HERE)
+    same("a content in chunks is passed on (and refused, for want of an aggregation)", chunked.body, b'[{"refused":5}]')
     time.sleep(0.5)
     logs = JOURNAL.read_text() + run("cat /var/log/nginx/*").stdout
     absent("no content is in a log", logs, [SECRET.decode(), RECORD["content"], long[:60]])
@@ -115,9 +116,10 @@ def protected() -> None:
 
 
 def rotated(folder: str) -> None:
-    """By Debian's logrotate, with the lines of /etc/logrotate.d/office-acts. The machine's own policy may forbid to signal nginx by its script."""
+    """By Debian's logrotate, with /etc/logrotate.d/office-acts. (A container's policy may forbid to signal nginx.)"""
     before = JOURNAL.read_text()
-    run("printf '#!/bin/sh\\nexit 0\\n' > /run/allowed; chmod 755 /run/allowed; mount --bind /run/allowed /usr/sbin/policy-rc.d")
+    run("printf '#!/bin/sh\\nexit 0\\n' > /run/allowed && chmod 755 /run/allowed")
+    run("test ! -e /usr/sbin/policy-rc.d || mount --bind /run/allowed /usr/sbin/policy-rc.d")
     done = run("logrotate --force --state /run/logrotate.state /etc/logrotate.d/office-acts")
     judge("logrotate rotates the journal", done.returncode == 0, done.stdout)
     old = [it for it in JOURNAL.parent.iterdir() if it != JOURNAL]
@@ -125,18 +127,19 @@ def rotated(folder: str) -> None:
     post(f"{folder}acts", [HOLD])
     time.sleep(0.5)
     same("the next act is in the new one", len(lines()), 1)
-    attributes = run(f"lsattr {JOURNAL} {old[0]}").stdout
-    same("both can only be appended to", [line.split()[0].replace("-", "").replace("e", "") for line in attributes.splitlines()], ["a", "a"])
+    attributes = [line.split()[0] for line in run(f"lsattr {JOURNAL} {old[0]}").stdout.splitlines()]
+    same("both can only be appended to", ["a" in it for it in attributes], [True, True])
     protected()
 
 
 def full(folder: str, port: int) -> None:
-    """A journal for which the disk has no room: the act is done, the line is missing, and the log of errors says so."""
-    run(f"mount -t tmpfs -o size=8k tmpfs {JOURNAL.parent} && install -m 640 -o www-data -g adm /dev/null {JOURNAL} && nginx -s reopen && sleep 1")
+    """A journal for which the disk has no room: the act is done, its line is cut, and the log of errors says so."""
+    run(f"mount -t tmpfs -o size=8k tmpfs {JOURNAL.parent} && install -m 640 -o www-data -g adm /dev/null {JOURNAL}")
+    run("nginx -s reopen && sleep 1")
     acts = [{**HOLD, "code": f"F-{number}"} for number in range(200)]
     with place.StandIn(port, b"[]"):
         same("without room for its line an act is done", post(f"{folder}acts", acts).status, 200)
     time.sleep(0.5)
     said = run("cat /var/log/nginx/office.error.log").stdout
-    judge("and the log of errors says so", "No space left on device" in said and "acts.log" in said, said[-400:])
-    run(f"umount {JOURNAL.parent}")
+    judge("and the log of errors says so", f'write() to "{JOURNAL}" was incomplete' in said, said[-400:])
+    run(f"umount --lazy {JOURNAL.parent} && nginx -s reopen && sleep 1")

@@ -33,8 +33,9 @@ class Answer(NamedTuple):
 
 
 def run(command: str, folder: pathlib.Path = TOP) -> subprocess.CompletedProcess[str]:
-    return subprocess.run(["bash", "-c", command], cwd=folder, env={**os.environ, "PASSWORD": PASSWORD, "LC_ALL": "C"},
-                          stdin=subprocess.DEVNULL, stdout=subprocess.PIPE, stderr=subprocess.STDOUT, text=True, timeout=120)
+    env = {**os.environ, "PASSWORD": PASSWORD, "LC_ALL": "C"}
+    return subprocess.run(["bash", "-c", command], cwd=folder, env=env, stdin=subprocess.DEVNULL,
+                          stdout=subprocess.PIPE, stderr=subprocess.STDOUT, text=True, timeout=120)
 
 
 def commands() -> list[str]:
@@ -56,7 +57,7 @@ def install(site: str) -> None:
 
 
 def start() -> None:
-    """nginx as its unit starts it. Its workers cannot write their temporary files, so a body or an answer that needs one is a failure."""
+    """nginx as its unit starts it. Its workers can write no temporary file: a body or an answer that needs one fails."""
     done = run("nginx -g 'daemon on; master_process on;'")
     judge("nginx starts", done.returncode == 0, done.stdout)
     run("chown root:root /var/lib/nginx/* && chmod 700 /var/lib/nginx/*")
@@ -89,7 +90,8 @@ class Office:
             program.chmod(0o755)
         folder.mkdir(exist_ok=True)
         shutil.chown(folder, "office", "office")
-        words = ["setpriv", "--reuid", "office", "--regid", "office", "--clear-groups", program, "serve", f"{folder}/{port}.db", str(port), "1000000"]
+        words = ["setpriv", "--reuid", "office", "--regid", "office", "--clear-groups",
+                 program, "serve", f"{folder}/{port}.db", str(port), "1000000"]
         self.process = subprocess.Popen(words, stdin=subprocess.DEVNULL, stdout=subprocess.PIPE, text=True)
         line = self.process.stdout.readline()
         if line != f"listening 127.0.0.1:{port}\n":
@@ -120,7 +122,8 @@ class StandIn:
                     if line.lower().startswith(b"content-length:"):
                         length = int(line.split(b":")[1])
                 asked.read(length)
-                conn.sendall(b"HTTP/1.1 200 OK\r\nContent-Length: %d\r\nConnection: close\r\n\r\n" % len(self.body) + self.body)
+                head = b"HTTP/1.1 200 OK\r\nContent-Length: %d\r\nConnection: close\r\n\r\n" % len(self.body)
+                conn.sendall(head + self.body)
 
     def __enter__(self) -> "StandIn":
         return self
@@ -137,6 +140,11 @@ def context() -> ssl.SSLContext:
     return ssl.create_default_context(cafile=CERTIFICATE)
 
 
+def connection(source: str, timeout: float) -> http.client.HTTPSConnection:
+    """A connection to nginx from this address."""
+    return http.client.HTTPSConnection("localhost", context=context(), timeout=timeout, source_address=(source, 0))
+
+
 def authorization(name: str = "registrar", password: str = PASSWORD) -> dict[str, str]:
     return {"Authorization": "Basic " + base64.b64encode(f"{name}:{password}".encode()).decode()}
 
@@ -144,7 +152,7 @@ def authorization(name: str = "registrar", password: str = PASSWORD) -> dict[str
 def ask(method: str, path: str, body: bytes | None = None, name: str | None = "registrar", password: str = PASSWORD,
         fields: dict[str, str] | None = None, source: str = "127.0.0.1") -> Answer:
     """A program asks nginx, by this name and password, from an address of its own."""
-    conn = http.client.HTTPSConnection("localhost", context=context(), timeout=120, source_address=(source, 0))
+    conn = connection(source, 120)
     who = {} if name is None else authorization(name, password)
     try:
         conn.request(method, path, body, {**who, **(fields or {})})

@@ -1,5 +1,4 @@
 """Slow clients: of heads, of answers, and very many connections of one address."""
-import http.client
 import multiprocessing
 import socket
 import ssl
@@ -14,12 +13,12 @@ ATTACK = ["slowhttptest", "-H", "-c", "1000", "-r", "300", "-i", "5", "-l", "30"
 
 
 def probes(path: str, count: int, every: float) -> list[tuple[int, float]]:
-    """So many requests of another client, without a password, each with a limit of two seconds: status (0 for none) and seconds."""
+    """So many requests of another client, without a password: status (0 after two seconds without one) and seconds."""
     seen = []
     for _ in range(count):
         began = time.monotonic()
         try:
-            conn = http.client.HTTPSConnection("localhost", context=context(), timeout=2, source_address=("127.0.0.8", 0))
+            conn = place.connection("127.0.0.8", 2)
             conn.request("GET", path)
             status = conn.getresponse().status
             conn.close()
@@ -32,7 +31,7 @@ def probes(path: str, count: int, every: float) -> list[tuple[int, float]]:
 
 
 def slow_heads(count: int) -> None:
-    """So many clients that name the site and then send a line of a head every five seconds; those that nginx ends come again."""
+    """So many clients that name the site and then send a line of a head every five seconds. One that is ended comes again."""
     any_name = ssl.create_default_context()
     any_name.check_hostname, any_name.verify_mode = False, ssl.CERT_NONE
     clients: list[ssl.SSLSocket] = []
@@ -89,7 +88,7 @@ def heads(folder: str) -> None:
 
 def answered(attack: str, seen: list[tuple[int, float]]) -> None:
     print("    probes:", seen)
-    judge(f"{attack}: 12 of 12 probes are answered within two seconds", [status for status, _ in seen] == [401] * 12, seen)
+    same(f"{attack}: 12 of 12 probes are answered within two seconds", [status for status, _ in seen], [401] * 12)
 
 
 def connections() -> None:

@@ -10,8 +10,8 @@ RSA = (f"openssl req -x509 -newkey rsa:2048 -nodes -days 2 -subj /CN=localhost -
 
 
 def shaken(words: str) -> bool:
-    call = f"openssl s_client -connect 127.0.0.1:443 -servername localhost -CAfile {AT}.crt -verify_return_error {words} </dev/null"
-    return run(call).returncode == 0
+    call = f"openssl s_client -connect 127.0.0.1:443 -servername localhost -CAfile {AT}.crt -verify_return_error"
+    return run(f"{call} {words}").returncode == 0
 
 
 def versions() -> None:
