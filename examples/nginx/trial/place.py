@@ -57,7 +57,7 @@ def install(site: str) -> None:
 
 
 def start() -> None:
-    """nginx as its unit starts it. Its workers can write no temporary file: a body or an answer that needs one fails."""
+    """nginx as its unit starts it. Its workers can write no temporary file, so what would need one fails."""
     done = run("nginx -g 'daemon on; master_process on;'")
     judge("nginx starts", done.returncode == 0, done.stdout)
     run("chown root:root /var/lib/nginx/* && chmod 700 /var/lib/nginx/*")

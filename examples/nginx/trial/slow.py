@@ -31,7 +31,7 @@ def probes(path: str, count: int, every: float) -> list[tuple[int, float]]:
 
 
 def slow_heads(count: int) -> None:
-    """So many clients that name the site and then send a line of a head every five seconds. One that is ended comes again."""
+    """So many clients that name the site and send a line of a head every five seconds. One that is ended comes again."""
     any_name = ssl.create_default_context()
     any_name.check_hostname, any_name.verify_mode = False, ssl.CERT_NONE
     clients: list[ssl.SSLSocket] = []
