@@ -1,6 +1,7 @@
-"""A place to try the page in: an office that `office serve` serves, and nginx with examples/nginx/office.conf before it.
+"""A place to try the page in: an office that `office serve` serves, and nginx with the site examples/nginx/office.conf before it.
 
-The configuration is the one of the repository; its ports, folders and files of its own are put in place of those that it names.
+The site is the one of the repository, with the files that it includes. Ports, folders and files of this trial are put
+in place of those that it names.
 """
 import base64
 import http.client
@@ -14,6 +15,20 @@ import time
 TOP = pathlib.Path(__file__).resolve().parent.parent.parent
 OFFICE = os.environ.get("OFFICE", str(TOP / "office"))
 NAME, PASSWORD = "registrar", "a long one"
+NGINX = TOP / "examples/nginx"
+# in place of Debian's nginx.conf
+MAIN = """user www-data;
+worker_processes 1;
+pid {folder}/nginx.pid;
+daemon off;
+error_log {folder}/error.log;
+events {{
+    worker_connections 512;
+}}
+http {{
+{site}
+}}
+"""
 
 
 def free_port():
@@ -23,7 +38,7 @@ def free_port():
 
 def replaced(text, old, new):
     if old not in text:
-        raise SystemExit(f"examples/nginx/office.conf does not say {old!r}")
+        raise SystemExit(f"the site of examples/nginx does not say {old!r}")
     return text.replace(old, new)
 
 
@@ -75,7 +90,7 @@ class Proxy:
         self.page = f"{self.address}/web/"
         self.keys()
         self.conf = self.folder / conf
-        self.conf.write_text(self.configured((TOP / "examples/nginx" / conf).read_text(), office_port))
+        self.conf.write_text(MAIN.format(folder=self.folder, site=self.configured((NGINX / conf).read_text(), office_port)))
         self.process = None
 
     def keys(self):
@@ -87,13 +102,19 @@ class Proxy:
 
     def configured(self, text, office_port):
         self.web = self.folder / "web"
+        for name in ("http.conf", "server.conf", "actors.conf"):
+            text = replaced(text, f"include /etc/nginx/office/{name};", (NGINX / name).read_text())
         for old, new in [
+            ("listen 443 ssl default_server;", f"listen 127.0.0.1:{self.port} ssl default_server;"),
             ("listen 443 ssl;", f"listen 127.0.0.1:{self.port} ssl;"),
+            ("listen 80;", f"listen 127.0.0.1:{free_port()};"),
+            ('https://$server_name" $from_here', f'https://$server_name:{self.port}" $from_here'),
             ("127.0.0.1:8080", f"127.0.0.1:{office_port}"),
             ("/usr/local/share/office/web/", f"{self.web}/"),
-            ("pid /run/nginx-office.pid;", f"pid {self.folder}/nginx.pid;\ndaemon off;"),
+            ("/etc/nginx/office/", f"{self.folder}/"),
             ("/var/log/nginx/office.error.log", f"{self.folder}/error.log"),
             ("/var/log/nginx/office.access.log", f"{self.folder}/access.log"),
+            ("/var/log/office/acts.log", f"{self.folder}/acts.log"),
         ]:
             text = replaced(text, old, new)
         return text

@@ -1,0 +1,126 @@
+"""Slow clients: of heads, of answers, and very many connections of one address."""
+import multiprocessing
+import socket
+import ssl
+import subprocess
+import time
+
+from trial import place
+from trial.judging import judge, same
+from trial.place import ask, connected, context, run
+
+ATTACK = ["slowhttptest", "-H", "-c", "1000", "-r", "300", "-i", "5", "-l", "30", "-u", "https://localhost/web/"]
+
+
+def probes(path: str, count: int, every: float) -> list[tuple[int, float]]:
+    """So many requests of another client, without a password: status (0 after two seconds without one) and seconds."""
+    seen = []
+    for _ in range(count):
+        began = time.monotonic()
+        try:
+            conn = place.connection("127.0.0.8", 2)
+            conn.request("GET", path)
+            status = conn.getresponse().status
+            conn.close()
+        except OSError:
+            status = 0
+        took = time.monotonic() - began
+        seen.append((status, round(took, 2)))
+        time.sleep(max(0.0, every - took))
+    return seen
+
+
+def slow_heads(count: int) -> None:
+    """So many clients that name the site and send a line of a head every five seconds. One that is ended comes again."""
+    any_name = ssl.create_default_context()
+    any_name.check_hostname, any_name.verify_mode = False, ssl.CERT_NONE
+    clients: list[ssl.SSLSocket] = []
+    sent = time.monotonic()
+    while True:
+        if len(clients) < count:
+            try:
+                conn = any_name.wrap_socket(connected("127.0.0.7"), server_hostname="localhost")
+                conn.sendall(b"GET / HTTP/1.1\r\nHost: localhost\r\n")
+                clients.append(conn)
+            except OSError:
+                time.sleep(0.05)
+        if len(clients) == count or time.monotonic() - sent > 5:
+            sent = time.monotonic()
+            clients = [conn for conn in clients if goes_on(conn)]
+            time.sleep(0.2)
+
+
+def goes_on(conn: ssl.SSLSocket) -> bool:
+    try:
+        conn.sendall(b"X-A: b\r\n")
+        return True
+    except OSError:
+        conn.close()
+        return False
+
+
+def held() -> int:
+    """How many connections nginx holds at port 443."""
+    return len(run("ss -Htn state established '( sport = :443 )'").stdout.splitlines())
+
+
+def heads(folder: str) -> None:
+    """Without the rules of nftables, which would let 64 of these connections through."""
+    run("nft delete table inet office")
+    path = f"{folder}web/"
+    print("    probes before:", probes(path, 4, 0.5))
+    attack = subprocess.Popen(ATTACK, stdin=subprocess.DEVNULL, stdout=subprocess.DEVNULL, stderr=subprocess.STDOUT)
+    answered("slowhttptest with 1,000 connections", probes(path, 12, 2.5))
+    attack.terminate()
+    attack.wait()
+    slow = multiprocessing.Process(target=slow_heads, args=(1000,), daemon=True)
+    slow.start()
+    time.sleep(8)
+    print(f"    slow heads that nginx holds: {held()}")
+    answered("slow heads that name the site", probes(path, 12, 1))
+    print(f"    slow heads that nginx holds: {held()}")
+    slow.terminate()
+    slow.join()
+    log = run("cat /var/log/nginx/error.log").stdout
+    same("no worker was out of connections", log.count("worker_connections are not enough"), 0)
+    run("nft -f /etc/office.nft")
+
+
+def answered(attack: str, seen: list[tuple[int, float]]) -> None:
+    print("    probes:", seen)
+    same(f"{attack}: 12 of 12 probes are answered within two seconds", [status for status, _ in seen], [401] * 12)
+
+
+def connections() -> None:
+    """The rule of 64 connections for each address."""
+    taken, refused = [], 0
+    for _ in range(80):
+        try:
+            taken.append(connected("127.0.0.9"))
+        except OSError:
+            refused += 1
+    same("80 connections of one address: taken, refused", (len(taken), refused), (64, 16))
+    same("another address is served", ask("GET", "/nothing", source="127.0.0.10").status, 404)
+    for it in taken:
+        it.close()
+
+
+LONG = b"x" * 3_000_000
+
+
+def long_answer(folder: str, port: int) -> None:
+    """A long answer to a client that does not read keeps nobody waiting, and no file of nginx is needed for it."""
+    stand_in = place.StandIn(port, LONG)
+    conn = socket.socket()
+    conn.setsockopt(socket.SOL_SOCKET, socket.SO_RCVBUF, 4096)
+    conn.connect(("127.0.0.1", 443))
+    slow = context().wrap_socket(conn, server_hostname="localhost")
+    who = "\r\n".join(f"{name}: {value}" for name, value in place.authorization().items())
+    slow.sendall(f"GET {folder}due/2025-01-03 HTTP/1.1\r\nHost: localhost\r\n{who}\r\n\r\n".encode())
+    time.sleep(1)
+    began = time.monotonic()
+    same("another is answered", ask("GET", f"{folder}records/1").body, LONG)
+    judge("a client that does not read keeps nobody waiting", time.monotonic() - began < 10)
+    slow.close()
+    judge("an answer of 3 MB comes as a whole", ask("GET", f"{folder}due/2025-01-03").body == LONG)
+    stand_in.end()
