@@ -1,0 +1,71 @@
+"""A place of its own for a run: its mounts, its network and its processes end with it, and are no other run's."""
+import os
+import pathlib
+import shutil
+import signal
+import subprocess
+import sys
+import tempfile
+import time
+
+# in these the pages write: a run has copies, or folders with links to what was there
+COPIED = ["/etc"]
+LINKED = ["/usr/local/bin", "/usr/local/share", "/var/lib"]
+EMPTY = ["/var/log/nginx", "/run"]
+SPACE = ["unshare", "--mount", "--net", "--pid", "--fork", "--kill-child", "--mount-proc"]
+
+
+def can_be_made() -> bool:
+    """Whether this machine lets such a place be made."""
+    return subprocess.run([*SPACE, "true"], stdin=subprocess.DEVNULL).returncode == 0
+
+
+def run_in_own(script: str, operands: list[str]) -> int:
+    """Runs `script --inside FOLDER OPERAND ..` there, in a new folder. Whatever happens to this process, all that ran there is ended."""
+    signal.signal(signal.SIGTERM, lambda *_: sys.exit(143))
+    place = tempfile.mkdtemp(prefix="pages-")
+    os.chmod(place, 0o755)
+    words = ["setpriv", "--pdeathsig", "KILL", *SPACE, sys.executable, script, "--inside", place, *operands]
+    child = None
+    try:
+        child = subprocess.Popen(words, stdin=subprocess.DEVNULL)
+        return child.wait()
+    finally:
+        if child is not None:
+            child.kill()
+            child.wait()
+        removed(place)
+
+
+def removed(place: str) -> None:
+    """Takes the folder away, once the last process there has ended."""
+    for _ in range(50):
+        shutil.rmtree(place, ignore_errors=True)
+        if not os.path.exists(place):
+            return
+        time.sleep(0.1)
+
+
+def linked(name: str, before: pathlib.Path, copy: pathlib.Path) -> None:
+    """Makes a folder with a link to each thing that was there, which is seen at `before` from now on."""
+    before.mkdir()
+    copy.mkdir()
+    subprocess.run(["mount", "--bind", name, before], check=True)
+    for it in os.listdir(name):
+        there = os.path.realpath(os.path.join(name, it))
+        within = os.path.relpath(there, name)
+        (copy / it).symlink_to(there if within.startswith("..") else before / within)
+
+
+def make(place: pathlib.Path) -> None:
+    """Lays copies over what the pages write, and brings the loopback up."""
+    for at, name in enumerate(COPIED + LINKED + EMPTY):
+        copy = place / f"own-{at}"
+        if name in COPIED:
+            subprocess.run(["cp", "-a", name, copy], check=True)
+        elif name in LINKED:
+            linked(name, place / f"before-{at}", copy)
+        else:
+            copy.mkdir()
+        subprocess.run(["mount", "--bind", copy, name], check=True)
+    subprocess.run(["ip", "link", "set", "lo", "up"], check=True)
