@@ -1,8 +1,8 @@
-"""docs/HTTP.md, after the commands of examples/city_archive/README.md, as it says."""
+"""examples/city_archive/README.md, and then docs/HTTP.md, whose office is the one of that page."""
 import base64
 import json
 
-from pages_run.commands import TOP, blocks, commands
+from pages_run.commands import TOP, blocks
 from pages_run.expected import Row, run_page
 from pages_run.judging import judge
 from pages_run.shell import Shell
@@ -55,11 +55,6 @@ ROWS = [
 ]
 
 
-def run_city(shell: Shell) -> None:
-    run_page(shell, f"{STORY}/README.md", CITY_ROWS)
-
-
 def run(shell: Shell) -> None:
-    for command in commands(f"{STORY}/README.md"):
-        shell.run(command.line)
+    run_page(shell, f"{STORY}/README.md", CITY_ROWS)
     run_page(shell, PAGE, ROWS)

@@ -20,15 +20,22 @@ def can_be_made() -> bool:
     return subprocess.run([*SPACE, "true"], stdin=subprocess.DEVNULL).returncode == 0
 
 
+def ended_by_signal(*_: object) -> None:
+    """Ends this process once, however often it is asked to, so that what follows is done."""
+    signal.signal(signal.SIGTERM, signal.SIG_IGN)
+    sys.exit(143)
+
+
 def run_in_own(script: str, operands: list[str]) -> int:
     """Runs `script --inside FOLDER OPERAND ..` there, in a new folder. Whatever happens to this process, all that ran there is ended."""
-    signal.signal(signal.SIGTERM, lambda *_: sys.exit(143))
+    signal.signal(signal.SIGTERM, ended_by_signal)
     place = tempfile.mkdtemp(prefix="pages-")
     os.chmod(place, 0o755)
     words = ["setpriv", "--pdeathsig", "KILL", *SPACE, sys.executable, script, "--inside", place, *operands]
     child = None
     try:
-        child = subprocess.Popen(words, stdin=subprocess.DEVNULL)
+        # in a group of its own, so that a signal to this one's group comes here alone
+        child = subprocess.Popen(words, stdin=subprocess.DEVNULL, process_group=0)
         return child.wait()
     finally:
         if child is not None:
