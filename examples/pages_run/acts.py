@@ -14,7 +14,8 @@ def is_late(shell: Shell) -> None:
     shell.path("today.json").write_text(TODAY)
     shell.run("cp first.db backup.db")
     done = shell.run("./office apply first.db late.json && ./office apply first.db today.json")
-    judge("after an act with a late day, a hold of today is refused", done.out == '{"number":2}\n{"refused":1}\n', f"{done}")
+    refused = done.out == '{"number":2}\n{"refused":1}\n'
+    judge("after an act with a late day, a hold of today is refused", refused, f"{done}")
     done = shell.run("rm -f first.db first.db-wal && cp backup.db first.db && ./office apply first.db today.json")
     judge("the backup from before takes it", done.out == '{"done":true}\n', f"{done}")
 

@@ -16,7 +16,8 @@ def judge_rules(shell: Shell) -> None:
     plan = (TOP / "examples/plan/usual.plan").read_text()
     planned = {line.split(" ", 2)[2] for line in plan.splitlines() if line.startswith("schedule ")}
     rules = RULE.findall((TOP / PAGE).read_text())
-    judge(f"{PAGE}: its rules are the schedules of usual.plan", {" ".join(rule[:5]) for rule in rules} == planned, f"{rules}")
+    written = {" ".join(rule[:5]) for rule in rules}
+    judge(f"{PAGE}: its rules are the schedules of usual.plan", written == planned, f"{rules}")
     for trigger, unit, count, offset, action, start, due in rules:
         name = f"{PAGE}: {trigger} {unit} {count} {offset} {action}, from {start}, is due on {due}"
         done = shell.run(f"./office due {unit} {count} {offset} {start}")

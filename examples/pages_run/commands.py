@@ -6,8 +6,9 @@ from typing import NamedTuple
 TOP = pathlib.Path(__file__).resolve().parent.parent.parent
 # what a block of commands begins with; other blocks show a file or an output
 PROGRAMS = {
-    "./office", "adduser", "cd", "chgrp", "chmod", "cp", "curl", "head", "htpasswd", "install", "mkdir", "nginx", "office",
-    "office-backup", "openssl", "rm", "rsync", "rt", "sha256sum", "sqlite3", "systemctl", "systemd-analyze", "umask",
+    "./office", "adduser", "cd", "chgrp", "chmod", "cp", "curl", "head", "htpasswd", "install", "mkdir", "nginx",
+    "office", "office-backup", "openssl", "rm", "rsync", "rt", "sha256sum", "sqlite3", "systemctl", "systemd-analyze",
+    "umask",
 }
 
 

@@ -22,7 +22,8 @@ DUE = "record,ref,class,schedule,action,due,held,confirmed"
 ENTRIES = "run,record,ref,outcome,class,schedule,due,hold,confirmed_by,length,digest"
 ROWS = [
     Row("./office apply letters.db examples/import/office.json", prints='{"done":true}\n{"done":true}\n{"number":1}\n'),
-    Row("./office import letters.db 2024-01-02 examples/import/letters.csv", prints="1 number 1\n2 number 2\n3 number 3\n"),
+    Row("./office import letters.db 2024-01-02 examples/import/letters.csv",
+        prints="1 number 1\n2 number 2\n3 number 3\n"),
     Row("./office apply registers.db examples/registers/office.json"),
     Row("./office export registers.db 2025-01-02 > due.csv", prints="", then=has("due.csv", 4, DUE)),
     Row("./office export registers.db entries > entries.csv", prints="", then=has("entries.csv", 0, ENTRIES)),

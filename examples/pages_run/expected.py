@@ -49,7 +49,7 @@ def run(shell: Shell, page: str, command: Command, row: Row) -> None:
 
 
 def run_page(shell: Shell, page: str, rows: Sequence[Row]) -> None:
-    """Runs each command of the page by the first row that it begins with. A command or a row that is left over fails."""
+    """Runs each command of the page by the first row that it begins with. A command or a row left over fails."""
     unused = list(rows)
     for command in commands(page):
         row = next((it for it in rows if command.line.startswith(it.start)), None)

@@ -19,7 +19,8 @@ CITY_ROWS = [
     Row("./office apply alderquay.db examples/city_archive/1-schedule.json", prints=output("1-schedule.out")),
     Row("./office apply alderquay.db examples/city_archive/2-holdings.json", prints=output("2-holdings.out")),
     Row("./office apply alderquay.db examples/city_archive/3-lawsuit.json", prints=output("3-lawsuit.out"), status=1),
-    Row("./office apply alderquay.db examples/city_archive/4-confirmed.json", prints=output("4-confirmed.out"), status=1),
+    Row("./office apply alderquay.db examples/city_archive/4-confirmed.json",
+        prints=output("4-confirmed.out"), status=1),
     Row("./office resume alderquay.db", like=r"certificate [12]\n"),
     Row("./office certificate alderquay.db 1", prints=output("certificate-1.txt")),
     Row("./office apply alderquay.db examples/city_archive/5-lifted.json", prints=output("5-lifted.out")),
@@ -35,13 +36,15 @@ def joined(start: str) -> str:
 
 def is_content(shell: Shell) -> None:
     acts = [act for act in json.loads(output("2-holdings.json")) if act["act"] == "add-record"]
-    judge("it is the content of record 20", shell.path("permit.txt").read_bytes() == base64.b64decode(acts[19]["content"]))
+    same = shell.path("permit.txt").read_bytes() == base64.b64decode(acts[19]["content"])
+    judge("it is the content of record 20", same)
 
 
 def is_sorted(shell: Shell) -> None:
     rows = json.loads(shell.run("curl --silent $http/due/2025-01-01").out)
     due = [(row["due"], row["record"]) for row in rows]
-    judge("it is sorted by due day and number, up to the day", due == sorted(due) and due[-1][0] <= "2025-01-01", f"{due}")
+    holds = due == sorted(due) and due[-1][0] <= "2025-01-01"
+    judge("it is sorted by due day and number, up to the day", holds, f"{due}")
 
 
 ROWS = [

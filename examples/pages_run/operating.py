@@ -57,7 +57,7 @@ PROXIED = [
 
 
 def proxied(shell: Shell) -> None:
-    """Two offices behind one nginx: the first answers, a second that is not there is 502, and once it is there it answers."""
+    """Two offices behind one nginx: the first answers, the second is 502 until it is there."""
     call = "curl --silent --output /dev/null --write-out %{http_code} --cacert /etc/nginx/office/office.crt"
     for words, path, wanted in PROXIED:
         done = shell.run(f"{call} {words} https://localhost/{path}")
@@ -85,7 +85,8 @@ def backed_up(shell: Shell) -> None:
         busy.wait()
     judge("office-backup copies an office that is busy", (done.status, done.out) == (0, "CERTIFICATE 2\n"), f"{done}")
     done = shell.run(f"office init {CITY}")
-    judge("another office gets fault 31 while one serves", (done.status, done.err) == (3, "office: fault 31\n"), done.err)
+    locked = (done.status, done.err) == (3, "office: fault 31\n")
+    judge("another office gets fault 31 while one serves", locked, done.err)
     done = shell.run(f"sqlite3 {CITY} 'SELECT count(*) FROM records'")
     judge("sqlite3 says that the database is locked", done.status != 0 and "locked" in done.err, done.err)
 

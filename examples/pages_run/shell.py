@@ -20,7 +20,7 @@ class Done(NamedTuple):
 
 
 def launcher(folder: pathlib.Path) -> None:
-    """Puts the launcher into a folder, over the program that is tried. Its sources there are one file, as it was built of."""
+    """Puts the launcher into a folder, over the program that is tried. Its sources there are one file alone."""
     shutil.copy(TOP / "office", folder / "office")
     shutil.copy(TOP / "crates.txt", folder / "crates.txt")
     out = folder / "crates/office/out"
@@ -31,7 +31,7 @@ def launcher(folder: pathlib.Path) -> None:
 
 
 class Shell:
-    """Runs commands in a new folder. It is to be used by `with`: what it started and still serves is ended at the end."""
+    """Runs commands in a new folder. Used by `with`, what it started and still serves is ended at the end."""
 
     def __init__(self, folder: pathlib.Path) -> None:
         self.folder = folder

@@ -27,7 +27,7 @@ def ended_by_signal(*_: object) -> None:
 
 
 def run_in_own(script: str, operands: list[str]) -> int:
-    """Runs `script --inside FOLDER OPERAND ..` there, in a new folder. Whatever happens to this process, all that ran there is ended."""
+    """Runs `script --inside FOLDER OPERAND ..` there, in a new folder. Whatever ends this process ends all of it."""
     signal.signal(signal.SIGTERM, ended_by_signal)
     place = tempfile.mkdtemp(prefix="pages-")
     os.chmod(place, 0o755)
@@ -46,7 +46,7 @@ def run_in_own(script: str, operands: list[str]) -> int:
 
 def removed(place: str) -> None:
     """Takes the folder away, once the last process there has ended."""
-    for _ in range(50):
+    for _ in range(300):
         shutil.rmtree(place, ignore_errors=True)
         if not os.path.exists(place):
             return
