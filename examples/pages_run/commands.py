@@ -4,11 +4,11 @@ import re
 from typing import NamedTuple
 
 TOP = pathlib.Path(__file__).resolve().parent.parent.parent
-# what a block of commands begins with; other blocks show a file or an output
+# what a block of commands begins with, beside the office's own programs; other blocks show a file or an output
 PROGRAMS = {
-    "./office", "adduser", "cd", "chgrp", "chmod", "cp", "curl", "head", "htpasswd", "install", "mkdir", "nginx",
-    "office", "office-backup", "openssl", "rm", "rsync", "rt", "sha256sum", "sqlite3", "systemctl", "systemd-analyze",
-    "umask",
+    "adduser", "apt-get", "cd", "chattr", "chgrp", "chmod", "chown", "cp", "curl", "echo", "grep", "head", "htpasswd",
+    "install", "journalctl", "ln", "mkdir", "mv", "nft", "nginx", "openssl", "printf", "rm", "rsync", "rt", "runuser",
+    "sed", "setfacl", "sha256sum", "sqlite3", "systemctl", "systemd-analyze", "tail", "umask",
 }
 
 
@@ -32,6 +32,11 @@ def blocks(page: str) -> list[list[str]]:
     return found
 
 
+def is_program(word: str) -> bool:
+    """Whether a block whose first word is this has commands."""
+    return word in PROGRAMS or re.fullmatch(r"(\./)?(examples/\S+|office(-[a-z]+)?)", word) is not None
+
+
 def commands(page: str) -> list[Command]:
     """The commands of a page, in their order; those of its tables come last."""
     found: list[Command] = []
@@ -42,7 +47,7 @@ def commands(page: str) -> list[Command]:
                     found.append(Command(line[2:], []))
                 else:
                     found[-1].shown.append(line)
-        elif block[0].split(" ")[0] in PROGRAMS:
+        elif is_program(block[0].split(" ")[0]):
             found += [Command(line, None) for line in block]
     found += [Command(it, None) for it in re.findall(r"\| `(curl [^`]+)` \|", (TOP / page).read_text())]
     return found
