@@ -54,11 +54,14 @@ def removed(place: str) -> None:
 
 
 def linked(name: str, before: pathlib.Path, copy: pathlib.Path) -> None:
-    """Makes a folder with a link to each thing that was there, which is seen at `before` from now on."""
+    """Makes a folder with a link to each thing that was there, which is seen at `before` from now on. What is the
+    office's own is left out, so that the pages find none and write into none."""
     before.mkdir()
     copy.mkdir()
     subprocess.run(["mount", "--bind", name, before], check=True)
     for it in os.listdir(name):
+        if it.startswith("office"):
+            continue
         there = os.path.realpath(os.path.join(name, it))
         within = os.path.relpath(there, name)
         (copy / it).symlink_to(there if within.startswith("..") else before / within)
