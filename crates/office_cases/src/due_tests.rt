@@ -20,6 +20,13 @@ pub(crate) const ROWS: &str = r"
     due days 0 quarter 2024-01-01 = 2024-01-01\n
     due days 0 quarter 2024-10-02 = 2025-01-01\n
     due years 7 from-month-4 2017-06-30 = 2025-04-01\n
+    # usual rules: after the end of a year, also of one from April; its first day, which stays; at least 72 hours
+    due years 10 from-month-1 2024-12-31 = 2035-01-01\n
+    due years 10 from-month-1 2024-01-02 = 2035-01-01\n
+    due years 10 from-month-1 2024-01-01 = 2034-01-01\n
+    due years 6 from-month-4 2024-03-31 = 2030-04-01\n
+    due years 6 from-month-4 2023-04-01 = 2029-04-01\n
+    due days 4 none 2024-01-02 = 2024-01-06\n
     # the greatest due day, and zeros in front of a count
     due years 500 from-month-12 2999-12-31 = 3500-12-01\n
     due years 00000000000000000000007 none 2017-06-30 = 2024-06-30\n

@@ -37,6 +37,9 @@ pub(crate) const ROWS: &str = r"
     # the last addition is the greatest day
     plan schedule L last-addition days 30 none destroy\nclass FIN L\naggregation FIN -\nrecord 1 - - 2024-01-02 2024-03-01\nrecord 1 - - 2024-01-02 2024-01-02\n = 1 2024-03-31\n2 2024-03-31\n
 
+    # made on 1 January: in the aggregation of the year, closed on 31 December; by its own day. After an event
+    plan schedule B closed years 10 from-month-1 destroy\nschedule D origin years 10 from-month-1 destroy\nschedule E closed years 2 none destroy\nclass FIN B\naggregation FIN -\naggregation FIN -\nrecord 1 - - 2024-01-01 2024-01-02\nrecord 1 - D 2024-01-01 2024-01-02\nrecord 2 - E 2020-01-07 2020-01-07\nclose 1 2024-12-31\nclose 2 2024-06-30\n = 1 2035-01-01\n2 2034-01-01\n3 2026-06-30\n
+
     # a further line that is refused
     plan CLOSED + aggregation - - = line 11 refused 10
     plan CLOSED + aggregation FIN 2 = line 11 refused 7

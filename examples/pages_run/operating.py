@@ -1,0 +1,174 @@
+"""docs/OPERATING.md: a row for each of its commands, and in between what systemd would do."""
+import http.client
+import json
+import os
+import re
+import subprocess
+
+from pages_run.commands import TOP
+from pages_run.expected import Row, run_page
+from pages_run.files import FIRST, alone, judge_alone
+from pages_run.judging import judge
+from pages_run.shell import Shell
+
+PAGE = "docs/OPERATING.md"
+CITY = "/var/lib/office/city/office.db"
+SERVES = f"office serve {CITY} 8081 1000000"
+
+
+def unit_words() -> str:
+    """How the unit calls the program, for the office city."""
+    unit = (TOP / "examples/service/office@.service").read_text()
+    words = re.search(r"^ExecStart=/usr/local/bin/(.*)$", unit, re.M)[1].replace("%i", "city")
+    port = re.search(r"^PORT=(\d+)$", (TOP / "examples/service/city.conf").read_text(), re.M)[1]
+    return words.replace("${PORT}", port)
+
+
+def city_serves(shell: Shell) -> None:
+    """In place of systemd: what the unit calls, with the office of the city archive."""
+    units = [f"/etc/systemd/system/{it}" for it in os.listdir("/etc/systemd/system") if it.startswith("office-")]
+    done = shell.run(f"systemd-analyze verify {' '.join(sorted(units))}")
+    judge("systemd-analyze takes the other units", done.status == 0 and len(units) > 1, done.err)
+    judge("the unit calls what is run here", unit_words() == SERVES, unit_words())
+    os.makedirs(os.path.dirname(CITY))
+    shell.run(f"office apply {CITY} examples/city_archive/story.json")
+    line = shell.serve(SERVES)
+    judge("the office of the unit listens", line == "listening 127.0.0.1:8081\n", line)
+
+
+def nginx_starts(shell: Shell) -> None:
+    """In place of systemd: Debian's nginx, with the site."""
+    done = shell.run("nginx")
+    judge("nginx starts with the site", done.status == 0, done.err)
+
+
+def is_due_list(shell: Shell) -> None:
+    done = shell.run('curl --silent http://127.0.0.1:8081/due/2025-01-01')
+    judge("it is a due list", done.out.startswith("[{") and json.loads(done.out)[0]["record"] > 0, done.out)
+    proxied(shell)
+
+
+# what nginx answers: the words of curl, the path, the status
+PROXIED = [
+    ("", "city/records/1", "401"),
+    ('--user "registrar:$PASSWORD"', "city/records/1", "200"),
+    ('--user "registrar:$PASSWORD"', "court/records/1", "502"),
+    ('--user "registrar:$PASSWORD"', "records/1", "404"),
+    ("", "city/web/", "401"),
+    ('--user "registrar:$PASSWORD"', "city/web/", "200"),
+    ('--user "registrar:$PASSWORD"', "court/web/texts/en.json", "200"),
+    ('--user "registrar:$PASSWORD" --data-binary "[]"', "city/acts", "403"),
+    ('--user "registrar:$PASSWORD" --data-binary "[]" --header "Origin: https://elsewhere"', "city/acts", "403"),
+]
+
+
+def proxied(shell: Shell) -> None:
+    """Two offices behind one nginx: the first answers, the second is 502 until it is there."""
+    call = "curl --silent --output /dev/null --write-out %{http_code} --cacert /etc/nginx/office/office.crt"
+    for words, path, wanted in PROXIED:
+        done = shell.run(f"{call} {words} https://localhost/{path}")
+        judge(f"nginx: /{path} {words or 'without a password'} is {wanted}", done.out == wanted, done.out)
+    shell.serve("./office serve court.db 8082 1")
+    done = shell.run(f'{call} --user "registrar:$PASSWORD" https://localhost/court/certificates/1')
+    judge("nginx: a second office answers for itself", done.out == "404", done.out)
+    shell.end()
+
+
+BUSY = """while :; do
+    curl --silent --data-binary '[{"act":"open-run","day":"2023-11-20","by":"busy"}]' http://127.0.0.1:8081/acts
+    curl --silent -X POST http://127.0.0.1:8081/run/resume
+done"""
+
+
+def backed_up(shell: Shell) -> None:
+    """office-backup beside a service whose file changes all the time."""
+    shell.run("cp city.db copies/city.db")
+    busy = subprocess.Popen(["bash", "-c", BUSY], stdout=subprocess.DEVNULL, stderr=subprocess.DEVNULL)
+    try:
+        done = shell.run(f"office-backup {CITY} busy.db && office certificate busy.db 2 | head -1")
+    finally:
+        busy.kill()
+        busy.wait()
+    judge("office-backup copies an office that is busy", (done.status, done.out) == (0, "CERTIFICATE 2\n"), f"{done}")
+    done = shell.run(f"office init {CITY}")
+    locked = (done.status, done.err) == (3, "office: fault 31\n")
+    judge("another office gets fault 31 while one serves", locked, done.err)
+    done = shell.run(f"sqlite3 {CITY} 'SELECT count(*) FROM records'")
+    judge("sqlite3 says that the database is locked", done.status != 0 and "locked" in done.err, done.err)
+
+
+def is_second(shell: Shell) -> None:
+    same = shell.path("second/city.db").read_bytes() == shell.path("city.db").read_bytes()
+    judge("the second machine has the copy", same)
+
+
+def killed(shell: Shell) -> None:
+    """An act that was answered by a service that is killed then is there when both files are opened again."""
+    shell.serve("./office serve killed.db 8090 10")
+    conn = http.client.HTTPConnection("127.0.0.1", 8090, timeout=60)
+    conn.request("POST", "/acts", (TOP / "examples/first/acts.json").read_bytes())
+    status = conn.getresponse().status
+    shell.end(kill=True)
+    log = shell.path("killed.db-wal")
+    judge("a killed service leaves its log beside FILE", status == 200 and log.stat().st_size > 0)
+    done = shell.run("office init killed.db && office resume killed.db && office certificate killed.db 1 | head -1")
+    judge("and FILE with its log has every act", done.out == "version 1\ncertificate 1\nCERTIFICATE 1\n", f"{done}")
+    judge_alone(shell, "a kill and an opening", "killed.db", {**FIRST, "runs": 1, "entries": 1, "certificates": 1})
+
+
+# one line a command, in the order of the page; the longest beginning of two comes first
+ROWS = [
+    Row("./office build"),
+    Row("./office install /usr/local/bin"),
+    Row("office init archive.db", prints="version 1\n", then=alone("init", "archive.db", {"office": 1})),
+    Row("office resume archive.db", status=1, prints=""),
+    Row("adduser --system --group"),
+    Row("mkdir -p /etc/office"),
+    Row("cp examples/service/city.conf"),
+    Row("cp examples/service/office@.service"),
+    Row("install -m 755 examples/service/office-backup"),
+    Row("systemd-analyze verify /etc/systemd/system/office@.service", then=city_serves),
+    Row("systemctl restart nginx", skip="without systemd", then=nginx_starts),
+    Row("systemctl", skip="without systemd"),
+    Row("apt-get", skip="the packages are there"),
+    Row("mkdir -p /etc/nginx/office"),
+    Row("cp -r web /usr/local/share/office/"),
+    Row("cp examples/nginx/http.conf examples/nginx/server.conf examples/nginx/actors.conf"),
+    Row("cp examples/nginx/offices.conf"),
+    Row("ln -sf ../sites-available/office"),
+    Row("rm -f /etc/nginx/sites-enabled/default"),
+    Row("openssl req -x509"),
+    Row("htpasswd -ciB -C 10 /etc/nginx/office/office.htpasswd"),
+    Row("chgrp www-data /etc/nginx/office/office.htpasswd"),
+    Row("chmod 640 /etc/nginx/office/office.htpasswd"),
+    Row("sed -i 's/worker_connections"),
+    Row("cp examples/nginx/limits.conf"),
+    Row("install -d -m 755 /var/log/office"),
+    Row("install -m 640 -o www-data -g adm /dev/null /var/log/office/acts.log"),
+    Row("chattr +a /var/log/office/acts.log"),
+    Row("cp examples/nginx/office-acts"),
+    Row("nginx -t"),
+    Row("curl --silent --show-error --cacert /etc/nginx/office/office.crt --user \"registrar:$PASSWORD\" https:",
+        like=r"\[\{.*\}\]", then=is_due_list),
+    Row("curl --silent --show-error --cacert /etc/nginx/office/office.crt --user \"registrar:$PASSWORD\" --header",
+        prints="[]"),
+    Row("cp examples/nginx/office.nft"),
+    # examples/nginx/try looks what the rules do
+    Row("nft -f /etc/office.nft", skip="these rules would close the port that is asked next"),
+    Row("echo 'include \"/etc/office.nft\"' >> /etc/nftables.conf"),
+    Row("cp archive.db backup.db"),
+    Row("office-backup /var/lib/office/city/office.db city.db", then=backed_up),
+    Row("rsync --archive", then=is_second),
+    Row("sqlite3 city.db 'PRAGMA integrity_check'", prints="ok\n"),
+    Row("sqlite3 city.db 'SELECT count(*) FROM records'", prints="33\n"),
+    Row("office init city.db", prints="version 1\n"),
+    Row("rm -f archive.db archive.db-wal"),
+    Row("cp backup.db archive.db"),
+]
+
+
+def run(shell: Shell) -> None:
+    run_page(shell, PAGE, ROWS)
+    shell.run("nginx -s quit")
+    shell.end(kill=True)
+    killed(shell)

@@ -1,0 +1,32 @@
+"""The programs that the pages call, and the packages of Debian that have them."""
+import os
+import shutil
+
+PACKAGES = {
+    "adduser": "adduser",
+    "chgrp": "coreutils",
+    "chattr": "e2fsprogs",
+    "cksum": "coreutils",
+    "curl": "curl",
+    "htpasswd": "apache2-utils",
+    "ip": "iproute2",
+    "mount": "mount",
+    "nginx": "nginx",
+    "openssl": "openssl",
+    "rsync": "rsync",
+    "setpriv": "util-linux",
+    "sqlite3": "sqlite3",
+    "systemd-analyze": "systemd",
+    "unshare": "util-linux",
+}
+
+
+def advice() -> str:
+    """What is missing on this machine and how to get it, or an empty text."""
+    if os.geteuid() != 0:
+        return "run it as root"
+    missing = sorted(tool for tool in PACKAGES if shutil.which(tool) is None)
+    if not missing:
+        return ""
+    packages = sorted({PACKAGES[tool] for tool in missing})
+    return f"missing here: {', '.join(missing)}; on Debian: apt-get install {' '.join(packages)}"
