@@ -11,11 +11,15 @@ use office_run::{Ending, open_and_run, open_and_serve, tell};
 use office_store::Fault;
 use office_words::{Order, Words, order_of, read_words};
 use sqlite::Wary;
-use std::fs::File;
+use std::fs::{File, OpenOptions};
 use std::io::{LineWriter, Read};
 use std::net::{Ipv4Addr, SocketAddr, TcpListener};
+use std::os::unix::fs::OpenOptionsExt;
 use std::process::ExitCode;
 use std::{env, io};
+
+/// What may be done with a new office's file: its owner alone reads and writes it.
+const MODE: u32 = 0o600;
 
 /// The exit status of an ending, whose line is told on standard error.
 fn ended(rt: &HostRuntime, ending: Ending) -> u8 {
@@ -43,6 +47,16 @@ fn bytes_of(rt: &HostRuntime, file: &str) -> Result<Vec<u8>, Ending> {
     }
 }
 
+/// Makes an office's file, empty, where there is none, so that its owner alone may read it, whatever the process
+/// takes away of a mode; the log gets the file's mode as it is made. What hinders it hinders the opening too.
+fn make_private(rt: &HostRuntime, file: &str) {
+    let _ = OpenOptions::new()
+        .write(true)
+        .create_new(true)
+        .mode(MODE)
+        .open(rt, file);
+}
+
 /// Carries out an order on the office in a file, which is made where there is none; `input` is what the
 /// order reads. A file that is no database's stays as it is. Where it is not closed, the file and its log still
 /// have every act.
@@ -51,6 +65,7 @@ fn run_from<R: Read>(rt: &HostRuntime, file: &str, order: &Order<'_>, input: &mu
     match LineWriter::new(rt.alloc(), io::writer(rt)) {
         Ok(mut out) => {
             let mut err = rt.stderr();
+            make_private(rt, file);
             let (status, _left) = open_and_run(rt, file, Wary, order, input, &mut out, &mut err);
             status
         }
@@ -87,6 +102,7 @@ fn serve_in(rt: &HostRuntime, file: &str, port: u16, count: u32) -> Ending {
         return Ending::Socket;
     };
     let (mut out, mut err) = (io::writer(rt), rt.stderr());
+    make_private(rt, file);
     let (ending, _left) = open_and_serve(
         rt, &listener, port, count, file, Wary, &mut out, &mut err,
     );

@@ -2,7 +2,7 @@
 ghost use Rattle.std.specs.Prelude.{◌≡◌, ◌≤◌, ◌||◌, false};
 ghost use Rattle.office_wire.specs.Connections.{Ends, IsKept, Turn, Turns, has_failed};
 
-use crate::deadline::Timed;
+use crate::deadline::{Timed, is_interrupted};
 use crate::serving::serve_one;
 use office_desk::Desk;
 use office_json::Io;
@@ -44,6 +44,7 @@ fn hear_out<C: Read + OpenStream>(stream: &mut C) {
     for _ in 0..LAST_READS {
         match stream.read(&mut buf) {
             Ok(n) if n > 0 => {}
+            Err(error) if is_interrupted(&error) => {}
             _ => return,
         }
     }
