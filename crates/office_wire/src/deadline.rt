@@ -13,7 +13,8 @@ use std::time::{Clock, Duration};
 /// How many seconds a whole request may take, and how many its whole answer. Source: own.
 pub const LONGEST: u64 = 60;
 
-/// How often one read or write is asked again after a signal: more often than signals come in that time.
+/// How often one read or write is tried while signals interrupt it: more often than signals come in that time.
+/// Then it fails as where the time is over.
 const INTERRUPTIONS: u32 = 1_000_000;
 
 /// What is left of the time for what began then; none where it is over. Both are readings of one clock.
