@@ -8,7 +8,7 @@ TOP = pathlib.Path(__file__).resolve().parent.parent.parent
 PROGRAMS = {
     "adduser", "apt-get", "cd", "chattr", "chgrp", "chmod", "chown", "cp", "curl", "echo", "grep", "head", "htpasswd",
     "install", "journalctl", "ln", "mkdir", "mv", "nft", "nginx", "openssl", "printf", "rm", "rsync", "rt", "runuser",
-    "sed", "setfacl", "sha256sum", "sqlite3", "systemctl", "systemd-analyze", "tail", "umask",
+    "sed", "setfacl", "sha256sum", "shred", "sqlite3", "systemctl", "systemd-analyze", "tail", "umask",
 }
 
 

@@ -11,7 +11,7 @@ from pages_run.shell import Shell
 # a log that is shorter than its header and the head of a page has no act
 NO_ACT = 32 + 24
 # the rows of the office of examples/first
-FIRST = {"records": 1, "aggregations": 1, "schedules": 1, "classes": 1}
+FIRST = {"records": 1, "aggregations": 1, "schedules2": 1, "classes": 1}
 
 
 def judge_alone(shell: Shell, word: str, file: str, rows: dict[str, int]) -> None:

@@ -14,6 +14,8 @@ from pages_run.shell import Shell
 PAGE = "docs/OPERATING.md"
 CITY = "/var/lib/office/city/office.db"
 SERVES = f"office serve {CITY} 8081 1000000"
+# the records of the city archive
+ALL = {"records": 33}
 
 
 def unit_words() -> str:
@@ -102,6 +104,32 @@ def is_second(shell: Shell) -> None:
     judge("the second machine has the copy", same)
 
 
+def own_alone(shell: Shell) -> None:
+    """The mode of new files for what follows, until `is_own`: each command has a shell of its own."""
+    shell.umask = 0o077
+
+
+def is_own(shell: Shell) -> None:
+    judge("the copy is for its owner alone", shell.path("backup.db").stat().st_mode & 0o077 == 0)
+    shell.umask = -1
+
+
+def is_stopped(shell: Shell) -> None:
+    """In place of systemd: the office of the unit is ended."""
+    shell.end(kill=True)
+
+
+def is_compact(shell: Shell) -> None:
+    judge_alone(shell, "office-compact", CITY, ALL)
+    line = shell.serve(SERVES)
+    judge("the office listens after it", line == "listening 127.0.0.1:8081\n", line)
+
+
+def is_shredded(shell: Shell) -> None:
+    left = [it for it in os.listdir(os.path.dirname(CITY)) if "before" in it]
+    judge("no old file is left", not left, f"{left}")
+
+
 def killed(shell: Shell) -> None:
     """An act that was answered by a service that is killed then is there when both files are opened again."""
     shell.serve("./office serve killed.db 8090 10")
@@ -112,7 +140,7 @@ def killed(shell: Shell) -> None:
     log = shell.path("killed.db-wal")
     judge("a killed service leaves its log beside FILE", status == 200 and log.stat().st_size > 0)
     done = shell.run("office init killed.db && office resume killed.db && office certificate killed.db 1 | head -1")
-    judge("and FILE with its log has every act", done.out == "version 1\ncertificate 1\nCERTIFICATE 1\n", f"{done}")
+    judge("and FILE with its log has every act", done.out == "version 2\ncertificate 1\nCERTIFICATE 1\n", f"{done}")
     judge_alone(shell, "a kill and an opening", "killed.db", {**FIRST, "runs": 1, "entries": 1, "certificates": 1})
 
 
@@ -120,13 +148,15 @@ def killed(shell: Shell) -> None:
 ROWS = [
     Row("./office build"),
     Row("./office install /usr/local/bin"),
-    Row("office init archive.db", prints="version 1\n", then=alone("init", "archive.db", {"office": 1})),
+    Row("office init archive.db", prints="version 2\n", then=alone("init", "archive.db", {"office": 1})),
     Row("office resume archive.db", status=1, prints=""),
     Row("adduser --system --group"),
     Row("mkdir -p /etc/office"),
     Row("cp examples/service/city.conf"),
     Row("cp examples/service/office@.service"),
+    Row("cp examples/service/office-compact@.service"),
     Row("install -m 755 examples/service/office-backup"),
+    Row("install -m 755 examples/service/office-compact"),
     Row("systemd-analyze verify /etc/systemd/system/office@.service", then=city_serves),
     Row("systemctl restart nginx", skip="without systemd", then=nginx_starts),
     Row("systemctl", skip="without systemd"),
@@ -156,14 +186,19 @@ ROWS = [
     # examples/nginx/try looks what the rules do
     Row("nft -f /etc/office.nft", skip="these rules would close the port that is asked next"),
     Row("echo 'include \"/etc/office.nft\"' >> /etc/nftables.conf"),
-    Row("cp archive.db backup.db"),
+    Row("umask 077", then=own_alone),
+    Row("cp archive.db backup.db", then=is_own),
     Row("office-backup /var/lib/office/city/office.db city.db", then=backed_up),
     Row("rsync --archive", then=is_second),
     Row("sqlite3 city.db 'PRAGMA integrity_check'", prints="ok\n"),
     Row("sqlite3 city.db 'SELECT count(*) FROM records'", prints="33\n"),
-    Row("office init city.db", prints="version 1\n"),
-    Row("rm -f archive.db archive.db-wal"),
-    Row("cp backup.db archive.db"),
+    Row("office init city.db", prints="version 2\n"),
+    Row("office-restore archive.db backup.db", like=r"what was there: \S+/archive\.db\.before-\w+\n",
+        then=is_stopped),
+    Row(f"office-restore {CITY} city.db", like=r"what was there: \S+\.before-\w+\n",
+        then=alone("office-restore", CITY, ALL)),
+    Row(f"office-compact {CITY}", like=r"(.*\n)?records: 33, the same\n.*", then=is_compact),
+    Row("shred --remove", then=is_shredded),
 ]
 
 

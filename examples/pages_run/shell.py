@@ -43,6 +43,8 @@ class Shell:
             (folder / name).mkdir()
         self.env = {**os.environ, "http": "http://127.0.0.1:8080", "PASSWORD": "a long one", "LC_ALL": "C"}
         self.servers: list[subprocess.Popen[bytes]] = []
+        # what is taken off the mode of a new file; -1: as this script's
+        self.umask = -1
 
     def __enter__(self) -> "Shell":
         return self
@@ -53,7 +55,7 @@ class Shell:
 
     def run(self, command: str) -> Done:
         done = subprocess.run(["bash", "-c", command], cwd=self.folder, env=self.env, stdin=subprocess.DEVNULL,
-                              stdout=subprocess.PIPE, stderr=subprocess.PIPE, timeout=SECONDS)
+                              stdout=subprocess.PIPE, stderr=subprocess.PIPE, timeout=SECONDS, umask=self.umask)
         return Done(done.returncode, done.stdout.decode(errors="replace"), done.stderr.decode(errors="replace"))
 
     def serve(self, command: str) -> str:
