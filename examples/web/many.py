@@ -63,7 +63,8 @@ def tell(office, proxy, browser, folder):
     for width in (1280, 400):
         firsts, times = [], []
         for _ in range(5):
-            browser.open(proxy.page)
+            # a list without rows, so that the first rows are those that are waited for
+            browser.open(f"{proxy.page}#due?day=2018-01-02")
             browser.width(width)
             browser.write(due_day="2020-01-01")
             first, whole = browser.driver.execute_async_script(SHOWN)

@@ -3,9 +3,11 @@
 The configuration is the one of the repository; its ports, folders and files of its own are put in place of those that it names.
 """
 import base64
+import contextlib
 import http.client
 import os
 import pathlib
+import shutil
 import socket
 import ssl
 import subprocess
@@ -124,3 +126,22 @@ class Proxy:
         reply = conn.getresponse()
         self.head = dict(reply.getheaders())
         return reply.status, reply.read()
+
+
+@contextlib.contextmanager
+def served(folder: pathlib.Path, name: str, fill=lambda file: None):
+    """An office of its own behind nginx, with the page, in a new folder below this one; `fill` makes its file before it is served."""
+    place = folder / name
+    place.mkdir()
+    file = place / "office.db"
+    fill(file)
+    office = Office(file, free_port())
+    office.start()
+    proxy = Proxy(place, office.port)
+    shutil.copytree(TOP / "web", proxy.web)
+    proxy.start()
+    try:
+        yield office, proxy
+    finally:
+        proxy.stop()
+        office.stop()
