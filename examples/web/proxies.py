@@ -8,7 +8,7 @@ const [status, type, body] = arguments;
 window.fetch = async () => new Response(body, { status, headers: type ? { "Content-Type": type } : {} });
 """
 HTML = "<html>\n<head><title>Bad Gateway</title></head>\n<body>padding to disable MSIE</body></html>"
-BODIES = [("text/html", HTML), ("application/json", '{"error":"gateway"}'), ("application/json", '{"status":"down"}'), ("application/json", "no JSON"), ("text/plain", "The office does not run."), ("", "")]
+BODIES = [("text/html", HTML), ("application/json", '{"error":"office"}'), ("application/json", "no JSON"), ("text/plain", "The office does not run."), ("", "")]
 
 
 def answers(browser, view: str, status: int, kind: str, body: str) -> None:
@@ -25,7 +25,7 @@ def read(browser, proxy, status: int, kind: str, body: str) -> str:
 
 
 def tell(browser, proxy) -> None:
-    for status in (404, 502, 504):
+    for status in (403, 404, 429, 502, 504):
         row = TEXTS["proxy"][str(status)]
         for kind, body in BODIES:
             there = read(browser, proxy, status, kind, body)

@@ -64,5 +64,5 @@ export function fatesOf(answer, count) {
 /** Whether this answer says that no act was done. */
 function nothingDone(answer, body) {
   if ([400, 404, 405, 411, 501].includes(answer.status)) return typeof body?.error === "string";
-  return [401, 403, 413].includes(answer.status);
+  return [401, 403, 413, 429].includes(answer.status);
 }
