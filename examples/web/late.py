@@ -125,6 +125,20 @@ def days_back(story: Story) -> None:
     says("but the office takes no act of today any more", story.browser.seen("#hold-place-outcome"), "Refusal 1, DayBack", row["meaning"], row["do"], "backup")
 
 
+def carried_out(story: Story) -> None:
+    """The run of a late day, and one after it that takes nothing: both say what they did."""
+    it, counts = story.browser, lambda: list(it.facts("#run-resume-outcome").values())
+    it.go("#run")
+    it.press("#run-sure")
+    it.press("#run-resume button")
+    same("the run of the late day: its counts", counts(), ["1", "0", "0"])
+    story.office.ask("POST", "/acts", json.dumps([{"act": "open-run", "day": after(7), "by": "Registrar"}]))
+    it.press("#run-sure")
+    it.press("#run-resume button")
+    same("a run that takes nothing: its counts", counts(), ["0", "0", "0"])
+    says("and that it took nothing", it.seen("#run-resume-outcome"), TEXTS["run"]["tookNone"])
+
+
 def clock(story: Story) -> None:
     """Today is the day of the browser's clock, also on a page that stays open over midnight."""
     it = story.browser
@@ -155,4 +169,5 @@ def tell(office, proxy, browser, folder) -> None:
     for number, name in enumerate(FORMS, 1):
         asked(story, name, after(number))
     days_back(story)
+    carried_out(story)
     clock(story)
