@@ -18,6 +18,9 @@ FORMS = {
 }
 VIEWS = {"hold": "#holds", "due": "#due", "run": "#run"}
 LATE = TEXTS["fields"]["late"]
+# a day is written in one step, as by a script that tells nobody, or as by pasting it
+WRITE = "const it = document.getElementById(arguments[0]); it.value = arguments[1];"
+PASTE = WRITE + "it.dispatchEvent(new InputEvent('input', { bubbles: true }));"
 # another clock in the page, so many days before its own or after it
 CLOCK = """
 const Real = Date, more = 86400000 * arguments[0];
@@ -89,6 +92,8 @@ def ahead(story: Story) -> None:
     it.write(due_day=after(4000))
     it.press("#due-form button")
     same("a list of a late day, by its form: the day of the confirmation is today", (len(story.due_table()), days()), (2, after(0)))
+    it.press("#due-form button")
+    same("and when that list is read again", (len(story.due_table()), days()), (2, after(0)))
 
 
 def asked(story: Story, name: str, late: str) -> None:
@@ -103,9 +108,10 @@ def asked(story: Story, name: str, late: str) -> None:
     same(f"{name}: which is said at the tick", it.text(f"#{form.day}-sure-wrong"), TEXTS["fields"]["sureWrong"])
     same(f"{name}: and the tick has the focus", it.driver.execute_script("return document.activeElement.id"), f"{form.day}-sure")
     form.tick()
-    form.write("2999-12-31")
+    it.driver.execute_script(PASTE, form.day, "2999-12-31")
     same(f"{name}: a tick is for one day alone", form.press(), 0)
-    it.driver.execute_script("const it = document.getElementById(arguments[0]); it.value = arguments[1]", form.day, late)
+    form.write(after(0))
+    it.driver.execute_script(WRITE, form.day, late)
     same(f"{name}: a day that a script wrote asks for it too", form.press(), 0)
     form.tick()
     same(f"{name}: with the tick one request is sent", form.press(), 1)
