@@ -1,9 +1,11 @@
-"""A day later than today: each form that sends an act with a day asks for a tick first, and sends nothing without it."""
+"""A day later than today: each form with the day of an act asks for a tick, and sends nothing without it."""
 import datetime
 import json
+import pathlib
 
+from browser import Browser
 from judging import judge, same
-from place import TOP
+from place import TOP, Office, Proxy
 from story import TEXTS, Story, says
 
 TODAY = datetime.date.today()
@@ -24,7 +26,9 @@ PASTE = WRITE + "it.dispatchEvent(new InputEvent('input', { bubbles: true }));"
 # another clock in the page, so many days before its own or after it
 CLOCK = """
 const Real = Date, more = 86400000 * arguments[0];
-window.Date = class extends Real { constructor(...words) { words.length ? super(...words) : super(Real.now() + more); } };
+window.Date = class extends Real {
+  constructor(...words) { words.length ? super(...words) : super(Real.now() + more); }
+};
 dispatchEvent(new Event("focus"));
 """
 
@@ -33,16 +37,51 @@ def after(days: int) -> str:
     return (TODAY + datetime.timedelta(days)).isoformat()
 
 
-def fill(office) -> None:
+def fill(office: Office) -> None:
     """One record that is due since a year, and one that is due in nine years or ten."""
     day = {"day": after(-800)}
     acts = [
-        {"act": "add-schedule", **day, "code": "D1", "trigger": "added", "unit": "years", "count": 1, "offset": "none", "action": "destroy"},
-        {"act": "add-schedule", **day, "code": "D12", "trigger": "added", "unit": "years", "count": 12, "offset": "none", "action": "destroy"},
+        {
+            "act": "add-schedule",
+            **day,
+            "code": "D1",
+            "trigger": "added",
+            "unit": "years",
+            "count": 1,
+            "offset": "none",
+            "action": "destroy",
+        },
+        {
+            "act": "add-schedule",
+            **day,
+            "code": "D12",
+            "trigger": "added",
+            "unit": "years",
+            "count": 12,
+            "offset": "none",
+            "action": "destroy",
+        },
         {"act": "add-class", **day, "code": "C", "title": "Letters", "schedule": "D1"},
         {"act": "add-aggregation", **day, "ref": "A", "title": "Letters", "class": "C"},
-        {"act": "add-record", **day, "ref": "r1", "title": "One", "originated": after(-800), "aggregation": 1, "content": "YWJj"},
-        {"act": "add-record", **day, "ref": "r2", "title": "Two", "originated": after(-800), "aggregation": 1, "schedule": "D12", "content": "YWJj"},
+        {
+            "act": "add-record",
+            **day,
+            "ref": "r1",
+            "title": "One",
+            "originated": after(-800),
+            "aggregation": 1,
+            "content": "YWJj",
+        },
+        {
+            "act": "add-record",
+            **day,
+            "ref": "r2",
+            "title": "Two",
+            "originated": after(-800),
+            "aggregation": 1,
+            "schedule": "D12",
+            "content": "YWJj",
+        },
     ]
     assert office.ask("POST", "/acts", json.dumps(acts))[0] == 200
 
@@ -54,7 +93,7 @@ def day_of(form: str) -> str:
 class Form:
     """One form of the page, which sends one act with a day."""
 
-    def __init__(self, story: Story, name: str):
+    def __init__(self, story: Story, name: str) -> None:
         self.story, self.browser, self.name, self.day = story, story.browser, name, day_of(name)
 
     def fill(self) -> None:
@@ -85,13 +124,21 @@ def ahead(story: Story) -> None:
     """A list that looks ahead leaves the day of the confirmation as it is."""
     it, days = story.browser, lambda: it.one("#due-confirm-day").get_attribute("value")
     it.open(f"{story.proxy.page}#due?day=2999-12-31")
-    same("a list of a late day, by its address: the day of the confirmation is today", (len(story.due_table()), days()), (2, after(0)))
+    same(
+        "a list of a late day, by its address: the day of the confirmation is today",
+        (len(story.due_table()), days()),
+        (2, after(0)),
+    )
     same("and it says that it looks ahead", it.seen("#due-ahead"), TEXTS["due"]["ahead"].format(today=after(0)))
     it.open(story.proxy.page)
     same("a list of today does not look ahead", it.text("#due-ahead"), "")
     it.write(due_day=after(4000))
     it.press("#due-form button")
-    same("a list of a late day, by its form: the day of the confirmation is today", (len(story.due_table()), days()), (2, after(0)))
+    same(
+        "a list of a late day, by its form: the day of the confirmation is today",
+        (len(story.due_table()), days()),
+        (2, after(0)),
+    )
     it.press("#due-form button")
     same("and when that list is read again", (len(story.due_table()), days()), (2, after(0)))
 
@@ -103,10 +150,18 @@ def asked(story: Story, name: str, late: str) -> None:
     same(f"{name}: its day begins as today", it.one(f"#{form.day}").get_attribute("value"), after(0))
     same(f"{name}: of today nothing is said", form.says_late(), "")
     form.write(late)
-    says(f"{name}: of a later day it says what that means", it.seen(f"#{form.day}-late"), LATE.format(day=late, today=after(0)))
+    says(
+        f"{name}: of a later day it says what that means",
+        it.seen(f"#{form.day}-late"),
+        LATE.format(day=late, today=after(0)),
+    )
     same(f"{name}: without the tick nothing is sent", form.press(), 0)
     same(f"{name}: which is said at the tick", it.text(f"#{form.day}-sure-wrong"), TEXTS["fields"]["sureWrong"])
-    same(f"{name}: and the tick has the focus", it.driver.execute_script("return document.activeElement.id"), f"{form.day}-sure")
+    same(
+        f"{name}: and the tick has the focus",
+        it.driver.execute_script("return document.activeElement.id"),
+        f"{form.day}-sure",
+    )
     form.tick()
     it.driver.execute_script(PASTE, form.day, "2999-12-31")
     same(f"{name}: a tick is for one day alone", form.press(), 0)
@@ -128,7 +183,14 @@ def days_back(story: Story) -> None:
     same("back at today nothing is said", form.says_late(), "")
     same("and no tick is asked for", form.press(), 1)
     row = TEXTS["refusals"]["1"]
-    says("but the office takes no act of today any more", story.browser.seen("#hold-place-outcome"), "Refusal 1, DayBack", row["meaning"], row["do"], "backup")
+    says(
+        "but the office takes no act of today any more",
+        story.browser.seen("#hold-place-outcome"),
+        "Refusal 1, DayBack",
+        row["meaning"],
+        row["do"],
+        "backup",
+    )
 
 
 def carried_out(story: Story) -> None:
@@ -150,7 +212,9 @@ def clock(story: Story) -> None:
     it = story.browser
     it.open(f"{story.proxy.page}#run")
     it.driver.execute_script(CLOCK, 1)
-    same("over midnight a day that nobody wrote is today again", it.one("#run-open-day").get_attribute("value"), after(1))
+    same(
+        "over midnight a day that nobody wrote is today again", it.one("#run-open-day").get_attribute("value"), after(1)
+    )
     it.write(run_open_day=after(1))
     same("and the new day is not late", it.text("#run-open-day-late"), "")
     it.write(run_open_day=after(2))
@@ -165,7 +229,7 @@ def all_forms() -> None:
     same("each form with a day is tried", page.count('data-field="day"'), len(FORMS))
 
 
-def tell(office, proxy, browser, folder) -> None:
+def tell(office: Office, proxy: Proxy, browser: Browser, folder: pathlib.Path) -> None:
     all_forms()
     fill(office)
     story = Story(office, proxy, browser, folder)

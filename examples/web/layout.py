@@ -1,21 +1,29 @@
 """How the page is laid out: what covers what, which words are broken, and what fits on paper."""
+import pathlib
 import re
 import subprocess
 
+from browser import Browser
 from judging import judge, same
+from place import Proxy
 
-# where the confirmation is, whether it covers itself alone, and how many rows are seen whole between the table's head and it
+# where the confirmation is, whether nothing covers it, and how many rows are seen whole between the table's head and it
 PANEL = """
 const panel = document.getElementById("due-panel"), box = panel.getBoundingClientRect();
 const head = document.getElementById("due-head").getBoundingClientRect();
 const seen = [];
-for (let x = box.left + 10; x < box.right - 10; x += 60) for (let y = box.top + 6; y < Math.min(box.bottom, innerHeight) - 6; y += 15) seen.push(panel.contains(document.elementFromPoint(x, y)));
+const low = Math.min(box.bottom, innerHeight) - 6;
+for (let x = box.left + 10; x < box.right - 10; x += 60)
+  for (let y = box.top + 6; y < low; y += 15) seen.push(panel.contains(document.elementFromPoint(x, y)));
 const rows = Array.from(document.querySelectorAll("#due-table tbody tr"), (row) => row.getBoundingClientRect());
 const end = Math.min(innerHeight, box.top);
-return { position: getComputedStyle(panel).position, inSight: box.bottom <= innerHeight + 1 && box.top > 0, uncovered: seen.length > 0 && seen.every(Boolean),
+return {
+  position: getComputedStyle(panel).position,
+  inSight: box.bottom <= innerHeight + 1 && box.top > 0,
+  uncovered: seen.length > 0 && seen.every(Boolean),
   rows: rows.filter((row) => row.top >= head.bottom - 1 && row.bottom <= end + 1).length };
 """
-# the parts of words, from one space or hyphen to the next, that are on two lines; a part that is longer than any code may be
+# the parts of words, from one space or hyphen to the next, that are on two lines; one longer than any code may be
 BROKEN = """
 const broken = [];
 for (const table of document.querySelectorAll("section:not([hidden]) table")) {
@@ -36,7 +44,7 @@ return broken;
 """
 
 
-def panel(browser, proxy) -> None:
+def panel(browser: Browser, proxy: Proxy) -> None:
     """The confirmation stays in sight only once something is marked, and then leaves rows to be seen."""
     # where the page is so low that the confirmation reaches over the table's head no row is seen until it is scrolled
     for height, at_once, marked in ((560, 1, 0), (700, 3, 1), (900, 3, 1)):
@@ -50,14 +58,18 @@ def panel(browser, proxy) -> None:
         for name, scroll, least in (("at the top", 0, marked), ("within the list", 430, 5), ("at the end", 99999, 5)):
             browser.driver.execute_script("scrollTo(0, arguments[0])", scroll)
             there = look()
-            judge(f"1280x{height}: once something is marked it is in sight {name}, under nothing", there["inSight"] and there["uncovered"], str(there))
+            judge(
+                f"1280x{height}: once something is marked it is in sight {name}, under nothing",
+                there["inSight"] and there["uncovered"],
+                str(there),
+            )
             judge(f"1280x{height}: and rows are seen {name}, {there['rows']}", there["rows"] >= least, str(there))
         browser.driver.execute_script("document.querySelector('#due-unmark').click()")
         same(f"1280x{height}: with no mark left it goes back", look()["position"], "static")
     browser.width(1280)
 
 
-def words(browser, address: str, name: str) -> None:
+def words(browser: Browser, address: str, name: str) -> None:
     """No word of a table is broken within, and no table is wider than the page."""
     for width in (1280, 1100, 1000, 800, 400):
         browser.width(width)
@@ -68,7 +80,7 @@ def words(browser, address: str, name: str) -> None:
     browser.width(1280)
 
 
-def on_paper(browser, address: str, file, name: str, wanted: dict[str, int]) -> None:
+def on_paper(browser: Browser, address: str, file: pathlib.Path, name: str, wanted: dict[str, int]) -> None:
     """Printed, each of these words is whole, at least so often, and nothing reaches over the edge of the paper."""
     browser.open(address)
     browser.paper(file)

@@ -1,4 +1,4 @@
-"""A list of 20,000 rows, or as many as `run --rows` says: how long until it is shown, sorted, filtered, confirmed in parts."""
+"""A list of 20,000 rows, or of `run --rows`: how long until it is shown, sorted, filtered, confirmed in parts."""
 import json
 import os
 import subprocess

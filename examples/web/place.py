@@ -130,7 +130,7 @@ class Proxy:
 
 @contextlib.contextmanager
 def served(folder: pathlib.Path, name: str, fill=lambda file: None):
-    """An office of its own behind nginx, with the page, in a new folder below this one; `fill` makes its file before it is served."""
+    """An office of its own behind nginx, with the page, in a new folder below; `fill` makes its file first."""
     place = folder / name
     place.mkdir()
     file = place / "office.db"
