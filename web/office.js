@@ -1,13 +1,15 @@
 // The page: it reads its words, starts its views, and shows the one that the address names, as #record?number=8.
-import { byId, field, translate } from "./page.js";
+import { field, renewDays } from "./fields.js";
+import { byId, translate } from "./page.js";
 import { all, load, t } from "./texts.js";
 import * as certificate from "./views/certificate.js";
 import * as due from "./views/due.js";
+import * as fault from "./views/fault.js";
 import * as holds from "./views/holds.js";
 import * as record from "./views/record.js";
 import * as run from "./views/run.js";
 
-const VIEWS = { due, record, certificate, run, holds };
+const VIEWS = { due, record, certificate, run, holds, fault };
 
 /** The view and the words that an address names; due, where it names none. */
 function named(hash) {
@@ -22,6 +24,7 @@ function show(focus) {
     if (link.hash === `#${name}`) link.setAttribute("aria-current", "page");
     else link.removeAttribute("aria-current");
   }
+  renewDays();
   document.title = t("page.title", { view: t(`${name}.title`) });
   VIEWS[name].show(words);
   if (!focus) return;
@@ -59,6 +62,7 @@ async function begin() {
   for (const view of Object.values(VIEWS)) view.start();
   byId("skip").addEventListener("click", skip);
   addEventListener("hashchange", () => show(true));
+  addEventListener("focus", renewDays);
   addEventListener("beforeprint", withoutLinks);
   addEventListener("afterprint", withLinks);
   byId("loading").remove();

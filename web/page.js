@@ -1,6 +1,6 @@
-// What all views need of the page: elements, fields, what an answer says. Data gets into the page as text alone.
-import { isCode, isDay, isNumber, isTarget, isText } from "./plain/forms.js";
-import { explained } from "./plain/outcomes.js";
+// What all views need of the page: elements, what an answer says, tables. Data gets into the page as text alone.
+import { visible } from "./plain/marks.js";
+import { explained, isOfOffice } from "./plain/outcomes.js";
 import { all, t } from "./texts.js";
 
 export const byId = (id) => document.getElementById(id);
@@ -30,107 +30,30 @@ export function translate(root) {
   for (const node of root.querySelectorAll("[data-label]")) node.setAttribute("aria-label", t(node.dataset.label));
 }
 
-// ---- fields
-
-/** The kinds of fields: the text of the label, the hint or none, what is said of a wrong value, and which values are right. */
-const KINDS = {
-  day: { label: "fields.day", hint: "fields.dayHint", wrong: "fields.dayWrong", takes: isDay, mode: "numeric" },
-  listDay: { label: "fields.listDay", hint: "fields.dayHint", wrong: "fields.dayWrong", takes: isDay, mode: "numeric" },
-  code: { label: "fields.code", hint: "fields.codeHint", wrong: "fields.codeWrong", takes: isCode },
-  by: { label: "fields.by", hint: "fields.byHint", wrong: "fields.textWrong", takes: isText },
-  reason: { label: "fields.reason", hint: "fields.reasonHint", wrong: "fields.textWrong", takes: isText },
-  record: { label: "fields.record", wrong: "fields.numberWrong", takes: isNumber, mode: "numeric" },
-  certificate: { label: "fields.certificate", wrong: "fields.numberWrong", takes: isNumber, mode: "numeric" },
-  run: { label: "fields.run", wrong: "fields.numberWrong", takes: isNumber, mode: "numeric" },
-  target: { label: "fields.target", hint: "fields.targetHint", takes: isText },
-};
-
-/** Builds the field that `<div data-field="KIND" id="ID">` stands for: a label, a hint, an input and room for what is wrong. */
-export function field(place) {
-  const { id, dataset } = place;
-  const kind = KINDS[dataset.field];
-  place.removeAttribute("id");
-  place.className = "field";
-  const input = made("input", { id, type: "text", autocomplete: "off", spellcheck: "false", autocapitalize: "off", "aria-describedby": `${id}-hint ${id}-wrong` });
-  if (kind.mode) input.inputMode = kind.mode;
-  place.append(
-    made("label", { for: id }, t(kind.label)),
-    input,
-    made("span", { class: "hint", id: `${id}-hint` }, kind.hint ? t(kind.hint) : ""),
-    made("strong", { class: "wrong", id: `${id}-wrong` }),
-  );
-}
-
-/** Says at a field what is wrong with it, or that nothing is. */
-export function mark(input, wrong) {
-  byId(`${input.id}-wrong`).textContent = wrong;
-  if (wrong) input.setAttribute("aria-invalid", "true");
-  else input.removeAttribute("aria-invalid");
-}
-
-const kindOf = (input) => KINDS[input.closest("[data-field]").dataset.field];
-
-function wrongOf(input) {
-  if (input.type === "checkbox") return input.checked ? "" : t("fields.sureWrong");
-  if (input.type === "file") return input.files.length ? "" : t("fields.fileWrong");
-  const kind = input.closest("form").querySelector("select");
-  const target = input.closest("[data-field]").dataset.field === "target";
-  if (target) return isTarget(kind.value, input.value) ? "" : t(kind.value === "class" ? "fields.codeWrong" : "fields.numberWrong");
-  return kindOf(input).takes(input.value) ? "" : t(kindOf(input).wrong);
-}
-
-/** The values of a form's fields by their ids, or null where one is wrong: that is said, and the first such has the focus. */
-export function valuesOf(form) {
-  const inputs = [...form.querySelectorAll("input")];
-  for (const input of inputs) if (input.type === "text") input.value = input.value.trim();
-  for (const input of inputs) mark(input, wrongOf(input));
-  const first = inputs.find((input) => input.hasAttribute("aria-invalid"));
-  first?.focus();
-  if (first) return null;
-  if (form.querySelector("[data-field=by]")) shareBy(form.querySelector("[data-field=by] input").value);
-  return Object.fromEntries(inputs.map((input) => [input.id, input.value]));
-}
-
-/** Who acts is asked once for as long as the page is open: the other forms get the name too, where they have none yet. */
-function shareBy(name) {
-  for (const input of document.querySelectorAll("[data-field=by] input")) if (input.value === "") input.value = name;
-}
-
-/** Does something with a form's values once they are right. A form that is at work is not sent a second time. */
-export function onSubmit(form, work) {
-  form.noValidate = true;
-  form.addEventListener("submit", async (event) => {
-    event.preventDefault();
-    if (form.dataset.busy) return;
-    const values = valuesOf(form);
-    if (!values) return;
-    form.dataset.busy = "yes";
-    form.setAttribute("aria-busy", "true");
-    try {
-      await work(values);
-    } finally {
-      delete form.dataset.busy;
-      form.removeAttribute("aria-busy");
-    }
-  });
-}
-
 // ---- what an answer says
 
 const SHORT = 400;
 
+/** An answer's status and its text; a page of HTML, which a proxy writes about itself, has nothing to read for anybody. */
+function wordsOf(answer) {
+  const text = answer.type.startsWith("text/html") ? "" : visible(answer.text.trim());
+  return `${answer.status} ${text}`.trim();
+}
+
+/** The answer itself. */
 function ownWords(answer) {
-  const office = answer.type.startsWith("application/json") || answer.type.startsWith("text/plain") || answer.type === "application/octet-stream";
-  const who = t(office || answer.status === 0 ? "said.office" : "said.proxy");
-  if (answer.status === 0) return paragraph(`${who} ${t("said.nothing")}`, "words");
-  const words = `${answer.status} ${answer.text.trim()}`;
+  if (answer.status === 0) return paragraph(`${t("said.office")} ${t("said.nothing")}`, "words");
+  const who = t(isOfOffice(all(), answer) ? "said.office" : "said.proxy");
+  const words = wordsOf(answer);
   if (words.length <= SHORT) return made("p", { class: "words" }, `${who} `, made("code", {}, words));
   const whole = made("details", {}, made("summary", {}, t("said.whole", { count: answer.bytes.length })), made("pre", {}, words));
   return made("div", { class: "words" }, made("p", {}, `${who} `, made("code", {}, `${words.slice(0, SHORT)} ...`)), whole);
 }
 
+/** The answer itself, out of the way: where the page says all of it in words. */
+export const details = (answer) => made("details", { class: "raw" }, made("summary", {}, t("said.details")), ownWords(answer));
+
 const ended = (text) => (/[.?!]$/.test(text) ? text : `${text}.`);
-const capital = (text) => text.charAt(0).toUpperCase() + text.slice(1);
 
 function explanation(row) {
   const lines = [];
@@ -140,12 +63,13 @@ function explanation(row) {
   return lines;
 }
 
-/** What an answer says in its own words, and what that means by the one table of docs/ERRORS.md. */
+/** What an answer says in its own words, behind a summary where it is a success, and what that means by docs/ERRORS.md. */
 export function told(answer) {
   const rows = explained(all(), answer);
   const means = rows.flatMap(explanation);
   const isFailure = answer.status === 0 || answer.status >= 400;
-  return [ownWords(answer), ...(isFailure && !rows.length ? [paragraph(t("said.strange"))] : means)];
+  const words = isFailure ? ownWords(answer) : details(answer);
+  return [words, ...(isFailure && !rows.length ? [paragraph(t("said.strange"))] : means)];
 }
 
 /** Shows an outcome at its place: `done`, `wrong` or `unknown`. A screen reader tells it, since the place is live. */

@@ -1,4 +1,4 @@
-"""A list of 20,000 rows: how long it takes until it is shown, sorted, filtered, and confirmed in parts."""
+"""A list of 20,000 rows, or of `run --rows`: how long until it is shown, sorted, filtered, confirmed in parts."""
 import json
 import os
 import subprocess
@@ -9,10 +9,12 @@ from place import OFFICE
 from story import WHO
 
 ROWS = 20_000
+# of more rows than these one request is surely too long
+TOO_MANY = 9_999
 MOST = 2.0
 # from the press of the button until the first rows are drawn, and until all are in the page and it has been drawn again
 SHOWN = """
-const done = arguments[0];
+const [rows, done] = arguments;
 const began = performance.now();
 const passed = () => (performance.now() - began) / 1000;
 const drawn = (then) => requestAnimationFrame(() => setTimeout(then));
@@ -21,7 +23,7 @@ const look = (holds, then) => holds() ? drawn(then) : setTimeout(() => look(hold
 document.querySelector("#due-form button").click();
 look(() => table.rows.length > 1, () => {
   const first = passed();
-  look(() => table.rows.length === 20001 && !table.hasAttribute("aria-busy"), () => done([first, passed()]));
+  look(() => table.rows.length === rows + 1 && !table.hasAttribute("aria-busy"), () => done([first, passed()]));
 });
 """
 
@@ -37,7 +39,7 @@ def acts():
     for number in range(ROWS):
         yield {"act": "add-record", **day, "ref": f"R/{number}", "title": f"Record {number}", "originated": f"2017-{number % 12 + 1:02}-{number % 28 + 1:02}", "aggregation": number % 3 + 1, "content": "YWJj"}
     yield {"act": "place-hold", **day, "code": "H-1", "reason": "A lawsuit", "by": "Legal office"}
-    for record in range(1, 500):
+    for record in range(1, min(500, ROWS)):
         yield {"act": "hold-on", **day, "hold": "H-1", "target": f"record:{record}"}
 
 
@@ -63,10 +65,11 @@ def tell(office, proxy, browser, folder):
     for width in (1280, 400):
         firsts, times = [], []
         for _ in range(5):
-            browser.open(proxy.page)
+            # a list without rows, so that the first rows are those that are waited for
+            browser.open(f"{proxy.page}#due?day=2018-01-02")
             browser.width(width)
             browser.write(due_day="2020-01-01")
-            first, whole = browser.driver.execute_async_script(SHOWN)
+            first, whole = browser.driver.execute_async_script(SHOWN, ROWS)
             firsts.append(first)
             times.append(whole)
         seconds = lambda them: ", ".join(f"{it:.2f}" for it in sorted(them))
@@ -85,7 +88,7 @@ def tell(office, proxy, browser, folder):
     pdf = browser.paper(folder / "many.pdf")
     print(f"putting them on paper takes {time.time() - began:.0f} seconds")
     text = subprocess.run(["pdftotext", "-layout", folder / "many.pdf", "-"], stdout=subprocess.PIPE, check=True).stdout.decode()
-    same("on paper are all of them", sum(f" R/{number} " in text for number in range(0, ROWS, 500)), ROWS // 500)
+    same("on paper are all of them", sum(f" R/{number} " in text for number in range(0, ROWS, 500)), len(range(0, ROWS, 500)))
     print(f"they are {text.count(chr(12))} pages on paper, of {len(pdf)} bytes")
     parts(office, browser)
 
@@ -94,9 +97,10 @@ def parts(office, browser):
     """More than one request takes is told before it is sent, and confirmed in parts."""
     browser.press("#due-mark")
     browser.write(due_confirm_by=WHO, due_confirm_day="2020-01-01")
-    browser.press("#due-submit")
-    told = browser.seen("#due-panel-outcome")
-    judge("too much for one request is told, and nothing is sent", "one request takes 1048576" in told, told)
+    if ROWS > TOO_MANY:
+        browser.press("#due-submit")
+        told = browser.seen("#due-panel-outcome")
+        judge("too much for one request is told, and nothing is sent", "one request takes 1048576" in told, told)
     confirmed = 0
     while browser.text("#due-submit") != "Confirm 0":
         keep = browser.all("#due-panel-outcome button")
@@ -109,5 +113,5 @@ def parts(office, browser):
         judge(f"{count} are confirmed in one request, after {time.time() - began:.1f} seconds", f"Confirmed: {count} of {count}." in browser.seen("#due-answer"), browser.seen("#due-answer")[:300])
         browser.press("#due-mark")
         if browser.text("#due-submit") != "Confirm 0":
-            browser.press("#due-submit") if int(browser.text("#due-submit").split(" ")[1]) > 9999 else None
+            browser.press("#due-submit") if int(browser.text("#due-submit").split(" ")[1]) > TOO_MANY else None
     same("all are confirmed in the end", (confirmed, sum(row["confirmed"] for row in json.loads(office.ask("GET", "/due/2020-01-01")[2]))), (ROWS, ROWS))

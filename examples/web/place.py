@@ -4,9 +4,11 @@ The site is the one of the repository, with the files that it includes. Ports, f
 in place of those that it names.
 """
 import base64
+import contextlib
 import http.client
 import os
 import pathlib
+import shutil
 import socket
 import ssl
 import subprocess
@@ -145,3 +147,22 @@ class Proxy:
         reply = conn.getresponse()
         self.head = dict(reply.getheaders())
         return reply.status, reply.read()
+
+
+@contextlib.contextmanager
+def served(folder: pathlib.Path, name: str, fill=lambda file: None):
+    """An office of its own behind nginx, with the page, in a new folder below; `fill` makes its file first."""
+    place = folder / name
+    place.mkdir()
+    file = place / "office.db"
+    fill(file)
+    office = Office(file, free_port())
+    office.start()
+    proxy = Proxy(place, office.port)
+    shutil.copytree(TOP / "web", proxy.web)
+    proxy.start()
+    try:
+        yield office, proxy
+    finally:
+        proxy.stop()
+        office.stop()

@@ -1,4 +1,5 @@
 """The city archive through the page: what its tables show is what the paths tell, and what is done by it is what stands beside the story."""
+import datetime
 import hashlib
 import json
 import pathlib
@@ -49,6 +50,8 @@ class Story:
 
     def due(self):
         it, rows = self.browser, self.told("/due/2022-05-02")
+        today = datetime.date.today().isoformat()
+        same("start: the page begins with the list of today", (it.one("#due-day").get_attribute("value"), self.due_table()), (today, self.due_cells(self.told(f"/due/{today}"))))
         it.write(due_day="2022-05-02")
         it.press("#due-form button")
         same("due: the table is what GET /due tells", self.due_table(), self.due_cells(rows))
@@ -142,9 +145,14 @@ class Story:
         same("confirm: what is marked and not shown is told", it.seen("#due-marked"), "Marked: 21. Not shown among them: 17.")
         it.press("#due-all")
         it.press("#due-submit")
-        says("confirm: done", it.seen("#due-answer"), "Confirmed: 21 of 21.", '200 [{"done":true}')
+        self.success("confirm: done", "#due-answer", '200 [{"done":true}', "Confirmed: 21 of 21.")
         rows = self.told("/due/2022-05-02")
         same("confirm: each of the list is confirmed", ([row["confirmed"] for row in rows], self.due_table()), ([True] * 22, self.due_cells(rows)))
+
+    def success(self, name, place, raw, *words):
+        """A success is said in words; the answer itself is there, but not seen until somebody asks for it."""
+        says(name, self.browser.seen(place), *words)
+        judge(f"{name}: the answer itself is behind a summary", raw in self.browser.text(place) and raw not in self.browser.seen(place), self.browser.text(place))
 
     # ---- a run and its certificate
 
@@ -153,16 +161,20 @@ class Story:
         it.go("#run")
         it.write(run_open_day=day, run_open_by=WHO)
         it.press("#run-open button")
-        says(f"run {number}: it is open", it.seen("#run-open-outcome"), f"Run {number} is open.", f'200 [{{"number":{number}}}]')
+        self.success(f"run {number}: it is open", "#run-open-outcome", f'200 [{{"number":{number}}}]', f"Run {number} is open.")
         it.press("#run-open button")
         row = TEXTS["refusals"]["17"]
         says(f"run {number}: a second one is refused in words", it.seen("#run-open-outcome"), '409 [{"refused":17}]', "Refusal 17, RunOpen", row["meaning"], row["do"])
         it.write(run_number=str(number))
         it.press("#run-form button")
-        says(f"run {number}: it has no certificate yet", it.seen("#run-outcome"), f"There is no certificate of run {number}", '404 {"error":"certificate"}')
+        missing = TEXTS["run"]["notClosed"].format(number=number)
+        self.success(f"run {number}: it has no certificate yet", "#run-outcome", '404 {"error":"certificate"}', missing, TEXTS["run"]["notClosedDo"])
+        same(f"run {number}: the button is called", it.text("#run-resume button"), "Carry out")
         it.press("#run-sure")
         it.press("#run-resume button")
-        says(f"run {number}: it is closed", it.seen("#run-resume-outcome"), f"Run {number} was taken to its end.", f'200 {{"certificate":{number}}}')
+        self.success(f"run {number}: it is closed", "#run-resume-outcome", f'200 {{"certificate":{number}}}', f"Run {number} is carried out and closed.")
+        counts = re.findall(r"^(?:ENDED|SENT|SKIPPED) (\d+)$", self.office.ask("GET", f"/certificates/{number}")[2].decode(), re.M)
+        same(f"run {number}: its counts are those of its certificate", list(it.facts("#run-resume-outcome").values()), counts)
         it.press("#run-sure")
         it.press("#run-resume button")
         says(f"run {number}: nothing is open any more", it.seen("#run-resume-outcome"), '409 {"refused":18}', "Refusal 18, NoRun", TEXTS["refusals"]["18"]["meaning"])
@@ -184,6 +196,8 @@ class Story:
         same(f"certificate {number}: its spent aggregations", it.table("#certificate-tables .spent"), spent)
         says(f"certificate {number}: agrees", it.seen("#certificate-verdict"), TEXTS["certificate"]["agrees"], TEXTS["certificate"]["wellFormed"])
         sum_ = text.decode().split("SHA256 ")[1].strip()
+        judge(f"certificate {number}: it says that freed pages may be read", it.one("[data-text='certificate.freed']").is_displayed())
+        judge(f"certificate {number}: and nothing of marks, where there are none", not it.one("#certificate-marks").is_displayed())
         same(f"certificate {number}: both sums", list(it.facts("#certificate-sums").values()), [sum_, sum_])
 
     # ---- records
@@ -199,12 +213,12 @@ class Story:
         words = lambda number: (it.open(f"{self.proxy.page}#record?number={number}"), it.seen("#record-told"))[1]
         says("record 1: held, in words", words(1), "It is here", "It is due on 2021-01-01.", "Hold Q-2020-17 covers it", f"Confirmed on 2022-05-02 by {WHO}: destroy")
         says("record 4: kept, in words", words(4), "It has no due day", "No hold covers it.", "Nobody has confirmed")
-        says("record 8: destroyed, in words", words(8), "It was destroyed by run 1: its content is gone.", "It was due on 2019-01-30.")
+        says("record 8: destroyed, in words", words(8), "It was destroyed by run 1: its content is gone from the office.", "It was due on 2019-01-30.")
         judge("record 8: there is no content to save", not it.one("#record-save").is_displayed())
         says("record 19: sent, in words", words(19), "It was sent to the archive")
         it.write(record_number="99")
         it.press("#record-form button")
-        says("record 99: there is none, in words", it.seen("#record-outcome"), '404 {"error":"record"}', "there is none, or the content is gone")
+        self.success("record 99: there is none, in words", "#record-outcome", '404 {"error":"record"}', "There is no record 99 in this office.", TEXTS["record"]["missingDo"])
         words(1)
         it.press("#record-save")
         says("record 1: its content is saved", it.seen("#record-saved"), "Saved as record-1.", "agrees with that of the record")
@@ -236,7 +250,7 @@ class Story:
         says("one with a changed byte does not", self.check("byte.txt", text.replace(b"APP/18-07", b"APP/18-08")), words["differs"], words["otherThanOffice"].format(number=1))
         body = text[:-72].replace(b"ENDED 17", b"ENDED 16")
         forged = body + b"SHA256 " + hashlib.sha256(body).hexdigest().encode() + b"\n"
-        says("one with another sum agrees with itself, and is not the office's", self.check("forged.txt", forged), words["agrees"], words["otherThanOffice"].format(number=1), "ENDED says 16, and its lines are 17.")
+        says("one with another sum agrees with itself, and is not the office's", self.check("forged.txt", forged), words["agrees"], words["otherThanOffice"].format(number=1), "ENDED says 16, but there are 17 such lines.")
         says("one that is cut off has no sum", self.check("short.txt", text[:-1]), words["noSum"])
 
     # ---- holds
@@ -317,7 +331,8 @@ class Story:
         it.press("#due-submit")
         told, row = it.seen("#due-answer"), TEXTS["faults"]["31"]
         says("a fault that stops the acts is a 503 that is told in words", told, "503 ", "Fault 31", row["meaning"], row["do"], "A fault stopped it.", "is unknown", "were not begun")
-        says("then the office has ended, which the list tells", it.seen("#due-outcome"), "502", TEXTS["proxy"]["502"]["meaning"])
+        says("then the office has ended, which the list tells", it.seen("#due-outcome"), "The server said: 502", TEXTS["proxy"]["502"]["meaning"])
+        judge("and that without a page of nginx", "<" not in it.text("#due-outcome"), it.text("#due-outcome"))
         says("and that the list is older", told, TEXTS["due"]["stale"])
         same("nothing was sent a second time", self.posted() - sent, 1)
         self.office.stop()

@@ -30,13 +30,26 @@ function explainedJson(texts, status, body) {
   return [undefined];
 }
 
+/** The explanations of what the office itself answered; none where the body is none of its own. */
+function explainedOffice(texts, answer) {
+  const body = jsonOf(answer);
+  return body === undefined ? [] : explainedJson(texts, String(answer.status), body).filter((row) => row?.meaning);
+}
+
+const isSuccess = (answer) => answer.status >= 200 && answer.status < 300;
+
+/** Whether this answer is the office's own, and not one of the proxy in front of it, whatever body that has. */
+export const isOfOffice = (texts, answer) => isSuccess(answer) || explainedOffice(texts, answer).length > 0;
+
 /** The explanations of an answer, each with a meaning and with what to do; none where nothing is known of it. */
 export function explained(texts, answer) {
   if (answer.status === 0) return [statusRow(texts, "none", "")];
-  const body = jsonOf(answer);
-  const rows = body === undefined ? [texts.proxy[answer.status]] : explainedJson(texts, String(answer.status), body);
-  return rows.filter((row) => row?.meaning);
+  const rows = explainedOffice(texts, answer);
+  return rows.length || isSuccess(answer) ? rows : [texts.proxy[answer.status]].filter(Boolean);
 }
+
+/** Whether the office says that there is no such thing: a `record`, a `content` or a `certificate`. */
+export const isMissing = (answer, thing) => answer.status === 404 && jsonOf(answer)?.error === thing;
 
 /** What became of acts that were sent: the answers that came, the refusals among them by number, and how it ended. */
 export function fatesOf(answer, count) {
@@ -51,5 +64,5 @@ export function fatesOf(answer, count) {
 /** Whether this answer says that no act was done. */
 function nothingDone(answer, body) {
   if ([400, 404, 405, 411, 501].includes(answer.status)) return typeof body?.error === "string";
-  return [401, 403, 413].includes(answer.status);
+  return [401, 403, 413, 429].includes(answer.status);
 }

@@ -1,9 +1,11 @@
 // A certificate, of the office or of a file: whether its sum agrees, what it tells, and its text.
 import { get } from "../ask.js";
-import { asking, byId, factsOf, failed, link, made, onSubmit, paragraph, quiet, save, say, tableOf, told } from "../page.js";
+import { onSubmit } from "../fields.js";
+import { asking, byId, details, factsOf, failed, link, made, paragraph, quiet, save, say, tableOf, told } from "../page.js";
 import { judged, read, sameBytes } from "../plain/certificates.js";
 import { isNumber } from "../plain/forms.js";
-import { jsonOf } from "../plain/outcomes.js";
+import { visible } from "../plain/marks.js";
+import { isMissing } from "../plain/outcomes.js";
 import { all, t } from "../texts.js";
 
 let shown = null;
@@ -29,19 +31,20 @@ function tellVerdict(seal, certificate) {
 
 function tellFacts(certificate) {
   const facts = Object.entries(all().certificate.facts).filter(([name]) => certificate[name] !== undefined);
-  byId("certificate-facts").replaceChildren(factsOf(facts.map(([name, word]) => [word, certificate[name]])));
+  byId("certificate-facts").replaceChildren(factsOf(facts.map(([name, word]) => [word, visible(certificate[name])])));
 }
 
 function entryCells(entry) {
-  const hold = entry.hold === null ? "" : link(`#holds?code=${entry.hold}`, entry.hold);
-  return [link(`#record?number=${entry.record}`, entry.record), t(`outcomes.${entry.outcome}`), entry.ref, entry.class, entry.schedule, entry.due, hold, entry.by, entry.length, code(entry.digest)];
+  const hold = entry.hold === null ? "" : link(`#holds?code=${entry.hold}`, visible(entry.hold));
+  const words = [entry.ref, entry.class, entry.schedule, entry.due].map(visible);
+  return [link(`#record?number=${entry.record}`, entry.record), t(`outcomes.${entry.outcome}`), ...words, hold, visible(entry.by), entry.length, code(entry.digest)];
 }
 
 function tellTables(certificate) {
   const { columns, aggregationColumns } = all().certificate;
   const { run, entries, aggregations } = certificate;
-  const tables = [tableOf(t("certificate.entries", { number: run ?? "-", count: entries.length }), Object.values(columns), entries.map(entryCells), "entries")];
-  const spent = aggregations.map((it) => [it.number, it.ref]);
+  const tables = [tableOf(t("certificate.entries", { number: visible(run ?? "-"), count: entries.length }), Object.values(columns), entries.map(entryCells), "entries")];
+  const spent = aggregations.map((it) => [it.number, visible(it.ref)]);
   if (spent.length) tables.push(tableOf(t("certificate.aggregations", { count: spent.length }), Object.values(aggregationColumns), spent, "spent"));
   byId("certificate-tables").replaceChildren(...tables);
 }
@@ -63,7 +66,9 @@ async function tell(heading, bytes, name) {
   tellFacts(certificate);
   tellTables(certificate);
   byId("certificate-others").replaceChildren();
-  byId("certificate-text").textContent = text;
+  const seen = visible(text);
+  byId("certificate-text").textContent = seen;
+  byId("certificate-marks").hidden = seen === text;
   byId("certificate-told").hidden = false;
   return certificate;
 }
@@ -77,10 +82,8 @@ async function open(number) {
   asking(place);
   const answer = await get(`certificates/${number}`);
   if (mine !== asked) return;
-  if (answer.status !== 200) {
-    const more = answer.status === 404 && jsonOf(answer) ? [paragraph(t("run.notClosed", { number }))] : [];
-    return failed(place, answer, ...more);
-  }
+  if (isMissing(answer, "certificate")) return say(place, "wrong", paragraph(t("run.notClosed", { number })), paragraph(t("run.notClosedDo")), details(answer));
+  if (answer.status !== 200) return failed(place, answer);
   quiet(place);
   await tell(t("certificate.heading", { number }), answer.bytes, t("certificate.file", { number }));
   tellOthers(Number(number));
@@ -94,7 +97,7 @@ async function compare(bytes, run) {
     const same = sameBytes(bytes, answer.bytes);
     if (!same) verdict.className = "outcome wrong";
     verdict.append(paragraph(t(same ? "certificate.sameAsOffice" : "certificate.otherThanOffice", { number: run })));
-  } else if (answer.status === 404 && jsonOf(answer)) verdict.append(paragraph(t("certificate.noneAtOffice", { number: run })));
+  } else if (isMissing(answer, "certificate")) verdict.append(paragraph(t("certificate.noneAtOffice", { number: run })));
   else verdict.append(paragraph(t("certificate.notCompared")), ...told(answer));
 }
 
@@ -103,7 +106,7 @@ async function check() {
   const file = byId("certificate-file").files[0];
   const bytes = new Uint8Array(await file.arrayBuffer());
   quiet(byId("certificate-outcome"));
-  const certificate = await tell(t("certificate.headingFile", { name: file.name }), bytes, file.name);
+  const certificate = await tell(t("certificate.headingFile", { name: visible(file.name) }), bytes, file.name);
   if (isNumber(certificate.run ?? "")) await compare(bytes, certificate.run);
 }
 

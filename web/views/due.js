@@ -1,6 +1,7 @@
 // What is due by a day: the list, sorted and filtered, its totals, and the confirmation of what is marked in it.
 import { get, post } from "../ask.js";
-import { asking, byId, failed, link, made, onSubmit, paragraph, quiet, say, tableOf, told } from "../page.js";
+import { onSubmit, untick } from "../fields.js";
+import { asking, byId, failed, link, made, paragraph, quiet, say, tableOf, told } from "../page.js";
 import { MOST_BYTES, bodyOf, bytesOf, confirm, fitting } from "../plain/acts.js";
 import { COLUMNS, FILTERS, canBeConfirmed, choices, filtered, sorted, totals } from "../plain/duelist.js";
 import { isDay, today } from "../plain/forms.js";
@@ -92,21 +93,31 @@ function showAll() {
   draw();
 }
 
+function showList(there) {
+  for (const id of ["due-totals", "due-list"]) byId(id).hidden = !there;
+}
+
+/** Says of a list that looks ahead of today that what is due later is not confirmed yet. */
+function tellAhead() {
+  byId("due-ahead").textContent = list.day > today() ? t("due.ahead", { today: today() }) : "";
+}
+
 /** Takes the list of a day in place of the one that is shown. */
 function take(day, rows) {
   list.day = day;
   list.rows = rows;
   list.marks = new Set();
   begin((record) => list.marks.has(record));
+  tellAhead();
   tellChoices();
   draw();
-  byId("due-list").hidden = rows.length === 0;
+  showList(rows.length > 0);
 }
 
 /** Shows no list, as where another day's could not be had. */
 function forget() {
   list.day = null;
-  byId("due-list").hidden = true;
+  showList(false);
 }
 
 /** Asks for the list of a day, and shows it; whether it could. */
@@ -135,6 +146,8 @@ function tellMarks() {
   const shown = list.shown.filter((row) => list.marks.has(row.record)).length;
   byId("due-marked").textContent = t("due.marked", { count: list.marks.size, hidden: list.marks.size - shown });
   byId("due-submit").textContent = t("due.submit", { count: list.marks.size });
+  // only then it stays in sight, over the rows (office.css)
+  byId("due-panel").classList.toggle("marking", list.marks.size > 0);
 }
 
 /** Marks these records and no others. */
@@ -208,6 +221,7 @@ async function confirmMarked(values) {
   const body = bodyOf(acts);
   if (bytesOf(body) > MOST_BYTES) return tellTooLong(acts, body);
   asking(place, t("due.wait", { count: acts.length }));
+  untick(byId("due-confirm"));
   const answer = await post("acts", body);
   quiet(place);
   tellFate(answer, acts);
@@ -220,7 +234,6 @@ async function confirmMarked(values) {
 
 /** Goes to the day's list, or reads it anew where it is shown. */
 function go({ "due-day": day }) {
-  byId("due-confirm-day").value = day;
   quiet(byId("due-panel-outcome"));
   quiet(byId("due-answer"));
   const address = addressOf(day);
@@ -233,7 +246,6 @@ function go({ "due-day": day }) {
 }
 
 export function start() {
-  byId("due-day").value = today();
   tellHead(sortBy);
   onSubmit(byId("due-form"), go);
   onSubmit(byId("due-confirm"), confirmMarked);
@@ -247,13 +259,10 @@ export function start() {
   addEventListener("beforeprint", finish);
 }
 
-/** Shows the list that the address names; without a day the one that is here already. */
+/** Shows the list that the address names; without a day the one that is here already, or today's. */
 export function show(words) {
   const day = words.get("day");
-  if (day === null) {
-    if (list.day) keepAddress();
-    return;
-  }
+  if (day === null) return list.day ? keepAddress() : open(today());
   if (!isDay(day)) {
     forget();
     return say(byId("due-outcome"), "wrong", paragraph(t("fields.dayWrong")));
@@ -263,6 +272,5 @@ export function show(words) {
     tellChoices();
     return draw();
   }
-  byId("due-confirm-day").value = day;
   return open(day);
 }

@@ -2,6 +2,7 @@
 // are seen first come first, and the others at once after them, bit by bit, so that the page answers meanwhile.
 import { byId, label, made } from "../page.js";
 import { COLUMNS, canBeConfirmed } from "../plain/duelist.js";
+import { visible } from "../plain/marks.js";
 import { t } from "../texts.js";
 
 // So many rows stand in one group. A browser lays out only the groups that are in sight (office.css), and all of them to print.
@@ -45,7 +46,7 @@ function fillRow(node, row, marked) {
   fillMark(mark, row, marked);
   record.firstChild.setAttribute("href", `#record?number=${row.record}`);
   record.firstChild.firstChild.data = row.record;
-  ref.firstChild.data = row.ref;
+  ref.firstChild.data = visible(row.ref);
   code.firstChild.data = row.class;
   schedule.firstChild.data = row.schedule;
   action.firstChild.data = word(`actions.${row.action}`);

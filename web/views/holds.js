@@ -1,8 +1,9 @@
-// Holds: place one, put a target on, take one off, lift it. No path tells a hold, so each act's answer is all that is known.
+// Holds: place one, put a target on, take one off, lift it. No path shows a hold, so each act's answer is all that is known.
 import { post } from "../ask.js";
-import { asking, byId, failed, made, onSubmit, paragraph, say, told } from "../page.js";
+import { onSubmit, untick } from "../fields.js";
+import { asking, byId, failed, made, paragraph, say, told } from "../page.js";
 import { bodyOf, holdOff, holdOn, liftHold, placeHold } from "../plain/acts.js";
-import { isCode, today } from "../plain/forms.js";
+import { isCode } from "../plain/forms.js";
 import { fatesOf } from "../plain/outcomes.js";
 import { t } from "../texts.js";
 
@@ -38,7 +39,7 @@ async function ask(name, values) {
   const { act, done, lost } = FORMS[name];
   const asked = act(values);
   asking(place);
-  byId("hold-sure").checked = false;
+  untick(byId(name));
   const answer = await post("acts", bodyOf([asked]));
   const { answers, end } = fatesOf(answer, 1);
   if (end === "unknown") say(place, "unknown", ...told(answer), paragraph(t(lost)));
@@ -47,10 +48,7 @@ async function ask(name, values) {
 }
 
 export function start() {
-  for (const name of Object.keys(FORMS)) {
-    byId(`${name}-day`).value = today();
-    onSubmit(byId(name), (values) => ask(name, values));
-  }
+  for (const name of Object.keys(FORMS)) onSubmit(byId(name), (values) => ask(name, values));
   for (const form of ["hold-on", "hold-off"]) {
     const kinds = ["class", "aggregation", "record"].map((kind) => made("option", { value: kind }, t(`fields.kinds.${kind}`)));
     byId(`${form}-kind`).append(...kinds);

@@ -1,9 +1,11 @@
 // One record, by its number: what is told of it in sentences and in facts, and its content to save.
 import { get } from "../ask.js";
-import { asking, byId, factsOf, failed, link, made, onSubmit, paragraph, quiet, save, say, sentence } from "../page.js";
+import { onSubmit } from "../fields.js";
+import { asking, byId, details, factsOf, failed, link, made, paragraph, quiet, save, say, sentence } from "../page.js";
 import { digestOf } from "../plain/certificates.js";
 import { isNumber, today } from "../plain/forms.js";
-import { jsonOf } from "../plain/outcomes.js";
+import { visible } from "../plain/marks.js";
+import { isMissing, jsonOf } from "../plain/outcomes.js";
 import { t } from "../texts.js";
 
 let shown = null;
@@ -31,7 +33,7 @@ function ofHold(record) {
 function ofConfirmation(record) {
   const { confirmed, due, status } = record;
   if (confirmed === null) return [paragraph(t("record.unconfirmed"))];
-  const said = paragraph(t("record.confirmed", { ...confirmed, action: t(`actions.${confirmed.action}`) }));
+  const said = paragraph(t("record.confirmed", { ...confirmed, by: visible(confirmed.by), action: t(`actions.${confirmed.action}`) }));
   if (status !== "here") return [said];
   if (confirmed.due !== due) return [said, paragraph(t("record.confirmedOther"))];
   const day = due > today() ? due : today();
@@ -40,13 +42,13 @@ function ofConfirmation(record) {
 
 function factsTold(record) {
   const word = (name) => t(`record.facts.${name}`);
-  const plain = ["ref", "title", "originated", "added", "aggregation", "class", "schedule"].map((name) => [word(name), String(record[name])]);
+  const plain = ["ref", "title", "originated", "added", "aggregation", "class", "schedule"].map((name) => [word(name), visible(String(record[name]))]);
   return factsOf([...plain, [word("length"), t("record.bytes", { count: record.length })], [word("digest"), made("code", {}, record.digest)]]);
 }
 
 function tell(record) {
   shown = record;
-  byId("record-heading").textContent = t("record.heading", record);
+  byId("record-heading").textContent = t("record.heading", { number: record.number, title: visible(record.title) });
   byId("record-words").replaceChildren(ofStatus(record), ofDue(record), ofHold(record), ...ofConfirmation(record));
   byId("record-facts").replaceChildren(factsTold(record));
   byId("record-content").hidden = record.status === "ended";
@@ -64,6 +66,7 @@ async function open(number) {
   const answer = await get(`records/${number}`);
   if (mine !== asked) return;
   const record = jsonOf(answer);
+  if (isMissing(answer, "record")) return say(place, "wrong", paragraph(t("record.missing", { number })), paragraph(t("record.missingDo")), details(answer));
   if (answer.status !== 200 || !record) return failed(place, answer);
   quiet(place);
   tell(record);
@@ -75,6 +78,7 @@ async function saveContent() {
   const record = shown;
   asking(place);
   const answer = await get(`records/${record.number}/content`);
+  if (isMissing(answer, "content")) return say(place, "wrong", paragraph(t("record.contentGone")), details(answer));
   if (answer.status !== 200) return failed(place, answer);
   const name = t("record.file", record);
   const digest = await digestOf(answer.bytes);

@@ -1,11 +1,13 @@
-// Runs: open one, take it up, look for one by its number; and what each fault means.
+// Runs: open one, carry it out, look for one by its number.
 import { get, post } from "../ask.js";
-import { asking, byId, failed, link, onSubmit, paragraph, quiet, say, tableOf, told } from "../page.js";
+import { onSubmit, untick } from "../fields.js";
+import { asking, byId, details, factsOf, failed, link, paragraph, quiet, say, told } from "../page.js";
 import { bodyOf, openRun } from "../plain/acts.js";
 import { read } from "../plain/certificates.js";
-import { isNumber, today } from "../plain/forms.js";
-import { fatesOf, jsonOf } from "../plain/outcomes.js";
-import { all, t } from "../texts.js";
+import { isNumber } from "../plain/forms.js";
+import { visible } from "../plain/marks.js";
+import { fatesOf, isMissing, jsonOf } from "../plain/outcomes.js";
+import { t } from "../texts.js";
 
 const certificateLink = (number) => link(`#certificate?number=${number}`, t("run.certificate"));
 
@@ -13,6 +15,7 @@ const certificateLink = (number) => link(`#certificate?number=${number}`, t("run
 async function open(values) {
   const place = byId("run-open-outcome");
   asking(place);
+  untick(byId("run-open"));
   const answer = await post("acts", bodyOf([openRun(values["run-open-day"], values["run-open-by"])]));
   const { answers, end } = fatesOf(answer, 1);
   const number = answers[0]?.number;
@@ -21,16 +24,27 @@ async function open(values) {
   else failed(place, answer);
 }
 
-/** Takes the open run up. */
+/** What a closed run did, by its certificate: how many records it ended, sent and skipped. */
+async function countsOf(number) {
+  const answer = await get(`certificates/${number}`);
+  if (answer.status !== 200) return [paragraph(t("run.countsUnread")), ...told(answer)];
+  const certificate = read(answer.text);
+  const counts = ["ended", "sent", "skipped"];
+  const facts = factsOf(counts.map((name) => [t(`run.counts.${name}`), visible(certificate[name] ?? "")]));
+  return counts.every((name) => certificate[name] === "0") ? [facts, paragraph(t("run.tookNone"))] : [facts];
+}
+
+/** Carries the open run out. */
 async function resume() {
   const place = byId("run-resume-outcome");
   asking(place);
-  byId("run-sure").checked = false;
+  untick(byId("run-resume"));
   const answer = await post("run/resume");
   const body = jsonOf(answer);
   if (body?.certificate) {
     const number = body.certificate;
-    say(place, "done", paragraph(t("run.resumed", { number })), paragraph(certificateLink(number)), ...told(answer));
+    const counts = await countsOf(number);
+    say(place, "done", paragraph(t("run.resumed", { number })), ...counts, paragraph(certificateLink(number)), ...told(answer));
   } else if (body?.refused || fatesOf(answer, 0).end === "undone") failed(place, answer);
   else say(place, "unknown", ...told(answer), paragraph(t("run.lostResume")));
 }
@@ -41,20 +55,15 @@ async function find(number) {
   byId("run-number").value = number;
   asking(place);
   const answer = await get(`certificates/${number}`);
-  if (answer.status === 404 && jsonOf(answer)) say(place, "wrong", paragraph(t("run.notClosed", { number })), ...told(answer));
+  if (isMissing(answer, "certificate")) say(place, "wrong", paragraph(t("run.notClosed", { number })), paragraph(t("run.notClosedDo")), details(answer));
   else if (answer.status !== 200) failed(place, answer);
-  else say(place, "done", paragraph(t("run.closed", { number, ...read(answer.text) })), paragraph(certificateLink(number)));
-}
-
-function tellFaults() {
-  const { number, meaning, do: what } = all().run.faultColumns;
-  const rows = Object.entries(all().faults).map(([fault, row]) => [fault, row.meaning, row.do]);
-  byId("run-faults").replaceChildren(tableOf(t("run.faults"), [number, meaning, what], rows, "faults"));
+  else {
+    const certificate = read(answer.text);
+    say(place, "done", paragraph(t("run.closed", { ...certificate, number, by: visible(certificate.by ?? "") })), paragraph(certificateLink(number)));
+  }
 }
 
 export function start() {
-  byId("run-open-day").value = today();
-  tellFaults();
   onSubmit(byId("run-open"), open);
   onSubmit(byId("run-resume"), resume);
   onSubmit(byId("run-form"), (values) => {

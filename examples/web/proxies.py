@@ -1,0 +1,84 @@
+"""Answers of a proxy, whatever body they have, in words; and the office's own that name what is missing."""
+from browser import Browser
+from judging import judge, same
+from place import Proxy
+from story import TEXTS, says
+
+# the page gets this answer to whatever it asks
+ANSWER = """
+const [status, type, body] = arguments;
+window.fetch = async () => new Response(body, { status, headers: type ? { "Content-Type": type } : {} });
+"""
+HTML = "<html>\n<head><title>Bad Gateway</title></head>\n<body>padding to disable MSIE</body></html>"
+BODIES = [
+    ("text/html", HTML),
+    ("application/json", '{"error":"office"}'),
+    ("application/json", "no JSON"),
+    ("text/plain", "The office does not run."),
+    ("", ""),
+]
+
+
+def answers(browser: Browser, view: str, status: int, kind: str, body: str) -> None:
+    browser.open(view)
+    browser.driver.execute_script(ANSWER, status, kind, body)
+
+
+def read(browser: Browser, proxy: Proxy, status: int, kind: str, body: str) -> str:
+    """What the page says where a record is asked for and this comes."""
+    answers(browser, f"{proxy.page}#record", status, kind, body)
+    browser.write(record_number="1")
+    browser.press("#record-form button")
+    return browser.text("#record-outcome")
+
+
+def tell(browser: Browser, proxy: Proxy) -> None:
+    for status in (403, 404, 429, 502, 504):
+        row = TEXTS["proxy"][str(status)]
+        for kind, body in BODIES:
+            there = read(browser, proxy, status, kind, body)
+            says(
+                f"a {status} of the proxy with {kind or 'no type'} {body[:20]!r} is said in words",
+                there,
+                f"The server said: {status}",
+                row["meaning"],
+                row["do"],
+            )
+            judge("and without a mark of HTML", "<" not in there and "MSIE" not in there, there)
+    for kind, body in BODIES:
+        answers(browser, f"{proxy.page}#holds", 502, kind, body)
+        browser.write(hold_place_code="H-1", hold_place_reason="A lawsuit", hold_place_by="Legal office")
+        browser.press("#hold-place button")
+        says(
+            f"an act that a 502 with {kind or 'no type'} answers is told as unknown",
+            browser.seen("#hold-place-outcome"),
+            TEXTS["holds"]["lostPlace"],
+            TEXTS["proxy"]["502"]["meaning"],
+        )
+    says(
+        "an answer that nobody knows is not explained",
+        read(browser, proxy, 503, "application/json", '{"error":"busy"}'),
+        "The server said: 503",
+        TEXTS["said"]["strange"],
+    )
+    says(
+        "one of the office is its own",
+        read(browser, proxy, 503, "application/json", '{"fault":33}'),
+        "The office said: 503",
+        TEXTS["faults"]["33"]["meaning"],
+    )
+    missing = read(browser, proxy, 404, "application/json", '{"error":"record"}')
+    says("a record that is not there", missing, "There is no record 1 in this office.", TEXTS["record"]["missingDo"])
+    judge("which says nothing of other paths", "GET /records/N" not in missing, missing)
+    browser.open(f"{proxy.page}#certificate?number=9999")
+    says(
+        "a certificate that is not there",
+        browser.seen("#certificate-outcome"),
+        TEXTS["run"]["notClosed"].format(number=9999),
+        TEXTS["run"]["notClosedDo"],
+    )
+    judge("nor does it", "GET /records/N" not in browser.text("#certificate-outcome"))
+    browser.open(f"{proxy.page}#run")
+    browser.press("a[href='#fault']")
+    faults = [[number, row["meaning"], row["do"]] for number, row in TEXTS["faults"].items()]
+    same("a link of the view Run leads to what each fault means", browser.table("#fault-table table"), faults)

@@ -1,0 +1,134 @@
+// Fields and forms: what a field takes, what is wrong in one, and the ticks that a form asks for before anything is sent.
+import { byId, made, paragraph } from "./page.js";
+import { isCode, isDay, isNumber, isTarget, isText, today } from "./plain/forms.js";
+import { t } from "./texts.js";
+
+/**
+ * The kinds of fields: the text of the label, the hint or none, what is said of a wrong value, which values are right, and
+ * whether it begins as today.
+ */
+const KINDS = {
+  day: { label: "fields.day", hint: "fields.dayHint", wrong: "fields.dayWrong", takes: isDay, mode: "numeric", isToday: true },
+  listDay: { label: "fields.listDay", hint: "fields.dayHint", wrong: "fields.dayWrong", takes: isDay, mode: "numeric", isToday: true },
+  code: { label: "fields.code", hint: "fields.codeHint", wrong: "fields.codeWrong", takes: isCode },
+  by: { label: "fields.by", hint: "fields.byHint", wrong: "fields.textWrong", takes: isText },
+  reason: { label: "fields.reason", hint: "fields.reasonHint", wrong: "fields.textWrong", takes: isText },
+  record: { label: "fields.record", wrong: "fields.numberWrong", takes: isNumber, mode: "numeric" },
+  certificate: { label: "fields.certificate", wrong: "fields.numberWrong", takes: isNumber, mode: "numeric" },
+  run: { label: "fields.run", wrong: "fields.numberWrong", takes: isNumber, mode: "numeric" },
+  target: { label: "fields.target", hint: "fields.targetHint", takes: isText },
+};
+
+/** Builds the field that `<div data-field="KIND" id="ID">` names: a label, a hint, an input and room for what is wrong. */
+export function field(place) {
+  const { id, dataset } = place;
+  const kind = KINDS[dataset.field];
+  place.removeAttribute("id");
+  place.className = "field";
+  const input = made("input", { id, type: "text", autocomplete: "off", spellcheck: "false", autocapitalize: "off", "aria-describedby": `${id}-hint ${id}-wrong` });
+  if (kind.mode) input.inputMode = kind.mode;
+  if (kind.isToday) input.dataset.today = input.value = today();
+  place.append(
+    made("label", { for: id }, t(kind.label)),
+    input,
+    made("span", { class: "hint", id: `${id}-hint` }, kind.hint ? t(kind.hint) : ""),
+    made("strong", { class: "wrong", id: `${id}-wrong` }),
+  );
+  if (dataset.field === "day") watchDay(place, input);
+}
+
+// ---- a day of an act that is later than today
+
+/** Room below the day of an act for what a late day means. It is live, so that a screen reader reports what appears there. */
+function watchDay(place, input) {
+  place.append(made("div", { class: "late", id: `${input.id}-late`, role: "status" }));
+  input.addEventListener("input", () => askLate(input));
+}
+
+/** What a late day means, and the tick that is asked for it. */
+function lateWarning(id, day) {
+  const box = made("input", { type: "checkbox", id: `${id}-sure`, "aria-describedby": `${id}-sure-wrong` });
+  const label = made("label", { for: box.id }, t("fields.lateSure", { day }));
+  const sure = made("div", { class: "sure" }, box, label, made("strong", { class: "wrong", id: `${box.id}-wrong` }));
+  return [paragraph(t("fields.late", { day, today: today() })), sure];
+}
+
+/** Asks for a tick where the day of this field is later than today by the browser's clock. A tick is for one day alone. */
+function askLate(input) {
+  const place = byId(`${input.id}-late`);
+  const day = input.value.trim();
+  const late = isDay(day) && day > today() ? day : "";
+  if (late === (place.dataset.day ?? "")) return;
+  place.dataset.day = late;
+  place.replaceChildren(...(late ? lateWarning(input.id, late) : []));
+}
+
+/** Lets the days that nobody wrote be today again, on a page that stays open over midnight. */
+export function renewDays() {
+  for (const input of document.querySelectorAll("[data-field=day] > input")) {
+    if (input.value === input.dataset.today) input.dataset.today = input.value = today();
+  }
+}
+
+/** Takes the ticks of a form away, once they were used: each act asks for its own. */
+export function untick(form) {
+  for (const box of form.querySelectorAll("input[type=checkbox]")) box.checked = false;
+}
+
+// ---- what is wrong in a form
+
+/** Says at a field what is wrong with it, or that nothing is. */
+function mark(input, wrong) {
+  byId(`${input.id}-wrong`).textContent = wrong;
+  if (wrong) input.setAttribute("aria-invalid", "true");
+  else input.removeAttribute("aria-invalid");
+}
+
+const kindOf = (input) => KINDS[input.closest("[data-field]").dataset.field];
+
+function wrongOf(input) {
+  if (input.type === "checkbox") return input.checked ? "" : t("fields.sureWrong");
+  if (input.type === "file") return input.files.length ? "" : t("fields.fileWrong");
+  const kind = input.closest("form").querySelector("select");
+  const target = input.closest("[data-field]").dataset.field === "target";
+  if (target) return isTarget(kind.value, input.value) ? "" : t(kind.value === "class" ? "fields.codeWrong" : "fields.numberWrong");
+  return kindOf(input).takes(input.value) ? "" : t(kindOf(input).wrong);
+}
+
+/** The values of a form's fields by their ids, or null where one is wrong: that is said, and the first such has the focus. */
+function valuesOf(form) {
+  for (const input of form.querySelectorAll("input[type=text]")) input.value = input.value.trim();
+  // a day may have been written without an event, as by a script
+  for (const input of form.querySelectorAll("[data-field=day] > input")) askLate(input);
+  const inputs = [...form.querySelectorAll("input")];
+  for (const input of inputs) mark(input, wrongOf(input));
+  const first = inputs.find((input) => input.hasAttribute("aria-invalid"));
+  first?.focus();
+  if (first) return null;
+  if (form.querySelector("[data-field=by]")) shareBy(form.querySelector("[data-field=by] input").value);
+  return Object.fromEntries(inputs.map((input) => [input.id, input.value]));
+}
+
+/** Who acts is asked once for as long as the page is open: the other forms get the name too, where they have none yet. */
+function shareBy(name) {
+  for (const input of document.querySelectorAll("[data-field=by] input")) if (input.value === "") input.value = name;
+}
+
+/** Does something with a form's values once they are right. A form that is at work is not sent a second time. */
+export function onSubmit(form, work) {
+  form.noValidate = true;
+  form.addEventListener("submit", async (event) => {
+    event.preventDefault();
+    if (form.dataset.busy) return;
+    const values = valuesOf(form);
+    if (!values) return;
+    form.dataset.busy = "yes";
+    form.setAttribute("aria-busy", "true");
+    try {
+      await work(values);
+    } finally {
+      delete form.dataset.busy;
+      form.removeAttribute("aria-busy");
+    }
+  });
+}
