@@ -106,7 +106,7 @@ def passwords(folder: str) -> None:
     for it in guessing:
         it.start()
     others = []
-    while time.monotonic() < until - 1:
+    for _ in range(4):
         time.sleep(1)
         others.append(run(f"{OTHER}{folder}records/1").stdout)
     for it in guessing:
