@@ -83,7 +83,7 @@ def gone(folder: str) -> None:
 
 
 SECONDS = 8
-OTHER = ("curl --silent --output /dev/null --write-out '%{http_code}' --max-time 20 --interface 127.0.0.8 "
+OTHER = ("curl --silent --output /dev/null --write-out '%{http_code}' --max-time 60 --interface 127.0.0.8 "
          f'--cacert {place.CERTIFICATE} --user registrar:"$PASSWORD" https://localhost')
 
 
