@@ -1,18 +1,15 @@
 -- What a desk promises of a list of acts, in the words of the program.
-use Rattle.std.proofs.Common.{◌≡◌, ◌∙◌, ap, ◌+◌, ℕ, List, [], ◌++◌, Result, Ok, Err, take}
+use Rattle.std.proofs.Common.{◌≡◌, ◌∙◌, ap, ℕ, List, [], ◌++◌, Result, Ok, Err, take}
 use Rattle.std.specs.Prelude.{IfErr, OnOk}
 use Rattle.sqlite.specs.Held.{state}
-use Rattle.sqlite.specs.State.{HasCleanDisk}
 use Rattle.sqlite_trees.specs.declared.store.Store.{Ghosts}
-use Rattle.office_rules.specs.Acts.{after as after_acts, answers}
+use Rattle.office_rules.specs.Acts.{answers}
 use Rattle.office_rules.specs.State.{State}
 use Rattle.office_rules.specs.declared.act.Act.{Act}
 use Rattle.office_rules.specs.declared.answer.Answer.{Answer}
 use Rattle.office_store.specs.declared.fault.Fault.{Fault}
 use Rattle.office_desk.specs.Calling.{Performed}
 use Rattle.office_desk.specs.Desk.{DeskState}
-use Rattle.office_desk.specs.Fates.{LeavesFates}
-use Rattle.office_desk.specs.Leaving.{IsFrontAnswered, StandsAt, StopsAt, StopsLeaving}
 use Rattle.office_run.specs.Applying.{AreDone, AreStopped}
 
 -- acts that a desk did

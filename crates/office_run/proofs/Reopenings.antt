@@ -34,5 +34,5 @@ module _ {D : Type 0} {g : Ghosts D} (last : Held (FileStore D g)) where
       → ∥ ((trees : Trees) × (ed : Edition) × (file_state last).may_leave trees × HeldOffice ed left trees) ∥₁
   held_crashed numbered leaves left may =
       ∥∥₁_map (opens_again last.store numbered (are_databases leaves) left may) (λ (db : (x : Trees) × recovers last.store x × HoldsDatabase left x).
-        let is = leaves db.0 db.1 in
-        (db.0, is.0, db.1, record { held = ∣ db.2 ∣₁; office = is.1 }))
+      let is = leaves db.0 db.1 in
+      (db.0, is.0, db.1, record { held = ∣ db.2 ∣₁; office = is.1 }))

@@ -1,4 +1,4 @@
-use Rattle.std.proofs.Common.{◌≡◌, inl, refl, sym, rules}
+use Rattle.std.proofs.Common.{◌≡◌, inl, refl, sym}
 use Rattle.sqlite.specs.Held.{state}
 use Rattle.office_rules.specs.State.{State, empty_state}
 use Rattle.office_run.specs.Opening.{IsOfOpened, IsOpened}

@@ -1,4 +1,4 @@
-use Rattle.std.proofs.Common.{◌≡◌, ◌∙◌, ap, inl, refl, sym, rules}
+use Rattle.std.proofs.Common.{◌≡◌, ◌∙◌, ap, inl, refl, sym}
 use Rattle.sqlite.specs.Held.{state}
 use Rattle.office_rules.specs.State.{State, empty_state}
 use Rattle.office_desk.specs.Desk.{DeskState}

@@ -1,4 +1,4 @@
-use Rattle.std.proofs.Common.{inl, inr, refl, rules}
+use Rattle.std.proofs.Common.{inl, inr, refl}
 use Rattle.sqlite.specs.Held.{state}
 use Rattle.office_run.specs.Serving.{IsDeskOf}
 use Rattle.office_run.proofs.Unopened.{unopened}
