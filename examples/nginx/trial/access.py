@@ -83,7 +83,7 @@ def gone(folder: str) -> None:
 
 
 SECONDS = 8
-OTHER = ("curl --silent --output /dev/null --write-out '%{http_code}' --max-time 20 --interface 127.0.0.8 "
+OTHER = ("curl --silent --output /dev/null --write-out '%{http_code}' --max-time 60 --interface 127.0.0.8 "
          f'--cacert {place.CERTIFICATE} --user registrar:"$PASSWORD" https://localhost')
 
 
@@ -106,7 +106,7 @@ def passwords(folder: str) -> None:
     for it in guessing:
         it.start()
     others = []
-    while time.monotonic() < until - 1:
+    for _ in range(4):
         time.sleep(1)
         others.append(run(f"{OTHER}{folder}records/1").stdout)
     for it in guessing:

@@ -1,10 +1,12 @@
 """A place of its own for a run: its mounts, its network and its processes end with it, whatever happens."""
 import os
 import pathlib
+import shutil
 import signal
 import subprocess
 import sys
 import tempfile
+import time
 
 # the commands write here: /etc is copied, the others are empty, and /run is in memory
 COPIED = ["/etc"]
@@ -15,17 +17,28 @@ SPACE = ["unshare", "--mount", "--net", "--pid", "--fork", "--kill-child", "--mo
 def run_in_own(script: str, operands: list[str]) -> int:
     """Runs `script --inside FOLDER OPERAND ..` there, in a new folder on disk, which goes at the end."""
     signal.signal(signal.SIGTERM, lambda *_: sys.exit(143))
-    with tempfile.TemporaryDirectory(prefix="nginx-", dir="/var/tmp") as place:
-        os.chmod(place, 0o755)
-        words = ["setpriv", "--pdeathsig", "KILL", *SPACE, sys.executable, script, "--inside", place, *operands]
+    place = tempfile.mkdtemp(prefix="nginx-", dir="/var/tmp")
+    os.chmod(place, 0o755)
+    words = ["setpriv", "--pdeathsig", "KILL", *SPACE, sys.executable, script, "--inside", place, *operands]
+    child = None
+    try:
         child = subprocess.Popen(words, stdin=subprocess.DEVNULL)
-        try:
-            return child.wait()
-        finally:
+        return child.wait()
+    finally:
+        if child is not None:
             child.kill()
             child.wait()
-            # a file that can only be appended to cannot be taken away either
-            subprocess.run(["chattr", "-R", "-f", "-a", place], check=False)
+        removed(place)
+
+
+def removed(place: str) -> None:
+    """Takes the folder away, once the last process there has ended. A file that can only be appended to would stay."""
+    for _ in range(50):
+        subprocess.run(["chattr", "-R", "-f", "-a", place], check=False, stderr=subprocess.DEVNULL)
+        shutil.rmtree(place, ignore_errors=True)
+        if not os.path.exists(place):
+            return
+        time.sleep(0.1)
 
 
 def make(place: pathlib.Path) -> None:
