@@ -104,9 +104,9 @@ def made(file, layout, ended=False):
     for table in TABLES:
         conn.execute(table)
     numbers = range(1, layout.count + 1)
-    put(conn, "office", [(1, 1, TODAY)])
+    put(conn, "office", [(1, 2, TODAY)])
     kinds = list(enumerate(layout.triggers, 1))
-    put(conn, "schedules", ((f"S{n:02}", it, "years", 1, "none", "review" if it == "review" else "destroy") for n, it in kinds))
+    put(conn, "schedules2", ((f"S{n:02}", it, "years", 1, "none", "review" if it == "review" else "destroy") for n, it in kinds))
     put(conn, "classes", ((f"C{n:02}", text("c", n), f"S{n:02}") for n, _ in kinds))
     put(conn, "aggregations", map(layout.aggregation, range(1, layout.homes + 1)))
     put(conn, "records", map(layout.record, numbers))
@@ -209,7 +209,7 @@ class PythonOffice:
         chain = self.all(UP, record["aggregation"])
         code = record["class"] or self.class_above(chain)
         plan = record["schedule"] or self.value("SELECT schedule FROM classes WHERE code = ?", code)
-        return chain, code, self.one("SELECT * FROM schedules WHERE code = ?", plan)
+        return chain, code, self.one("SELECT * FROM schedules2 WHERE code = ?", plan)
 
     def due(self, record, plan):
         home = record["aggregation"]
@@ -246,7 +246,7 @@ class PythonOffice:
     def due_told(self, day):
         """What GET /due/DAY tells, of an office whose schedules begin with the last addition; all tables are read once, in order."""
         until, classes, held, codes = number_of(day), {}, {}, dict(self.all("SELECT code, schedule FROM classes"))
-        plans = {it["code"]: it for it in self.all("SELECT * FROM schedules")}
+        plans = {it["code"]: it for it in self.all("SELECT * FROM schedules2")}
         last = dict(self.all("SELECT aggregation, max(added) FROM records GROUP BY aggregation"))
         holds = {}
         for code, kind, target in self.all("SELECT code, kind, target FROM targets JOIN holds ON code = hold WHERE lifted IS NULL ORDER BY code DESC"):
@@ -306,7 +306,7 @@ class PythonOffice:
 
     def set_class_schedule(self, act):
         refuse(5, self.one("SELECT 1 FROM classes WHERE code = ?", act["class"]) is None)
-        refuse(5, self.one("SELECT 1 FROM schedules WHERE code = ?", act["schedule"]) is None)
+        refuse(5, self.one("SELECT 1 FROM schedules2 WHERE code = ?", act["schedule"]) is None)
         self.conn.execute("UPDATE classes SET schedule = ? WHERE code = ?", (act["schedule"], act["class"]))
 
     def reclassify(self, act):

@@ -39,7 +39,7 @@ def named(day):
 
 def due(conn, day):
     until = (datetime.date.fromisoformat(day) - EPOCH).days
-    rules = {code: (span, action) for code, span, action in conn.execute("SELECT code, span, disposal FROM schedules")}
+    rules = {code: (span, action) for code, span, action in conn.execute("SELECT code, span, disposal FROM schedules2")}
     plans = dict(conn.execute("SELECT code, schedule FROM classes"))
     homes = dict(conn.execute("SELECT num, class FROM aggregations"))
     held = {}

@@ -1,6 +1,7 @@
 """An office on real files, worked on and stopped: what `killed_programs` and `full_disks` share.
 
 The rows that stand after so many steps of a word's work are found by doing them one at a time, each by a run of the program of its own.
+Of a file of version 1 that is opened, the rows are read before the program opens it again: opening it once more would hide what a stop left.
 """
 import base64
 import http.client
@@ -15,9 +16,15 @@ import subprocess
 import tempfile
 import time
 
+from save_records import OLD_TABLES, TABLES as TEXTS, add, begin
+
 OFFICE = os.environ.get("OFFICE") or str(pathlib.Path(__file__).resolve().parent.parent / "office")
-TABLES = ["office", "schedules", "classes", "aggregations", "records", "contents", "holds", "targets", "runs", "entries", "certificates"]
+TABLES = [text.split("(")[0].removeprefix("CREATE TABLE ") for text in TEXTS]
+OPENED = ("version 2\n", 0)
 RECORDS = 60
+# of a file of version 1: as many schedules as there may be, and some thousand records
+OLD_SCHEDULES, OLD_RECORDS = 1_000, 5_000
+PAGE = 4_096
 FIRST, LAST = "2024-01-02", "2025-01-02"
 
 
@@ -40,6 +47,33 @@ def rows_of(file):
         return "\n".join(str(sorted(map(repr, conn.execute(f"SELECT * FROM {it}")))) for it in TABLES)
     finally:
         conn.close()
+
+
+def rows_left(file):
+    """All rows of a file that may have a log, which a copy of both tells SQLite; a table that is not there tells so."""
+    look = pathlib.Path(copied(file, pathlib.Path(f"{file}.look")))
+    conn = sqlite3.connect(look)
+    try:
+        there = {name for (name,) in conn.execute("SELECT name FROM sqlite_schema WHERE type = 'table'")}
+        return "\n".join(str(sorted(map(repr, conn.execute(f"SELECT * FROM {it}")))) if it in there else f"no {it}" for it in TABLES)
+    finally:
+        conn.close()
+        for end in ("", "-wal", "-shm"):
+            pathlib.Path(f"{look}{end}").unlink(missing_ok=True)
+
+
+def lowered(file, to):
+    """An office's closed file as a file of version 1, in the tables that it had, by Python's sqlite3."""
+    conn = sqlite3.connect(to, isolation_level=None)
+    conn.execute("ATTACH ? AS newer", (str(file),))
+    conn.execute("BEGIN")
+    for name, text in zip(TABLES, OLD_TABLES):
+        conn.execute(text)
+        conn.execute(f"INSERT INTO main.{name} SELECT * FROM newer.{'schedules2' if name == 'schedules' else name}")
+    conn.execute("UPDATE main.office SET version = 1")
+    conn.execute("COMMIT")
+    conn.close()
+    return to
 
 
 def copied(file, to):
@@ -107,7 +141,7 @@ class Trial:
     def judge(self, file, answered, more):
         """The same of a file whose work was stopped after so many answered steps and at most so many more."""
         told, status = run("init", file)
-        if (told, status) != ("version 1\n", 0):
+        if (told, status) != OPENED:
             return f"init: {told!r}, {status}"
         rows = rows_of(file)
         # rows that a refused act leaves are those before it, so there may be several numbers of steps
@@ -189,6 +223,50 @@ class Resume(Trial):
         run("resume", file)
 
 
+class Opening(Trial):
+    """`init` of a file of version 1, in one step."""
+
+    def __init__(self, room, name, base):
+        self.room, self.name, self.base, self.reached, self.lasted, self.begun = room, name, base, [], None, 0
+        work = copied(base, room / f"{name}.steps")
+        self.states = [rows_left(work)]
+        began = time.time()
+        if run("init", work) != OPENED:
+            raise OSError("a file of version 1 does not open")
+        self.seconds = time.time() - began
+        self.states.append(rows_left(work))
+
+    def kill(self, file, after):
+        return (1, 0) if run("init", file, kill_after=after) == OPENED else (0, 1)
+
+    def judge(self, file, answered, more):
+        log = pathlib.Path(f"{file}-wal")
+        rows, is_begun = rows_left(file), log.exists() and log.stat().st_size > PAGE
+        if rows not in self.states[answered : answered + more + 1]:
+            return f"{answered} answered, the rows are those of neither version: {rows[:300]}"
+        self.reached.append(self.states.index(rows))
+        self.begun += is_begun and not answered
+        told = run("init", file)
+        if told != OPENED:
+            return f"init: {told}"
+        return None if rows_left(file) == self.states[-1] else "the opening leads elsewhere"
+
+
+def old_office(file):
+    """A file of version 1 by Python's sqlite3: all the schedules that there may be, and records."""
+    conn = sqlite3.connect(file, isolation_level=None)
+    begin(conn, OLD_TABLES)
+    conn.execute("BEGIN")
+    for number in range(2, OLD_SCHEDULES + 1):
+        conn.execute("INSERT INTO schedules VALUES (?, 'last-addition', 'months', ?, 'quarter', 'review')", (f"D{number}", number))
+    for number in range(1, OLD_RECORDS + 1):
+        add(conn, number)
+    conn.execute("UPDATE office SET version = 1")
+    conn.execute("COMMIT")
+    conn.close()
+    return file
+
+
 def one_by_one(room, acts):
     """A run of the program for each act."""
     for n, act in enumerate(acts):
@@ -197,7 +275,8 @@ def one_by_one(room, acts):
         yield lambda file, listed=listed: ("apply", file, listed)
 
 
-def trials(room):
+def word_trials(room):
+    """The trial of each word that works on an office that is there, by its name."""
     first = room / "first.json"
     first.write_text(json.dumps(list(first_acts())))
     base, opened = room / "base", room / "opened"
@@ -206,12 +285,27 @@ def trials(room):
     listed = room / "open.json"
     listed.write_text(json.dumps([*Apply.acts, {"act": "open-run", "day": LAST, "by": "registrar"}]))
     run("apply", opened, listed)
-    yield Apply(room, "apply", base, list(one_by_one(room, Apply.acts)))
-    yield Serve(room, "serve", base, list(one_by_one(room, Apply.acts)))
     rows = []
     for n, line in enumerate(Import.lines):
         file = room / f"row{n}.csv"
         file.write_text("\n".join([Import.header, line, ""]))
         rows.append(lambda work, file=file: ("import", work, LAST, file))
-    yield Import(room, "import", base, rows)
-    yield Resume(room, "resume", opened, list(one_by_one(room, [{"act": "run-step"}] * (RECORDS + 1))))
+    steps = [{"act": "run-step"}] * (RECORDS + 1)
+    return {
+        "apply": lambda: Apply(room, "apply", base, list(one_by_one(room, Apply.acts))),
+        "serve": lambda: Serve(room, "serve", base, list(one_by_one(room, Apply.acts))),
+        "import": lambda: Import(room, "import", base, rows),
+        "resume": lambda: Resume(room, "resume", opened, list(one_by_one(room, steps))),
+    }
+
+
+OLD = "init of version 1"
+NAMES = ["apply", "serve", "import", "resume", OLD]
+
+
+def trials(room, names=()):
+    """The trials of these names, all where none is given."""
+    chosen = [it for it in NAMES if not names or it in names]
+    words = word_trials(room) if set(chosen) != {OLD} else {}
+    for name in chosen:
+        yield Opening(room, name, old_office(room / "old")) if name == OLD else words[name]()

@@ -3,6 +3,7 @@
 
 save_records.py each FILE COUNT   each record in a transaction of its own, journal WAL, synchronous FULL
 save_records.py whole FILE COUNT  all of them in one transaction, the log copied into the file at the end
+save_records.py old FILE COUNT    as `whole`, in a file of version 1
 save_records.py scan FILE COUNT   nothing is written: the tables are fetched in the order of their keys
 save_records.py acts FILE COUNT   the acts that lead to these rows, as one JSON array in place of a database
 save_records.py csv FILE COUNT    the records as the rows of an import, in place of a database
@@ -29,21 +30,28 @@ TABLES = [
     "CREATE TABLE runs(num INTEGER PRIMARY KEY, day INTEGER NOT NULL, opened_by TEXT NOT NULL, place INTEGER NOT NULL, closed INTEGER NOT NULL) STRICT",
     "CREATE TABLE entries(run INTEGER, record INTEGER, outcome TEXT NOT NULL, class TEXT NOT NULL, schedule TEXT NOT NULL, due INTEGER NOT NULL, confirmed_by TEXT NOT NULL, hold TEXT, PRIMARY KEY (run, record)) STRICT",
     "CREATE TABLE certificates(run INTEGER PRIMARY KEY, body TEXT NOT NULL) STRICT",
+    "CREATE TABLE schedules2(code TEXT PRIMARY KEY, start_at TEXT NOT NULL CHECK (start_at IN ('origin', 'added', 'closed', 'last-addition', 'review', 'event')), unit TEXT NOT NULL, span INTEGER NOT NULL, roll TEXT NOT NULL, disposal TEXT NOT NULL) STRICT",
+    "CREATE TABLE events(record INTEGER PRIMARY KEY, occurred INTEGER NOT NULL, day INTEGER NOT NULL, told_by TEXT NOT NULL) STRICT",
 ]
+# those of a file of version 1
+OLD_TABLES = TABLES[:11]
 KEYS = {
     "office": "one", "schedules": "code", "classes": "code", "aggregations": "num", "records": "num", "contents": "record",
     "holds": "code", "targets": "hold, kind, target", "runs": "num", "entries": "run, record", "certificates": "run",
+    "schedules2": "code", "events": "record",
 }
 DAY = 19724
 DIGEST = hashlib.sha256(b"abc").hexdigest()
 
 
-def begin(conn):
+def begin(conn, texts=TABLES):
+    """Makes the tables, with a schedule, a class and an aggregation."""
     conn.execute("BEGIN")
-    for text in TABLES:
+    for text in texts:
         conn.execute(text)
-    conn.execute("INSERT INTO office VALUES (1, 1, ?)", (DAY,))
-    conn.execute("INSERT INTO schedules VALUES ('D1', 'added', 'years', 1, 'none', 'destroy')")
+    conn.execute("INSERT INTO office VALUES (1, 2, ?)", (DAY,))
+    schedules = "schedules2" if texts is TABLES else "schedules"
+    conn.execute(f"INSERT INTO {schedules} VALUES ('D1', 'added', 'years', 1, 'none', 'destroy')")
     conn.execute("INSERT INTO classes VALUES ('FIN', 'Finance', 'D1')")
     conn.execute("INSERT INTO aggregations VALUES (1, 'A', 'A', NULL, 'FIN', NULL)")
     conn.execute("COMMIT")
@@ -54,7 +62,7 @@ def add(conn, number):
     row = (number, name, name, DAY, DAY, 1, 3, DIGEST, "here") + (None,) * 10
     conn.execute("INSERT OR REPLACE INTO records VALUES (?, ?, ?, ?, ?, ?, ?, ?, ?, ?, ?, ?, ?, ?, ?, ?, ?, ?, ?)", row)
     conn.execute("INSERT OR REPLACE INTO contents VALUES (?, ?)", (number, b"abc"))
-    conn.execute("INSERT OR REPLACE INTO office VALUES (1, 1, ?)", (DAY,))
+    conn.execute("INSERT OR REPLACE INTO office VALUES (1, 2, ?)", (DAY,))
 
 
 def acts(count):
@@ -93,7 +101,7 @@ def bring(conn, path, parts):
             if parts == 2:
                 conn.execute("COMMIT")
                 conn.execute("BEGIN")
-            conn.execute("INSERT OR REPLACE INTO office VALUES (1, 1, ?)", (DAY,))
+            conn.execute("INSERT OR REPLACE INTO office VALUES (1, 2, ?)", (DAY,))
             conn.execute("COMMIT")
     return number
 
@@ -115,14 +123,14 @@ def main(how, path, word):
         return
     conn.execute("PRAGMA journal_mode = WAL")
     conn.execute("PRAGMA synchronous = FULL")
-    begin(conn)
+    begin(conn, OLD_TABLES if how == "old" else TABLES)
     if how in ("import", "import-twice"):
         count = bring(conn, word, 2 if how == "import-twice" else 1)
         conn.close()
         print(count, "records")
         return
-    count = int(word)
-    if how == "whole":
+    count, is_whole = int(word), how in ("whole", "old")
+    if is_whole:
         conn.execute("BEGIN")
     for number in range(1, count + 1):
         if how == "each":
@@ -130,7 +138,9 @@ def main(how, path, word):
         add(conn, number)
         if how == "each":
             conn.execute("COMMIT")
-    if how == "whole":
+    if how == "old":
+        conn.execute("UPDATE office SET version = 1")
+    if is_whole:
         conn.execute("COMMIT")
         conn.execute("PRAGMA journal_mode = DELETE")
     conn.close()

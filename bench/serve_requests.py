@@ -19,7 +19,7 @@ EPOCH = datetime.date(1970, 1, 1)
 RECORD = """
 SELECT r.num, r.ref, r.title, r.originated, r.added, r.aggregation, r.size, r.digest, r.status, s.span, c.code, s.code
 FROM records r JOIN aggregations a ON a.num = r.aggregation JOIN classes c ON c.code = coalesce(r.class, a.class)
-JOIN schedules s ON s.code = coalesce(r.schedule, c.schedule) WHERE r.num = ?"""
+JOIN schedules2 s ON s.code = coalesce(r.schedule, c.schedule) WHERE r.num = ?"""
 ADD = "INSERT INTO records VALUES (?, ?, ?, ?, ?, ?, ?, ?, 'here'" + ", NULL" * 10 + ")"
 
 

@@ -1,7 +1,7 @@
 """Mutated files of an office, and what the program may say of them.
 
-Two offices are mutated: one in a file that was closed, and one in a file and a log as a killed `serve` leaves them. Their bytes are changed, or
-by SQLite their rows or their tables. What SQLite reads of a file decides, where it finds the file sound, what `init` must say of it.
+Three offices are mutated: one in a file that was closed, the same in a file of version 1 that SQLite writes, and one in a file and a log as a
+killed `serve` leaves them. Their bytes are changed, or by SQLite their rows or their tables. What SQLite reads of a file decides, where it finds the file sound, what `init` must say of it.
 """
 import hashlib
 import pathlib
@@ -12,9 +12,10 @@ import tempfile
 
 from fuzzing.offices import LAST, Service, run, story, told_story
 from fuzzing.rules import Office, compact
-from fuzzing.sound import FORMS, Rows
+from fuzzing.sound import FORMS, Rows, taken_over
+from real_files import lowered
 
-OPENED = (0, b"version 1\n", b"")
+OPENED = (0, b"version 2\n", b"")
 FAULTS = {number: (3, b"", b"office: fault %d\n" % number) for number in (31, 33, 34)}
 PAGE = 4_096
 CONTENTS = [9, 27]
@@ -94,12 +95,12 @@ def named(tables):
         return None
 
 
-def expected_of(tables, schema, first_schema):
+def expected_of(tables, schema, schemas):
     """What `init` must say of a file, by what SQLite reads; none where that does not decide it."""
-    if tables is None or schema != first_schema:
+    if tables is None or schema not in schemas:
         return None
     rows = named(tables)
-    if rows is not None and len(rows["office"]) == 1 and rows["office"][0]["version"] != 1:
+    if rows is not None and len(rows["office"]) == 1 and rows["office"][0]["version"] not in (1, 2):
         return FAULTS[34]
     return FAULTS[33] if rows is None or Rows(rows).fault() else OPENED
 
@@ -199,6 +200,7 @@ class Mutator:
         table = self.pick(list(FORMS))
         rows = [row for (row,) in conn.execute(f"SELECT rowid FROM {table}")]
         if not rows:
+            self.fill(conn, table)
             return
         column, row = self.pick(list(FORMS[table])), self.pick(rows)
         if self.random.random() < 0.12:
@@ -211,6 +213,13 @@ class Mutator:
             conn.execute(f"UPDATE {table} SET {column} = {column} + ? WHERE rowid = ?", (self.pick([1, -1, 30, 10_000]), row))
         else:
             conn.execute(f"UPDATE {table} SET {column} = ? WHERE rowid = ?", (self.pick(VALUES), row))
+
+    def fill(self, conn, table):
+        """A row for a table that must have none."""
+        if table == "schedules":
+            conn.execute("INSERT INTO schedules SELECT * FROM schedules2 LIMIT 1")
+        if table == "events":
+            conn.execute("INSERT INTO events VALUES (1, 19724, 19724, 'registrar')")
 
     def add_row(self, conn, table, row, number):
         """A second row like that one, but for its key and another column."""
@@ -257,12 +266,12 @@ def told_by(words):
 class Case:
     """A mutated file, which is looked at by SQLite and opened by the program."""
 
-    def __init__(self, file, room, has_log, certificate, schema):
-        self.file, self.room, self.has_log, self.certificate, self.schema = file, room, has_log, certificate, schema
+    def __init__(self, file, room, has_log, certificate, schemas):
+        self.file, self.room, self.has_log, self.certificate, self.schemas = file, room, has_log, certificate, schemas
         self.problems, self.contents = [], []
         self.work = copied(file, room / "work.db")
         self.tables, found = sqlite_reads(self.work, room)
-        self.expected = None if has_log else expected_of(self.tables, found, schema)
+        self.expected = None if has_log else expected_of(self.tables, found, schemas)
 
     def look(self, is_by_rows):
         """The name of what the program says of it; what is not as it must be goes to `problems`."""
@@ -281,9 +290,9 @@ class Case:
     def opened(self):
         """The name of what is told of the first certificate of a file that opened."""
         tables, schema = sqlite_reads(self.work, self.room)
-        if not self.has_log and self.tables and "office" in self.tables and tables != self.tables:
+        if not self.has_log and self.tables and "office" in self.tables and tables != taken_over(self.tables):
             self.problems.append("it has other rows once it was opened")
-        if expected_of(tables, schema, self.schema) not in (None, OPENED):
+        if expected_of(tables, schema, self.schemas) not in (None, OPENED):
             self.problems.append(f"it opens, and its rows stand for no office: {Rows(named(tables)).fault()}")
         self.serve_contents()
         return self.certified(tables)
@@ -326,19 +335,20 @@ class Case:
         return line.decode(errors="replace").strip()
 
 
-def mutated(mutator, closed, killed, file):
+def mutated(mutator, closed, killed, old, file):
     """Makes a mutated file: what was changed, and whether it is one with a log."""
-    kind = mutator.random.random()
-    copied(killed if kind < 0.2 else closed, file)
+    kind, is_old = mutator.random.random(), mutator.random.random() < 0.3
+    copied(killed if kind < 0.2 else old if is_old else closed, file)
+    version = ", version 1" if is_old else ""
     if kind < 0.2:
         log = pathlib.Path(f"{file}-wal")
         mutator.change_bytes(log if mutator.random.random() < 0.6 else file)
         return "bytes of a file with a log", True
     if kind < 0.65:
         mutator.change_bytes(file)
-        return "bytes of a closed file", False
+        return f"bytes of a closed file{version}", False
     mutator.change_by_sqlite(file, mutator.change_row if kind < 0.95 else mutator.change_tables)
-    return "rows of a closed file" if kind < 0.95 else "tables of a closed file", False
+    return f"{'rows' if kind < 0.95 else 'tables'} of a closed file{version}", False
 
 
 def mutated_files(random, count, tally):
@@ -348,11 +358,12 @@ def mutated_files(random, count, tally):
         for room in rooms:
             room.mkdir()
         (closed, certificate), killed, room = closed_office(rooms[0]), killed_office(rooms[1]), rooms[2]
-        mutator, schema = Mutator(random), sqlite_reads(closed, room)[1]
+        old = lowered(closed, rooms[0] / "old.db")
+        mutator, schemas = Mutator(random), [sqlite_reads(it, room)[1] for it in (closed, old)]
         for _ in range(count):
             file = room / "case.db"
-            kind, has_log = mutated(mutator, closed, killed, file)
-            case = Case(file, room, has_log, certificate, schema)
+            kind, has_log = mutated(mutator, closed, killed, old, file)
+            case = Case(file, room, has_log, certificate, schemas)
             name = f"{kind}: {case.look(kind.startswith('rows'))}"
             for status in case.contents:
                 tally.passed(f"a content of a mutated file: {status}")

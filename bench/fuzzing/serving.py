@@ -101,7 +101,7 @@ def only_refused(random, count, tally):
         for done in range(0, count, AT_ONCE):
             answers += refused_at_once(random, file, maker, min(AT_ONCE, count - done), tally)
             tally.judge("the file at the end", bytes_of(file)[0] == closed, "it is not as it was")
-        tally.judge("init at the end", run("init", file) == (0, b"version 1\n", b""), "it does not open")
+        tally.judge("init at the end", run("init", file) == (0, b"version 2\n", b""), "it does not open")
     return answers
 
 
@@ -136,7 +136,7 @@ def of_all_kinds(random, count, tally):
             state = random.getstate()
             sampled(random, client)
         tally.judge("records in the file", records_in(file) == ("ok", len(office.records)), repr(records_in(file)))
-        tally.judge("init at the end", run("init", file) == (0, b"version 1\n", b""), "it does not open")
+        tally.judge("init at the end", run("init", file) == (0, b"version 2\n", b""), "it does not open")
         with Service(file, SAMPLE) as service:
             random.setstate(state)
             client.service = service

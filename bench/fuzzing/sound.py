@@ -32,9 +32,11 @@ def anything(value):
 
 
 TRIGGER, OFFSET, ACTION = (word(ACTS["add-schedule"][it]) for it in ("trigger", "offset", "action"))
+SCHEDULE = {"code": is_code, "start_at": TRIGGER, "unit": one_of(*LONGEST), "span": NUMBER, "roll": OFFSET, "disposal": ACTION}
+# the last two are of version 2 alone
 FORMS = {
-    "office": {"one": one_of(1), "version": one_of(1), "day": DAY},
-    "schedules": {"code": is_code, "start_at": TRIGGER, "unit": one_of(*LONGEST), "span": NUMBER, "roll": OFFSET, "disposal": ACTION},
+    "office": {"one": one_of(1), "version": one_of(1, 2), "day": DAY},
+    "schedules": SCHEDULE,
     "classes": {"code": is_code, "title": is_text, "schedule": is_code},
     "aggregations": {"num": NUMBER, "ref": is_text, "title": is_text, "parent": or_null(NUMBER), "class": or_null(is_code), "closed": or_null(DAY)},
     "records": {
@@ -49,31 +51,49 @@ FORMS = {
     "entries": {"run": NUMBER, "record": NUMBER, "outcome": one_of("destroyed", "transferred", "sent", "skipped"), "class": is_code,
                 "schedule": is_code, "due": DUE, "confirmed_by": is_text, "hold": or_null(is_code)},
     "certificates": {"run": NUMBER, "body": anything},
+    "schedules2": SCHEDULE,
+    "events": {"record": NUMBER, "occurred": DAY, "day": DAY, "told_by": is_text},
 }
 
 
+def taken_over(tables):
+    """The tables of version 2 that those of version 1 become; those of version 2 stay."""
+    if "schedules2" in tables or "schedules" not in tables:
+        return tables
+    office = [(one, 2, day) for one, _, day in tables["office"]]
+    return {**tables, "office": office, "schedules": [], "schedules2": tables["schedules"], "events": []}
+
+
 class Rows:
-    """The tables' rows, by name."""
+    """The tables' rows, by name; without `schedules2` and `events` in version 1."""
 
     def __init__(self, tables):
         self.__dict__.update(tables)
         self.tables = tables
+        self.plans = tables.get("schedules2", tables["schedules"])
         self.status = {it["num"]: it["status"] for it in self.records}
 
     def fault(self):
         """The name of an item that does not hold; each is asked only where those before it hold."""
-        items = (self.forms, self.limits, self.numbering, self.forest, self.names, self.targets_stand, self.closing, self.contents_stand,
+        items = (self.forms, self.edition, self.limits, self.numbering, self.forest, self.names, self.targets_stand, self.closing, self.contents_stand,
                  self.papers, self.entries_stand, self.runs_stand, self.days)
         return next((item.__name__ for item in items if not item()), None)
 
     def forms(self):
-        fields = ((form, row[name]) for table, forms in FORMS.items() for row in self.tables[table] for name, form in forms.items())
+        fields = ((form, row[name]) for table, rows in self.tables.items() for row in rows for name, form in FORMS[table].items())
         return len(self.office) == 1 and all(form(value) for form, value in fields)
+
+    def edition(self):
+        """The tables are those of the version; those of version 2 have nothing in `schedules` and, so far, no event."""
+        if "schedules2" in self.tables:
+            return self.office[0]["version"] == 2 and not self.tables["schedules"] and not self.tables["events"]
+        return self.office[0]["version"] == 1
 
     def limits(self):
         held = [it["hold"] for it in self.targets]
-        few = all(len(self.tables[it]) <= most for it, most in MOST.items() if it != "targets")
-        return few and all(held.count(it) <= MOST["targets"] for it in set(held)) and all(it["span"] <= LONGEST[it["unit"]] for it in self.schedules)
+        counted = {**self.tables, "schedules": self.plans}
+        few = all(len(counted[it]) <= most for it, most in MOST.items() if it != "targets")
+        return few and all(held.count(it) <= MOST["targets"] for it in set(held)) and all(it["span"] <= LONGEST[it["unit"]] for it in self.plans)
 
     def numbering(self):
         return all(sorted(it["num"] for it in rows) == list(range(1, len(rows) + 1)) for rows in (self.aggregations, self.records, self.runs))
@@ -87,7 +107,7 @@ class Rows:
         return all(it <= 8 for it in depth.values())
 
     def codes(self, table):
-        return {None, *(it["code"] for it in self.tables[table])}
+        return {None, *(it["code"] for it in (self.plans if table == "schedules" else self.tables[table]))}
 
     def names(self):
         classes, schedules, holds = self.codes("classes"), self.codes("schedules"), self.codes("holds")

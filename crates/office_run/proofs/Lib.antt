@@ -8,3 +8,4 @@ pub mod Openings
 pub mod Reopenings
 pub mod Resumptions
 pub mod Services
+pub mod Unopened

@@ -1,6 +1,6 @@
 //! Tables that other programs changed by a statement or two: whether they still stand for an office.
 //!
-//! Four things no statement can do: a trigger that is none of the five words (a CHECK), a value of another type
+//! Four things no statement can do: a trigger that is none of the six words (a CHECK), a value of another type
 //! than its column's (STRICT), two aggregations or records of one ref (UNIQUE), and null in a column that must not
 //! be null, which those of the keys of `targets` and `entries` are too.
 
@@ -99,7 +99,10 @@ fault 33 after UPDATE office SET one = 2
 fault 33 after DELETE FROM office
 fault 33 after INSERT INTO office VALUES (2, 1, 20090)
 fault 33 after INSERT INTO office VALUES (2, 9, 20090)
-fault 34 after UPDATE office SET version = 2
+opened after UPDATE office SET version = 2
+fault 33 after UPDATE office SET version = 1
+fault 34 after UPDATE office SET version = 3
+fault 34 after UPDATE office SET version = -2
 fault 34 after UPDATE office SET version = 0
 fault 34 after UPDATE office SET version = 9, day = 376200
 fault 34 after UPDATE office SET version = 9; DELETE FROM contents
@@ -107,23 +110,23 @@ fault 34 after UPDATE office SET version = 9; DELETE FROM contents
 # Codes and words of schedules and classes, and the longest periods
 ## at the desk of the busy office
 ## tried on the tables
-opened after INSERT INTO schedules VALUES ('A123456789-12345', 'added', 'days', 182500, 'none', 'keep')
-fault 33 after INSERT INTO schedules VALUES ('A123456789-123456', 'added', 'days', 1, 'none', 'keep')
-fault 33 after INSERT INTO schedules VALUES ('', 'added', 'days', 1, 'none', 'keep')
-fault 33 after INSERT INTO schedules VALUES ('A 1', 'added', 'days', 1, 'none', 'keep')
-fault 33 after INSERT INTO schedules VALUES ('É', 'added', 'days', 1, 'none', 'keep')
-fault 33 after INSERT INTO schedules VALUES ('A1', 'added', 'day', 1, 'none', 'keep')
-fault 33 after INSERT INTO schedules VALUES ('A1', 'added', 'days', 1, 'never', 'keep')
-fault 33 after INSERT INTO schedules VALUES ('A1', 'added', 'days', 1, 'none', 'burn')
-fault 33 after INSERT INTO schedules VALUES ('A1', 'added', 'days', -1, 'none', 'keep')
-fault 33 after INSERT INTO schedules VALUES ('A1', 'added', 'days', 182501, 'none', 'keep')
-opened after INSERT INTO schedules VALUES ('A1', 'added', 'weeks', 26000, 'none', 'keep')
-fault 33 after INSERT INTO schedules VALUES ('A1', 'added', 'weeks', 26001, 'none', 'keep')
-opened after INSERT INTO schedules VALUES ('A1', 'added', 'months', 6000, 'none', 'keep')
-fault 33 after INSERT INTO schedules VALUES ('A1', 'added', 'months', 6001, 'none', 'keep')
-opened after INSERT INTO schedules VALUES ('A1', 'added', 'years', 500, 'none', 'keep')
-fault 33 after INSERT INTO schedules VALUES ('A1', 'added', 'years', 501, 'none', 'keep')
-fault 33 after INSERT INTO schedules VALUES ('A1', 'added', 'days', 4294967297, 'none', 'keep')
+opened after INSERT INTO schedules2 VALUES ('A123456789-12345', 'added', 'days', 182500, 'none', 'keep')
+fault 33 after INSERT INTO schedules2 VALUES ('A123456789-123456', 'added', 'days', 1, 'none', 'keep')
+fault 33 after INSERT INTO schedules2 VALUES ('', 'added', 'days', 1, 'none', 'keep')
+fault 33 after INSERT INTO schedules2 VALUES ('A 1', 'added', 'days', 1, 'none', 'keep')
+fault 33 after INSERT INTO schedules2 VALUES ('É', 'added', 'days', 1, 'none', 'keep')
+fault 33 after INSERT INTO schedules2 VALUES ('A1', 'added', 'day', 1, 'none', 'keep')
+fault 33 after INSERT INTO schedules2 VALUES ('A1', 'added', 'days', 1, 'never', 'keep')
+fault 33 after INSERT INTO schedules2 VALUES ('A1', 'added', 'days', 1, 'none', 'burn')
+fault 33 after INSERT INTO schedules2 VALUES ('A1', 'added', 'days', -1, 'none', 'keep')
+fault 33 after INSERT INTO schedules2 VALUES ('A1', 'added', 'days', 182501, 'none', 'keep')
+opened after INSERT INTO schedules2 VALUES ('A1', 'added', 'weeks', 26000, 'none', 'keep')
+fault 33 after INSERT INTO schedules2 VALUES ('A1', 'added', 'weeks', 26001, 'none', 'keep')
+opened after INSERT INTO schedules2 VALUES ('A1', 'added', 'months', 6000, 'none', 'keep')
+fault 33 after INSERT INTO schedules2 VALUES ('A1', 'added', 'months', 6001, 'none', 'keep')
+opened after INSERT INTO schedules2 VALUES ('A1', 'added', 'years', 500, 'none', 'keep')
+fault 33 after INSERT INTO schedules2 VALUES ('A1', 'added', 'years', 501, 'none', 'keep')
+fault 33 after INSERT INTO schedules2 VALUES ('A1', 'added', 'days', 4294967297, 'none', 'keep')
 opened after INSERT INTO classes VALUES ('A1', 'A', 'D1')
 fault 33 after INSERT INTO classes VALUES ('A_1', 'A', 'D1')
 fault 33 after INSERT INTO classes VALUES ('A1', '', 'D1')
@@ -222,8 +225,8 @@ fault 33 after INSERT INTO aggregations VALUES (5, 'E', 'E', 3, NULL, NULL), (6,
 ## at the desk of the busy office
 ## tried on the tables
 fault 33 after UPDATE classes SET schedule = 'NON' WHERE code = 'LEG'
-fault 33 after DELETE FROM schedules WHERE code = 'V'
-fault 33 after DELETE FROM schedules WHERE code = 'D1'
+fault 33 after DELETE FROM schedules2 WHERE code = 'V'
+fault 33 after DELETE FROM schedules2 WHERE code = 'D1'
 fault 33 after DELETE FROM classes WHERE code = 'FIN'
 fault 33 after UPDATE aggregations SET class = 'NON' WHERE num = 2
 fault 33 after UPDATE aggregations SET class = 'NON' WHERE num = 4
@@ -421,8 +424,8 @@ opened after UPDATE entries SET due = 20091 WHERE run = 1 AND record = 4
 # There are no more than 1000 schedules, classes, holds and targets of one hold
 ## at the desk of the busy office
 ## tried on the tables
-opened after INSERT INTO schedules SELECT 'X' || a.num || b.num || c.num || d.num, 'added', 'days', 1, 'none', 'keep' FROM records a, records b, records c, records d LIMIT 997
-fault 33 after INSERT INTO schedules SELECT 'X' || a.num || b.num || c.num || d.num, 'added', 'days', 1, 'none', 'keep' FROM records a, records b, records c, records d LIMIT 998
+opened after INSERT INTO schedules2 SELECT 'X' || a.num || b.num || c.num || d.num, 'added', 'days', 1, 'none', 'keep' FROM records a, records b, records c, records d LIMIT 997
+fault 33 after INSERT INTO schedules2 SELECT 'X' || a.num || b.num || c.num || d.num, 'added', 'days', 1, 'none', 'keep' FROM records a, records b, records c, records d LIMIT 998
 opened after INSERT INTO classes SELECT 'X' || a.num || b.num || c.num || d.num, 'X', 'D1' FROM records a, records b, records c, records d LIMIT 998
 fault 33 after INSERT INTO classes SELECT 'X' || a.num || b.num || c.num || d.num, 'X', 'D1' FROM records a, records b, records c, records d LIMIT 999
 opened after INSERT INTO holds SELECT 'X' || a.num || b.num || c.num || d.num, 'court', 20000, 'registrar', NULL FROM records a, records b, records c, records d LIMIT 998

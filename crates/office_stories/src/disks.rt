@@ -81,6 +81,20 @@ impl Image {
         Ok(Image { log, db })
     }
 
+    /// The bytes of the database file.
+    pub(crate) fn db(&self) -> &[u8] {
+        self.db.as_slice()
+    }
+
+    /// Puts bytes at a place of the database file.
+    pub(crate) fn put(&mut self, alloc: Global, at: usize, bytes: &[u8]) -> Result<(), Fail> {
+        let mut memory = Memory::new(alloc);
+        memory.write_at(0, self.db.as_slice())?;
+        memory.write_at(at, bytes)?;
+        self.db = Vec::from_slice(alloc, memory.bytes())?;
+        Ok(())
+    }
+
     /// Files of these bytes on disks that stop.
     pub(crate) fn files(&self, alloc: Global, stop: Stop) -> Result<Disks, Fail> {
         let log = disk(alloc, self.log.as_slice(), stop.log)?;

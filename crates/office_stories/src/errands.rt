@@ -6,6 +6,7 @@ use crate::intakes::taken_over;
 use crate::program::tell_program;
 use crate::readings::{fault_text, told};
 use crate::rows::{Way, tell_rows};
+use crate::selections::{all_selected, selected};
 use crate::sockets::{Meeting, serve};
 use crate::tables::{change, counts_text, tables_text};
 use office_desk::Desk;
@@ -31,8 +32,12 @@ pub(crate) enum Errand<'a> {
     Statements(&'a str),
     /// The rows of the tables are counted.
     Counts,
-    /// The rows of the tables are told.
+    /// What is in the tables is reported, once the office is opened.
     Tables,
+    /// What is in the tables is reported, and no office is opened.
+    AllRows,
+    /// What a statement reads is reported, and no office is opened.
+    Selection(&'a str),
     /// The office is taken over with memory for so many rows.
     TakenOver(usize),
 }
@@ -62,8 +67,8 @@ fn done_at<S: Alter>(
         Errand::Rows(way, rows) => tell_rows(alloc, desk, way, rows)?,
         Errand::Asks(asks) => return told_of(alloc, desk, asks),
         Errand::Meeting(rt, listener, meeting) => serve(rt, listener, desk, meeting)?,
-        Errand::Program(_) | Errand::Statements(_) => {}
-        Errand::Counts | Errand::Tables | Errand::TakenOver(_) => {}
+        Errand::Program(_) | Errand::Statements(_) | Errand::Selection(_) => {}
+        Errand::Counts | Errand::Tables | Errand::AllRows | Errand::TakenOver(_) => {}
     }
     Ok(String::new(alloc))
 }
@@ -89,7 +94,7 @@ fn done_at_desk<S: Alter>(
 /// An errand over a connection.
 fn done_over<S: Alter + Drop>(
     alloc: Global,
-    conn: Connection<S>,
+    mut conn: Connection<S>,
     errand: Errand<'_>,
 ) -> (Result<String, Fail>, Connection<S>) {
     match errand {
@@ -97,6 +102,8 @@ fn done_over<S: Alter + Drop>(
         Errand::Statements(statements) => change(alloc, conn, statements),
         Errand::Counts => counts_text(alloc, conn),
         Errand::Tables => tables_text(alloc, conn),
+        Errand::AllRows => (all_selected(alloc, &mut conn), conn),
+        Errand::Selection(select) => (selected(alloc, &mut conn, select), conn),
         Errand::TakenOver(rows) => taken_over(alloc, conn, rows),
         _ => done_at_desk(alloc, conn, errand),
     }

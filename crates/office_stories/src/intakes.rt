@@ -3,6 +3,7 @@ use crate::disks::{Image, Stop};
 use crate::errands::{Errand, done};
 use crate::failures::{failure, must};
 use crate::readings::fault_text;
+use crate::tables::rows_in;
 use office_machine::{Builder, Intake, Rebuild, Row};
 use office_store::Store;
 use sqlite::{Alter, Connection};
@@ -52,10 +53,10 @@ pub(crate) fn taken_over<S: Alter>(
 /// With memory for each number of rows below the one that is told the office is not taken over for want of
 /// memory, with memory for that one it is, and its tables stay as they are.
 pub(crate) fn tell_taken_over(alloc: Global, image: &mut Image, row: &str) -> Result<(), Fail> {
-    let before = done(alloc, image, Stop::never(), Errand::Tables)?;
+    let before = rows_in(alloc, image)?;
     for rows in 0..1_000usize {
         let told = done(alloc, image, Stop::never(), Errand::TakenOver(rows))?;
-        let after = done(alloc, image, Stop::never(), Errand::Tables)?;
+        let after = rows_in(alloc, image)?;
         must(after.as_str() == before.as_str(), row, after.as_str())?;
         if told.is_empty() {
             let count = format!(in alloc; "with {rows} rows")?;

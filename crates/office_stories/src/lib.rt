@@ -12,12 +12,17 @@
 //! | `## clients in pieces of 7` | a request of HTTP, which comes in pieces of 7 bytes, with its whole answer |
 //! | `## by the program` | words of the program, and `STATUS;OUTPUT;LINE ON STANDARD ERROR`; then the bytes after which its text or its output fails, ` while read up to 7`, ` while written up to 7`; an output `*` is any |
 //! | `## in the tables` | statements of SQL that change the tables |
-//! | `## tried on the tables` | `opened after` or `fault 33 after` statements, each on the office as it is |
+//! | `## in the tables of version 1` | the same, after the eleven tables of version 1 are made (`old_office`) |
+//! | `## in the tables of the old base office` | the same, after the base office is made in these |
+//! | `## the bytes of a file` | what is in the pages of the database file (`pages`): `2 14 0a0b` at place 14 of page 2, `3 like 2`, and the `digest` of the whole |
+//! | `## read from the tables` | a statement of SQL, ` is ` and the values that it gives, `none` or `refused`; no office is opened before |
+//! | `## tried on the tables` | `opened after` or `fault 33 after` statements, each on a copy of the office as it is; what is refused keeps its rows |
 //! | `## counts of the tables` | how many rows the ten tables have |
 //! | `## taken over by memory` | `with 16 rows`: with memory for fewer the office is not taken over, and its tables stay |
 //! | `## closed` | none: the database is closed, and its log goes back into its file |
 //! | `## asked while a disk stops` | acts with their answers, or what is read, and how often a disk stops it at least |
 //! | `## resumed while a disk stops` | `by 11 steps = closed 1, at least 25`; `steps again` where each resumption is stopped once more |
+//! | `## opened while a disk stops` | `at least 8`: a file of version 1 is opened, and how often a disk stops it at least; each stop leaves all of version 1, or all of version 2 |
 //!
 //! An act is a day, its word, its words, ` = ` and the answer, as `2025-01-02 confirm 1 destroy = refused 15`;
 //! `phrases` has them all; acts that are asked at once stand between ` & `, and so do their answers. A title is the ref or the code, a reason is `court`, it is always the registrar
@@ -71,7 +76,15 @@ mod limit_stories;
 #[cfg(test)]
 mod lost_stories;
 #[cfg(test)]
+mod migrations;
+#[cfg(test)]
 mod office;
+#[cfg(test)]
+mod old_file_stories;
+#[cfg(test)]
+mod old_office;
+#[cfg(test)]
+mod pages;
 #[cfg(test)]
 mod peer;
 #[cfg(test)]
@@ -93,6 +106,8 @@ mod rows;
 #[cfg(test)]
 mod run_stories;
 #[cfg(test)]
+mod selections;
+#[cfg(test)]
 mod socket_stories;
 #[cfg(test)]
 mod sockets;
@@ -108,3 +123,5 @@ mod tables;
 mod telling;
 #[cfg(test)]
 mod tests;
+#[cfg(test)]
+mod version_stories;

@@ -3,12 +3,12 @@
 pub(crate) const PROGRAM: &str = r#"
 # An office is made and opened again
 ## by the program
-init = 0;version 1\n;
-init = 0;version 1\n;
+init = 0;version 2\n;
+init = 0;version 2\n;
 
 # Tables of another version
 ## by the program
-init = 0;version 1\n;
+init = 0;version 2\n;
 ## in the tables
 UPDATE office SET version = 9
 ## by the program
@@ -16,7 +16,7 @@ init = 3;;office: fault 34\n
 
 # Tables of no state
 ## by the program
-init = 0;version 1\n;
+init = 0;version 2\n;
 ## in the tables
 INSERT INTO runs VALUES (1, 0, 'registrar', 1, 0)
 ## by the program
@@ -24,7 +24,7 @@ init = 3;;office: fault 33\n
 
 # Tables without the row of the office
 ## by the program
-init = 0;version 1\n;
+init = 0;version 2\n;
 ## in the tables
 DELETE FROM office
 ## by the program
@@ -32,7 +32,7 @@ init = 3;;office: fault 33\n
 
 # Tables of which one is missing
 ## by the program
-init = 0;version 1\n;
+init = 0;version 2\n;
 ## in the tables
 DROP TABLE office
 ## by the program
@@ -41,12 +41,12 @@ init = 3;;office: fault 33\n
 # A new office has no run
 ## by the program
 resume = 1;;office: refused 18\n
-init = 0;version 1\n;
+init = 0;version 2\n;
 
 # A new office has no certificate
 ## by the program
 certificate 1 = 1;;office: refused 5\n
-init = 0;version 1\n;
+init = 0;version 2\n;
 
 # An open run is resumed once
 ## at the desk
@@ -144,7 +144,7 @@ export 2025-01-02 = 0;record,ref,class,schedule,action,due,held,confirmed\n2,r2,
 export entries = 0;run,record,ref,outcome,class,schedule,due,hold,confirmed_by,length,digest\n1,1,r1,destroyed,FIN,D1,2025-01-02,,registrar,3,ba7816bf8f01cfea414140de5dae2223b00361a396177a9cb410ff61f20015ad\n1,2,r2,skipped,LEG,D1,2025-01-02,H-2,registrar,0,e3b0c44298fc1c149afbf4c8996fb92427ae41e4649b934ca495991b7852b855\n;
 resume = 0;certificate 1\n;
 export entries = 0;run,record,ref,outcome,class,schedule,due,hold,confirmed_by,length,digest\n1,1,r1,destroyed,FIN,D1,2025-01-02,,registrar,3,ba7816bf8f01cfea414140de5dae2223b00361a396177a9cb410ff61f20015ad\n1,2,r2,skipped,LEG,D1,2025-01-02,H-2,registrar,0,e3b0c44298fc1c149afbf4c8996fb92427ae41e4649b934ca495991b7852b855\n1,3,r3,destroyed,FIN,D1,2025-01-02,,registrar,3,ba7816bf8f01cfea414140de5dae2223b00361a396177a9cb410ff61f20015ad\n;
-init = 0;version 1\n;
+init = 0;version 2\n;
 
 # Registers are in the order of the days, and put in quotes what needs it
 ## at the desk of the base office

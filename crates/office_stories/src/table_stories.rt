@@ -66,7 +66,7 @@ record 1 has "ref":"r1"
 2024-01-03 place-hold H-9 = done
 2024-01-03 lift-hold H-9 = done
 ## by the program
-init = 0;version 1\n;
+init = 0;version 2\n;
 ## tried on the tables
 opened after DELETE FROM notes; INSERT INTO office SELECT id, 1, 20000 FROM notes WHERE note = 'kept'
 fault 33 after INSERT INTO office SELECT id, 1, 20000 FROM notes WHERE note = 'kept'

@@ -3,10 +3,11 @@ use crate::disks::{Image, Stop};
 use crate::errands::{Errand, do_all, done};
 use crate::failures::{failure, must};
 use crate::readings::fault_text;
+use crate::selections::all_selected;
 use office_desk::Desk;
 use office_rules::Tables;
 use office_store::Store;
-use sqlite::{Alter, Connection, Row};
+use sqlite::{Alter, Connection};
 use std::alloc::Global;
 use std::test::Fail;
 
@@ -22,60 +23,6 @@ pub(crate) fn change<S: Alter>(
     }
 }
 
-/// The eleven tables.
-const TABLES: [&str; 11] = [
-    "office",
-    "schedules",
-    "classes",
-    "aggregations",
-    "records",
-    "contents",
-    "holds",
-    "targets",
-    "runs",
-    "entries",
-    "certificates",
-];
-
-/// Tells the values of a row.
-fn push_row(alloc: Global, text: &mut String, row: &Row) -> Result<(), Fail> {
-    for at in 0..row.column_count() {
-        if let Ok(value) = row.get_ref(at) {
-            let told = format!(in alloc; "{value:?};")?;
-            text.push_str(told.as_str())?;
-        }
-    }
-    Ok(())
-}
-
-/// All rows of the table.
-fn rows_of<S: Alter>(
-    alloc: Global,
-    conn: &mut Connection<S>,
-    table: &str,
-) -> Result<Vec<Row>, Fail> {
-    let all = format!(in alloc; "SELECT * FROM {table}")?;
-    let Ok(statement) = conn.prepare(all.as_str()) else {
-        return Err(failure("no such table", table));
-    };
-    match statement.query_all(conn, &[]) {
-        Ok(rows) => Ok(rows),
-        Err(_) => Err(failure("not read", table)),
-    }
-}
-
-/// Tells all rows of the tables.
-fn told_rows<S: Alter>(alloc: Global, conn: &mut Connection<S>) -> Result<String, Fail> {
-    let mut text = String::new(alloc);
-    for table in TABLES {
-        text.push_str(table)?;
-        for row in rows_of(alloc, conn, table)?.iter() {
-            push_row(alloc, &mut text, row)?;
-        }
-    }
-    Ok(text)
-}
-
 /// All rows of the tables, as they are read by statements once the office is opened, or the fault.
 pub(crate) fn tables_text<S: Alter>(
     alloc: Global,
@@ -87,7 +34,7 @@ pub(crate) fn tables_text<S: Alter>(
     match Desk::open(alloc, conn) {
         Ok(desk) => {
             let mut conn = desk.close();
-            (told_rows(alloc, &mut conn), conn)
+            (all_selected(alloc, &mut conn), conn)
         }
         Err((fault, conn)) => (fault_text(alloc, fault), conn),
     }
@@ -134,11 +81,35 @@ pub(crate) fn tell_counts(alloc: Global, image: &mut Image, row: &str) -> Result
     must(told.as_str() == row, row, told.as_str())
 }
 
-/// How an office is opened after statements on a copy of it: nothing, or the fault.
+/// What is in the tables, where no office is opened before.
+pub(crate) fn rows_in(alloc: Global, image: &mut Image) -> Result<String, Fail> {
+    done(alloc, image, Stop::never(), Errand::AllRows)
+}
+
+/// What a statement reads from the tables, where no office is opened before, must be as the row says.
+pub(crate) fn tell_selection(alloc: Global, image: &mut Image, row: &str) -> Result<(), Fail> {
+    let Some((select, wanted)) = row.split_once(" is ") else {
+        return Err(failure("no such row", row));
+    };
+    let told = done(alloc, image, Stop::never(), Errand::Selection(select))?;
+    must(told.as_str() == wanted, row, told.as_str())
+}
+
+/// How an office is opened after statements on a copy of it: nothing, or the fault. One that is refused keeps its rows.
 fn opening_after(alloc: Global, image: &Image, statements: &str) -> Result<String, Fail> {
     let mut copy = image.copy(alloc)?;
     do_all(alloc, &mut copy, Errand::Statements(statements))?;
-    done(alloc, &mut copy, Stop::never(), Errand::Asks(&[]))
+    let before = rows_in(alloc, &mut copy)?;
+    let told = done(alloc, &mut copy, Stop::never(), Errand::Asks(&[]))?;
+    if !told.is_empty() {
+        let after = rows_in(alloc, &mut copy)?;
+        must(
+            after.as_str() == before.as_str(),
+            statements,
+            after.as_str(),
+        )?;
+    }
+    Ok(told)
 }
 
 /// An office must be opened after statements, or not, as the row says.

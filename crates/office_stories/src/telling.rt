@@ -3,11 +3,14 @@ use crate::disks::Image;
 use crate::errands::{Errand, close, do_all};
 use crate::failures::failure;
 use crate::intakes::tell_taken_over;
+use crate::migrations::tell_opened;
 use crate::office::{BASE, BUSY};
+use crate::old_office::{OLD_BASE, OLD_TABLES};
+use crate::pages::put_row;
 use crate::repeating::{FOR_EACH, copies, number};
 use crate::rows::Way;
 use crate::stops::{tell_asked, tell_resumed};
-use crate::tables::{tell_counts, tell_opening};
+use crate::tables::{tell_counts, tell_opening, tell_selection};
 use std::alloc::Global;
 use std::test::Fail;
 
@@ -15,12 +18,15 @@ use std::test::Fail;
 fn tell_apart(alloc: Global, image: &mut Image, place: &str, row: &str) -> Result<(), Fail> {
     match place {
         "by the program" => do_all(alloc, image, Errand::Program(row)),
-        "in the tables" => do_all(alloc, image, Errand::Statements(row)),
+        _ if place.starts_with("in the tables") => do_all(alloc, image, Errand::Statements(row)),
+        "read from the tables" => tell_selection(alloc, image, row),
         "tried on the tables" => tell_opening(alloc, image, row),
         "counts of the tables" => tell_counts(alloc, image, row),
         "taken over by memory" => tell_taken_over(alloc, image, row),
         "asked while a disk stops" => tell_asked(alloc, image, row),
         "resumed while a disk stops" => tell_resumed(alloc, image, row),
+        "opened while a disk stops" => tell_opened(alloc, image, row),
+        "the bytes of a file" => put_row(alloc, image, row),
         _ => Err(failure("no such place", place)),
     }
 }
@@ -46,6 +52,18 @@ fn way_of(place: &str) -> Result<Option<Way>, Fail> {
     Ok(None)
 }
 
+/// The tables of version 1, where the place is in them, and the rows of the old base office, where it is in its tables.
+fn make_old(alloc: Global, image: &mut Image, place: &str) -> Result<(), Fail> {
+    let is_base = place.ends_with(" of the old base office");
+    if is_base || place.ends_with(" of version 1") {
+        do_all(alloc, image, Errand::Statements(OLD_TABLES))?;
+    }
+    if is_base {
+        do_all(alloc, image, Errand::Statements(OLD_BASE))?;
+    }
+    Ok(())
+}
+
 /// The acts of the base office or of the busy one, where the place is at its desk.
 fn make_office(alloc: Global, image: &mut Image, place: &str) -> Result<(), Fail> {
     let is_busy = place.ends_with(" of the busy office");
@@ -64,6 +82,7 @@ fn tell_part(alloc: Global, image: &mut Image, part: &str) -> Result<(), Fail> {
     if place == "closed" {
         return close(alloc, image);
     }
+    make_old(alloc, image, place)?;
     make_office(alloc, image, place)?;
     match way_of(place)? {
         Some(way) => do_all(alloc, image, Errand::Rows(way, rows)),

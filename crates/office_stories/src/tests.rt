@@ -8,6 +8,7 @@ use crate::hold_stories::HOLDS;
 use crate::hostile_stories::{ELSEWHERE, HOSTILE};
 use crate::limit_stories::LIMITS;
 use crate::lost_stories::{LOST, UNHEARD};
+use crate::old_file_stories::OLD_FILE;
 use crate::program_stories::{LOST_LINES, PROGRAM};
 use crate::request_stories::REQUESTS;
 use crate::run_stories::RUNS;
@@ -18,6 +19,7 @@ use crate::stop_stories::{
 };
 use crate::table_stories::TABLES;
 use crate::telling::tell;
+use crate::version_stories::{REFUSED, STOPPED_OPENING, TAKEN_OVER};
 use std::test::Fail;
 
 #[test]
@@ -107,4 +109,17 @@ fn clients_meet_at_a_socket(rt: HostRuntime) -> Result<(), Fail> {
         meet(&rt, &meeting)?;
     }
     Ok(())
+}
+
+#[test]
+fn files_of_version_1_are_taken_over(rt: HostRuntime) -> Result<(), Fail> {
+    for stories in [TAKEN_OVER, REFUSED, OLD_FILE] {
+        tell(rt.alloc(), stories)?;
+    }
+    Ok(())
+}
+
+#[test]
+fn the_opening_of_version_1_is_stopped(rt: HostRuntime) -> Result<(), Fail> {
+    tell(rt.alloc(), STOPPED_OPENING)
 }

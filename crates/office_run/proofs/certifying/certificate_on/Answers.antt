@@ -3,6 +3,7 @@ use Rattle.sqlite.specs.Held.{state}
 use Rattle.office_rules.specs.State.{State, empty_state}
 use Rattle.office_run.specs.Opening.{IsOfOpened, IsOpened}
 use Rattle.office_run.proofs.Certificates.{certifies_of, closed_certifies}
+use Rattle.office_run.proofs.Unopened.{unopened}
 use Rattle.office_run.proofs.certifying.certificate_on.Goals as goal
 
 pub returns-in-Ok-clause-ends : goal.returns-in-Ok-clause-ends
@@ -26,4 +27,7 @@ returns-in-Ok-clause-ends g c =
     c.args.run _ _ _ c.certificate_at-ending.ensures)
 
 pub returns-in-Err-clause-ends : goal.returns-in-Err-clause-ends
-returns-in-Err-clause-ends g c = inl (c.in-Err.fault, refl, search rules, refl)
+returns-in-Err-clause-ends g c =
+    let it = c.in-Err.ensures in
+    let why = unopened c.in-Err.fault (state g.S.Store c.args.conn) (state g.S.Store c.in-Err.conn) it.version it.damaged it.this_version it.anew it.other_tables it.leaves it.leaves_old it.leaves_first it.faults it.ended in
+    inl (c.in-Err.fault, refl, why, refl)

@@ -4,6 +4,7 @@ use Rattle.office_rules.specs.State.{State, empty_state}
 use Rattle.office_desk.specs.Desk.{DeskState}
 use Rattle.office_run.specs.Opening.{IsOfOpened, IsOpened}
 use Rattle.office_run.proofs.Exports.{closed_exports, exports_of}
+use Rattle.office_run.proofs.Unopened.{unopened}
 use Rattle.office_run.proofs.exporting.export_on.Goals as goal
 
 pub returns-in-Ok-clause-ends : goal.returns-in-Ok-clause-ends
@@ -28,4 +29,7 @@ returns-in-Ok-clause-ends g c =
     c.args.register _ _ _ c.export_at-ending.ensures.exports)
 
 pub returns-in-Err-clause-ends : goal.returns-in-Err-clause-ends
-returns-in-Err-clause-ends g c = inl (c.in-Err.fault, refl, search rules, refl)
+returns-in-Err-clause-ends g c =
+    let it = c.in-Err.ensures in
+    let why = unopened c.in-Err.fault (state g.S.Store c.args.conn) (state g.S.Store c.in-Err.conn) it.version it.damaged it.this_version it.anew it.other_tables it.leaves it.leaves_old it.leaves_first it.faults it.ended in
+    inl (c.in-Err.fault, refl, why, refl)

@@ -1,7 +1,8 @@
-use Rattle.std.proofs.Common.{sym, subst}
+use Rattle.std.proofs.Common.{refl, sym, subst}
 use Rattle.sqlite.specs.Held.{state}
 use Rattle.office_run.specs.Opening.{IsOpened}
 use Rattle.office_run.proofs.Endings.{opened-ends}
+use Rattle.office_run.proofs.Unopened.{unopened}
 use Rattle.office_run.proofs.running.init_on.Goals as goal
 
 pub returns-in-Ok-clause-ends : goal.returns-in-Ok-clause-ends
@@ -13,3 +14,8 @@ returns-in-Ok-clause-ends g c =
     } in
     opened-ends _ _ _ _ _ c.tell_version.ensures.endings c.tell_version.ensures.written
     (subst (λ (h : _). IsOpened (state g.S.Store c.args.conn) (state g.S.Store h)) (sym c.close.ensures.same) opened)
+
+pub returns-in-Err-clause-ends : goal.returns-in-Err-clause-ends
+returns-in-Err-clause-ends g c =
+    let it = c.in-Err.ensures in
+    (unopened c.in-Err.fault (state g.S.Store c.args.conn) (state g.S.Store c.in-Err.conn) it.version it.damaged it.this_version it.anew it.other_tables it.leaves it.leaves_old it.leaves_first it.faults it.ended, refl)
