@@ -38,6 +38,8 @@ class Shell:
         folder.mkdir()
         shutil.copytree(TOP / "examples", folder / "examples")
         shutil.copytree(TOP / "web", folder / "web")
+        # the model that examples/acts/check reads
+        shutil.copytree(TOP / "bench/fuzzing", folder / "bench/fuzzing")
         launcher(folder)
         for name in ("copies", "second", "DIR"):
             (folder / name).mkdir()
