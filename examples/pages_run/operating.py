@@ -4,6 +4,7 @@ import json
 import os
 import re
 import subprocess
+import time
 
 from pages_run.commands import TOP
 from pages_run.expected import Row, run_page
@@ -119,6 +120,12 @@ def is_stopped(shell: Shell) -> None:
     shell.end(kill=True)
 
 
+def is_restored(shell: Shell) -> None:
+    judge_alone(shell, "office-restore", CITY, ALL)
+    # the name of what was there has the second in it, and is not given twice
+    time.sleep(1.1)
+
+
 def is_compact(shell: Shell) -> None:
     judge_alone(shell, "office-compact", CITY, ALL)
     line = shell.serve(SERVES)
@@ -196,7 +203,7 @@ ROWS = [
     Row("office-restore archive.db backup.db", like=r"what was there: \S+/archive\.db\.before-\w+\n",
         then=is_stopped),
     Row(f"office-restore {CITY} city.db", like=r"what was there: \S+\.before-\w+\n",
-        then=alone("office-restore", CITY, ALL)),
+        then=is_restored),
     Row(f"office-compact {CITY}", like=r"(.*\n)?records: 33, the same\n.*", then=is_compact),
     Row("shred --remove", then=is_shredded),
 ]
