@@ -1,7 +1,7 @@
 -- The numbers of the refusals, by which the least of several is told. Source: own.
 use Rattle.std.specs.Prelude.{ℕ}
 use Rattle.office_days.specs.declared.refusal.Refusal.{Refusal}
-use Rattle.office_days.specs.declared.refusal.Refusal.TheVariants.{DayBack, BadText, BadNumber, Exists, NoSuch, Full, Closed, ChildOpen, TooDeep, NeedsClass, HeldClass, Lifted, Ended, InTransfer, NotDue, WrongAction, RunOpen, NoRun, NotSent, WrongDigest}
+use Rattle.office_days.specs.declared.refusal.Refusal.TheVariants.{DayBack, BadText, BadNumber, Exists, NoSuch, Full, Closed, ChildOpen, TooDeep, NeedsClass, HeldClass, Lifted, Ended, InTransfer, NotDue, WrongAction, RunOpen, NoRun, NotSent, WrongDigest, NotYet}
 
 abbrev pub refusal_number : Refusal → ℕ
 refusal_number DayBack = 1
@@ -24,3 +24,4 @@ refusal_number RunOpen = 17
 refusal_number NoRun = 18
 refusal_number NotSent = 19
 refusal_number WrongDigest = 20
+refusal_number NotYet = 21

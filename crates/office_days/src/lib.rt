@@ -7,12 +7,14 @@
 //!
 //! Days are civil days of the Gregorian calendar, with no clock and no time zone, and contracts
 //! see each as its day number, where 1970-01-01 is 0. No call here takes memory, and [`due_day`]
-//! never refuses. The crate also has the twenty reasons for which the office refuses an act.
+//! never refuses. The crate also has the twenty-one reasons for which the office refuses an act.
 #![tactic(auto)]
 
+mod confirm_days;
 mod date;
 mod day;
 mod due;
+mod last_day;
 mod month;
 mod numeral;
 mod offset;
@@ -23,8 +25,10 @@ mod text;
 mod thing_number;
 mod unit;
 
+pub use confirm_days::{ConfirmDays, deadline};
 pub use day::Day;
 pub use due::{DueDay, due_day};
+pub use last_day::Deadline;
 pub use month::Month;
 pub use numeral::read_numeral;
 pub use offset::Offset;

@@ -43,12 +43,14 @@ pub enum Refusal {
     NotSent,
     /// 20: the digest is not the record's.
     WrongDigest,
+    /// 21: the event's day is after the act's day.
+    NotYet,
 }
 
 impl Refusal {
     ghost use Rattle.office_days.specs.Refusals.{refusal_number};
 
-    /// The refusal's number, from 1 to 20. Of several refusals the least number is answered.
+    /// The refusal's number, from 1 to 21. Of several refusals the least number is answered.
     pub fn number(self) -> u8
         ensures { result ≡ refusal_number self }
     {
@@ -73,6 +75,7 @@ impl Refusal {
             Refusal::NoRun => 18,
             Refusal::NotSent => 19,
             Refusal::WrongDigest => 20,
+            Refusal::NotYet => 21,
         }
     }
 }

@@ -11,6 +11,7 @@ use Rattle.office_tree.specs.Tree.{TreeState}
 use Rattle.office_tree.specs.declared.schedule.Schedule.{Schedule}
 use Rattle.office_tree.specs.declared.class.Class.{Class}
 use Rattle.office_tree.specs.declared.aggregation.Aggregation.{Aggregation}
+use Rattle.office_tree.specs.declared.event.Event.{Event}
 use Rattle.office_tree.specs.declared.head.Record.{Record}
 use Rattle.office_tree.specs.declared.head.Review.{Review}
 use Rattle.office_tree.specs.declared.head.Confirmation.{Confirmation}
@@ -67,9 +68,16 @@ pub record IsFormedRecord (head : Record) : Type 0 where
   pub confirmation : IfSome head.confirmation IsFormedConfirmation
   pub receipt : IfSome head.receipt IsFormedReceipt
 
+-- the two days of an event, and who reported it
+pub record IsFormedEvent (it : Event) : Type 0 where
+  pub occurred : IsDayNumber it.occurred
+  pub day : IsDayNumber it.day
+  pub by : IsText it.by
+
 -- every text, code, day and number of a tree is of its form and within its limit
 pub record IsFormedTree (tree : TreeState) : Type 0 where
   pub schedules : (code : List ℕ) (it : Schedule) → get tree.schedules code ≡ Some it → IsCode code × IsFormedSchedule it
   pub classes : (code : List ℕ) (it : Class) → get tree.classes code ≡ Some it → IsCode code × IsFormedClass it
   pub aggregations : (a : ℕ) (it : Aggregation) → numbered tree.aggregations a ≡ Some it → IsFormedAggregation it
   pub records : (r : ℕ) (head : Record) → numbered tree.records r ≡ Some head → IsFormedRecord head
+  pub events : (r : ℕ) (it : Event) → get tree.events r ≡ Some it → IsFormedEvent it

@@ -16,23 +16,25 @@ use Rattle.office_tree.specs.declared.status.Status.{Status}
 use Rattle.office_tree.specs.declared.schedule.Schedule.{Schedule}
 use Rattle.office_tree.specs.declared.class.Class.{Class}
 use Rattle.office_tree.specs.declared.aggregation.Aggregation.{Aggregation}
+use Rattle.office_tree.specs.declared.event.Event.{Event}
 use Rattle.office_tree.specs.declared.head.Record.{Record}
 
 -- codes stand in byte order
 abbrev pub code_cmp : List ℕ → List ℕ → Ordering
 code_cmp = slice_cmp nat_cmp
 
--- schedules and classes by code; aggregation n and record n at place n - 1; a record's status beside its head
+-- schedules and classes by code; aggregation n and record n at place n - 1; a record's status beside its head; a record's event under its number
 pub record TreeState : Type 0 where
   pub schedules : FinMap code_cmp Schedule
   pub classes : FinMap code_cmp Class
   pub aggregations : List Aggregation
   pub records : List Record
   pub statuses : List Status
+  pub events : FinMap nat_cmp Event
 
 -- nothing is there yet
 abbrev pub empty_tree : TreeState
-empty_tree = record { schedules = empty; classes = empty; aggregations = []; records = []; statuses = [] }
+empty_tree = record { schedules = empty; classes = empty; aggregations = []; records = []; statuses = []; events = empty }
 
 -- there is an aggregation, or a record, of that number
 abbrev pub has_aggregation : TreeState → ℕ → Bool
@@ -95,20 +97,25 @@ schedule_of tree r = option_and_then (get tree.schedules) (plan_of tree r)
 unfoldable pub last_addition : List Record → ℕ → Option ℤ
 last_addition records a = greatest (map (λ head. head.added) (filter (λ head. head.aggregation == a) records))
 
--- the start day by each trigger: the originated day; the added day; the day on which the own aggregation was closed; the last addition to it; the last review, else the added day
-abbrev pub start_by : Trigger → List Aggregation → List Record → Record → Option ℤ
-start_by trigger.Origin aggregations records head = Some head.originated
-start_by trigger.Added aggregations records head = Some head.added
-start_by trigger.Closed aggregations records head = option_and_then (λ aggregation. aggregation.closed) (numbered aggregations head.aggregation)
-start_by trigger.LastAddition aggregations records head = last_addition records head.aggregation
-start_by trigger.Review aggregations records head = or_else (option_map (λ review. review.day) head.review) (Some head.added)
+-- the start day by each trigger: the originated day; the added day; the day on which the own aggregation was closed; the last addition to it; the last review, else the added day; the day on which the record's own event occurred
+abbrev pub start_by : Trigger → List Aggregation → List Record → Option Event → Record → Option ℤ
+start_by trigger.Origin aggregations records event head = Some head.originated
+start_by trigger.Added aggregations records event head = Some head.added
+start_by trigger.Closed aggregations records event head = option_and_then (λ aggregation. aggregation.closed) (numbered aggregations head.aggregation)
+start_by trigger.LastAddition aggregations records event head = last_addition records head.aggregation
+start_by trigger.Review aggregations records event head = or_else (option_map (λ review. review.day) head.review) (Some head.added)
+start_by trigger.Event aggregations records event head = option_map (λ it. it.occurred) event
 
-unfoldable pub start_in : List Aggregation → List Record → Schedule → ℕ → Option ℤ
-start_in aggregations records schedule r = option_and_then (λ head. start_by schedule.trigger aggregations records head) (numbered records r)
+unfoldable pub start_in : List Aggregation → List Record → FinMap nat_cmp Event → Schedule → ℕ → Option ℤ
+start_in aggregations records events schedule r = option_and_then (λ head. start_by schedule.trigger aggregations records (get events r) head) (numbered records r)
+
+-- the day on which the record's event occurred
+abbrev pub event_day : TreeState → ℕ → Option ℤ
+event_day tree r = option_map (λ it. it.occurred) (get tree.events r)
 
 -- the start day of a record by its plan
 abbrev pub start_of : TreeState → ℕ → Option ℤ
-start_of tree r = option_and_then (λ schedule. start_in tree.aggregations tree.records schedule r) (schedule_of tree r)
+start_of tree r = option_and_then (λ schedule. start_in tree.aggregations tree.records tree.events schedule r) (schedule_of tree r)
 
 -- the action is to retain permanently (MoReq2010, disposal scheduling service)
 abbrev pub is_keep : Action → Bool
@@ -124,7 +131,7 @@ due_by schedule start =
 
 -- the due day of a record
 abbrev pub due_of : TreeState → ℕ → Option ℤ
-due_of tree r = option_and_then (λ schedule. due_by schedule (start_in tree.aggregations tree.records schedule r)) (schedule_of tree r)
+due_of tree r = option_and_then (λ schedule. due_by schedule (start_in tree.aggregations tree.records tree.events schedule r)) (schedule_of tree r)
 
 -- the action of a record's plan
 abbrev pub action_of : TreeState → ℕ → Option Action

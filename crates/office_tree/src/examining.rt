@@ -9,7 +9,9 @@ ghost use Rattle.office_tree.specs.Lists.{Differ};
 ghost use Rattle.office_tree.specs.Sound.{RefsDiffer};
 ghost use Rattle.office_tree.specs.Tree.{code_cmp};
 
-use crate::formed::{formed_aggregations, formed_classes, formed_records, formed_schedules};
+use crate::formed::{
+    formed_aggregations, formed_classes, formed_events, formed_records, formed_schedules,
+};
 use crate::indexing::number_of;
 use crate::{
     Action, AggNo, Aggregation, Confirmation, Receipt, Record, RecordNo, Review, Status, Text, Tree,
@@ -183,5 +185,6 @@ impl Tree {
         formed_classes(&self.classes);
         formed_aggregations(&self.aggregations);
         formed_records(&self.records);
+        formed_events(&self.events);
     }
 }

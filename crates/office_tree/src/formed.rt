@@ -4,9 +4,12 @@ ghost use Rattle.std.specs.Prelude.{◌≤◌, ◌<◌, IfSome};
 ghost use Rattle.std.specs.List.{All};
 ghost use Rattle.office_days.specs.Limits.{IsDayNumber, IsDueNumber};
 ghost use Rattle.office_tree.specs.Examined.{AreContentsShort};
-ghost use Rattle.office_tree.specs.Forms.{IsCode, IsDigest, IsFormedAggregation, IsFormedClass, IsFormedConfirmation, IsFormedReceipt, IsFormedRecord, IsFormedReview, IsFormedSchedule, IsText};
+ghost use Rattle.office_tree.specs.Forms.{IsCode, IsDigest, IsFormedAggregation, IsFormedClass, IsFormedConfirmation, IsFormedEvent, IsFormedReceipt, IsFormedRecord, IsFormedReview, IsFormedSchedule, IsText};
 
-use crate::{Aggregation, Class, Code, Confirmation, Receipt, Record, Review, Schedule, Text};
+use crate::{
+    Aggregation, Class, Code, Confirmation, Event, Receipt, Record, RecordNo, Review, Schedule,
+    Text,
+};
 use office_days::{Day, DueDay};
 use std::collections::BTreeMap;
 
@@ -179,5 +182,24 @@ pub(crate) fn formed_records(records: &[Record])
 {
     for head in records {
         formed_record(head);
+    }
+}
+
+/// An event is of its form.
+fn formed_event(it: &Event)
+    ensures { IsFormedEvent it.now }
+{
+    formed_day(it.occurred);
+    formed_day(it.day);
+    formed_text(&it.by);
+}
+
+/// The events are of their forms.
+pub(crate) fn formed_events(events: &BTreeMap<RecordNo, Event>)
+    ensures { All (λ e. IsFormedEvent e.1) events.now.entries }
+{
+    for (number, it) in events {
+        let _ = number;
+        formed_event(it);
     }
 }

@@ -21,7 +21,7 @@ use crate::renewing::outlooks_of;
 use crate::rows::Rows;
 use crate::tally::{Tally, tallies_of};
 use crate::{
-    AggNo, Aggregation, Class, Code, Memory, Record, RecordNo, Schedule, Status, Text, Tree,
+    AggNo, Aggregation, Class, Code, Event, Memory, Record, RecordNo, Schedule, Status, Text, Tree,
 };
 use std::alloc::Global;
 use std::collections::BTreeMap;
@@ -210,9 +210,10 @@ fn are_sound(
     aggregations: &[Aggregation],
     records: &[Record],
     statuses: &[Status],
+    events: &BTreeMap<RecordNo, Event>,
 ) -> bool
-    ensures yes { IsTrue result → IsSound (tree_of schedules.now.entries classes.now.entries aggregations.now records.now statuses.now) }
-    ensures no { result ≡ false → IsSound (tree_of schedules.now.entries classes.now.entries aggregations.now records.now statuses.now) → ⊥ }
+    ensures yes { IsTrue result → IsSound (tree_of schedules.now.entries classes.now.entries aggregations.now records.now statuses.now events.now.entries) }
+    ensures no { result ≡ false → IsSound (tree_of schedules.now.entries classes.now.entries aggregations.now records.now statuses.now events.now.entries) → ⊥ }
 {
     if !is_within_limits(schedules, classes, aggregations, records) {
         return false;
@@ -278,10 +279,18 @@ impl Tree {
         aggregations: Vec<Aggregation>,
         records: Vec<Record>,
         statuses: Vec<Status>,
+        events: BTreeMap<RecordNo, Event>,
     ) -> Result<Option<Tree>, Memory>
-        ensures { IfOk result (λ found. MatchOption found (IsSound (tree_of schedules.entries classes.entries aggregations.items records.items statuses.items) → ⊥) (λ tree. tree ≡ tree_of schedules.entries classes.entries aggregations.items records.items statuses.items)) }
+        ensures { IfOk result (λ found. MatchOption found (IsSound (tree_of schedules.entries classes.entries aggregations.items records.items statuses.items events.entries) → ⊥) (λ tree. tree ≡ tree_of schedules.entries classes.entries aggregations.items records.items statuses.items events.entries)) }
     {
-        if !are_sound(&schedules, &classes, &aggregations, &records, &statuses) {
+        if !are_sound(
+            &schedules,
+            &classes,
+            &aggregations,
+            &records,
+            &statuses,
+            &events,
+        ) {
             return Ok(None);
         }
         let rows = Rows {
@@ -290,6 +299,7 @@ impl Tree {
             aggregations: &aggregations,
             records: &records,
             statuses: &statuses,
+            events: &events,
         };
         let kept = kept_of(alloc, &rows)?;
         Ok(Some(Tree {
@@ -298,6 +308,7 @@ impl Tree {
             aggregations,
             records,
             statuses,
+            events,
             by_aggregation_ref: kept.by_aggregation_ref,
             by_record_ref: kept.by_record_ref,
             plans: kept.plans,

@@ -2,10 +2,15 @@ ghost use Rattle.std.specs.Prelude.{◌≡◌, ◌+◌, ◌<◌, ◌≤◌, OnOk
 ghost use Rattle.std.specs.FinMap.{contains_key};
 ghost use Rattle.office_tree.specs.Lasting.{KeepsAggregation, KeepsHead};
 ghost use Rattle.office_tree.specs.Lists.{put};
-ghost use Rattle.office_tree.specs.Rows.{put_aggregation, put_class, put_record, put_schedule};
+ghost use Rattle.office_tree.specs.Rows.{put_aggregation, put_class, put_event, put_record, put_schedule};
 ghost use Rattle.office_tree.specs.Sound.{IsSound};
+ghost use Rattle.office_tree.specs.Tree.{has_record};
 
-use crate::{AggNo, Aggregation, Class, Code, Memory, Record, RecordNo, Schedule, Status, Tree};
+use crate::renewing::renew;
+use crate::rows::Rows;
+use crate::{
+    AggNo, Aggregation, Class, Code, Event, Memory, Record, RecordNo, Schedule, Status, Tree,
+};
 
 /// Puts a row in place of the one with that number, which needs no memory, or as the next. Rows are
 /// numbered 1, 2, ..
@@ -43,6 +48,31 @@ impl Tree {
         let alloc = *self.records.allocator();
         self.plans.add(alloc, &code)?;
         self.schedules.insert(code, schedule)?;
+        Ok(())
+    }
+
+    /// Puts the event of a record that is there, in place of an earlier one.
+    pub fn put_event(&mut self, record_no: RecordNo, event: Event) -> Result<(), Memory>
+        requires there { IsTrue (has_record self.old record_no) }
+        ensures ok { OnOk result (self.new ≡ put_event self.old record_no event) }
+        ensures err { OnErr result (self.new ≡ self.old) }
+    {
+        self.events.insert(record_no, event)?;
+        let rows = Rows {
+            schedules: &self.schedules,
+            classes: &self.classes,
+            aggregations: &self.aggregations,
+            records: &self.records,
+            statuses: &self.statuses,
+            events: &self.events,
+        };
+        renew(
+            &mut self.outlooks,
+            &rows,
+            &self.plans,
+            &self.tallies,
+            record_no,
+        );
         Ok(())
     }
 

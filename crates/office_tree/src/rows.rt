@@ -17,7 +17,8 @@ use crate::plans::Plans;
 use crate::scheduling::{due_by, start_in};
 use crate::tally::Tally;
 use crate::{
-    Action, AggNo, Aggregation, Class, Code, Confirmation, Record, RecordNo, Schedule, Status,
+    Action, AggNo, Aggregation, Class, Code, Confirmation, Event, Record, RecordNo, Schedule,
+    Status,
 };
 use office_days::DueDay;
 use std::collections::BTreeMap;
@@ -31,6 +32,7 @@ pub(crate) struct Rows<'a> {
     pub(crate) aggregations: &'a [Aggregation],
     pub(crate) records: &'a [Record],
     pub(crate) statuses: &'a [Status],
+    pub(crate) events: &'a BTreeMap<RecordNo, Event>,
 }
 
 impl<'a> Model for Rows<'a> {
@@ -49,6 +51,7 @@ impl<'a> Model for Rows<'a> {
       aggregations = t.aggregations.now;
       records = t.records.now;
       statuses = t.statuses.now;
+      events = from_entries t.events.now.entries;
     } };
 }
 
@@ -133,6 +136,7 @@ impl<'a> Rows<'a> {
             self.aggregations,
             tallies,
             self.records,
+            self.events,
             *schedule,
             record_no,
         );

@@ -1,4 +1,5 @@
 ghost use Rattle.std.specs.Prelude.{◌≡◌, ◌<◌, ◌≤◌, IsTrue, Some, length};
+ghost use Rattle.std.specs.FinMap.{from_entries};
 ghost use Rattle.std.specs.Option.{option_and_then, option_map};
 ghost use Rattle.office_tree.specs.Lists.{later, numbered};
 ghost use Rattle.office_tree.specs.Outlooks.{is_candidate};
@@ -7,8 +8,9 @@ ghost use Rattle.office_tree.specs.Tree.{due_by, due_of, has_record, plan_of, sc
 
 use crate::outlook::Outlook;
 use crate::tally::Tally;
-use crate::{Action, AggNo, Aggregation, Code, Record, RecordNo, Schedule, Tree, Trigger};
+use crate::{Action, AggNo, Aggregation, Code, Event, Record, RecordNo, Schedule, Tree, Trigger};
 use office_days::{Day, DueDay, due_day};
+use std::collections::BTreeMap;
 
 /// The later of two days, where there may be no first.
 pub(crate) fn later(best: Option<Day>, day: Day) -> Day
@@ -45,6 +47,7 @@ pub(crate) fn start_in(
     aggregations: &[Aggregation],
     tallies: &[Tally],
     records: &[Record],
+    events: &BTreeMap<RecordNo, Event>,
     schedule: Schedule,
     record_no: RecordNo,
 ) -> Option<Day>
@@ -52,7 +55,7 @@ pub(crate) fn start_in(
     requires low { 0 < record_no }
     requires high { record_no ≤ length records.now }
     requires last { AreLastAdditions tallies.now aggregations.now records.now }
-    ensures { result ≡ start_in aggregations.now records.now schedule record_no }
+    ensures { result ≡ start_in aggregations.now records.now (from_entries events.now.entries) schedule record_no }
 {
     let head = &records[record_no as usize - 1];
     match schedule.trigger {
@@ -63,6 +66,10 @@ pub(crate) fn start_in(
         Trigger::Review => match &head.review {
             Some(review) => Some(review.day),
             None => Some(head.added),
+        },
+        Trigger::Event => match events.get(&record_no) {
+            Some(event) => Some(event.occurred),
+            None => None,
         },
     }
 }
@@ -112,7 +119,7 @@ impl Tree {
     }
 
     /// The start day of the record by its plan's trigger; none where its aggregation is to be
-    /// closed first.
+    /// closed first, or no event of it is recorded.
     pub fn start_of(&self, record_no: RecordNo) -> Option<Day>
         requires { IsTrue (has_record self.now record_no) }
         ensures { result ≡ start_of self.now record_no }
@@ -122,6 +129,7 @@ impl Tree {
             &self.aggregations,
             &self.tallies,
             &self.records,
+            &self.events,
             schedule,
             record_no,
         )

@@ -14,10 +14,12 @@ pub enum Trigger {
     LastAddition,
     /// The record's latest review.
     Review,
+    /// The record's own event, as that a contract ended; no start before one is recorded.
+    Event,
 }
 
 impl Trigger {
-    /// The trigger of that word: `origin`, `added`, `closed`, `last-addition` or `review`.
+    /// The trigger of that word: `origin`, `added`, `closed`, `last-addition`, `review` or `event`.
     pub fn read(text: &str) -> Option<Trigger>
         ensures { result ≡ trigger_named text.now }
     {
@@ -27,6 +29,7 @@ impl Trigger {
             "closed" => Some(Trigger::Closed),
             "last-addition" => Some(Trigger::LastAddition),
             "review" => Some(Trigger::Review),
+            "event" => Some(Trigger::Event),
             _ => None,
         }
     }
@@ -41,6 +44,7 @@ impl Trigger {
             Trigger::Closed => "closed",
             Trigger::LastAddition => "last-addition",
             Trigger::Review => "review",
+            Trigger::Event => "event",
         }
     }
 }
