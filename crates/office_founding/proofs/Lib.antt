@@ -7,7 +7,6 @@ pub mod Gathered
 pub mod MapRows
 pub mod NextRows
 pub mod PartsTests
-pub mod Passing
 pub mod RecordRows
 pub mod RunEntries
 pub mod RunTests

@@ -3,7 +3,7 @@ use Rattle.std.specs.Prelude.{◌≡◌, ◌≤◌, ℕ, Bool, true, false, List
 use Rattle.office_rules.specs.Meanings.{IsHeldIn}
 use Rattle.office_rules.specs.Sound.{IsSoundOffice}
 use Rattle.office_rules.specs.State.{State, Office, ByteMap, with_contents}
-use Rattle.office_rules.specs.Steps.{step_add_schedule, step_add_class, step_set_class_schedule, step_add_aggregation, step_close_aggregation, step_add_record, step_set_record_schedule, step_reclassify, step_place_hold, step_hold_on, step_hold_off, step_lift_hold, step_confirm, step_review, step_open_run, step_run_step, step_receipt}
+use Rattle.office_rules.specs.Steps.{step_add_schedule, step_add_class, step_set_class_schedule, step_add_aggregation, step_close_aggregation, step_add_record, step_set_record_schedule, step_reclassify, step_place_hold, step_hold_on, step_hold_off, step_lift_hold, step_confirm, step_review, step_open_run, step_run_step, step_receipt, step_event}
 use Rattle.office_rules.specs.Writes.{all_writes, all_office_writes, CanWrite}
 use Rattle.office_rules.specs.declared.act.Act.{Act}
 use Rattle.office_rules.specs.declared.act.Act.TheVariants as act
@@ -27,6 +27,7 @@ step s (act.Reclassify day what class) = step_reclassify s day what class
 step s (act.Confirm day r named by) = step_confirm s day r named by
 step s (act.Review day r schedule by) = step_review s day r schedule by
 step s (act.Receipt day r digest by) = step_receipt s day r digest by
+step s (act.Event day r occurred by) = step_event s day r occurred by
 step s (act.PlaceHold day code reason by) = step_place_hold s day code reason by
 step s (act.HoldOn day code target) = step_hold_on s day code target
 step s (act.HoldOff day code target) = step_hold_off s day code target
@@ -114,13 +115,14 @@ IsOnAggregations (act.CloseAggregation day a) = Unit {0}
 IsOnAggregations (act.Reclassify day what class) = Unit {0}
 IsOnAggregations _ = ⊥
 
--- a new record, or an act on a record's own schedule, confirmation, review or receipt
+-- a new record, or an act on a record's own schedule, confirmation, review, receipt or event
 abbrev pub IsOnRecords : Act → Type 0
 IsOnRecords (act.AddRecord day new) = Unit {0}
 IsOnRecords (act.SetRecordSchedule day r schedule) = Unit {0}
 IsOnRecords (act.Confirm day r named by) = Unit {0}
 IsOnRecords (act.Review day r schedule by) = Unit {0}
 IsOnRecords (act.Receipt day r digest by) = Unit {0}
+IsOnRecords (act.Event day r occurred by) = Unit {0}
 IsOnRecords _ = ⊥
 
 -- an act on holds

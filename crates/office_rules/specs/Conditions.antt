@@ -1,4 +1,4 @@
--- Why each act is refused: for each of the seventeen one table of its conditions, in the order of the refusals' numbers, of
+-- Why each act is refused: for each of the eighteen one table of its conditions, in the order of the refusals' numbers, of
 -- which the first that holds is answered. A condition about a thing that is not there is false. Source: own.
 use Rattle.std.specs.Prelude.{ℕ, Bool, ◌&&◌, ◌||◌, ◌==◌, suc, not, int_lt, List, [], ◌∷◌, length, nat_le, Option, Some, None, ℤ, if◌then◌else◌}
 use Rattle.std.specs.Option.{is_some, is_none}
@@ -8,7 +8,7 @@ use Rattle.std.specs.FinMap.{get, contains_key}
 use Rattle.sha2.specs.Sha256.{sha256}
 use Rattle.office_days.specs.declared.refusal.Refusal.{Refusal}
 use Rattle.office_days.specs.declared.refusal.Refusal.TheVariants.{DayBack, Exists, NoSuch, Full, NeedsClass, HeldClass, Lifted, Ended, InTransfer, RunOpen, NoRun}
-use Rattle.office_tree.specs.Conditions.{conditions_of_add_schedule, conditions_of_add_class, conditions_of_set_class_schedule, conditions_of_add_aggregation, conditions_of_close_aggregation, conditions_of_add_record, conditions_of_set_record_schedule, conditions_of_confirm, conditions_of_review, conditions_of_receipt, lacks_class, lacks_classified, is_root, classified_status}
+use Rattle.office_tree.specs.Conditions.{conditions_of_add_schedule, conditions_of_add_class, conditions_of_set_class_schedule, conditions_of_add_aggregation, conditions_of_close_aggregation, conditions_of_add_record, conditions_of_set_record_schedule, conditions_of_confirm, conditions_of_review, conditions_of_receipt, conditions_of_event, lacks_class, lacks_classified, is_root, classified_status}
 use Rattle.office_tree.specs.Disposal.{is_ended, is_in_transfer}
 use Rattle.office_tree.specs.Lists.{holds_of}
 use Rattle.office_tree.specs.Tree.{TreeState, has_aggregation, has_record, status_of}

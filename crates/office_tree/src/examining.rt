@@ -1,12 +1,15 @@
 //! What is examined of a tree before it is taken over with the rest of an office.
-ghost use Rattle.std.specs.Prelude.{◌≡◌, ◌≤◌, ◌↔◌, IsTrue, false, length};
+ghost use Rattle.std.specs.Prelude.{◌≡◌, ◌≤◌, ◌↔◌, IsTrue, false, length, true};
+ghost use Rattle.std.specs.BTreeMap as map;
 ghost use Rattle.std.specs.FinMap.{from_entries};
+ghost use Rattle.std.specs.List.{All};
+ghost use Rattle.std.specs.Ordering.{nat_cmp};
 ghost use Rattle.office_tree.specs.Disposal.{is_disposal};
-ghost use Rattle.office_tree.specs.Examined.{AllHavePapers, AreContentsShort, IsTreeBy, has_papers, is_by, is_confirmed_by, is_disposal_confirmed, is_receipted_by, is_record_by, is_reviewed_by};
+ghost use Rattle.office_tree.specs.Examined.{AllHavePapers, AreContentsShort, IsTreeBy, has_papers, is_by, is_confirmed_by, is_disposal_confirmed, is_receipted_by, is_record_by, is_reviewed_by, is_sound_event};
 ghost use Rattle.office_tree.specs.Forms.{IsFormedTree};
 ghost use Rattle.office_tree.specs.Indexes.{Indexes, aggregation_refs, record_refs};
 ghost use Rattle.office_tree.specs.Lists.{Differ};
-ghost use Rattle.office_tree.specs.Sound.{RefsDiffer};
+ghost use Rattle.office_tree.specs.Sound.{AreEventsSound, RefsDiffer};
 ghost use Rattle.office_tree.specs.Tree.{code_cmp};
 
 use crate::formed::{
@@ -14,7 +17,8 @@ use crate::formed::{
 };
 use crate::indexing::number_of;
 use crate::{
-    Action, AggNo, Aggregation, Confirmation, Receipt, Record, RecordNo, Review, Status, Text, Tree,
+    Action, AggNo, Aggregation, Confirmation, Event, Receipt, Record, RecordNo, Review, Status,
+    Text, Tree,
 };
 use office_days::Day;
 use std::collections::BTreeMap;
@@ -102,6 +106,33 @@ fn is_record_by(last: Day, head: &Record) -> bool
         && is_receipted_by(last, &head.receipt)
 }
 
+/// Whether the event is of one of so many records, did not occur after the day of its act, and that day is not after
+/// the last.
+fn is_sound_event(count: RecordNo, last: Day, record_no: RecordNo, event: &Event) -> bool
+    ensures { result ≡ is_sound_event count last record_no event.now }
+{
+    1 <= record_no && record_no <= count && event.occurred <= event.day && event.day <= last
+}
+
+/// Whether so it is with each event.
+fn are_sound_events(count: RecordNo, last: Day, events: &BTreeMap<RecordNo, Event>) -> bool
+    ensures { IsTrue result ↔ All (λ e. is_sound_event count last e.0 e.1 ≡ true) events.now.entries }
+{
+    for (record_no, event) in events {
+        if !is_sound_event(count, last, *record_no, event) {
+            return false;
+        }
+    }
+    true
+}
+
+/// Tells in proofs that the numbers of the events' records ascend; a call does nothing.
+fn ascending(events: &BTreeMap<RecordNo, Event>)
+    ensures { map.IsOrdered nat_cmp events.now }
+{
+    let _ = events.len();
+}
+
 /// Whether each aggregation's number is the one under its ref, so that no two have one ref.
 fn do_aggregation_refs_differ(index: &BTreeMap<Text, AggNo>, aggregations: &[Aggregation]) -> bool
     requires indexed { Indexes (from_entries {R = code_cmp} index.now.entries) (aggregation_refs aggregations.now) }
@@ -156,6 +187,16 @@ impl Tree {
             return false;
         }
         self.records.iter().all(|head| is_record_by(last, head))
+    }
+
+    /// Whether each event is of a record that is there and did not occur after the day of its act, and no such day is
+    /// after that day.
+    pub fn are_events_sound(&self, last: Day) -> bool
+        ensures yes { IsTrue result → AreEventsSound self.now.events (length self.now.records) last }
+        ensures no { result ≡ false → AreEventsSound self.now.events (length self.now.records) last → ⊥ }
+    {
+        ascending(&self.events);
+        are_sound_events(self.record_count(), last, &self.events)
     }
 
     /// Whether no content is longer than one may be.
