@@ -88,6 +88,7 @@ free_to_put s (row_write.Aggregation number it) (low, high, sound, keeps) differ
 free_to_put s (row_write.Record number head status) (low, high, sound, keeps) differ = none_other (λ it. it.ref_text) s.tree.records number head differ.of_records low high
 free_to_put s (row_write.Schedule code schedule) puts differ = tt
 free_to_put s (row_write.Class code class) puts differ = tt
+free_to_put s (row_write.Event number event) puts differ = tt
 free_to_put s (row_write.Hold code hold) puts differ = tt
 free_to_put s (row_write.Target hold target) puts differ = tt
 free_to_put s (row_write.TargetGone hold target) puts differ = tt

@@ -6,6 +6,7 @@ use Rattle.std.specs.Global.{Global}
 use Rattle.std.specs.String.{string_bytes}
 use Rattle.office_tree.specs.declared.aggregation.Aggregation.{Aggregation}
 use Rattle.office_tree.specs.declared.class.Class.{Class}
+use Rattle.office_tree.specs.declared.event.Event.{Event}
 use Rattle.office_tree.specs.declared.schedule.Schedule.{Schedule}
 use Rattle.office_holds.specs.declared.row.HoldRow.{HoldRow}
 use Rattle.office_holds.specs.declared.target.Target.{Target}
@@ -69,6 +70,9 @@ aggregations_all = with_these (λ e. row.Aggregation e.0 e.1) (λ t. t.aggregati
 records_all : (xs : List (ℕ × RecordRow)) (t : TableLists) → with_rows t (map (λ e. row.Record e.0 e.1) xs) ≡ record t { records = t.records ++ xs }
 records_all = with_these (λ e. row.Record e.0 e.1) (λ t. t.records) (λ t xs. record t { records = xs }) (λ t x. refl) (λ t xs. refl) (λ t xs ys. refl) (λ t. refl)
 
+events_all : (xs : List (ℕ × Event)) (t : TableLists) → with_rows t (map (λ e. row.Event e.0 e.1) xs) ≡ record t { events = t.events ++ xs }
+events_all = with_these (λ e. row.Event e.0 e.1) (λ t. t.events) (λ t xs. record t { events = xs }) (λ t x. refl) (λ t xs. refl) (λ t xs ys. refl) (λ t. refl)
+
 contents_all : (xs : List (ℕ)) (t : TableLists) → with_rows t (map (λ number. row.Content number) xs) ≡ record t { contents = t.contents ++ xs }
 contents_all = with_these (λ number. row.Content number) (λ t. t.contents) (λ t xs. record t { contents = xs }) (λ t x. refl) (λ t xs. refl) (λ t xs ys. refl) (λ t. refl)
 
@@ -100,14 +104,15 @@ none xs = (xs, refl)
 
 -- each table begins with its rows, and where targets came all holds are there
 begins_by : (front t : TableLists) → IsFront front.days t.days → IsFront front.schedules t.schedules → IsFront front.classes t.classes → IsFront front.aggregations t.aggregations → IsFront front.records t.records
-    → IsFront front.contents t.contents → IsFront front.holds t.holds → (front.targets ≢ [] → t.holds ≡ front.holds) → IsFront front.targets t.targets → IsFront front.runs t.runs → IsFront front.entries t.entries
+    → IsFront front.events t.events → IsFront front.contents t.contents → IsFront front.holds t.holds → (front.targets ≢ [] → t.holds ≡ front.holds) → IsFront front.targets t.targets → IsFront front.runs t.runs → IsFront front.entries t.entries
     → IsFront front.certificates t.certificates → Begins front t
-begins_by front t days schedules classes aggregations records contents holds all_holds targets runs entries certificates = record {
+begins_by front t days schedules classes aggregations records events contents holds all_holds targets runs entries certificates = record {
   days = days;
   schedules = schedules;
   classes = classes;
   aggregations = aggregations;
   records = records;
+  events = events;
   contents = contents;
   holds = holds;
   all_holds = all_holds;
@@ -126,7 +131,7 @@ broken row_of t front come xs begins same broke =
 module _ (t : TableLists) where
   -- the row of office
   pub day_begins : (come : TableLists) → come ≡ record no_rows { days = t.days } → Begins come t
-  day_begins come same = subst (λ u. Begins u t) (sym same) (begins_by (record no_rows { days = t.days }) t (whole t.days) (none t.schedules) (none t.classes) (none t.aggregations) (none t.records) (none t.contents) (none t.holds) (λ some. absurd (some refl)) (none t.targets) (none t.runs) (none t.entries) (none t.certificates))
+  day_begins come same = subst (λ u. Begins u t) (sym same) (begins_by (record no_rows { days = t.days }) t (whole t.days) (none t.schedules) (none t.classes) (none t.aggregations) (none t.records) (none t.events) (none t.contents) (none t.holds) (λ some. absurd (some refl)) (none t.targets) (none t.runs) (none t.entries) (none t.certificates))
 
   -- ---- after all rows of a table; where some first ones were refused
 
@@ -136,7 +141,7 @@ module _ (t : TableLists) where
   pub schedules_broken : (xs : List (List ℕ × Schedule)) → xs ≡ t.schedules → (come : TableLists) → come ≡ record no_rows { days = t.days } → StandForNoneFrom come (λ e. row.Schedule e.0 e.1) xs → StandForNone t
   schedules_broken xs same come =
       broken (λ e. row.Schedule e.0 e.1) t (record no_rows { days = t.days }) come xs
-      (λ done rest split. subst (λ u. Begins u t) (sym (schedules_all done (record no_rows { days = t.days }))) (begins_by (record (record no_rows { days = t.days }) { schedules = done }) t (whole t.days) (rest, sym same ∙ split) (none t.classes) (none t.aggregations) (none t.records) (none t.contents) (none t.holds) (λ some. absurd (some refl)) (none t.targets) (none t.runs) (none t.entries) (none t.certificates)))
+      (λ done rest split. subst (λ u. Begins u t) (sym (schedules_all done (record no_rows { days = t.days }))) (begins_by (record (record no_rows { days = t.days }) { schedules = done }) t (whole t.days) (rest, sym same ∙ split) (none t.classes) (none t.aggregations) (none t.records) (none t.events) (none t.contents) (none t.holds) (λ some. absurd (some refl)) (none t.targets) (none t.runs) (none t.entries) (none t.certificates)))
 
   pub classes_next : (xs : List (List ℕ × Class)) → xs ≡ t.classes → (come next : TableLists) → come ≡ record no_rows { days = t.days; schedules = t.schedules } → next ≡ with_rows come (map (λ e. row.Class e.0 e.1) xs) → next ≡ up_to_classes t
   classes_next xs same come next at is = is ∙ (λ i. with_rows (at i) (map (λ e. row.Class e.0 e.1) (same i))) ∙ classes_all t.classes (record no_rows { days = t.days; schedules = t.schedules })
@@ -144,7 +149,7 @@ module _ (t : TableLists) where
   pub classes_broken : (xs : List (List ℕ × Class)) → xs ≡ t.classes → (come : TableLists) → come ≡ record no_rows { days = t.days; schedules = t.schedules } → StandForNoneFrom come (λ e. row.Class e.0 e.1) xs → StandForNone t
   classes_broken xs same come =
       broken (λ e. row.Class e.0 e.1) t (record no_rows { days = t.days; schedules = t.schedules }) come xs
-      (λ done rest split. subst (λ u. Begins u t) (sym (classes_all done (record no_rows { days = t.days; schedules = t.schedules }))) (begins_by (record (record no_rows { days = t.days; schedules = t.schedules }) { classes = done }) t (whole t.days) (whole t.schedules) (rest, sym same ∙ split) (none t.aggregations) (none t.records) (none t.contents) (none t.holds) (λ some. absurd (some refl)) (none t.targets) (none t.runs) (none t.entries) (none t.certificates)))
+      (λ done rest split. subst (λ u. Begins u t) (sym (classes_all done (record no_rows { days = t.days; schedules = t.schedules }))) (begins_by (record (record no_rows { days = t.days; schedules = t.schedules }) { classes = done }) t (whole t.days) (whole t.schedules) (rest, sym same ∙ split) (none t.aggregations) (none t.records) (none t.events) (none t.contents) (none t.holds) (λ some. absurd (some refl)) (none t.targets) (none t.runs) (none t.entries) (none t.certificates)))
 
   pub aggregations_next : (xs : List (ℕ × Aggregation)) → xs ≡ t.aggregations → (come next : TableLists) → come ≡ up_to_classes t → next ≡ with_rows come (map (λ e. row.Aggregation e.0 e.1) xs) → next ≡ record (up_to_classes t) { aggregations = t.aggregations }
   aggregations_next xs same come next at is = is ∙ (λ i. with_rows (at i) (map (λ e. row.Aggregation e.0 e.1) (same i))) ∙ aggregations_all t.aggregations (up_to_classes t)
@@ -152,7 +157,7 @@ module _ (t : TableLists) where
   pub aggregations_broken : (xs : List (ℕ × Aggregation)) → xs ≡ t.aggregations → (come : TableLists) → come ≡ up_to_classes t → StandForNoneFrom come (λ e. row.Aggregation e.0 e.1) xs → StandForNone t
   aggregations_broken xs same come =
       broken (λ e. row.Aggregation e.0 e.1) t (up_to_classes t) come xs
-      (λ done rest split. subst (λ u. Begins u t) (sym (aggregations_all done (up_to_classes t))) (begins_by (record (up_to_classes t) { aggregations = done }) t (whole t.days) (whole t.schedules) (whole t.classes) (rest, sym same ∙ split) (none t.records) (none t.contents) (none t.holds) (λ some. absurd (some refl)) (none t.targets) (none t.runs) (none t.entries) (none t.certificates)))
+      (λ done rest split. subst (λ u. Begins u t) (sym (aggregations_all done (up_to_classes t))) (begins_by (record (up_to_classes t) { aggregations = done }) t (whole t.days) (whole t.schedules) (whole t.classes) (rest, sym same ∙ split) (none t.records) (none t.events) (none t.contents) (none t.holds) (λ some. absurd (some refl)) (none t.targets) (none t.runs) (none t.entries) (none t.certificates)))
 
   pub records_next : (xs : List (ℕ × RecordRow)) → xs ≡ t.records → (come next : TableLists) → come ≡ record (up_to_classes t) { aggregations = t.aggregations } → next ≡ with_rows come (map (λ e. row.Record e.0 e.1) xs) → next ≡ record (up_to_classes t) { aggregations = t.aggregations; records = t.records }
   records_next xs same come next at is = is ∙ (λ i. with_rows (at i) (map (λ e. row.Record e.0 e.1) (same i))) ∙ records_all t.records (record (up_to_classes t) { aggregations = t.aggregations })
@@ -160,15 +165,23 @@ module _ (t : TableLists) where
   pub records_broken : (xs : List (ℕ × RecordRow)) → xs ≡ t.records → (come : TableLists) → come ≡ record (up_to_classes t) { aggregations = t.aggregations } → StandForNoneFrom come (λ e. row.Record e.0 e.1) xs → StandForNone t
   records_broken xs same come =
       broken (λ e. row.Record e.0 e.1) t (record (up_to_classes t) { aggregations = t.aggregations }) come xs
-      (λ done rest split. subst (λ u. Begins u t) (sym (records_all done (record (up_to_classes t) { aggregations = t.aggregations }))) (begins_by (record (record (up_to_classes t) { aggregations = t.aggregations }) { records = done }) t (whole t.days) (whole t.schedules) (whole t.classes) (whole t.aggregations) (rest, sym same ∙ split) (none t.contents) (none t.holds) (λ some. absurd (some refl)) (none t.targets) (none t.runs) (none t.entries) (none t.certificates)))
+      (λ done rest split. subst (λ u. Begins u t) (sym (records_all done (record (up_to_classes t) { aggregations = t.aggregations }))) (begins_by (record (record (up_to_classes t) { aggregations = t.aggregations }) { records = done }) t (whole t.days) (whole t.schedules) (whole t.classes) (whole t.aggregations) (rest, sym same ∙ split) (none t.events) (none t.contents) (none t.holds) (λ some. absurd (some refl)) (none t.targets) (none t.runs) (none t.entries) (none t.certificates)))
 
-  pub contents_next : (xs : List (ℕ)) → xs ≡ t.contents → (come next : TableLists) → come ≡ record (up_to_classes t) { aggregations = t.aggregations; records = t.records } → next ≡ with_rows come (map (λ number. row.Content number) xs) → next ≡ up_to_contents t
-  contents_next xs same come next at is = is ∙ (λ i. with_rows (at i) (map (λ number. row.Content number) (same i))) ∙ contents_all t.contents (record (up_to_classes t) { aggregations = t.aggregations; records = t.records })
+  pub events_next : (xs : List (ℕ × Event)) → xs ≡ t.events → (come next : TableLists) → come ≡ record (up_to_classes t) { aggregations = t.aggregations; records = t.records } → next ≡ with_rows come (map (λ e. row.Event e.0 e.1) xs) → next ≡ record (up_to_classes t) { aggregations = t.aggregations; records = t.records; events = t.events }
+  events_next xs same come next at is = is ∙ (λ i. with_rows (at i) (map (λ e. row.Event e.0 e.1) (same i))) ∙ events_all t.events (record (up_to_classes t) { aggregations = t.aggregations; records = t.records })
 
-  pub contents_broken : (xs : List (ℕ)) → xs ≡ t.contents → (come : TableLists) → come ≡ record (up_to_classes t) { aggregations = t.aggregations; records = t.records } → StandForNoneFrom come (λ number. row.Content number) xs → StandForNone t
+  pub events_broken : (xs : List (ℕ × Event)) → xs ≡ t.events → (come : TableLists) → come ≡ record (up_to_classes t) { aggregations = t.aggregations; records = t.records } → StandForNoneFrom come (λ e. row.Event e.0 e.1) xs → StandForNone t
+  events_broken xs same come =
+      broken (λ e. row.Event e.0 e.1) t (record (up_to_classes t) { aggregations = t.aggregations; records = t.records }) come xs
+      (λ done rest split. subst (λ u. Begins u t) (sym (events_all done (record (up_to_classes t) { aggregations = t.aggregations; records = t.records }))) (begins_by (record (record (up_to_classes t) { aggregations = t.aggregations; records = t.records }) { events = done }) t (whole t.days) (whole t.schedules) (whole t.classes) (whole t.aggregations) (whole t.records) (rest, sym same ∙ split) (none t.contents) (none t.holds) (λ some. absurd (some refl)) (none t.targets) (none t.runs) (none t.entries) (none t.certificates)))
+
+  pub contents_next : (xs : List (ℕ)) → xs ≡ t.contents → (come next : TableLists) → come ≡ record (up_to_classes t) { aggregations = t.aggregations; records = t.records; events = t.events } → next ≡ with_rows come (map (λ number. row.Content number) xs) → next ≡ up_to_contents t
+  contents_next xs same come next at is = is ∙ (λ i. with_rows (at i) (map (λ number. row.Content number) (same i))) ∙ contents_all t.contents (record (up_to_classes t) { aggregations = t.aggregations; records = t.records; events = t.events })
+
+  pub contents_broken : (xs : List (ℕ)) → xs ≡ t.contents → (come : TableLists) → come ≡ record (up_to_classes t) { aggregations = t.aggregations; records = t.records; events = t.events } → StandForNoneFrom come (λ number. row.Content number) xs → StandForNone t
   contents_broken xs same come =
-      broken (λ number. row.Content number) t (record (up_to_classes t) { aggregations = t.aggregations; records = t.records }) come xs
-      (λ done rest split. subst (λ u. Begins u t) (sym (contents_all done (record (up_to_classes t) { aggregations = t.aggregations; records = t.records }))) (begins_by (record (record (up_to_classes t) { aggregations = t.aggregations; records = t.records }) { contents = done }) t (whole t.days) (whole t.schedules) (whole t.classes) (whole t.aggregations) (whole t.records) (rest, sym same ∙ split) (none t.holds) (λ some. absurd (some refl)) (none t.targets) (none t.runs) (none t.entries) (none t.certificates)))
+      broken (λ number. row.Content number) t (record (up_to_classes t) { aggregations = t.aggregations; records = t.records; events = t.events }) come xs
+      (λ done rest split. subst (λ u. Begins u t) (sym (contents_all done (record (up_to_classes t) { aggregations = t.aggregations; records = t.records; events = t.events }))) (begins_by (record (record (up_to_classes t) { aggregations = t.aggregations; records = t.records; events = t.events }) { contents = done }) t (whole t.days) (whole t.schedules) (whole t.classes) (whole t.aggregations) (whole t.records) (whole t.events) (rest, sym same ∙ split) (none t.holds) (λ some. absurd (some refl)) (none t.targets) (none t.runs) (none t.entries) (none t.certificates)))
 
   pub holds_next : (xs : List (List ℕ × HoldRow)) → xs ≡ t.holds → (come next : TableLists) → come ≡ up_to_contents t → next ≡ with_rows come (map (λ e. row.Hold e.0 e.1) xs) → next ≡ record (up_to_contents t) { holds = t.holds }
   holds_next xs same come next at is = is ∙ (λ i. with_rows (at i) (map (λ e. row.Hold e.0 e.1) (same i))) ∙ holds_all t.holds (up_to_contents t)
@@ -176,7 +189,7 @@ module _ (t : TableLists) where
   pub holds_broken : (xs : List (List ℕ × HoldRow)) → xs ≡ t.holds → (come : TableLists) → come ≡ up_to_contents t → StandForNoneFrom come (λ e. row.Hold e.0 e.1) xs → StandForNone t
   holds_broken xs same come =
       broken (λ e. row.Hold e.0 e.1) t (up_to_contents t) come xs
-      (λ done rest split. subst (λ u. Begins u t) (sym (holds_all done (up_to_contents t))) (begins_by (record (up_to_contents t) { holds = done }) t (whole t.days) (whole t.schedules) (whole t.classes) (whole t.aggregations) (whole t.records) (whole t.contents) (rest, sym same ∙ split) (λ some. absurd (some refl)) (none t.targets) (none t.runs) (none t.entries) (none t.certificates)))
+      (λ done rest split. subst (λ u. Begins u t) (sym (holds_all done (up_to_contents t))) (begins_by (record (up_to_contents t) { holds = done }) t (whole t.days) (whole t.schedules) (whole t.classes) (whole t.aggregations) (whole t.records) (whole t.events) (whole t.contents) (rest, sym same ∙ split) (λ some. absurd (some refl)) (none t.targets) (none t.runs) (none t.entries) (none t.certificates)))
 
   pub targets_next : (xs : List (List ℕ × Target)) → xs ≡ t.targets → (come next : TableLists) → come ≡ record (up_to_contents t) { holds = t.holds } → next ≡ with_rows come (map (λ e. row.Target e.0 e.1) xs) → next ≡ up_to_targets t
   targets_next xs same come next at is = is ∙ (λ i. with_rows (at i) (map (λ e. row.Target e.0 e.1) (same i))) ∙ targets_all t.targets (record (up_to_contents t) { holds = t.holds })
@@ -184,7 +197,7 @@ module _ (t : TableLists) where
   pub targets_broken : (xs : List (List ℕ × Target)) → xs ≡ t.targets → (come : TableLists) → come ≡ record (up_to_contents t) { holds = t.holds } → StandForNoneFrom come (λ e. row.Target e.0 e.1) xs → StandForNone t
   targets_broken xs same come =
       broken (λ e. row.Target e.0 e.1) t (record (up_to_contents t) { holds = t.holds }) come xs
-      (λ done rest split. subst (λ u. Begins u t) (sym (targets_all done (record (up_to_contents t) { holds = t.holds }))) (begins_by (record (record (up_to_contents t) { holds = t.holds }) { targets = done }) t (whole t.days) (whole t.schedules) (whole t.classes) (whole t.aggregations) (whole t.records) (whole t.contents) (whole t.holds) (λ some. refl) (rest, sym same ∙ split) (none t.runs) (none t.entries) (none t.certificates)))
+      (λ done rest split. subst (λ u. Begins u t) (sym (targets_all done (record (up_to_contents t) { holds = t.holds }))) (begins_by (record (record (up_to_contents t) { holds = t.holds }) { targets = done }) t (whole t.days) (whole t.schedules) (whole t.classes) (whole t.aggregations) (whole t.records) (whole t.events) (whole t.contents) (whole t.holds) (λ some. refl) (rest, sym same ∙ split) (none t.runs) (none t.entries) (none t.certificates)))
 
   pub runs_next : (xs : List (ℕ × Run)) → xs ≡ t.runs → (come next : TableLists) → come ≡ up_to_targets t → next ≡ with_rows come (map (λ e. row.Run e.0 e.1) xs) → next ≡ record (up_to_targets t) { runs = t.runs }
   runs_next xs same come next at is = is ∙ (λ i. with_rows (at i) (map (λ e. row.Run e.0 e.1) (same i))) ∙ runs_all t.runs (up_to_targets t)
@@ -192,7 +205,7 @@ module _ (t : TableLists) where
   pub runs_broken : (xs : List (ℕ × Run)) → xs ≡ t.runs → (come : TableLists) → come ≡ up_to_targets t → StandForNoneFrom come (λ e. row.Run e.0 e.1) xs → StandForNone t
   runs_broken xs same come =
       broken (λ e. row.Run e.0 e.1) t (up_to_targets t) come xs
-      (λ done rest split. subst (λ u. Begins u t) (sym (runs_all done (up_to_targets t))) (begins_by (record (up_to_targets t) { runs = done }) t (whole t.days) (whole t.schedules) (whole t.classes) (whole t.aggregations) (whole t.records) (whole t.contents) (whole t.holds) (λ some. refl) (whole t.targets) (rest, sym same ∙ split) (none t.entries) (none t.certificates)))
+      (λ done rest split. subst (λ u. Begins u t) (sym (runs_all done (up_to_targets t))) (begins_by (record (up_to_targets t) { runs = done }) t (whole t.days) (whole t.schedules) (whole t.classes) (whole t.aggregations) (whole t.records) (whole t.events) (whole t.contents) (whole t.holds) (λ some. refl) (whole t.targets) (rest, sym same ∙ split) (none t.entries) (none t.certificates)))
 
   pub entries_next : (xs : List (Entry)) → xs ≡ t.entries → (come next : TableLists) → come ≡ record (up_to_targets t) { runs = t.runs } → next ≡ with_rows come (map (λ entry. row.Entry entry) xs) → next ≡ record (up_to_targets t) { runs = t.runs; entries = t.entries }
   entries_next xs same come next at is = is ∙ (λ i. with_rows (at i) (map (λ entry. row.Entry entry) (same i))) ∙ entries_all t.entries (record (up_to_targets t) { runs = t.runs })
@@ -200,7 +213,7 @@ module _ (t : TableLists) where
   pub entries_broken : (xs : List (Entry)) → xs ≡ t.entries → (come : TableLists) → come ≡ record (up_to_targets t) { runs = t.runs } → StandForNoneFrom come (λ entry. row.Entry entry) xs → StandForNone t
   entries_broken xs same come =
       broken (λ entry. row.Entry entry) t (record (up_to_targets t) { runs = t.runs }) come xs
-      (λ done rest split. subst (λ u. Begins u t) (sym (entries_all done (record (up_to_targets t) { runs = t.runs }))) (begins_by (record (record (up_to_targets t) { runs = t.runs }) { entries = done }) t (whole t.days) (whole t.schedules) (whole t.classes) (whole t.aggregations) (whole t.records) (whole t.contents) (whole t.holds) (λ some. refl) (whole t.targets) (whole t.runs) (rest, sym same ∙ split) (none t.certificates)))
+      (λ done rest split. subst (λ u. Begins u t) (sym (entries_all done (record (up_to_targets t) { runs = t.runs }))) (begins_by (record (record (up_to_targets t) { runs = t.runs }) { entries = done }) t (whole t.days) (whole t.schedules) (whole t.classes) (whole t.aggregations) (whole t.records) (whole t.events) (whole t.contents) (whole t.holds) (λ some. refl) (whole t.targets) (whole t.runs) (rest, sym same ∙ split) (none t.certificates)))
 
   pub certificates_next : (xs : List (ℕ × String Global)) → map text_row xs ≡ t.certificates → (come next : TableLists) → come ≡ record (up_to_targets t) { runs = t.runs; entries = t.entries } → next ≡ with_rows come (map (λ e. row.Certificate e.0 e.1) xs) → next ≡ t
   certificates_next xs same come next at is = is ∙ (λ i. with_rows (at i) (map (λ e. row.Certificate e.0 e.1) xs)) ∙ certificates_all xs (record (up_to_targets t) { runs = t.runs; entries = t.entries }) ∙ ap (λ texts. record t { certificates = texts }) same
@@ -208,4 +221,4 @@ module _ (t : TableLists) where
   pub certificates_broken : (xs : List (ℕ × String Global)) → map text_row xs ≡ t.certificates → (come : TableLists) → come ≡ record (up_to_targets t) { runs = t.runs; entries = t.entries } → StandForNoneFrom come (λ e. row.Certificate e.0 e.1) xs → StandForNone t
   certificates_broken xs same come =
       broken (λ e. row.Certificate e.0 e.1) t (record (up_to_targets t) { runs = t.runs; entries = t.entries }) come xs
-      (λ done rest split. subst (λ u. Begins u t) (sym (certificates_all done (record (up_to_targets t) { runs = t.runs; entries = t.entries }))) (begins_by (record (record (up_to_targets t) { runs = t.runs; entries = t.entries }) { certificates = map text_row done }) t (whole t.days) (whole t.schedules) (whole t.classes) (whole t.aggregations) (whole t.records) (whole t.contents) (whole t.holds) (λ some. refl) (whole t.targets) (whole t.runs) (whole t.entries) (map text_row rest, sym same ∙ ap (map text_row) split ∙ map-append text_row done rest)))
+      (λ done rest split. subst (λ u. Begins u t) (sym (certificates_all done (record (up_to_targets t) { runs = t.runs; entries = t.entries }))) (begins_by (record (record (up_to_targets t) { runs = t.runs; entries = t.entries }) { certificates = map text_row done }) t (whole t.days) (whole t.schedules) (whole t.classes) (whole t.aggregations) (whole t.records) (whole t.events) (whole t.contents) (whole t.holds) (λ some. refl) (whole t.targets) (whole t.runs) (whole t.entries) (map text_row rest, sym same ∙ ap (map text_row) split ∙ map-append text_row done rest)))

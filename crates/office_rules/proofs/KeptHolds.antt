@@ -52,6 +52,7 @@ kept_step s (act.Reclassify day what class) held sound keeps h =
 kept_step s (act.Confirm day r named by) held sound keeps h = kept held _ _ _ _ h (λ _. held-confirm s.office.holds s.office.tree day r named by held h)
 kept_step s (act.Review day r schedule by) held sound keeps h = kept held _ _ _ _ h (λ _. held-review s.office.holds s.office.tree day r schedule by held h)
 kept_step s (act.Receipt day r digest by) held sound keeps h = kept held _ _ _ _ h (λ _. held-receipt s.office.holds s.office.tree day r by held h)
+kept_step s (act.Event day r occurred by) held sound keeps h = kept held _ _ _ _ h (λ _. h)
 kept_step s (act.PlaceHold day code reason by) held sound keeps h =
     kept held _ _ _ _ h (λ accepted. held-place_hold s.office.holds s.office.tree day code reason by held (dated_accepted s.office day (conditions_of_place_hold s.office.holds code) accepted).1 h)
 kept_step s (act.HoldOn day code target) held sound keeps h = kept held _ _ _ _ h (λ _. held-hold_on s.office.holds s.office.tree code target held h)

@@ -21,6 +21,7 @@ pub mod Resuming
 pub mod Rising
 pub mod RowWrites
 pub mod SoundEmpty
+pub mod SoundEvents
 pub mod SoundHeads
 pub mod SoundHolds
 pub mod SoundMaps

@@ -50,6 +50,7 @@ one_state s t e f same =
     let aggregations = same_numbered a.aggregations b.aggregations (λ i. (same i).aggregations) in
     let records = same_heads a.records b.records a.statuses b.statuses e f columns in
     let statuses = same_statuses a.records b.records a.statuses b.statuses e f columns in
+    let events = same_entries_map a.events b.events (λ i. (same i).events) in
     let holds = same_holds s.office.holds t.office.holds (λ i. (same i).holds) (λ i. (same i).targets) in
     let runs = same_numbered s.office.runs t.office.runs (λ i. (same i).runs) in
     let by = same_entries_map s.office.entries t.office.entries (λ i. (same i).entries_by) in
@@ -57,7 +58,7 @@ one_state s t e f same =
     let contents = same_entries_map s.contents t.contents (λ i. (same i).contents) in
     λ i. record {
       office = record {
-        tree = record { schedules = schedules i; classes = classes i; aggregations = aggregations i; records = records i; statuses = statuses i };
+        tree = record { schedules = schedules i; classes = classes i; aggregations = aggregations i; records = records i; statuses = statuses i; events = events i };
         holds = holds i;
         runs = runs i;
         entries = by i;
@@ -80,6 +81,7 @@ one_office t s u e f a b =
       classes = (sym a.classes ∙ b.classes) i;
       aggregations = (sym a.aggregations ∙ b.aggregations) i;
       records = (sym a.records ∙ b.records) i;
+      events = (sym a.events ∙ b.events) i;
       contents = (rows_of s).contents;
       holds = (sym a.holds ∙ b.holds) i;
       targets = λ code target. (sym (a.targets code target) ∙ b.targets code target) i;

@@ -30,6 +30,7 @@ written s (row_write.Record number head status) e h =
     let fits : number ≤ length (record_rows tree.records tree.statuses) + 1 = omega (arith, h.1, length-record_rows tree.records tree.statuses e) in
     let rows = ap numbered_rows (record_rows-put tree.records tree.statuses number head status e) ∙ numbered_rows-put (record_rows tree.records tree.statuses) number (record_row head status) h.0 fits in
     λ i. record (rows_of s) { records = rows i }
+written s (row_write.Event number event) e h = λ i. record (rows_of s) { events = entries-insert nat_cmp_total s.office.tree.events number event i }
 written s (row_write.Content number bytes) e h = λ i. record (rows_of s) { contents = entries-insert nat_cmp_total s.contents number bytes.items i }
 written s (row_write.ContentGone number) e h = λ i. record (rows_of s) { contents = entries-remove nat_cmp_total nat_cmp-IsAntisymmetric s.contents number i }
 written s (row_write.Hold code hold) e h =
@@ -60,6 +61,7 @@ put_has_place s (row_write.Target hold target) h = h.0
 put_has_place s (row_write.Run number run) h = h
 put_has_place s (row_write.Schedule code schedule) h = tt
 put_has_place s (row_write.Class code class) h = tt
+put_has_place s (row_write.Event number event) h = tt
 put_has_place s (row_write.Hold code hold) h = tt
 put_has_place s (row_write.TargetGone hold target) h = tt
 put_has_place s (row_write.Entry entry) h = tt

@@ -44,6 +44,7 @@ sound_empty = record {
       classes = λ code it e. none_found code_cmp code it _ e;
       aggregations = λ a it e. none_numbered a it _ e;
       records = λ r it e. none_numbered r it _ e;
+      events = λ r it e. none_found nat_cmp r it _ e;
     };
     statuses = refl;
     holds_few = record {
@@ -100,6 +101,10 @@ sound_empty = record {
     receipted = λ r head e. none_numbered r head _ e;
     held = λ code hold e. none_found code_cmp code hold _ e;
     run_days = λ run it e. none_numbered run it _ e;
+  };
+  events = record {
+    of_records = λ r it e. none_found nat_cmp r it _ e;
+    not_ahead = λ r it e. none_found nat_cmp r it _ e;
   };
   refs = RefsDiffer-empty;
 }

@@ -34,7 +34,7 @@ use Rattle.office_rules.specs.Sound.{IsSound, AllNamesStand, ContentsStand, Pape
 use Rattle.office_rules.specs.State.{State, EntryMap, ByteMap, with_office}
 use Rattle.office_rules.specs.declared.run.Run.{Run}
 use Rattle.office_rules.proofs.Accepted.{tree_sound, dated_accepted, accepted_by_tree}
-use Rattle.office_rules.proofs.SoundParts.{IsClosedBy, IsHeadBy, closed_by, heads_by, each_edited, as_many, no_fewer_edited, NamesDisposal, limits_after, names_after, days_after}
+use Rattle.office_rules.proofs.SoundParts.{IsClosedBy, IsHeadBy, closed_by, heads_by, each_edited, as_many, no_fewer_edited, NamesDisposal, limits_after, names_after, days_after, events_later}
 
 -- ---- a change of a head
 
@@ -98,6 +98,7 @@ sound_set_record_schedule s day r schedule sound day_formed schedule_formed acce
       entries = sound.entries;
       runs = sound.runs;
       days = days_with_head s day r change sound no.0 (λ head old. record { added = old.added; reviewed = old.reviewed; confirmed = old.confirmed; receipted = old.receipted });
+      events = events_later s day sound no.0 (no_fewer_edited t.records r change);
       refs = RefsDiffer-with_head t r change (λ head. refl) sound.refs;
     }
 
@@ -121,6 +122,7 @@ sound_reclassify s day (classified.Aggregation a) class sound day_formed class_f
       entries = sound.entries;
       runs = sound.runs;
       days = days_after s day new sound up (each_edited (IsClosedBy day) t.aggregations a change (closed_by s day sound up) (λ it old. old)) (heads_by s day sound up);
+      events = events_later s day sound up (as_many (length t.records));
       refs = RefsDiffer-reclassify t what class sound.refs;
     }
 sound_reclassify s day (classified.Record r) class sound day_formed class_formed accepted =
@@ -139,6 +141,7 @@ sound_reclassify s day (classified.Record r) class sound day_formed class_formed
       entries = sound.entries;
       runs = sound.runs;
       days = days_with_head s day r change sound up (λ head old. record { added = old.added; reviewed = old.reviewed; confirmed = old.confirmed; receipted = old.receipted });
+      events = events_later s day sound up (no_fewer_edited t.records r change);
       refs = RefsDiffer-reclassify t what class sound.refs;
     }
 
@@ -200,7 +203,7 @@ confirm_papers s day r named by sound accepted =
     let is_due = held_some (due_of t r) _ (not_other (has_record t r) (holds_of (due_of t r) (λ due. int_le due day)) there none.1.1.1.0) in
     let actions = neither (has_other_action t r named) (same_action named action.Review) none.1.1.1.1.0 in
     let same = not_other (has_record t r) (holds_of (action_of t r) (same_action named)) there actions.0 in
-    let disposal = disposal_of (schedule_of t r) (λ schedule. start_in t.aggregations t.records schedule r) named is_due same actions.1 in
+    let disposal = disposal_of (schedule_of t r) (λ schedule. start_in t.aggregations t.records t.events schedule r) named is_due same actions.1 in
     papers_with_head s r (λ head. record head { confirmation = confirmation_for day named by (due_of t r) }) sound
     (record { confirmed = λ head old. confirms day named by (due_of t r) is_due; disposal = λ head old. confirms_disposal day named by (due_of t r) disposal; receipt = λ head receipt. receipt })
 
@@ -220,6 +223,7 @@ sound_confirm s day r named by sound day_formed by_formed accepted =
       entries = sound.entries;
       runs = sound.runs;
       days = days_with_head s day r change sound no.0 (λ head old. record { added = old.added; reviewed = old.reviewed; confirmed = confirms_by day named by (due_of t r); receipted = old.receipted });
+      events = events_later s day sound no.0 (no_fewer_edited t.records r change);
       refs = RefsDiffer-with_head t r change (λ head. refl) sound.refs;
     }
 
@@ -241,6 +245,7 @@ sound_review s day r schedule by sound day_formed schedule_formed by_formed acce
       entries = sound.entries;
       runs = sound.runs;
       days = days_with_head s day r change sound no.0 (λ head old. record { added = old.added; reviewed = ≤ℤ_refl day; confirmed = old.confirmed; receipted = old.receipted });
+      events = events_later s day sound no.0 (no_fewer_edited t.records r change);
       refs = RefsDiffer-with_head t r change (λ head. refl) sound.refs;
     }
 
@@ -351,5 +356,6 @@ sound_receipt s day r digest by sound day_formed by_formed accepted =
       entries = entries_received t.statuses r sent s.office.runs s.office.entries sound.entries;
       runs = sound.runs;
       days = days_with_head s day r change sound no.0 (λ head old. record { added = old.added; reviewed = old.reviewed; confirmed = old.confirmed; receipted = ≤ℤ_refl day });
+      events = events_later s day sound no.0 (no_fewer_edited t.records r change);
       refs = RefsDiffer-with_head t r change (λ head. refl) sound.refs;
     }

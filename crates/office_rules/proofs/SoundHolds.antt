@@ -21,7 +21,7 @@ use Rattle.office_rules.specs.Meanings.{IsAccepted}
 use Rattle.office_rules.specs.Sound.{IsSound}
 use Rattle.office_rules.specs.State.{State, with_office}
 use Rattle.office_rules.proofs.Accepted.{not_back, dated_accepted, accepted_of}
-use Rattle.office_rules.proofs.SoundParts.{limits_holding, names_holding, days_holding}
+use Rattle.office_rules.proofs.SoundParts.{as_many, limits_holding, names_holding, days_holding, events_later}
 
 pub sound_place_hold : (s : State) (day : ℤ) (code reason by : List ℕ) → IsSound s → IsDayNumber day → IsCode code → IsText reason → IsText by → IsAccepted (refusals_of_place_hold s.office day code) → IsSound (with_office s (after_place_hold s.office day code reason by))
 sound_place_hold s day code reason by sound day_formed code_formed reason_formed by_formed accepted =
@@ -40,6 +40,7 @@ sound_place_hold s day code reason by sound day_formed code_formed reason_formed
       entries = sound.entries;
       runs = sound.runs;
       days = days_holding s day new sound no.0 (NoHoldIsAfter-placed_hold holds s.office.day day sound.days.held no.0 code reason by);
+      events = events_later s day sound no.0 (as_many (length t.records));
       refs = sound.refs;
     }
 
@@ -69,6 +70,7 @@ sound_hold_on s day code target sound day_formed target_formed accepted =
       entries = sound.entries;
       runs = sound.runs;
       days = days_holding s day new sound up (NoHoldIsAfter-held_on holds s.office.day day sound.days.held up code target);
+      events = events_later s day sound up (as_many (length t.records));
       refs = sound.refs;
     }
 
@@ -89,6 +91,7 @@ sound_hold_off s day code target sound day_formed accepted =
       entries = sound.entries;
       runs = sound.runs;
       days = days_holding s day new sound up (NoHoldIsAfter-held_off holds s.office.day day sound.days.held up code target);
+      events = events_later s day sound up (as_many (length t.records));
       refs = sound.refs;
     }
 
@@ -109,5 +112,6 @@ sound_lift_hold s day code sound day_formed accepted =
       entries = sound.entries;
       runs = sound.runs;
       days = days_holding s day new sound up (NoHoldIsAfter-lifted_hold holds s.office.day day sound.days.held up code);
+      events = events_later s day sound up (as_many (length t.records));
       refs = sound.refs;
     }

@@ -7,7 +7,7 @@ use Rattle.office_days.specs.Limits.{IsDayNumber}
 use Rattle.office_tree.specs.Disposal.{is_disposal}
 use Rattle.office_tree.specs.Forms.{IsFormedTree}
 use Rattle.office_tree.specs.Lists.{edited}
-use Rattle.office_tree.specs.Sound.{FitsLimits, NamesStand}
+use Rattle.office_tree.specs.Sound.{AreEventsSound, FitsLimits, NamesStand}
 use Rattle.office_tree.specs.Tree.{TreeState}
 use Rattle.office_tree.specs.declared.aggregation.Aggregation.{Aggregation}
 use Rattle.office_tree.specs.declared.head.Confirmation.{Confirmation}
@@ -41,6 +41,13 @@ days_later s day sound up = record {
   receipted = λ r head e. by_later (λ receipt. receipt.day) head.receipt s.office.day day up (sound.days.receipted r head e);
   held = NoHoldIsAfter-later s.office.holds s.office.day day sound.days.held up;
   run_days = λ run it e. not_later it.day s.office.day day (sound.days.run_days run it e) up;
+}
+
+-- and events stay sound beside no fewer records
+pub events_later : {count : ℕ} (s : State) (day : ℤ) → IsSound s → s.office.day ≤ℤ day → length s.office.tree.records ≤ count → AreEventsSound s.office.tree.events count day
+events_later s day sound up more = record {
+  of_records = λ r event at. let there = sound.events.of_records r event at in (there.0, omega (arith, there.1, more));
+  not_ahead = λ r event at. let ahead = sound.events.not_ahead r event at in (ahead.0, not_later event.day s.office.day day ahead.1 up);
 }
 
 -- an aggregation, or a record's head, has no day after a day

@@ -20,7 +20,7 @@ use Rattle.office_rules.specs.State.{State, Office, with_office}
 use Rattle.office_rules.specs.declared.run.Run.{Run}
 use Rattle.office_rules.proofs.Accepted.{dated_accepted}
 use Rattle.office_rules.proofs.SoundMaps.{put_here, put_elsewhere, same_or_not, pushed_keeps, pushed_all, edited_here, edited_elsewhere}
-use Rattle.office_rules.proofs.SoundParts.{days_later}
+use Rattle.office_rules.proofs.SoundParts.{as_many, days_later, events_later}
 
 -- ---- the open run
 
@@ -132,6 +132,7 @@ sound_open_run s day by sound form text accepted =
       entries = open_run_entries s (new_run day by) sound;
       runs = open_run_runs s day by sound none.1.0;
       days = open_run_days s day by sound no.0;
+      events = events_later s day sound no.0 (as_many (length s.office.tree.records));
       refs = sound.refs;
     }
 
@@ -242,5 +243,6 @@ sound_closed s run sound e = record {
   entries = closed_entries s run sound;
   runs = closed_runs_stand s run (certificate_of s.office run) sound (open_there s.office run e);
   days = closed_days s run sound;
+  events = sound.events;
   refs = sound.refs;
 }

@@ -16,7 +16,7 @@ use Rattle.office_rules.specs.Meanings.{IsAccepted}
 use Rattle.office_rules.specs.Sound.{IsSound}
 use Rattle.office_rules.specs.State.{State, with_office}
 use Rattle.office_rules.proofs.Accepted.{tree_sound, dated_accepted}
-use Rattle.office_rules.proofs.SoundParts.{days_later, as_many, limits_after, names_after}
+use Rattle.office_rules.proofs.SoundParts.{days_later, as_many, events_later, limits_after, names_after}
 
 pub sound_add_schedule : (s : State) (day : ℤ) (code : List ℕ) (schedule : Schedule) → IsSound s → IsDayNumber day → IsCode code → IsFormedSchedule schedule → IsAccepted (refusals_of_add_schedule s.office day code) → IsSound (with_office s (after_add_schedule s.office day code schedule))
 sound_add_schedule s day code schedule sound day_formed code_formed schedule_formed accepted =
@@ -34,6 +34,7 @@ sound_add_schedule s day code schedule sound day_formed code_formed schedule_for
       entries = sound.entries;
       runs = sound.runs;
       days = days_later s day sound no.0;
+      events = events_later s day sound no.0 (as_many (length t.records));
       refs = sound.refs;
     }
 
@@ -53,6 +54,7 @@ sound_add_class s day code class sound day_formed code_formed class_formed accep
       entries = sound.entries;
       runs = sound.runs;
       days = days_later s day sound no.0;
+      events = events_later s day sound no.0 (as_many (length t.records));
       refs = sound.refs;
     }
 
@@ -72,5 +74,6 @@ sound_set_class_schedule s day class schedule sound day_formed schedule_formed a
       entries = sound.entries;
       runs = sound.runs;
       days = days_later s day sound no.0;
+      events = events_later s day sound no.0 (as_many (length t.records));
       refs = sound.refs;
     }

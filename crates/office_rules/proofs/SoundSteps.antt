@@ -121,6 +121,7 @@ module _ (s : State) (run r : ℕ) (head : Record) (was : Status) (confirmation 
       classes = sound.limits.tree_forms.classes;
       aggregations = sound.limits.tree_forms.aggregations;
       records = sound.limits.tree_forms.records;
+      events = sound.limits.tree_forms.events;
     };
     statuses = length-statuses_with s.office.tree.statuses r o ∙ sound.limits.statuses;
     holds_few = sound.limits.holds_few;
@@ -255,6 +256,7 @@ module _ (s : State) (run r : ℕ) (head : Record) (was : Status) (confirmation 
     entries = step_entries;
     runs = step_runs;
     days = step_days;
+    events = sound.events;
     refs = sound.refs;
   }
 

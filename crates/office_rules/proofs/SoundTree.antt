@@ -28,7 +28,7 @@ use Rattle.office_rules.specs.declared.run.Run.{Run}
 use Rattle.office_proof.specs.declared.entry.Entry.{Entry}
 use Rattle.office_proof.proofs.Digests.{IsDigest-sha256}
 use Rattle.office_rules.proofs.Accepted.{tree_sound, dated_accepted}
-use Rattle.office_rules.proofs.SoundParts.{IsClosedBy, IsHeadBy, closed_by, heads_by, each_push, each_edited, as_many, more_pushed, no_fewer_edited, NamesDisposal, limits_after, names_after, days_after}
+use Rattle.office_rules.proofs.SoundParts.{IsClosedBy, IsHeadBy, closed_by, heads_by, each_push, each_edited, as_many, more_pushed, no_fewer_edited, NamesDisposal, limits_after, names_after, days_after, events_later}
 
 -- ---- aggregations
 
@@ -49,6 +49,7 @@ sound_add_aggregation s day ref_text title parent class sound day_formed ref_for
       entries = sound.entries;
       runs = sound.runs;
       days = days_after s day new sound no.0 (each_push (IsClosedBy day) t.aggregations it (closed_by s day sound no.0) tt) (heads_by s day sound no.0);
+      events = events_later s day sound no.0 (as_many (length t.records));
       refs = RefsDiffer-add_aggregation t ref_text title parent class sound.refs no.1;
     }
 
@@ -69,6 +70,7 @@ sound_close_aggregation s day a sound day_formed accepted =
       entries = sound.entries;
       runs = sound.runs;
       days = days_after s day new sound no.0 (each_edited (IsClosedBy day) t.aggregations a close (closed_by s day sound no.0) (λ it old. ≤ℤ_refl day)) (heads_by s day sound no.0);
+      events = events_later s day sound no.0 (as_many (length t.records));
       refs = RefsDiffer-close_aggregation t a day sound.refs;
     }
 
@@ -198,5 +200,6 @@ sound_add_record s day new sound day_formed formed accepted =
       runs = sound.runs;
       days = days_after s day (added_record t head) sound no.0 (closed_by s day sound no.0)
           (each_push (IsHeadBy day) t.records head (heads_by s day sound no.0) (record { added = ≤ℤ_refl day; reviewed = tt; confirmed = tt; receipted = tt }));
+      events = events_later s day sound no.0 (more_pushed t.records head);
       refs = RefsDiffer-add_record t head sound.refs no.1;
     }

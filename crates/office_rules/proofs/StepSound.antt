@@ -16,6 +16,7 @@ use Rattle.office_rules.specs.declared.act.Act.{Act}
 use Rattle.office_rules.specs.declared.act.Act.TheVariants as act
 use Rattle.office_rules.specs.declared.answer.Answer.{Answer}
 use Rattle.office_rules.specs.declared.new_record.NewRecord.{NewRecord}
+use Rattle.office_rules.proofs.SoundEvents.{sound_event}
 use Rattle.office_rules.proofs.SoundHeads.{sound_set_record_schedule, sound_reclassify, sound_confirm, sound_review, sound_receipt}
 use Rattle.office_rules.proofs.SoundHolds.{sound_place_hold, sound_hold_on, sound_hold_off, sound_lift_hold}
 use Rattle.office_rules.proofs.SoundRuns.{sound_open_run}
@@ -54,6 +55,7 @@ sound_step s (act.Reclassify day what class) sound formed = kept_by IsSound _ _ 
 sound_step s (act.Confirm day r named by) sound formed = kept_by IsSound _ _ _ _ sound (sound_confirm s day r named by sound formed.0 formed.1)
 sound_step s (act.Review day r schedule by) sound formed = kept_by IsSound _ _ _ _ sound (sound_review s day r schedule by sound formed.0 formed.1 formed.2)
 sound_step s (act.Receipt day r digest by) sound formed = kept_by IsSound _ _ _ _ sound (sound_receipt s day r digest by sound formed.0 formed.1)
+sound_step s (act.Event day r occurred by) sound formed = kept_by IsSound _ _ _ _ sound (sound_event s day r occurred by sound formed.0 formed.1 formed.2)
 sound_step s (act.PlaceHold day code reason by) sound formed = kept_by IsSound _ _ _ _ sound (sound_place_hold s day code reason by sound formed.0 formed.1 formed.2 formed.3)
 sound_step s (act.HoldOn day code target) sound formed = kept_by IsSound _ _ _ _ sound (sound_hold_on s day code target sound formed.0 formed.2)
 sound_step s (act.HoldOff day code target) sound formed = kept_by IsSound _ _ _ _ sound (sound_hold_off s day code target sound formed.0)

@@ -60,10 +60,10 @@ pub plan_is_3 : plan_of base_office.tree 3 ≡ Some (codes "D1")
 plan_is_3 = plan_where base_office.tree 3 (codes "FIN") (class_titled (codes "FIN")) refl class_is_3 finance_there
 
 -- the due day by the plan
-due_where : (tree : TreeState) (r : ℕ) (code : List ℕ) (schedule : Schedule) → plan_of tree r ≡ Some code → get tree.schedules code ≡ Some schedule → due_of tree r ≡ due_by schedule (start_in tree.aggregations tree.records schedule r)
+due_where : (tree : TreeState) (r : ℕ) (code : List ℕ) (schedule : Schedule) → plan_of tree r ≡ Some code → get tree.schedules code ≡ Some schedule → due_of tree r ≡ due_by schedule (start_in tree.aggregations tree.records tree.events schedule r)
 due_where tree r code schedule plan is =
-    ap (λ o. option_and_then (λ (it : Schedule). due_by it (start_in tree.aggregations tree.records it r)) (option_and_then (get tree.schedules) o)) plan
-    ∙ ap (option_and_then (λ (it : Schedule). due_by it (start_in tree.aggregations tree.records it r))) is
+    ap (λ o. option_and_then (λ (it : Schedule). due_by it (start_in tree.aggregations tree.records tree.events it r)) (option_and_then (get tree.schedules) o)) plan
+    ∙ ap (option_and_then (λ (it : Schedule). due_by it (start_in tree.aggregations tree.records tree.events it r))) is
 
 action_where : (tree : TreeState) (r : ℕ) (code : List ℕ) (schedule : Schedule) → plan_of tree r ≡ Some code → get tree.schedules code ≡ Some schedule → action_of tree r ≡ Some schedule.action
 action_where tree r code schedule plan is =
@@ -75,7 +75,7 @@ unfolding due_by
 yearly_due = ap (λ (z : ℤ). Some z) due_from_filing
 
 -- a record that was added on the filing day and is planned by the yearly schedule
-pub planned_due : (tree : TreeState) (r : ℕ) → plan_of tree r ≡ Some (codes "D1") → get tree.schedules (codes "D1") ≡ Some yearly → start_in tree.aggregations tree.records yearly r ≡ Some filing_day → due_of tree r ≡ Some filing_due
+pub planned_due : (tree : TreeState) (r : ℕ) → plan_of tree r ≡ Some (codes "D1") → get tree.schedules (codes "D1") ≡ Some yearly → start_in tree.aggregations tree.records tree.events yearly r ≡ Some filing_day → due_of tree r ≡ Some filing_due
 planned_due tree r plan is start = due_where tree r (codes "D1") yearly plan is ∙ ap (due_by yearly) start ∙ yearly_due
 
 pub planned_action : (tree : TreeState) (r : ℕ) → plan_of tree r ≡ Some (codes "D1") → get tree.schedules (codes "D1") ≡ Some yearly → action_of tree r ≡ Some Destroy

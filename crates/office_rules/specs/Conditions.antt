@@ -120,6 +120,9 @@ refusals_of_run_step s = (NoRun, is_none (open_run s)) ∷ []
 abbrev pub refusals_of_receipt : Office → ℤ → ℕ → List ℕ → List (Refusal × Bool)
 refusals_of_receipt s day r digest = dated s day (conditions_of_receipt s.tree r digest)
 
+abbrev pub refusals_of_event : Office → ℤ → ℕ → ℤ → List (Refusal × Bool)
+refusals_of_event s day r occurred = dated s day (conditions_of_event s.tree day r occurred)
+
 -- ---- a record that is asked for again
 
 -- ref, title, originated day, aggregation, and the content's length and digest are the record's

@@ -3,7 +3,7 @@
 use Rattle.std.specs.Prelude.{ℕ, suc, false, List, [], ◌∷◌, ◌++◌, length, Option, None, ℤ}
 use Rattle.std.specs.FinMap.{insert}
 use Rattle.sha2.specs.Sha256.{sha256}
-use Rattle.office_tree.specs.Effects.{added_schedule, added_class, with_class_schedule, added_aggregation, closed_aggregation, added_record, with_record_schedule, reclassified, confirmed, reviewed, receipted}
+use Rattle.office_tree.specs.Effects.{added_schedule, added_class, with_class_schedule, added_aggregation, closed_aggregation, added_record, with_record_schedule, reclassified, confirmed, reviewed, receipted, with_event}
 use Rattle.office_tree.specs.Tree.{TreeState}
 use Rattle.office_tree.specs.declared.action.Action.{Action}
 use Rattle.office_tree.specs.declared.class.Class.{Class}
@@ -96,3 +96,6 @@ after_open_run s day by = record s { runs = s.runs ++ new_run day by ∷ []; day
 
 abbrev pub after_receipt : Office → ℤ → ℕ → List ℕ → Office
 after_receipt s day r by = with_tree s day (receipted s.tree day r by)
+
+abbrev pub after_event : Office → ℤ → ℕ → ℤ → List ℕ → Office
+after_event s day r occurred by = with_tree s day (with_event s.tree day r occurred by)

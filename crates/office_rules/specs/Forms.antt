@@ -20,6 +20,7 @@ IsFormedAct (act.Reclassify day what class) = IsDayNumber day × IfSome class Is
 IsFormedAct (act.Confirm day r named by) = IsDayNumber day × IsText by
 IsFormedAct (act.Review day r schedule by) = IsDayNumber day × IfSome schedule IsCode × IsText by
 IsFormedAct (act.Receipt day r digest by) = IsDayNumber day × IsText by
+IsFormedAct (act.Event day r occurred by) = IsDayNumber day × IsDayNumber occurred × IsText by
 IsFormedAct (act.PlaceHold day code reason by) = IsDayNumber day × IsCode code × IsText reason × IsText by
 IsFormedAct (act.HoldOn day code target) = IsDayNumber day × IsCode code × IsFormedTarget target
 IsFormedAct (act.HoldOff day code target) = IsDayNumber day × IsCode code

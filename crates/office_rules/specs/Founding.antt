@@ -11,6 +11,7 @@ use Rattle.office_tree.specs.Forms.{IsFormedTree}
 use Rattle.office_tree.specs.Founding.{is_there}
 use Rattle.office_tree.specs.Lists.{holds_of, numbered}
 use Rattle.office_tree.specs.Sound as tree
+use Rattle.office_tree.specs.Sound.{AreEventsSound}
 use Rattle.office_tree.specs.Tree.{status_of}
 use Rattle.office_tree.specs.declared.status.Status.{Status}
 use Rattle.office_tree.specs.declared.status.Status.TheVariants.{Ended}
@@ -74,9 +75,10 @@ AreKeysOfLive statuses keys = (r : ℕ) → IsSome (get keys r) ↔ ((status : S
 abbrev pub AreEntriesKeyed : EntryMap → Type 0
 AreEntriesKeyed entries = (run r : ℕ) (e : Entry) → get entries (run, r) ≡ Some e → (e.run ≡ run) × (e.record_no ≡ r)
 
--- no day of an act is after the office's
+-- no day of an act is after the office's; and each event is of a record that is there and not ahead of its act
 pub record IsOfficeBy (s : Office) : Type 0 where
   pub tree_by : IsTreeBy s.tree.aggregations s.tree.records s.day
+  pub events_by : AreEventsSound s.tree.events (length s.tree.records) s.day
   pub holds_by : NoHoldIsAfter s.holds s.day
   pub runs_by : AreRunsBy s.runs s.day
 

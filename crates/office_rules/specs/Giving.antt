@@ -16,9 +16,9 @@ StandForNoneFrom t row_of rows =
 abbrev pub up_to_classes : TableLists → TableLists
 up_to_classes t = record no_rows { days = t.days; schedules = t.schedules; classes = t.classes }
 
--- and those of aggregations, records and contents
+-- and those of aggregations, records, events and contents
 abbrev pub up_to_contents : TableLists → TableLists
-up_to_contents t = record (up_to_classes t) { aggregations = t.aggregations; records = t.records; contents = t.contents }
+up_to_contents t = record (up_to_classes t) { aggregations = t.aggregations; records = t.records; events = t.events; contents = t.contents }
 
 -- and those of holds and targets
 abbrev pub up_to_targets : TableLists → TableLists

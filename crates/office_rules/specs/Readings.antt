@@ -9,7 +9,7 @@ use Rattle.std.specs.declared.cmp.Ordering.{Ordering}
 use Rattle.std.specs.FinMap.{values}
 use Rattle.office_tree.specs.Disposal.{counts, is_here}
 use Rattle.office_tree.specs.Lists.{holds_of, numbered}
-use Rattle.office_tree.specs.Tree.{TreeState, action_of, class_of, due_of, plan_of, status_of}
+use Rattle.office_tree.specs.Tree.{TreeState, action_of, class_of, due_of, event_day, plan_of, status_of}
 use Rattle.office_tree.specs.declared.action.Action.TheVariants.{Keep}
 use Rattle.office_tree.specs.declared.head.Record.{Record}
 use Rattle.office_tree.specs.declared.status.Status.{Status}
@@ -43,6 +43,7 @@ view_of s r head status = record {
   schedule = unwrap_or (plan_of s.tree r) [];
   action = unwrap_or (action_of s.tree r) Keep;
   due = due_of s.tree r;
+  event = event_day s.tree r;
   held = least_covering s.holds s.tree r;
   confirmed = head.confirmation;
   counts = counts s.tree r;

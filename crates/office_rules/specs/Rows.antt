@@ -1,4 +1,4 @@
--- The rows of the eleven tables that a state stands for. Source: own.
+-- The rows of the tables that a state stands for. Source: own.
 use Rattle.std.specs.Prelude.{ℕ, Bool, ◌&&◌, ◌||◌, not, List, [], ◌∷◌, map, ℤ}
 use Rattle.std.specs.Option.{option_map}
 use Rattle.std.specs.Ordering.{nat_cmp, eq_by_cmp}
@@ -10,6 +10,7 @@ use Rattle.office_tree.specs.Lists.{holds_of}
 use Rattle.office_tree.specs.Tree.{code_cmp}
 use Rattle.office_tree.specs.declared.aggregation.Aggregation.{Aggregation}
 use Rattle.office_tree.specs.declared.class.Class.{Class}
+use Rattle.office_tree.specs.declared.event.Event.{Event}
 use Rattle.office_tree.specs.declared.head.Record.{Record}
 use Rattle.office_tree.specs.declared.schedule.Schedule.{Schedule}
 use Rattle.office_tree.specs.declared.status.Status.{Status}
@@ -32,6 +33,7 @@ pub record TableRows : Type 0 where
   pub classes : List (List ℕ × Class)
   pub aggregations : List (ℕ × Aggregation)
   pub records : List (ℕ × RecordRow)
+  pub events : List (ℕ × Event)
   pub contents : List (ℕ × List ℕ)
   pub holds : List (List ℕ × HoldRow)
   pub targets : List ℕ → Target → Bool
@@ -80,6 +82,7 @@ rows_of s = record {
   classes = entries s.office.tree.classes;
   aggregations = numbered_rows s.office.tree.aggregations;
   records = numbered_rows (record_rows s.office.tree.records s.office.tree.statuses);
+  events = entries s.office.tree.events;
   contents = entries s.contents;
   holds = map (λ e. (e.0, hold_row e.1)) (entries s.office.holds);
   targets = targets_of s.office.holds;
@@ -94,6 +97,7 @@ write_rows (row_write.Schedule code schedule) t = record t { schedules = put cod
 write_rows (row_write.Class code class) t = record t { classes = put code_cmp code class t.classes }
 write_rows (row_write.Aggregation number aggregation) t = record t { aggregations = put nat_cmp number aggregation t.aggregations }
 write_rows (row_write.Record number head status) t = record t { records = put nat_cmp number (record_row head status) t.records }
+write_rows (row_write.Event number event) t = record t { events = put nat_cmp number event t.events }
 write_rows (row_write.Content number bytes) t = record t { contents = put nat_cmp number bytes.items t.contents }
 write_rows (row_write.ContentGone number) t = record t { contents = where_key nat_cmp (λ n. not (eq_by_cmp nat_cmp number n)) t.contents }
 write_rows (row_write.Hold code hold) t = record t { holds = put code_cmp code hold t.holds }

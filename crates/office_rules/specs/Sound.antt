@@ -1,11 +1,11 @@
--- When a state is sound: nine items, each over the parts that it speaks of. Source: own; the limits are this project's.
+-- When a state is sound: eleven items, each over the parts that it speaks of. Source: own; the limits are this project's.
 use Rattle.std.specs.Prelude.{◌≡◌, ◌≢◌, ◌≤◌, ◌≤ℤ◌, ◌<◌, ◌↔◌, ℕ, false, true, List, length, Some, ℤ, IsSome, IsTrue, IfSome}
 use Rattle.std.specs.FinMap.{FinMap, get}
 use Rattle.office_days.specs.Limits.{IsDayNumber}
 use Rattle.office_tree.specs.Disposal.{is_disposal}
 use Rattle.office_tree.specs.Forms.{IsFormedTree, IsText}
 use Rattle.office_tree.specs.Lists.{numbered}
-use Rattle.office_tree.specs.Sound.{FitsLimits, IsForest, NamesStand, NoneIsOpenUnderClosed, RefsDiffer}
+use Rattle.office_tree.specs.Sound.{AreEventsSound, FitsLimits, IsForest, NamesStand, NoneIsOpenUnderClosed, RefsDiffer}
 use Rattle.office_tree.specs.Tree.{TreeState, code_cmp}
 use Rattle.office_tree.specs.declared.aggregation.Aggregation.{Aggregation}
 use Rattle.office_tree.specs.declared.class.Class.{Class}
@@ -91,7 +91,7 @@ pub record NoDayIsAfter (aggregations : List Aggregation) (records : List Record
   pub held : NoHoldIsAfter holds day
   pub run_days : (run : ℕ) (it : Run) → numbered runs run ≡ Some it → it.day ≤ℤ day
 
--- the nine items, and that refs differ
+-- all of them; the last says that refs differ
 pub record IsSound (s : State) : Type 0 where
   pub limits : IsWithinLimits s.office.tree s.office.holds s.office.runs s.office.entries s.office.day
   pub forest : IsForest s.office.tree.aggregations
@@ -102,6 +102,7 @@ pub record IsSound (s : State) : Type 0 where
   pub entries : EntriesStand s.office.tree.statuses s.office.runs s.office.entries
   pub runs : RunsStand s.office.runs s.office.certificates
   pub days : NoDayIsAfter s.office.tree.aggregations s.office.tree.records s.office.holds s.office.runs s.office.day
+  pub events : AreEventsSound s.office.tree.events (length s.office.tree.records) s.office.day
   pub refs : RefsDiffer s.office.tree.aggregations s.office.tree.records
 
 -- an office without contents is sound where some contents make a sound state of it

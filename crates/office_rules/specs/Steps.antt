@@ -10,9 +10,9 @@ use Rattle.office_tree.specs.declared.classified.Classified.{Classified}
 use Rattle.office_tree.specs.declared.schedule.Schedule.{Schedule}
 use Rattle.office_holds.specs.declared.target.Target.{Target}
 use Rattle.office_proof.specs.declared.outcome.Outcome.TheVariants.{Skipped}
-use Rattle.office_rules.specs.Conditions.{refusals_of_add_schedule, refusals_of_add_class, refusals_of_set_class_schedule, refusals_of_add_aggregation, refusals_of_close_aggregation, refusals_of_add_record, refusals_of_set_record_schedule, refusals_of_reclassify, refusals_of_place_hold, refusals_of_hold_on, refusals_of_hold_off, refusals_of_lift_hold, refusals_of_confirm, refusals_of_review, refusals_of_open_run, refusals_of_run_step, refusals_of_receipt, same_record}
+use Rattle.office_rules.specs.Conditions.{refusals_of_add_schedule, refusals_of_add_class, refusals_of_set_class_schedule, refusals_of_add_aggregation, refusals_of_close_aggregation, refusals_of_add_record, refusals_of_set_record_schedule, refusals_of_reclassify, refusals_of_place_hold, refusals_of_hold_on, refusals_of_hold_off, refusals_of_lift_hold, refusals_of_confirm, refusals_of_review, refusals_of_open_run, refusals_of_run_step, refusals_of_receipt, refusals_of_event, same_record}
 use Rattle.office_rules.specs.Disposing.{outcome_of}
-use Rattle.office_rules.specs.Effects.{after_add_schedule, after_add_class, after_set_class_schedule, after_add_aggregation, after_close_aggregation, with_new_record, after_set_record_schedule, after_reclassify, after_place_hold, after_hold_on, after_hold_off, after_lift_hold, after_confirm, after_review, after_open_run, after_receipt}
+use Rattle.office_rules.specs.Effects.{after_add_schedule, after_add_class, after_set_class_schedule, after_add_aggregation, after_close_aggregation, with_new_record, after_set_record_schedule, after_reclassify, after_place_hold, after_hold_on, after_hold_off, after_lift_hold, after_confirm, after_review, after_open_run, after_receipt, after_event}
 use Rattle.office_rules.specs.Runs.{open_run, next_ready, step_of}
 use Rattle.office_rules.specs.State.{State, Office, with_office}
 use Rattle.office_rules.specs.declared.answer.Answer.{Answer}
@@ -96,3 +96,6 @@ step_run_step s = stepped (refusals_of_run_step s.office) s (answer_in s.office 
 
 abbrev pub step_receipt : State → ℤ → ℕ → List ℕ → List ℕ → Answer × State
 step_receipt s day r digest by = stepped (refusals_of_receipt s.office day r digest) s Done (with_office s (after_receipt s.office day r by))
+
+abbrev pub step_event : State → ℤ → ℕ → ℤ → List ℕ → Answer × State
+step_event s day r occurred by = stepped (refusals_of_event s.office day r occurred) s Done (with_office s (after_event s.office day r occurred by))

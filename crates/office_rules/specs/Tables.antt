@@ -1,9 +1,10 @@
--- The rows of the eleven tables as they come from a file, and when they stand for a state. Source: own.
+-- The rows of the tables as they come from a file, and when they stand for a state. Source: own.
 use Rattle.std.specs.Prelude.{◌≡◌, ◌≢◌, ◌∷◌, ◌++◌, [], ℕ, ℤ, List, map}
 use Rattle.std.specs.List.{fold, list_any}
 use Rattle.std.specs.String.{string_bytes}
 use Rattle.office_tree.specs.declared.aggregation.Aggregation.{Aggregation}
 use Rattle.office_tree.specs.declared.class.Class.{Class}
+use Rattle.office_tree.specs.declared.event.Event.{Event}
 use Rattle.office_tree.specs.declared.schedule.Schedule.{Schedule}
 use Rattle.office_holds.specs.Founding.{is_pair}
 use Rattle.office_holds.specs.declared.row.HoldRow.{HoldRow}
@@ -25,6 +26,7 @@ pub record TableLists : Type 0 where
   pub classes : List (List ℕ × Class)
   pub aggregations : List (ℕ × Aggregation)
   pub records : List (ℕ × RecordRow)
+  pub events : List (ℕ × Event)
   pub contents : List ℕ
   pub holds : List (List ℕ × HoldRow)
   pub targets : List (List ℕ × Target)
@@ -34,7 +36,7 @@ pub record TableLists : Type 0 where
 
 -- no row has come
 abbrev pub no_rows : TableLists
-no_rows = record { days = []; schedules = []; classes = []; aggregations = []; records = []; contents = []; holds = []; targets = []; runs = []; entries = []; certificates = [] }
+no_rows = record { days = []; schedules = []; classes = []; aggregations = []; records = []; events = []; contents = []; holds = []; targets = []; runs = []; entries = []; certificates = [] }
 
 -- one more row of its table
 abbrev pub with_row : TableLists → Row → TableLists
@@ -43,6 +45,7 @@ with_row t (row.Schedule code schedule) = record t { schedules = t.schedules ++ 
 with_row t (row.Class code class) = record t { classes = t.classes ++ (code, class) ∷ [] }
 with_row t (row.Aggregation number aggregation) = record t { aggregations = t.aggregations ++ (number, aggregation) ∷ [] }
 with_row t (row.Record number columns) = record t { records = t.records ++ (number, columns) ∷ [] }
+with_row t (row.Event number event) = record t { events = t.events ++ (number, event) ∷ [] }
 with_row t (row.Content number) = record t { contents = t.contents ++ number ∷ [] }
 with_row t (row.Hold code hold) = record t { holds = t.holds ++ (code, hold) ∷ [] }
 with_row t (row.Target hold target) = record t { targets = t.targets ++ (hold, target) ∷ [] }
@@ -62,6 +65,7 @@ lists_of t = record {
   classes = t.classes.items;
   aggregations = t.aggregations.items;
   records = t.records.items;
+  events = t.events.items;
   contents = t.contents.items;
   holds = t.holds.items;
   targets = t.targets.items;
@@ -77,6 +81,7 @@ pub record StandsFor (t : TableLists) (s : State) : Type 0 where
   pub classes : t.classes ≡ (rows_of s).classes
   pub aggregations : t.aggregations ≡ (rows_of s).aggregations
   pub records : t.records ≡ (rows_of s).records
+  pub events : t.events ≡ (rows_of s).events
   pub contents : t.contents ≡ map (λ e. e.0) (rows_of s).contents
   pub holds : t.holds ≡ (rows_of s).holds
   pub targets : (code : List ℕ) (target : Target) → list_any (λ e. is_pair e.0 e.1 code target) t.targets ≡ (rows_of s).targets code target
@@ -99,6 +104,7 @@ pub record Begins (front t : TableLists) : Type 0 where
   pub classes : IsFront front.classes t.classes
   pub aggregations : IsFront front.aggregations t.aggregations
   pub records : IsFront front.records t.records
+  pub events : IsFront front.events t.events
   pub contents : IsFront front.contents t.contents
   pub holds : IsFront front.holds t.holds
   pub all_holds : front.targets ≢ [] → t.holds ≡ front.holds

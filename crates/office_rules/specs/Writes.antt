@@ -1,11 +1,12 @@
 -- What a row write makes of the office. Source: own.
-use Rattle.std.specs.Prelude.{◌≡◌, ◌<◌, ◌≤◌, ◌+◌, ℕ, List, [], ◌∷◌, length, Some, IsSome, false}
+use Rattle.std.specs.Prelude.{◌≡◌, ◌<◌, ◌≤◌, ◌+◌, ℕ, List, [], ◌∷◌, length, Some, IsSome, IsTrue, false}
 use Rattle.std.specs.FinMap.{contains_key, get, insert, remove}
 use Rattle.std.specs.String.{string_bytes}
 use Rattle.office_tree.specs.Lasting.{HeadStays, KeepsAggregation, KeepsHead}
 use Rattle.office_tree.specs.Lists.{numbered, put}
-use Rattle.office_tree.specs.Rows.{put_schedule, put_class, put_aggregation, put_record}
+use Rattle.office_tree.specs.Rows.{put_schedule, put_class, put_aggregation, put_record, put_event}
 use Rattle.office_tree.specs.Sound as tree
+use Rattle.office_tree.specs.Tree.{has_record}
 use Rattle.office_tree.specs.declared.aggregation.Aggregation.{Aggregation}
 use Rattle.office_tree.specs.declared.head.Record.{Record}
 use Rattle.office_holds.specs.Effects.{held_on, held_off}
@@ -21,6 +22,7 @@ write_office (row_write.Schedule code schedule) s = record s { tree = put_schedu
 write_office (row_write.Class code class) s = record s { tree = put_class s.tree code class }
 write_office (row_write.Aggregation number aggregation) s = record s { tree = put_aggregation s.tree number aggregation }
 write_office (row_write.Record number head status) s = record s { tree = put_record s.tree number head status }
+write_office (row_write.Event number event) s = record s { tree = put_event s.tree number event }
 write_office (row_write.Content number bytes) s = s
 write_office (row_write.ContentGone number) s = s
 write_office (row_write.Hold code hold) s = record s { holds = put_hold s.holds code hold }
@@ -49,7 +51,7 @@ abbrev pub all_writes : List RowWrite → State → State
 all_writes [] s = s
 all_writes (w ∷ ws) s = all_writes ws (write w s)
 
--- a write that can be done first, which may take memory: the key of its row is there or is the next number, tree and holds stay within what they promise, and what is there keeps what stays: a schedule all, an aggregation its ref and parent, a record its ref, aggregation and added day, a hold that it is lifted
+-- a write that can be done first, which may take memory: the key of its row is there or is the next number, an event's record is there, tree and holds stay within what they promise, and what is there keeps what stays: a schedule all, an aggregation its ref and parent, a record its ref, aggregation and added day, a hold that it is lifted
 abbrev pub CanPut : Office → RowWrite → Type 0
 CanPut s (row_write.Schedule code schedule) = tree.IsSound (put_schedule s.tree code schedule) × (contains_key s.tree.schedules code ≡ false)
 CanPut s (row_write.Class code class) = tree.IsSound (put_class s.tree code class)
@@ -57,6 +59,7 @@ CanPut s (row_write.Aggregation number aggregation) =
     (0 < number) × (number ≤ length s.tree.aggregations + 1) × tree.IsSound (put_aggregation s.tree number aggregation) × KeepsAggregation s.tree.aggregations number aggregation
 CanPut s (row_write.Record number head status) =
     (0 < number) × (number ≤ length s.tree.records + 1) × tree.IsSound (put_record s.tree number head status) × KeepsHead s.tree.records number head
+CanPut s (row_write.Event number event) = IsTrue (has_record s.tree number)
 CanPut s (row_write.Hold code hold) = FitsHoldLimits (put_hold s.holds code hold) × StaysLifted s.holds code hold
 CanPut s (row_write.Target hold target) = IsSome (get s.holds hold) × FitsHoldLimits (held_on s.holds hold target)
 CanPut s (row_write.TargetGone hold target) = Unit {0}

@@ -104,6 +104,13 @@ pub enum Act {
         digest: [u8; 32],
         by: Text,
     },
+    /// Records an event of a record, with which its retention period may begin; a later one takes the place of the earlier.
+    Event {
+        day: Day,
+        record_no: RecordNo,
+        occurred: Day,
+        by: Text,
+    },
     /// Opens a disposal run for the records that are due on its day.
     OpenRun {
         day: Day,

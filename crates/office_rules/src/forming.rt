@@ -87,7 +87,8 @@ impl Act {
             | Act::SetRecordSchedule { .. }
             | Act::Confirm { .. }
             | Act::Review { .. }
-            | Act::Receipt { .. } => self.formed_on_records(),
+            | Act::Receipt { .. }
+            | Act::Event { .. } => self.formed_on_records(),
             Act::PlaceHold { .. }
             | Act::HoldOn { .. }
             | Act::HoldOff { .. }
@@ -189,6 +190,16 @@ impl Act {
             } => {
                 formed_day(*day);
                 formed_code_or_none(schedule);
+                formed_text(by);
+            }
+            Act::Event {
+                day,
+                occurred,
+                by,
+                ..
+            } => {
+                formed_day(*day);
+                formed_day(*occurred);
                 formed_text(by);
             }
             _ => unreachable!(),

@@ -10,7 +10,7 @@ use crate::{Intake, RecordRow, Row, Run, Tables};
 use office_holds::{HoldRow, Target};
 use office_proof::{Entry, RunNo};
 use office_rows::Rebuild;
-use office_tree::{AggNo, Aggregation, Class, Code, Memory, RecordNo, Schedule};
+use office_tree::{AggNo, Aggregation, Class, Code, Event, Memory, RecordNo, Schedule};
 use std::alloc::Global;
 
 /// What stands in a table that is in memory.
@@ -65,6 +65,17 @@ impl Kept for (RecordNo, RecordRow) {
         Ok(Row::Record {
             number: self.0,
             columns: self.1.copy(alloc)?,
+        })
+    }
+}
+
+impl Kept for (RecordNo, Event) {
+    ghost row_of = { λ e. of_table.Event e.0 e.1 };
+
+    fn copied(&self, alloc: Global) -> Result<Row, Memory> {
+        Ok(Row::Event {
+            number: self.0,
+            event: self.1.copy(alloc)?,
         })
     }
 }
@@ -165,7 +176,7 @@ impl Tables {
         give_all(alloc, &self.classes, intake)
     }
 
-    /// Then those of aggregations, records and contents.
+    /// Then those of aggregations, records, events and contents.
     fn give_records<I: Intake>(&self, alloc: Global, intake: &mut I) -> Result<(), Rebuild>
         requires { I.content intake.old ≡ up_to_classes (lists_of self.now) }
         ensures ok { OnOk result (I.content intake.new ≡ up_to_contents (lists_of self.now)) }
@@ -173,6 +184,7 @@ impl Tables {
     {
         give_all(alloc, &self.aggregations, intake)?;
         give_all(alloc, &self.records, intake)?;
+        give_all(alloc, &self.events, intake)?;
         give_all(alloc, &self.contents, intake)
     }
 

@@ -14,8 +14,8 @@ pub trait Intake {
     /// Whether it ever answers Damaged. One that only gathers the rows never does.
     ghost examines: { Type 0 };
 
-    /// Takes one more row. The tables come in the order office, schedules, classes, aggregations, records, contents, holds,
-    /// targets, runs, entries, certificates, the rows of each by their keys. Damaged only where no tables that begin with
+    /// Takes one more row. The tables come in the order office, schedules, classes, aggregations, records, events,
+    /// contents, holds, targets, runs, entries, certificates, the rows of each by their keys. Damaged only where no tables that begin with
     /// the rows that have come and this one stand for a state; Memory where there is none for the row. After an error
     /// nothing is said of what it holds.
     fn row(&mut self, row: Row) -> Result<(), Rebuild>

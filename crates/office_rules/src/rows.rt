@@ -7,7 +7,8 @@ use office_days::{Day, DueDay};
 use office_holds::{HoldRow, Target};
 use office_proof::{Entry, RunNo};
 use office_tree::{
-    Action, AggNo, Aggregation, Class, Code, Memory, Record, RecordNo, Schedule, Status, Text,
+    Action, AggNo, Aggregation, Class, Code, Event, Memory, Record, RecordNo, Schedule, Status,
+    Text,
 };
 use std::alloc::Global;
 
@@ -101,6 +102,11 @@ pub enum RowWrite {
         number: RecordNo,
         head: Record,
         status: Status,
+    },
+    /// The event of the record of that number.
+    Event {
+        number: RecordNo,
+        event: Event,
     },
     Content {
         number: RecordNo,

@@ -2,9 +2,9 @@ use crate::{RecordRow, Run};
 use office_days::Day;
 use office_holds::{HoldRow, Target};
 use office_proof::{Entry, RunNo};
-use office_tree::{AggNo, Aggregation, Class, Code, RecordNo, Schedule};
+use office_tree::{AggNo, Aggregation, Class, Code, Event, RecordNo, Schedule};
 
-/// A row of one of the eleven tables, with its key. Of `contents` it is the key alone, of `office`, which has one row of this
+/// A row of one of the office's tables, with its key. Of `contents` it is the key alone, of `office`, which has one row of this
 /// version, its day.
 #[derive(Drop)]
 pub enum Row {
@@ -26,6 +26,11 @@ pub enum Row {
     Record {
         number: RecordNo,
         columns: RecordRow,
+    },
+    /// The event of the record of that number.
+    Event {
+        number: RecordNo,
+        event: Event,
     },
     Content {
         number: RecordNo,

@@ -2,9 +2,9 @@ use crate::{RecordRow, Run};
 use office_days::Day;
 use office_holds::{HoldRow, Target};
 use office_proof::{Entry, RunNo};
-use office_tree::{AggNo, Aggregation, Class, Code, RecordNo, Schedule};
+use office_tree::{AggNo, Aggregation, Class, Code, Event, RecordNo, Schedule};
 
-/// The rows of the eleven tables, each row with its key before it, in the order of the keys; the
+/// The rows of the office's tables, each row with its key before it, in the order of the keys; the
 /// targets of holds in any order. An entry holds its key itself. Of `contents` the keys stand here
 /// alone, of `office`, which has one row, its day.
 #[derive(Drop)]
@@ -14,6 +14,7 @@ pub struct Tables {
     pub classes: Vec<(Code, Class)>,
     pub aggregations: Vec<(AggNo, Aggregation)>,
     pub records: Vec<(RecordNo, RecordRow)>,
+    pub events: Vec<(RecordNo, Event)>,
     pub contents: Vec<RecordNo>,
     pub holds: Vec<(Code, HoldRow)>,
     pub targets: Vec<(Code, Target)>,
