@@ -40,6 +40,7 @@ pub mod WorkedBase
 pub mod WorkedClosing
 pub mod WorkedConfirming
 pub mod WorkedDays
+pub mod WorkedEvents
 pub mod WorkedFiling
 pub mod WorkedHolds
 pub mod WorkedMaps

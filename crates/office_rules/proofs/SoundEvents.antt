@@ -1,8 +1,8 @@
 -- An office stays sound over the event of a record.
-use Rattle.std.proofs.Common.{◌≡◌, ℕ, ◌<◌, ◌≤◌, ℤ, ◌≤ℤ◌, List, length, Some, Bool, true, false, arith, inl, inr, refl, subst, sym}
+use Rattle.std.proofs.Common.{◌≡◌, ℕ, ◌<◌, ◌≤◌, ℤ, ◌≤ℤ◌, List, length, Bool, true, false, arith, inl, inr, refl, subst, sym}
 use Rattle.std.specs.Prelude.{◌&&◌, int_lt, nat_le, not}
 use Rattle.std.specs.Cmp.{nat_cmp_total}
-use Rattle.std.specs.FinMap.{get, insert, nat_cmp-IsAntisymmetric}
+use Rattle.std.specs.FinMap.{nat_cmp-IsAntisymmetric}
 use Rattle.std.proofs.lemmas.Bool.Decides.{nat_tests}
 use Rattle.std.proofs.lemmas.Int.{ints}
 use Rattle.office_days.specs.Limits.{IsDayNumber}
@@ -10,7 +10,7 @@ use Rattle.office_tree.specs.Conditions.{conditions_of_event}
 use Rattle.office_tree.specs.Effects.{with_event}
 use Rattle.office_tree.specs.Forms.{IsFormedEvent, IsFormedTree, IsText}
 use Rattle.office_tree.specs.Sound.{AreEventsSound}
-use Rattle.office_tree.specs.Tree.{TreeState, has_record}
+use Rattle.office_tree.specs.Tree.{TreeState}
 use Rattle.office_tree.specs.declared.event.Event.{Event}
 use Rattle.office_tree.proofs.Accepting.{none_holds}
 use Rattle.office_rules.specs.Conditions.{refusals_of_event}

@@ -60,12 +60,12 @@ pub plan_is_3 : plan_of base_office.tree 3 ≡ Some (codes "D1")
 plan_is_3 = plan_where base_office.tree 3 (codes "FIN") (class_titled (codes "FIN")) refl class_is_3 finance_there
 
 -- the due day by the plan
-due_where : (tree : TreeState) (r : ℕ) (code : List ℕ) (schedule : Schedule) → plan_of tree r ≡ Some code → get tree.schedules code ≡ Some schedule → due_of tree r ≡ due_by schedule (start_in tree.aggregations tree.records tree.events schedule r)
+pub due_where : (tree : TreeState) (r : ℕ) (code : List ℕ) (schedule : Schedule) → plan_of tree r ≡ Some code → get tree.schedules code ≡ Some schedule → due_of tree r ≡ due_by schedule (start_in tree.aggregations tree.records tree.events schedule r)
 due_where tree r code schedule plan is =
     ap (λ o. option_and_then (λ (it : Schedule). due_by it (start_in tree.aggregations tree.records tree.events it r)) (option_and_then (get tree.schedules) o)) plan
     ∙ ap (option_and_then (λ (it : Schedule). due_by it (start_in tree.aggregations tree.records tree.events it r))) is
 
-action_where : (tree : TreeState) (r : ℕ) (code : List ℕ) (schedule : Schedule) → plan_of tree r ≡ Some code → get tree.schedules code ≡ Some schedule → action_of tree r ≡ Some schedule.action
+pub action_where : (tree : TreeState) (r : ℕ) (code : List ℕ) (schedule : Schedule) → plan_of tree r ≡ Some code → get tree.schedules code ≡ Some schedule → action_of tree r ≡ Some schedule.action
 action_where tree r code schedule plan is =
     ap (λ o. option_map (λ (it : Schedule). it.action) (option_and_then (get tree.schedules) o)) plan
     ∙ ap (option_map (λ (it : Schedule). it.action)) is

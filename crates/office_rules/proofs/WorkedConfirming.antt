@@ -19,7 +19,7 @@ use Rattle.office_rules.specs.Worked.{filing_due, day_before_due, class_titled, 
 use Rattle.office_rules.proofs.WorkedBase.{due_is, action_is, plan_where, planned_due, planned_action, finance_there, schedule_there}
 
 -- the table of a confirmation by the due day and the action of the plan
-by_due : Office → ℤ → ℕ → Action → ℤ → Action → List (Refusal × Bool)
+unfoldable pub by_due : Office → ℤ → ℕ → Action → ℤ → Action → List (Refusal × Bool)
 by_due s day r named due action =
     (DayBack, int_lt day s.day)
     ∷ (NoSuch, not (has_record s.tree r))
@@ -29,7 +29,7 @@ by_due s day r named due action =
     ∷ (WrongAction, (has_record s.tree r && not (same_action named action)) || same_action named Review)
     ∷ []
 
-confirming : (s : Office) (day : ℤ) (r : ℕ) (named : Action) (due : ℤ) (action : Action) → due_of s.tree r ≡ Some due → action_of s.tree r ≡ Some action → first_of (refusals_of_confirm s day r named) ≡ first_of (by_due s day r named due action)
+pub confirming : (s : Office) (day : ℤ) (r : ℕ) (named : Action) (due : ℤ) (action : Action) → due_of s.tree r ≡ Some due → action_of s.tree r ≡ Some action → first_of (refusals_of_confirm s day r named) ≡ first_of (by_due s day r named due action)
 unfolding by_due
 confirming s day r named due action d a =
     λ i. first_of (

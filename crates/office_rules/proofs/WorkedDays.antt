@@ -10,7 +10,7 @@ use Rattle.office_days.specs.declared.offset.Offset.TheVariants.{AnyDay}
 use Rattle.office_days.proofs.Civil.{number_of-civil}
 use Rattle.office_days.proofs.MonthLengths.{month_length-bounds}
 use Rattle.office_days.proofs.Moves.{offset_found-any}
-use Rattle.office_rules.specs.Worked.{filing_day, filing_due, yearly}
+use Rattle.office_rules.specs.Worked.{filing_day, filing_due, yearly, by_event, leap_day, later_day, event_due, later_due}
 
 abbrev date : ℕ → ℕ → ℕ → CivilDay
 date year month day = record { year = year; month = month; day = day }
@@ -105,3 +105,53 @@ end_is = ap (λ (c : CivilDay). offset_from AnyDay (number_of (months_later c 12
 
 pub due_from_filing : due_from filing_day yearly.period AnyDay ≡ filing_due
 due_from_filing = end_is ∙ ap (λ o. unwrap_or o filing_due) (offset_found-any filing_due)
+
+-- ---- the days of an event, and two years later
+
+days_before_2026 : days_of 2025 ≡ 739_616
+unfolding days_of
+days_before_2026 = refl
+
+-- a day of February, and one of March, of the year after so many years
+day_of_february : (years n j length : ℕ) → days_of years ≡ n → month_length (suc years) 2 ≡ length → j < length → civil_after (n + (31 + j)) ≡ date (suc years) 2 (suc j)
+day_of_february years n j length e feb few =
+    let january : civil_after n ≡ date (suc years) 1 1 = subst (λ (x : ℕ). civil_after x ≡ date (suc years) 1 1) e (first_of_year years) in
+    let first = month_end n (suc years) 1 31 30 (n + 31) true january refl refl refl refl in
+    in_month (n + 31) (suc years) 2 j (n + (31 + j)) first (omega (arith, feb, few)) (omega arith)
+
+last_of_march : (years n february : ℕ) → days_of years ≡ n → month_length (suc years) 2 ≡ suc february → civil_after (n + (62 + february)) ≡ date (suc years) 3 31
+last_of_march years n february e feb =
+    let january : civil_after n ≡ date (suc years) 1 1 = subst (λ (x : ℕ). civil_after x ≡ date (suc years) 1 1) e (first_of_year years) in
+    let first = month_end n (suc years) 1 31 30 (n + 31) true january refl refl refl refl in
+    let march = month_end (n + 31) (suc years) 2 (suc february) february (n + (32 + february)) true first feb refl refl (omega arith) in
+    in_month (n + (32 + february)) (suc years) 3 30 (n + (62 + february)) march (omega arith) (omega arith)
+
+pub civil_leap_day : civil leap_day ≡ date 2024 2 29
+civil_leap_day = day_of_february 2023 738_885 28 29 days_before_2024 refl (omega arith)
+
+pub civil_event_due : civil event_due ≡ date 2026 2 28
+civil_event_due = day_of_february 2025 739_616 27 28 days_before_2026 refl (omega arith)
+
+civil_later_day : civil later_day ≡ date 2024 3 31
+civil_later_day = last_of_march 2023 738_885 28 days_before_2024 refl
+
+civil_later_due : civil later_due ≡ date 2026 3 31
+civil_later_due = last_of_march 2025 739_616 27 days_before_2026 refl
+
+number_of_event_due : number_of (date 2026 2 28) ≡ event_due
+number_of_event_due = ap number_of (sym civil_event_due) ∙ number_of-civil event_due (omega (arith, ints))
+
+number_of_later_due : number_of (date 2026 3 31) ≡ later_due
+number_of_later_due = ap number_of (sym civil_later_due) ∙ number_of-civil later_due (omega (arith, ints))
+
+pub due_from_leap_day : due_from leap_day by_event.period AnyDay ≡ event_due
+due_from_leap_day =
+    ap (λ (c : CivilDay). offset_from AnyDay (number_of (months_later c 24))) civil_leap_day
+    ∙ ap (offset_from AnyDay) number_of_event_due
+    ∙ ap (λ o. unwrap_or o event_due) (offset_found-any event_due)
+
+pub due_from_later_day : due_from later_day by_event.period AnyDay ≡ later_due
+due_from_later_day =
+    ap (λ (c : CivilDay). offset_from AnyDay (number_of (months_later c 24))) civil_later_day
+    ∙ ap (offset_from AnyDay) number_of_later_due
+    ∙ ap (λ o. unwrap_or o later_due) (offset_found-any later_due)

@@ -11,11 +11,11 @@ use Rattle.office_tree.specs.declared.head.Record.{Record}
 use Rattle.office_tree.specs.declared.schedule.Schedule.{Schedule}
 use Rattle.office_tree.specs.declared.status.Status.{Status}
 use Rattle.office_tree.specs.declared.status.Status.TheVariants.{Here, Sent, Ended}
-use Rattle.office_tree.specs.declared.trigger.Trigger.TheVariants.{Added}
+use Rattle.office_tree.specs.declared.trigger.Trigger.TheVariants.{Added, Event}
 use Rattle.office_holds.specs.declared.target.Target.TheVariants as target
 use Rattle.office_proof.specs.declared.entry.Entry.{Entry}
 use Rattle.office_proof.specs.declared.outcome.Outcome.TheVariants.{Destroyed}
-use Rattle.office_rules.specs.Effects.{with_tree, after_add_schedule, after_add_class, after_add_aggregation, after_close_aggregation, after_confirm, after_place_hold, after_hold_on, after_hold_off, after_lift_hold}
+use Rattle.office_rules.specs.Effects.{with_tree, after_add_schedule, after_add_class, after_add_aggregation, after_close_aggregation, after_confirm, after_event, after_set_record_schedule, after_place_hold, after_hold_on, after_hold_off, after_lift_hold}
 use Rattle.office_rules.specs.State.{Office, empty_office, empty_state, State}
 use Rattle.office_rules.specs.Steps.{step_open_run, step_run_step}
 use Rattle.office_rules.specs.declared.answer.Answer.{Answer}
@@ -104,6 +104,46 @@ confirmed_office = after_confirm base_office filing_due 1 Destroy (codes "regist
 -- the first record is sent
 abbrev pub sent_office : Office
 sent_office = record base_office { tree = record (base_office.tree) { statuses = Sent ∷ Here ∷ Here ∷ [] } }
+
+-- ---- the base office with a period that begins with an event of the first record
+
+-- 2024-02-29 and 2024-03-31, on which the event occurred, and 2024-03-01, the day of the act that recorded the first one
+abbrev pub leap_day : ℤ
+leap_day = pos 19_782
+
+abbrev pub later_day : ℤ
+later_day = pos 19_813
+
+abbrev pub recording_day : ℤ
+recording_day = pos 19_783
+
+-- 2026-02-28 and 2026-03-31, two years later, and 2026-03-01
+abbrev pub event_due : ℤ
+event_due = pos 20_512
+
+abbrev pub later_due : ℤ
+later_due = pos 20_543
+
+abbrev pub day_after_due : ℤ
+day_after_due = pos 20_513
+
+-- to destroy two years after the event
+abbrev pub by_event : Schedule
+by_event = record { trigger = Event; period = record { unit = Years; count = 2 }; offset = AnyDay; action = Destroy }
+
+-- it is the first record's own schedule
+abbrev pub event_office : Office
+event_office = after_set_record_schedule (after_add_schedule base_office filing_day (codes "E") by_event) filing_day 1 (Some (codes "E"))
+
+-- its event is recorded; its destruction is confirmed; another event is recorded
+abbrev pub recorded_office : Office
+recorded_office = after_event event_office recording_day 1 leap_day (codes "registrar")
+
+abbrev pub event_confirmed : Office
+event_confirmed = after_confirm recorded_office event_due 1 Destroy (codes "registrar")
+
+abbrev pub again_recorded : Office
+again_recorded = after_event event_confirmed event_due 1 later_day (codes "registrar")
 
 -- ---- a new office, of which a run is opened, and two steps of it
 

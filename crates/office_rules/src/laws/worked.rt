@@ -4,7 +4,7 @@ ghost use Rattle.std.specs.Prelude.{◌≡◌, ◌≢◌, ◌≤ℤ◌, ◌++◌
 ghost use Rattle.std.specs.FinMap.{get};
 ghost use Rattle.sha2.specs.Sha256.{sha256};
 ghost use Rattle.office_days.specs.Calendar.{civil};
-ghost use Rattle.office_days.specs.declared.refusal.Refusal.TheVariants.{DayBack, Exists, ChildOpen, HeldClass, Ended, NotDue, WrongAction, NoRun, WrongDigest};
+ghost use Rattle.office_days.specs.declared.refusal.Refusal.TheVariants.{DayBack, Exists, ChildOpen, HeldClass, Ended, NotDue, WrongAction, NoRun, WrongDigest, NotYet};
 ghost use Rattle.office_tree.specs.Conditions.{first_of};
 ghost use Rattle.office_tree.specs.Disposal.{counts};
 ghost use Rattle.office_tree.specs.Tree.{class_of, plan_of, due_of, action_of, status_of, last_addition};
@@ -15,14 +15,14 @@ ghost use Rattle.office_tree.specs.declared.status.Status.TheVariants as status;
 ghost use Rattle.office_holds.specs.Holds.{is_held, least_covering};
 ghost use Rattle.office_proof.specs.Certificates.{lines_text, date_text, sealed};
 ghost use Rattle.office_proof.specs.declared.outcome.Outcome.TheVariants as outcome;
-ghost use Rattle.office_rules.specs.Conditions.{refusals_of_add_schedule, refusals_of_add_class, refusals_of_add_aggregation, refusals_of_close_aggregation, refusals_of_confirm, refusals_of_open_run, refusals_of_receipt, refusals_of_reclassify, refusals_of_add_record, same_record};
+ghost use Rattle.office_rules.specs.Conditions.{refusals_of_add_schedule, refusals_of_add_class, refusals_of_add_aggregation, refusals_of_close_aggregation, refusals_of_confirm, refusals_of_event, refusals_of_open_run, refusals_of_receipt, refusals_of_reclassify, refusals_of_add_record, same_record};
 ghost use Rattle.office_rules.specs.Disposing.{outcome_of};
 ghost use Rattle.office_rules.specs.Effects.{after_add_record, after_receipt};
 ghost use Rattle.office_rules.specs.Meanings.{IsAccepted, IsHeldIn};
 ghost use Rattle.office_rules.specs.Runs.{spent_list};
 ghost use Rattle.office_rules.specs.State.{Office, State, empty_office, first_day};
 ghost use Rattle.office_rules.specs.Steps.{step_add_record};
-ghost use Rattle.office_rules.specs.Worked.{filing_day, filing_due, day_before_due, with_yearly, with_class, class_titled, classed_office, with_root, rooted_office, first_filed, second_filed, base_office, confirmed_office, sent_office, with_record, AsksFor, opening, first_step, second_step, twice_held, once_held, free_again, both_held, one_left, finance_held, ended_office, child_closed, both_closed, ending_entry, twice_added};
+ghost use Rattle.office_rules.specs.Worked.{filing_day, filing_due, day_before_due, with_yearly, with_class, class_titled, classed_office, with_root, rooted_office, first_filed, second_filed, base_office, confirmed_office, sent_office, with_record, AsksFor, opening, first_step, second_step, twice_held, once_held, free_again, both_held, one_left, finance_held, ended_office, child_closed, both_closed, ending_entry, twice_added, leap_day, later_day, recording_day, event_due, later_due, day_after_due, event_office, recorded_office, event_confirmed, again_recorded};
 ghost use Rattle.office_rules.specs.declared.answer.Answer.TheVariants.{Number, Same, RunClosed, Refused};
 ghost use Rattle.office_rules.specs.declared.new_record.NewRecord.{NewRecord};
 
@@ -121,4 +121,20 @@ pub fn law_of_a_held_class()
     ensures one_class_left { (is_held one_left.holds one_left.tree 1 ≡ true) × (is_held one_left.holds one_left.tree 2 ≡ false) }
     ensures leaving { first_of (refusals_of_reclassify finance_held filing_day (classified.Aggregation 1) (Some (codes "LEG"))) ≡ Some HeldClass }
     ensures staying { IsAccepted (refusals_of_reclassify finance_held filing_day (classified.Aggregation 1) (Some (codes "FIN"))) }
+{}
+
+/// A record whose period begins with an event has no due day before one is recorded. An event of 2024-02-29 makes it due
+/// on 2026-02-28, on which its destruction is confirmed. An event of the day after the act is refused. A later event makes
+/// it due later, and the confirmation does not count any more.
+pub fn law_of_a_told_event()
+    ensures not_due { due_of event_office.tree 1 ≡ None }
+    ensures accepted { IsAccepted (refusals_of_event event_office recording_day 1 leap_day) }
+    ensures days { (civil leap_day ≡ record { year = 2024; month = 2; day = 29 }) × (civil event_due ≡ record { year = 2026; month = 2; day = 28 }) }
+    ensures due { due_of recorded_office.tree 1 ≡ Some event_due }
+    ensures confirmed { IsAccepted (refusals_of_confirm recorded_office event_due 1 action.Destroy) }
+    ensures counted { counts event_confirmed.tree 1 ≡ true }
+    ensures not_yet { first_of (refusals_of_event event_confirmed event_due 1 day_after_due) ≡ Some NotYet }
+    ensures again { IsAccepted (refusals_of_event event_confirmed event_due 1 later_day) }
+    ensures later { due_of again_recorded.tree 1 ≡ Some later_due }
+    ensures not_counted { counts again_recorded.tree 1 ≡ false }
 {}
