@@ -26,7 +26,15 @@ aggregation FIN -
 record 1 - - 2024-01-02 2024-01-02
 record 1 - - 2024-01-02 2024-02-29";
 
-/// `CLOSED` and `TWO` stand for those files.
+/// One class whose schedule counts from an event, and two records of it.
+pub(crate) const EVENT: &str = "schedule E event years 2 none destroy
+class FIN E
+aggregation FIN -
+record 1 - - 2024-01-02 2024-01-02
+record 1 - - 2024-01-02 2024-01-02
+";
+
+/// `CLOSED`, `TWO` and `EVENT` stand for those files.
 pub(crate) const ROWS: &str = r"
     plan CLOSED = 1 2024-04-01\n2 -\n3 -\n
     plan TWO + \n = 1 2025-01-02\n2 2025-02-28\n
@@ -39,6 +47,11 @@ pub(crate) const ROWS: &str = r"
 
     # made on 1 January: in the aggregation of the year, closed on 31 December; by its own day. After an event
     plan schedule B closed years 10 from-month-1 destroy\nschedule D origin years 10 from-month-1 destroy\nschedule E closed years 2 none destroy\nclass FIN B\naggregation FIN -\naggregation FIN -\nrecord 1 - - 2024-01-01 2024-01-02\nrecord 1 - D 2024-01-01 2024-01-02\nrecord 2 - E 2020-01-07 2020-01-07\nclose 1 2024-12-31\nclose 2 2024-06-30\n = 1 2035-01-01\n2 2034-01-01\n3 2026-06-30\n
+
+    # two years after an event of record 1; a later line of the same record replaces it
+    plan EVENT = 1 -\n2 -\n
+    plan EVENT + event 1 2024-02-29\n = 1 2026-02-28\n2 -\n
+    plan EVENT + event 1 2024-02-29\nevent 1 2024-03-31\n = 1 2026-03-31\n2 -\n
 
     # a further line that is refused
     plan CLOSED + aggregation - - = line 11 refused 10
@@ -60,6 +73,13 @@ pub(crate) const ROWS: &str = r"
     plan CLOSED + open 1 2024-02-01 = line 11 refused 2
     plan CLOSED + \s = line 11 refused 2
     plan CLOSED + \r = line 11 refused 2
+
+    plan EVENT + event 3 2024-02-29 = line 6 refused 5
+    plan EVENT + event 1 = line 6 refused 2
+    plan EVENT + event 0 2024-02-29 = line 6 refused 3
+    plan EVENT + event 0 2024-02-30 = line 6 refused 2
+    plan EVENT + event 1 2024-02-29 x = line 6 refused 2
+    plan EVENT + event - 2024-02-29 = line 6 refused 2
 
     # of several lines the first is told: an open child, a lone carriage return, a byte that is no text
     plan schedule C closed months 1 quarter destroy\nschedule K added days 0 none keep\nclass FIN C\nclass PER K\naggregation FIN -\naggregation - 1\nrecord 2 - - 2024-01-02 2024-01-02\nrecord 2 PER - 2024-01-02 2024-01-02\nrecord 1 - - 2024-01-02 2024-01-02\nclose 1 2024-01-31\nx\n = line 10 refused 8

@@ -1,5 +1,5 @@
 //! Bytes as rows write them.
-use crate::plan_tests::{CLOSED, TWO};
+use crate::plan_tests::{CLOSED, EVENT, TWO};
 
 /// The byte that a letter after a backslash stands for.
 fn escaped(letter: u8) -> u8 {
@@ -35,6 +35,7 @@ fn push_named(out: &mut Vec<u8>, piece: &str) -> Option<()> {
         "nothing" => Some(()),
         "CLOSED" => push_text(out, CLOSED),
         "TWO" => push_text(out, TWO),
+        "EVENT" => push_text(out, EVENT),
         _ => push_text(out, piece),
     }
 }

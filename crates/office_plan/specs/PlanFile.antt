@@ -7,13 +7,13 @@ use Rattle.office_days.specs.declared.refusal.Refusal.{Refusal}
 use Rattle.office_days.specs.declared.refusal.Refusal.TheVariants.{BadText}
 use Rattle.office_days.specs.Calendar.{civil}
 use Rattle.office_days.specs.Texts.{day_text}
-use Rattle.office_tree.specs.Conditions.{conditions_of_add_aggregation, conditions_of_add_class, conditions_of_add_record, conditions_of_add_schedule, conditions_of_close_aggregation, first_of}
-use Rattle.office_tree.specs.Effects.{added_aggregation, added_class, added_record, added_schedule, closed_aggregation}
+use Rattle.office_tree.specs.Conditions.{conditions_of_add_aggregation, conditions_of_add_class, conditions_of_add_record, conditions_of_add_schedule, conditions_of_close_aggregation, conditions_of_event, first_of}
+use Rattle.office_tree.specs.Effects.{added_aggregation, added_class, added_record, added_schedule, closed_aggregation, with_event}
 use Rattle.office_tree.specs.Tree.{TreeState, due_of, empty_tree}
 use Rattle.office_tree.specs.declared.head.Record.{Record as RecordHead}
 use Rattle.office_plan.specs.PlanLines.{line_asked}
 use Rattle.office_plan.specs.declared.plan_line.PlanLine.{PlanLine}
-use Rattle.office_plan.specs.declared.plan_line.PlanLine.TheVariants.{Schedule, Class, Aggregation, Close, Record}
+use Rattle.office_plan.specs.declared.plan_line.PlanLine.TheVariants.{Schedule, Class, Aggregation, Close, Record, Event}
 
 -- the ref and the title of the next aggregation: the digits of its number
 abbrev pub next_aggregation : TreeState → List ℕ
@@ -45,7 +45,8 @@ abbrev pub done_or_refused : Option Refusal → TreeState → Result TreeState R
 done_or_refused None tree = Ok tree
 done_or_refused (Some refusal) tree = Err refusal
 
--- what a line does to the tree, or why the tree refuses it
+-- what a line does to the tree, or why the tree refuses it; an event is recorded on the day on which it occurred, by the digits
+-- of its record's number
 unfoldable pub line_done : TreeState → PlanLine → Result TreeState Refusal
 line_done tree (Schedule code schedule) = done_or_refused (first_of (conditions_of_add_schedule tree code)) (added_schedule tree code schedule)
 line_done tree (Class code schedule) = done_or_refused (first_of (conditions_of_add_class tree code schedule)) (added_class tree code (record { title = code; schedule = schedule }))
@@ -54,6 +55,7 @@ line_done tree (Aggregation class parent) =
 line_done tree (Close a day) = done_or_refused (first_of (conditions_of_close_aggregation tree a)) (closed_aggregation tree a day)
 line_done tree (Record a class schedule originated added) =
     done_or_refused (first_of (conditions_of_add_record tree (next_record tree) a class schedule)) (added_record tree (planned_head (next_record tree) a class schedule originated added))
+line_done tree (Event r day) = done_or_refused (first_of (conditions_of_event tree day r day)) (with_event tree day r day (decimal r))
 
 -- a line that was read is done
 abbrev pub read_and_done : TreeState → Result PlanLine Refusal → Result TreeState Refusal

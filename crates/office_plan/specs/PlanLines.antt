@@ -1,6 +1,6 @@
 -- The lines of a plan file, by their words. Source: own.
 --     schedule CODE TRIGGER UNIT COUNT OFFSET ACTION      class CODE SCHEDULE      aggregation CLASS PARENT
---     close NUMBER DAY      record AGGREGATION CLASS SCHEDULE ORIGINATED ADDED
+--     close NUMBER DAY      record AGGREGATION CLASS SCHEDULE ORIGINATED ADDED      event NUMBER DAY
 use Rattle.std.specs.Prelude.{ℕ, List, [], ◌==◌, ◌&&◌, ◌+◌, ℤ, Bool, length, Option, Result, Err, codes, unwrap_or, slice_get, if◌then◌else◌}
 use Rattle.std.specs.List.{slice_split}
 use Rattle.std.specs.Str.{bytes_eq}
@@ -17,7 +17,7 @@ use Rattle.office_tree.specs.declared.trigger.Trigger.{Trigger}
 use Rattle.office_tree.specs.Words.{action_named, trigger_named}
 use Rattle.office_plan.specs.Parts.{both, made, named_part, code_part, optional_part, period_part}
 use Rattle.office_plan.specs.declared.plan_line.PlanLine.{PlanLine}
-use Rattle.office_plan.specs.declared.plan_line.PlanLine.TheVariants.{Schedule, Class, Aggregation, Close, Record}
+use Rattle.office_plan.specs.declared.plan_line.PlanLine.TheVariants.{Schedule, Class, Aggregation, Close, Record, Event}
 
 -- the words of a line are parted by one space
 abbrev pub words_of : List ℕ → List (List ℕ)
@@ -91,6 +91,9 @@ days_at words i = both (day_at words i) (day_at words (i + 1))
 unfoldable pub record_line : List (List ℕ) → Result PlanLine Refusal
 record_line words = made (λ p. Record p.0.0 p.0.1.0 p.0.1.1 p.1.0 p.1.1) (both (place_at words 1) (days_at words 4))
 
+unfoldable pub event_line : List (List ℕ) → Result PlanLine Refusal
+event_line words = made (λ p. Event p.0 p.1) (both (number_at words 1) (day_at words 2))
+
 -- the line begins with that word and has so many
 unfoldable pub is_line : List ℕ → ℕ → List (List ℕ) → Bool
 is_line kind count words = bytes_eq (word_at words 0) kind && (length words == count)
@@ -103,7 +106,8 @@ line_by_words words =
     else (if is_line (codes "aggregation") 3 words then aggregation_line words
     else (if is_line (codes "close") 3 words then close_line words
     else (if is_line (codes "record") 6 words then record_line words
-    else Err BadText))))
+    else (if is_line (codes "event") 3 words then event_line words
+    else Err BadText)))))
 
 unfoldable pub line_asked : List ℕ → Result PlanLine Refusal
 line_asked line = line_by_words (words_of line)

@@ -1,12 +1,12 @@
 ghost use Rattle.std.specs.Prelude.{◌≡◌, ◌<◌, ◌==◌, map, IfOk};
-ghost use Rattle.office_plan.specs.PlanLines.{action_at, aggregation_line, class_line, close_line, code_at, day_at, days_at, disposal_at, is_line, keeping_at, line_asked, line_by_words, number_at, offset_at, optional_code_at, optional_number_at, period_at, place_at, record_line, schedule_at, schedule_line, trigger_at, word_at};
+ghost use Rattle.office_plan.specs.PlanLines.{action_at, aggregation_line, class_line, close_line, code_at, day_at, days_at, disposal_at, event_line, is_line, keeping_at, line_asked, line_by_words, number_at, offset_at, optional_code_at, optional_number_at, period_at, place_at, record_line, schedule_at, schedule_line, trigger_at, word_at};
 
 use crate::parting::words_of;
 use crate::parts::{
     both, read_code, read_day, read_optional_code, read_optional_number, read_period,
 };
 use office_days::{Day, Offset, Period, Refusal, read_thing_number};
-use office_tree::{Action, AggNo, Code, Memory, Schedule, Trigger};
+use office_tree::{Action, AggNo, Code, Memory, RecordNo, Schedule, Trigger};
 use std::alloc::Global;
 
 /// What a line of a plan file asks for.
@@ -17,6 +17,7 @@ pub enum PlanLine {
     Aggregation(Option<Code>, Option<AggNo>),
     Close(AggNo, Day),
     Record(AggNo, Option<Code>, Option<Code>, Day, Day),
+    Event(RecordNo, Day),
 }
 
 /// The word at a place, from 0; an empty one past the last.
@@ -46,7 +47,7 @@ fn optional_code_at(
     read_optional_code(alloc, word_at(words, i))
 }
 
-/// The number of an aggregation at a place.
+/// The number of an aggregation or a record at a place.
 #[tactic(auto, unfolding(crate::specs::PlanLines::number_at))]
 fn number_at(words: &[&str], i: usize) -> Result<AggNo, Refusal>
     ensures { result ≡ number_at (map (λ word. word.now) words.now) i }
@@ -225,6 +226,16 @@ fn record_line(alloc: Global, words: &[&str]) -> Result<Result<PlanLine, Refusal
     }
 }
 
+#[tactic(auto, unfolding(crate::specs::PlanLines::event_line))]
+fn event_line(words: &[&str]) -> Result<PlanLine, Refusal>
+    ensures { result ≡ event_line (map (λ word. word.now) words.now) }
+{
+    match both(number_at(words, 1), day_at(words, 2)) {
+        Ok((number, day)) => Ok(PlanLine::Event(number, day)),
+        Err(refusal) => Err(refusal),
+    }
+}
+
 /// Whether a line begins with that word and has so many.
 #[tactic(auto, unfolding(crate::specs::PlanLines::is_line))]
 fn is_line(words: &[&str], kind: &str, count: usize) -> bool
@@ -253,11 +264,14 @@ fn line_by_words(alloc: Global, words: &[&str]) -> Result<Result<PlanLine, Refus
     if is_line(words, "record", 6) {
         return record_line(alloc, words);
     }
+    if is_line(words, "event", 3) {
+        return Ok(event_line(words));
+    }
     Ok(Err(Refusal::BadText))
 }
 
 /// What a line of a plan file asks for, or why it is refused: `BadText` where a word is not of its
-/// form or the line is of none of the five forms, else `BadNumber` where a number is out of range.
+/// form or the line is of none of the six forms, else `BadNumber` where a number is out of range.
 #[tactic(auto, unfolding(crate::specs::PlanLines::line_asked))]
 pub fn read_line(alloc: Global, line: &str) -> Result<Result<PlanLine, Refusal>, Memory>
     ensures { IfOk result (λ read. read ≡ line_asked line.now) }

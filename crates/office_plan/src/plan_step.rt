@@ -1,14 +1,14 @@
 ghost use Rattle.std.specs.Prelude.{◌≡◌, IfOk};
 ghost use Rattle.std.specs.Fmt.{decimal};
-ghost use Rattle.office_tree.specs.Conditions.{conditions_of_add_aggregation, conditions_of_add_class, conditions_of_add_record, conditions_of_add_schedule, conditions_of_close_aggregation, first_of};
-ghost use Rattle.office_tree.specs.Effects.{added_aggregation, added_class, added_record, added_schedule, closed_aggregation};
+ghost use Rattle.office_tree.specs.Conditions.{conditions_of_add_aggregation, conditions_of_add_class, conditions_of_add_record, conditions_of_add_schedule, conditions_of_close_aggregation, conditions_of_event, first_of};
+ghost use Rattle.office_tree.specs.Effects.{added_aggregation, added_class, added_record, added_schedule, closed_aggregation, with_event};
 ghost use Rattle.office_plan.specs.PlanFile.{done_or_refused, line_done, line_taken, next_aggregation, next_record, planned_head, read_and_done};
 ghost use Rattle.office_plan.specs.PlanLines.{line_asked};
 
 use crate::plan_line::{PlanLine, read_line};
 use crate::text::text_of;
 use office_days::{Day, Refusal};
-use office_tree::{AggNo, Class, Code, Memory, Record, Schedule, Text, Tree};
+use office_tree::{AggNo, Class, Code, Memory, Record, RecordNo, Schedule, Text, Tree};
 use std::alloc::Global;
 
 /// The digits of a number, as a text.
@@ -156,6 +156,22 @@ fn add_record(alloc: Global, tree: &mut Tree, planned: Planned) -> Result<Option
     }
 }
 
+/// Records an event of a record on the day on which it occurred, by the digits of the record's number.
+fn record_event(
+    alloc: Global,
+    tree: &mut Tree,
+    record_no: RecordNo,
+    day: Day,
+) -> Result<Option<Refusal>, Memory>
+    ensures { IfOk result (λ refusal. done_or_refused (first_of (conditions_of_event tree.old day record_no day)) (with_event tree.old day record_no day (decimal record_no)) ≡ done_or_refused refusal tree.new) }
+{
+    if let Some(refusal) = tree.check_event(day, record_no, day) {
+        return Ok(Some(refusal));
+    }
+    let by = digits_of(alloc, record_no)?;
+    tree.apply_event(day, record_no, day, by).and(Ok(None))
+}
+
 /// Does what a line asks for, or gives why the tree refuses it.
 #[tactic(auto, unfolding(crate::specs::PlanFile::line_done))]
 fn do_line(alloc: Global, tree: &mut Tree, line: PlanLine) -> Result<Option<Refusal>, Memory>
@@ -176,6 +192,7 @@ fn do_line(alloc: Global, tree: &mut Tree, line: PlanLine) -> Result<Option<Refu
             };
             add_record(alloc, tree, planned)
         }
+        PlanLine::Event(record_no, day) => record_event(alloc, tree, record_no, day),
     }
 }
 
