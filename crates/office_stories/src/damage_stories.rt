@@ -68,7 +68,7 @@ resume = closed 1
 content 1 is none
 content 2 is fault 33
 ## counts of the tables
-[1, 2, 2, 3, 2, 0, 0, 1, 1, 1]
+[1, 2, 2, 3, 0, 2, 0, 0, 1, 1, 1]
 "#;
 
 /// Of the busy office, whose day, 2025-01-02, is 20090.
@@ -83,7 +83,7 @@ record 6 has "status":"ended"
 record 7 has "status":"here"
 entries is run 1 record 1 destroyed; run 1 record 2 skipped; run 1 record 4 sent; run 1 record 5 sent; run 1 record 6 sent; run 2 record 2 skipped; run 2 record 5 skipped; run 2 record 6 transferred; run 3 record 2 skipped;
 ## counts of the tables
-[3, 2, 4, 7, 5, 2, 4, 3, 9, 2]
+[3, 2, 4, 7, 0, 5, 2, 4, 3, 9, 2]
 ## at the desk
 2025-01-02 run-step = step 5 skipped
 2025-01-02 run-step = closed 3

@@ -30,7 +30,7 @@ bytes POST /acts HTTP/1.1\r\nHost: h\r\nContent-Length: 256\r\n\r\n + [ x 128 + 
 bytes POST /acts HTTP/1.1\r\nHost: h\r\nContent-Length: 6\r\n\r\n\r\n[]\t\n = 200 OK, application/json, 2: []
 POST /acts 20 [{"act":"run-step"}] = 409 Conflict, application/json, 16: [{"refused":18}]
 ## counts of the tables
-[0, 0, 0, 0, 0, 0, 0, 0, 0, 0]
+[0, 0, 0, 0, 0, 0, 0, 0, 0, 0, 0]
 
 # The length of a body is said once, in 1 to 19 digits, in pieces of some bytes for each <n> of 1 7 4096
 ## clients in pieces of <n>
@@ -331,5 +331,5 @@ bytes POST /acts HTTP/1.1\r\nHost: h\r\nContent-Length: 1048576\r\n\r\n + [ x 10
 bytes POST /acts HTTP/1.1\r\nHost: h\r\nContent-Length: 191\r\n\r\n[ + {"act":"run-step"}, x 9 + {"act":"run-step"}] = 409 Conflict, application/json, 151: [ + {"refused":18}, x 9 + {"refused":18}]
 POST /acts 20 [{"act":"run-step"}] = 409 Conflict, application/json, 16: [{"refused":18}]
 ## counts of the tables
-[0, 0, 0, 0, 0, 0, 0, 0, 0, 0]
+[0, 0, 0, 0, 0, 0, 0, 0, 0, 0, 0]
 "#;

@@ -17,7 +17,7 @@
 //! | `## the bytes of a file` | what is in the pages of the database file (`pages`): `2 14 0a0b` at place 14 of page 2, `3 like 2`, and the `digest` of the whole |
 //! | `## read from the tables` | a statement of SQL, ` is ` and the values that it gives, `none` or `refused`; no office is opened before |
 //! | `## tried on the tables` | `opened after` or `fault 33 after` statements, each on a copy of the office as it is; what is refused keeps its rows |
-//! | `## counts of the tables` | how many rows the ten tables have |
+//! | `## counts of the tables` | how many rows the tables have, from schedules to certificates |
 //! | `## taken over by memory` | `with 16 rows`: with memory for fewer the office is not taken over, and its tables stay |
 //! | `## closed` | none: the database is closed, and its log goes back into its file |
 //! | `## asked while a disk stops` | acts with their answers, or what is read, and how often a disk stops it at least |
@@ -61,6 +61,8 @@ mod disks;
 mod endings;
 #[cfg(test)]
 mod errands;
+#[cfg(test)]
+mod event_stories;
 #[cfg(test)]
 mod failures;
 #[cfg(test)]

@@ -19,7 +19,7 @@ first <n> of POST /run/resume = lost for each <n> of 0 to 37
 first <n> of GET /nothing = lost for each <n> of 0 to 33
 POST /acts 20 [{"act":"run-step"}] = 409 Conflict, application/json, 16: [{"refused":18}]
 ## counts of the tables
-[0, 0, 0, 0, 0, 0, 0, 0, 0, 0]
+[0, 0, 0, 0, 0, 0, 0, 0, 0, 0, 0]
 ## clients in pieces of 7
 first 108 of POST /acts 56 [{"act":"open-run","day":"2025-01-02","by":"registrar"}] = 200 OK, application/json, 14: [{"number":1}]
 first <n> of POST /acts 20 [{"act":"run-step"}] = lost for each <n> of 0 to 71
@@ -30,11 +30,11 @@ first 38 of POST /run/resume = 200 OK, application/json, 17: {"certificate":1}
 ## clients in pieces of 100
 first <n> of POST /acts 953 [{"act":"add-schedule","day":"2024-01-02","code":"D1","trigger":"added","unit":"years","count":1,"offset":"none","action":"destroy"},{"act":"add-class","day":"2024-01-02","code":"FIN","title":"Finance","schedule":"D1"},{"act":"add-class","day":"2024-01-02","code":"LEG","title":"Legal","schedule":"D1"},{"act":"add-aggregation","day":"2024-01-02","ref":"A","title":"A","class":"FIN"},{"act":"add-aggregation","day":"2024-01-02","ref":"B","title":"B","class":"LEG"},{"act":"add-record","day":"2024-01-02","ref":"r1","title":"r1","originated":"2024-01-02","aggregation":1,"content":"YWJj"},{"act":"add-record","day":"2024-01-02","ref":"r2","title":"r2","originated":"2024-01-02","aggregation":2,"content":""},{"act":"add-record","day":"2024-01-02","ref":"r3","title":"r3","originated":"2024-01-02","aggregation":1,"content":"YWJj"},{"act":"add-record","day":"2024-01-02","ref":"r1","title":"r1","originated":"2024-01-02","aggregation":1,"content":"YWJj"}] = lost for each <n> of 0 to 1005
 ## counts of the tables
-[0, 0, 0, 0, 0, 0, 0, 0, 0, 0]
+[0, 0, 0, 0, 0, 0, 0, 0, 0, 0, 0]
 ## clients in pieces of 100
 first 1006 of POST /acts 953 [{"act":"add-schedule","day":"2024-01-02","code":"D1","trigger":"added","unit":"years","count":1,"offset":"none","action":"destroy"},{"act":"add-class","day":"2024-01-02","code":"FIN","title":"Finance","schedule":"D1"},{"act":"add-class","day":"2024-01-02","code":"LEG","title":"Legal","schedule":"D1"},{"act":"add-aggregation","day":"2024-01-02","ref":"A","title":"A","class":"FIN"},{"act":"add-aggregation","day":"2024-01-02","ref":"B","title":"B","class":"LEG"},{"act":"add-record","day":"2024-01-02","ref":"r1","title":"r1","originated":"2024-01-02","aggregation":1,"content":"YWJj"},{"act":"add-record","day":"2024-01-02","ref":"r2","title":"r2","originated":"2024-01-02","aggregation":2,"content":""},{"act":"add-record","day":"2024-01-02","ref":"r3","title":"r3","originated":"2024-01-02","aggregation":1,"content":"YWJj"},{"act":"add-record","day":"2024-01-02","ref":"r1","title":"r1","originated":"2024-01-02","aggregation":1,"content":"YWJj"}] = 200 OK, application/json, 133: [{"done":true},{"done":true},{"done":true},{"number":1},{"number":2},{"number":1},{"number":2},{"number":3},{"number":1,"same":true}]
 ## counts of the tables
-[1, 2, 2, 3, 3, 0, 0, 0, 0, 0]
+[1, 2, 2, 3, 0, 3, 0, 0, 0, 0, 0]
 
 # A connection that ends before its last byte has no head, or a body that is cut
 ## clients in pieces of 1
@@ -87,8 +87,8 @@ UPDATE contents SET bytes = x'61' WHERE record = 2
 ## clients in pieces of 4096
 POST /acts 56 [{"act":"open-run","day":"2025-01-02","by":"registrar"}] = 409 Conflict, application/json, 16: [{"refused":17}], lost after <n> for each <n> of 0 to 111
 POST /acts 56 [{"act":"open-run","day":"2025-01-02","by":"registrar"}] = 409 Conflict, application/json, 16: [{"refused":17}], in all 112
-GET /records/2 = 200 OK, application/json, 293: {"added":"2024-01-02","aggregation":2,"class":"LEG","confirmed":null,"digest":"e3b0c44298fc1c149afbf4c8996fb92427ae41e4649b934ca495991b7852b855","due":"2025-01-02","ended":null,"held":null,"length":0,"number":2,"originated":"2024-01-02","ref":"r2","schedule":"D1","status":"here","title":"r2"}, lost after <n> for each <n> of 0 to 383
-GET /records/2 = 200 OK, application/json, 293: {"added":"2024-01-02","aggregation":2,"class":"LEG","confirmed":null,"digest":"e3b0c44298fc1c149afbf4c8996fb92427ae41e4649b934ca495991b7852b855","due":"2025-01-02","ended":null,"held":null,"length":0,"number":2,"originated":"2024-01-02","ref":"r2","schedule":"D1","status":"here","title":"r2"}, in all 384
+GET /records/2 = 200 OK, application/json, 306: {"added":"2024-01-02","aggregation":2,"class":"LEG","confirmed":null,"digest":"e3b0c44298fc1c149afbf4c8996fb92427ae41e4649b934ca495991b7852b855","due":"2025-01-02","ended":null,"event":null,"held":null,"length":0,"number":2,"originated":"2024-01-02","ref":"r2","schedule":"D1","status":"here","title":"r2"}, lost after <n> for each <n> of 0 to 396
+GET /records/2 = 200 OK, application/json, 306: {"added":"2024-01-02","aggregation":2,"class":"LEG","confirmed":null,"digest":"e3b0c44298fc1c149afbf4c8996fb92427ae41e4649b934ca495991b7852b855","due":"2025-01-02","ended":null,"event":null,"held":null,"length":0,"number":2,"originated":"2024-01-02","ref":"r2","schedule":"D1","status":"here","title":"r2"}, in all 397
 GET /due/2025-01-02 = 200 OK, application/json, 245: [{"action":"destroy","class":"LEG","confirmed":false,"due":"2025-01-02","held":null,"record":2,"ref":"r2","schedule":"D1"},{"action":"destroy","class":"FIN","confirmed":false,"due":"2025-01-02","held":null,"record":3,"ref":"r3","schedule":"D1"}], lost after <n> for each <n> of 0 to 335
 GET /due/2025-01-02 = 200 OK, application/json, 245: [{"action":"destroy","class":"LEG","confirmed":false,"due":"2025-01-02","held":null,"record":2,"ref":"r2","schedule":"D1"},{"action":"destroy","class":"FIN","confirmed":false,"due":"2025-01-02","held":null,"record":3,"ref":"r3","schedule":"D1"}], in all 336
 GET /records/3/content = 200 OK, application/octet-stream, 3: abc, lost after <n> for each <n> of 0 to 99
@@ -126,9 +126,9 @@ GET /certificates/1 = 200 OK, text/plain; charset=utf-8, 265: CERTIFICATE 1\nDAY
 GET /certificates/1 = 200 OK, text/plain; charset=utf-8, 265: CERTIFICATE 1\nDAY 2025-01-02\nBY registrar\nENDED 1\nSENT 0\nSKIPPED 0\nENTRY\t1\tdestroyed\tr1\tFIN\tD1\t2025-01-02\t-\tregistrar\t3\tba7816bf8f01cfea414140de5dae2223b00361a396177a9cb410ff61f20015ad\nSPENT 0\nSHA256 080d0bc7bc35173f3bbc157087e0e5ab0261242c5494629a7c3d0105911a7057\n, in all 365
 POST /run/resume = 409 Conflict, application/json, 14: {"refused":18}, lost after <n> for each <n> of 0 to 109
 POST /run/resume = 409 Conflict, application/json, 14: {"refused":18}, in all 110
-GET /records/1 = 200 OK, application/json, 392: {"added":"2024-01-02","aggregation":1,"class":"FIN","confirmed":{"action":"destroy","by":"registrar","day":"2025-01-02","due":"2025-01-02"},"digest":"ba7816bf8f01cfea414140de5dae2223b00361a396177a9cb410ff61f20015ad","due":"2025-01-02","ended":{"outcome":"destroyed","run":1},"held":null,"length":3,"number":1,"originated":"2024-01-02","ref":"r1","schedule":"D1","status":"ended","title":"r1"}
+GET /records/1 = 200 OK, application/json, 405: {"added":"2024-01-02","aggregation":1,"class":"FIN","confirmed":{"action":"destroy","by":"registrar","day":"2025-01-02","due":"2025-01-02"},"digest":"ba7816bf8f01cfea414140de5dae2223b00361a396177a9cb410ff61f20015ad","due":"2025-01-02","ended":{"outcome":"destroyed","run":1},"event":null,"held":null,"length":3,"number":1,"originated":"2024-01-02","ref":"r1","schedule":"D1","status":"ended","title":"r1"}
 ## counts of the tables
-[1, 2, 2, 3, 2, 0, 0, 1, 1, 1]
+[1, 2, 2, 3, 0, 2, 0, 0, 1, 1, 1]
 
 # A run is closed whose answer is lost for each <n> of 0 to 106
 ## at the desk

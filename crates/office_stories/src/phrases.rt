@@ -24,6 +24,7 @@ const PHRASES: &str = r#"
 <day> confirm <record> <action> | {"act":"confirm","day":"<day>","record":<record>,"action":"<action>","by":"registrar"}
 <day> review <record> <schedule> | {"act":"review","day":"<day>","record":<record>,"schedule":"<schedule>","by":"registrar"}
 <day> receipt <record> <received> | {"act":"receipt","day":"<day>","record":<record>,"digest":"<received>","by":"registrar"}
+<day> event <record> <occurred> | {"act":"event","day":"<day>","record":<record>,"occurred":"<occurred>","by":"registrar"}
 <day> open-run | {"act":"open-run","day":"<day>","by":"registrar"}
 <day> run-step | {"act":"run-step"}
 done | {"done":true}

@@ -26,7 +26,7 @@ pub(crate) const TABLES: &str = r#"
 2025-01-03 run-step = closed 1
 2025-01-03 lift-hold H = done
 ## counts of the tables
-[3, 2, 3, 4, 3, 1, 1, 1, 2, 1]
+[3, 2, 3, 4, 0, 3, 1, 1, 1, 2, 1]
 ## taken over by memory
 with 22 rows
 
@@ -36,7 +36,7 @@ with 22 rows
 INSERT INTO records(num, ref, title, originated, added, aggregation, size, digest, status) WITH RECURSIVE n(i) AS (SELECT 4 UNION ALL SELECT i + 1 FROM n WHERE i < 20000) SELECT i, 'r' || i, 'x', 19724, 19724, 1, 3, 'ba7816bf8f01cfea414140de5dae2223b00361a396177a9cb410ff61f20015ad', 'here' FROM n
 INSERT INTO contents WITH RECURSIVE n(i) AS (SELECT 4 UNION ALL SELECT i + 1 FROM n WHERE i < 20000) SELECT i, x'616263' FROM n
 ## counts of the tables
-[1, 2, 2, 20000, 20000, 0, 0, 0, 0, 0]
+[1, 2, 2, 20000, 0, 20000, 0, 0, 0, 0, 0]
 ## at the desk
 record 20000 has "due":"2025-01-02"
 content 20000 is "abc"

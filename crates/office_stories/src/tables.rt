@@ -41,12 +41,13 @@ pub(crate) fn tables_text<S: Alter>(
 }
 
 /// How many rows the tables have.
-fn counts(tables: &Tables) -> [usize; 10] {
+fn counts(tables: &Tables) -> [usize; 11] {
     [
         tables.schedules.len(),
         tables.classes.len(),
         tables.aggregations.len(),
         tables.records.len(),
+        tables.events.len(),
         tables.contents.len(),
         tables.holds.len(),
         tables.targets.len(),

@@ -3,6 +3,7 @@ use crate::archive_stories::ARCHIVE;
 use crate::content_stories::CONTENTS;
 use crate::damage_stories::{BASE_DAMAGE, BUSY_DAMAGE};
 use crate::endings::tell_endings;
+use crate::event_stories::{EVENTS, STOPPED_EVENTS};
 use crate::filing_stories::FILING;
 use crate::hold_stories::HOLDS;
 use crate::hostile_stories::{ELSEWHERE, HOSTILE};
@@ -24,7 +25,7 @@ use std::test::Fail;
 
 #[test]
 fn an_office_is_as_its_stories_tell(rt: HostRuntime) -> Result<(), Fail> {
-    for stories in [FILING, HOLDS, RUNS, CONTENTS, TABLES] {
+    for stories in [FILING, HOLDS, RUNS, CONTENTS, TABLES, EVENTS] {
         tell(rt.alloc(), stories)?;
     }
     Ok(())
@@ -80,7 +81,8 @@ fn a_city_archive_has_its_story(rt: HostRuntime) -> Result<(), Fail> {
 
 #[test]
 fn filing_is_stopped(rt: HostRuntime) -> Result<(), Fail> {
-    tell(rt.alloc(), STOPPED_FILING)
+    tell(rt.alloc(), STOPPED_FILING)?;
+    tell(rt.alloc(), STOPPED_EVENTS)
 }
 
 #[test]

@@ -24,12 +24,12 @@ SELECT * FROM schedules is none
 SELECT * FROM schedules2 is D1;added;years;1;none;destroy;
 SELECT * FROM events is none
 ## counts of the tables
-[1, 2, 2, 3, 3, 0, 0, 0, 0, 0]
+[1, 2, 2, 3, 0, 3, 0, 0, 0, 0, 0]
 
 # The base office of a file of version 1 answers as a new one
 ## in the tables of the old base office
 ## clients in pieces of 4096
-GET /records/1 = 200 OK, application/json, 293: {"added":"2024-01-02","aggregation":1,"class":"FIN","confirmed":null,"digest":"ba7816bf8f01cfea414140de5dae2223b00361a396177a9cb410ff61f20015ad","due":"2025-01-02","ended":null,"held":null,"length":3,"number":1,"originated":"2024-01-02","ref":"r1","schedule":"D1","status":"here","title":"r1"}
+GET /records/1 = 200 OK, application/json, 306: {"added":"2024-01-02","aggregation":1,"class":"FIN","confirmed":null,"digest":"ba7816bf8f01cfea414140de5dae2223b00361a396177a9cb410ff61f20015ad","due":"2025-01-02","ended":null,"event":null,"held":null,"length":3,"number":1,"originated":"2024-01-02","ref":"r1","schedule":"D1","status":"here","title":"r1"}
 GET /records/1/content = 200 OK, application/octet-stream, 3: abc
 GET /records/2/content = 200 OK, application/octet-stream, 0:
 GET /due/2025-01-02 = 200 OK, application/json, 367: [{"action":"destroy","class":"FIN","confirmed":false,"due":"2025-01-02","held":null,"record":1,"ref":"r1","schedule":"D1"},{"action":"destroy","class":"LEG","confirmed":false,"due":"2025-01-02","held":null,"record":2,"ref":"r2","schedule":"D1"},{"action":"destroy","class":"FIN","confirmed":false,"due":"2025-01-02","held":null,"record":3,"ref":"r3","schedule":"D1"}]
@@ -110,15 +110,15 @@ SELECT count(*) FROM schedules2 is 3;
 
 /// What is no file of either version, and is left as it is.
 pub(crate) const REFUSED: &str = r#"
-# The tables of version 2 have no row in `schedules`, none in `events`, and their version
+# The tables of version 2 have no row in `schedules`, and their version
 ## at the desk of the base office
 ## tried on the tables
 opened after UPDATE office SET version = 2
 fault 33 after INSERT INTO schedules SELECT * FROM schedules2
 fault 33 after INSERT INTO schedules VALUES ('Z', 'added', 'days', 1, 'none', 'keep')
 fault 33 after INSERT INTO schedules SELECT * FROM schedules2; DELETE FROM schedules2
-fault 33 after INSERT INTO events VALUES (1, 19724, 19724, 'x')
-fault 33 after INSERT INTO schedules2 VALUES ('E', 'event', 'days', 1, 'none', 'keep')
+opened after INSERT INTO events VALUES (1, 19724, 19724, 'x')
+opened after INSERT INTO schedules2 VALUES ('E', 'event', 'days', 1, 'none', 'keep')
 fault 33 after UPDATE office SET version = 1
 fault 34 after UPDATE office SET version = 0
 fault 34 after UPDATE office SET version = 3
