@@ -63,7 +63,7 @@ def rows_left(file):
 
 
 def lowered(file, to):
-    """An office's closed file as a file of version 1, in the tables that it had, by Python's sqlite3."""
+    """An office's closed file, without its events, as a file of version 1, in the tables that it had, by Python's sqlite3."""
     conn = sqlite3.connect(to, isolation_level=None)
     conn.execute("ATTACH ? AS newer", (str(file),))
     conn.execute("BEGIN")
@@ -84,19 +84,30 @@ def copied(file, to):
     return to
 
 
+def begins_at_event(number):
+    """Whether the period of that record begins at its event."""
+    return number % 6 == 0
+
+
 def first_acts():
-    """An office with records that are due on the last day."""
-    yield {"act": "add-schedule", "day": FIRST, "code": "D1", "trigger": "added", "unit": "years", "count": 1, "offset": "none", "action": "destroy"}
+    """An office with records that are due on the last day, some of them once an event is recorded."""
+    for code, trigger in (("D1", "added"), ("E1", "event")):
+        yield {"act": "add-schedule", "day": FIRST, "code": code, "trigger": trigger, "unit": "years", "count": 1, "offset": "none", "action": "destroy"}
     yield {"act": "add-class", "day": FIRST, "code": "FIN", "title": "Finance", "schedule": "D1"}
     yield {"act": "add-aggregation", "day": FIRST, "ref": "A", "title": "A", "class": "FIN"}
     for n in range(RECORDS):
         content = base64.b64encode(b"letter %d" % n * (1 + n % 7 * 100)).decode()
-        yield {"act": "add-record", "day": FIRST, "ref": f"r{n}", "title": f"r{n}", "originated": FIRST, "aggregation": 1, "content": content}
+        yield {"act": "add-record", "day": FIRST, "ref": f"r{n}", "title": f"r{n}", "originated": FIRST, "aggregation": 1, "content": content,
+               "schedule": "E1" if begins_at_event(n + 1) else None}
 
 
 def later_acts():
-    """Confirmations, holds and refusals, in turn."""
+    """Events, now and then one in place of another, confirmations, holds and refusals, in turn."""
     for n in range(1, RECORDS + 1):
+        if begins_at_event(n):
+            # by the first day of two it would not be due
+            for occurred in [LAST, FIRST] if n % 4 == 0 else [FIRST]:
+                yield {"act": "event", "day": LAST, "record": n, "occurred": occurred, "by": "lessee"}
         yield {"act": "confirm", "day": LAST, "record": n, "action": "destroy", "by": "registrar"}
         if n % 9 == 0:
             yield {"act": "place-hold", "day": LAST, "code": f"H-{n}", "reason": "case", "by": "court"}

@@ -17,9 +17,10 @@ import sys
 
 EPOCH = datetime.date(1970, 1, 1)
 RECORD = """
-SELECT r.num, r.ref, r.title, r.originated, r.added, r.aggregation, r.size, r.digest, r.status, s.span, c.code, s.code
+SELECT r.num, r.ref, r.title, r.originated, r.added, r.aggregation, r.size, r.digest, r.status, s.span, c.code, s.code, e.occurred
 FROM records r JOIN aggregations a ON a.num = r.aggregation JOIN classes c ON c.code = coalesce(r.class, a.class)
-JOIN schedules2 s ON s.code = coalesce(r.schedule, c.schedule) WHERE r.num = ?"""
+JOIN schedules2 s ON s.code = coalesce(r.schedule, c.schedule)
+LEFT JOIN events e ON e.record = r.num WHERE r.num = ?"""
 ADD = "INSERT INTO records VALUES (?, ?, ?, ?, ?, ?, ?, ?, 'here'" + ", NULL" * 10 + ")"
 
 
@@ -36,12 +37,14 @@ def compact(value):
 
 
 def record(conn, number):
-    num, ref, title, originated, added, aggregation, size, digest, status, span, code, schedule = conn.execute(RECORD, (number,)).fetchone()
+    row = conn.execute(RECORD, (number,)).fetchone()
+    num, ref, title, originated, added, aggregation, size, digest, status, span, code, schedule, occurred = row
     begun = day_of(added)
     return compact({
         "added": str(begun), "aggregation": aggregation, "class": code, "confirmed": None, "digest": digest,
-        "due": str(begun.replace(year=begun.year + span)), "ended": None, "held": None, "length": size, "number": num,
-        "originated": str(day_of(originated)), "ref": ref, "schedule": schedule, "status": status, "title": title,
+        "due": str(begun.replace(year=begun.year + span)), "ended": None, "event": None if occurred is None else str(day_of(occurred)),
+        "held": None, "length": size, "number": num, "originated": str(day_of(originated)), "ref": ref, "schedule": schedule, "status": status,
+        "title": title,
     })
 
 

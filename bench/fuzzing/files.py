@@ -1,7 +1,8 @@
 """Mutated files of an office, and what the program may say of them.
 
-Three offices are mutated: one in a file that was closed, the same in a file of version 1 that SQLite writes, and one in a file and a log as a
-killed `serve` leaves them. Their bytes are changed, or by SQLite their rows or their tables. What SQLite reads of a file decides, where it finds the file sound, what `init` must say of it.
+Three offices are mutated: one in a file that was closed, the same without its events in a file of version 1 that SQLite writes, and one in a file
+and a log as a killed `serve` leaves them. Their bytes are changed, or by SQLite their rows or their tables. What SQLite reads of a file decides,
+where it finds the file sound, what `init` must say of it.
 """
 import hashlib
 import pathlib
@@ -11,7 +12,7 @@ import subprocess
 import tempfile
 
 from fuzzing.offices import LAST, Service, run, story, told_story
-from fuzzing.rules import Office, compact
+from fuzzing.rules import Office, compact, day_text
 from fuzzing.sound import FORMS, Rows, taken_over
 from real_files import lowered
 
@@ -23,12 +24,12 @@ MORE = [{"act": "receipt", "day": LAST, "record": 5, "digest": None, "by": "arch
         {"act": "place-hold", "day": LAST, "code": "H-9", "reason": "x", "by": "court"}, {"act": "open-run", "day": LAST, "by": "registrar"},
         {"act": "run-step"}]
 WORDS = [b"here", b"sent", b"received", b"ended", b"destroyed", b"transferred", b"skipped", b"office", b"records", b"contents", b"CREATE TABLE",
-         b"INTEGER", b"TEXT", b"class", b"record", b"registrar", b"CERTIFICATE", b"SHA256", b"ENTRY", b"D1", b"FIN1", b"H-1", b"2024/1", b"years",
-         b"destroy", b"NOT NULL", b"STRICT"]
+         b"INTEGER", b"TEXT", b"class", b"record", b"event", b"registrar", b"CERTIFICATE", b"SHA256", b"ENTRY", b"D1", b"FIN1", b"H-1", b"2024/1",
+         b"years", b"destroy", b"NOT NULL", b"STRICT"]
 VALUES = [None, 0, 1, 2, 8, 9, -1, 3_650, 19_724, 20_090, 20_151, 376_199, 376_200, 559_155, 559_156, 2**32 - 1, 2**32, 2**63 - 1, -719_162,
           -719_163, "", "x" * 200, "x" * 201, "a\x01", "here", "sent", "received", "ended", "destroyed", "transferred", "sent", "skipped",
-          "destroy", "transfer", "keep", "review", "added", "closed", "origin", "days", "months", "none", "month", "from-month-12", "D1", "D2",
-          "D9", "FIN1", "FIN9", "H-1", "H-9", "class", "aggregation", "record", "1", "01", "41", "2024/1", "A/1", "a" * 64]
+          "destroy", "transfer", "keep", "review", "added", "closed", "origin", "event", "days", "months", "none", "month", "from-month-12", "D1",
+          "D2", "D9", "FIN1", "FIN9", "H-1", "H-9", "class", "aggregation", "record", "1", "01", "41", "2024/1", "A/1", "a" * 64]
 STATEMENTS = ["DROP TABLE {}", "DELETE FROM {}", "ALTER TABLE {} RENAME TO other", "ALTER TABLE {} ADD COLUMN more INTEGER",
               "CREATE TABLE notes(id INTEGER PRIMARY KEY)", "CREATE VIEW seen AS SELECT * FROM {}", "CREATE INDEX more ON {}(rowid)",
               "CREATE TABLE {}_too AS SELECT * FROM {}", "ANALYZE", "VACUUM", "PRAGMA user_version = 9", "PRAGMA application_id = 9",
@@ -38,10 +39,10 @@ STATEMENTS = ["DROP TABLE {}", "DELETE FROM {}", "ALTER TABLE {} RENAME TO other
 # ---- the offices
 
 
-def closed_office(room):
+def closed_office(room, is_old=False):
     """The file of an office with an open run, closed; and the certificate of its first run."""
     office = Office()
-    acts = [*story(), *more_acts()]
+    acts = [*story(is_old), *more_acts()]
     file, (told, expected) = told_story(room, acts, office)
     if told != expected:
         raise OSError("the story has other answers")
@@ -215,11 +216,9 @@ class Mutator:
             conn.execute(f"UPDATE {table} SET {column} = ? WHERE rowid = ?", (self.pick(VALUES), row))
 
     def fill(self, conn, table):
-        """A row for a table that must have none."""
+        """A row for the table that must have none."""
         if table == "schedules":
             conn.execute("INSERT INTO schedules SELECT * FROM schedules2 LIMIT 1")
-        if table == "events":
-            conn.execute("INSERT INTO events VALUES (1, 19724, 19724, 'registrar')")
 
     def add_row(self, conn, table, row, number):
         """A second row like that one, but for its key and another column."""
@@ -292,13 +291,15 @@ class Case:
         tables, schema = sqlite_reads(self.work, self.room)
         if not self.has_log and self.tables and "office" in self.tables and tables != taken_over(self.tables):
             self.problems.append("it has other rows once it was opened")
-        if expected_of(tables, schema, self.schemas) not in (None, OPENED):
+        expected = expected_of(tables, schema, self.schemas)
+        if expected not in (None, OPENED):
             self.problems.append(f"it opens, and its rows stand for no office: {Rows(named(tables)).fault()}")
-        self.serve_contents()
+        self.serve_contents({row[0]: row[1] for row in tables.get("events", [])} if expected == OPENED else None)
         return self.certified(tables)
 
-    def serve_contents(self):
-        """A `serve` opens the file again and tells some contents, each the one of its record; where the database fails it ends."""
+    def serve_contents(self, events):
+        """A `serve` opens the file again and tells some records, each with its event, where these are known, and its content; where the database
+        fails it ends."""
         try:
             with Service(self.work, 2 * len(CONTENTS)) as service:
                 for number in CONTENTS:
@@ -307,6 +308,8 @@ class Case:
                     if content.endswith(b'{"fault":31}'):
                         return
                     self.judge_content(number, record, content)
+                    if events is not None:
+                        self.judge_event(number, record, events.get(number))
         except OSError as why:
             self.problems.append(f"serve: {why}")
 
@@ -316,6 +319,11 @@ class Case:
         is_its = status == b"200" and digest in record
         if not (is_its or status == b"404" or status == b"503" and body == b'{"fault":33}'):
             self.problems.append(f"content {number} is told as {content}, its record as {record}")
+
+    def judge_event(self, number, record, occurred):
+        told = f'"event":{compact(None if occurred is None else day_text(occurred)).decode()},'.encode()
+        if not (record[9:12] == b"404" or told in record):
+            self.problems.append(f"record {number} is told as {record}, its event is {occurred}")
 
     def certified(self, tables):
         status, text, line = told_by(("certificate", self.work, 1))
@@ -354,11 +362,13 @@ def mutated(mutator, closed, killed, old, file):
 def mutated_files(random, count, tally):
     """So many mutated files."""
     with tempfile.TemporaryDirectory() as name:
-        rooms = [pathlib.Path(name) / it for it in ("closed", "killed", "cases")]
+        rooms = [pathlib.Path(name) / it for it in ("closed", "killed", "cases", "old")]
         for room in rooms:
             room.mkdir()
         (closed, certificate), killed, room = closed_office(rooms[0]), killed_office(rooms[1]), rooms[2]
-        old = lowered(closed, rooms[0] / "old.db")
+        plain, same = closed_office(rooms[3], is_old=True)
+        old = lowered(plain, rooms[3] / "old.db")
+        tally.judge("events leave the certificate as it is", same == certificate, f"{same!r}\nand not\n{certificate!r}")
         mutator, schemas = Mutator(random), [sqlite_reads(it, room)[1] for it in (closed, old)]
         for _ in range(count):
             file = room / "case.db"

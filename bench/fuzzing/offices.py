@@ -38,6 +38,23 @@ def things():
                "class": f"FIN{n % 2 + 1}" if n % 3 else None, "schedule": "D6" if n % 10 == 0 else None, "content": content}
 
 
+def event(record, occurred):
+    return {"act": "event", "day": LATER, "record": record, "occurred": occurred, "by": "lessee"}
+
+
+def events():
+    """Three records whose periods begin at their events, of which one has none; events of others, of which the run sends, skips and destroys some."""
+    yield {"act": "add-schedule", "day": LATER, "code": "D7", "trigger": "event", "unit": "years", "count": 1, "offset": "none",
+           "action": "destroy"}
+    for record in (37, 38, 39):
+        yield {"act": "set-record-schedule", "day": LATER, "record": record, "schedule": "D7"}
+    for record, occurred in ((1, FIRST), (2, LATER), (8, "2023-06-30"), (9, FIRST), (37, FIRST), (38, "2023-06-30")):
+        yield event(record, occurred)
+    # once another event is in place, the confirmation counts no longer
+    yield {"act": "confirm", "day": LATER, "record": 37, "action": "destroy", "by": "registrar"}
+    yield event(37, "2024-03-31")
+
+
 def disposal():
     """Holds, confirmations, closed aggregations, and a run that sends, skips and destroys."""
     for code in ("H-1", "H-2", "H-3"):
@@ -56,9 +73,9 @@ def disposal():
     yield from [{"act": "run-step"}] * 40
 
 
-def story():
-    """The acts of an office with records, holds in force and lifted, and a run that was closed."""
-    return [*things(), *disposal()]
+def story(is_old=False):
+    """The acts of an office with records, events, holds in force and lifted, and a run that was closed; without events for a file of version 1."""
+    return [*things(), *([] if is_old else events()), *disposal()]
 
 
 def told_story(room, acts, office):

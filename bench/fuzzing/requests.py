@@ -5,13 +5,14 @@ import json
 import re
 
 from fuzzing.rules import FIRST_DAY
-from fuzzing.wire import ACTS, OFFSETS
+from fuzzing.wire import ACTS, OFFSETS, TRIGGERS
 
+LAST_DAY = datetime.date(2999, 12, 31)
 CODES = [f"{kind}{n}" for kind in ("D", "FIN", "H-") for n in range(1, 13)]
 TEXTS = ["Letters of 2022", "registrar", "a \"quoted\" \\ text", "Gebühren", "é" * 100, "x" * 200, "\U0001f5c3 box", "/", "\u2028", "-", "a, b"]
-WORDS = "keep review transfer destroy origin added closed last-addition days weeks months years".split() + OFFSETS.split()
+WORDS = "keep review transfer destroy origin added closed last-addition event days weeks months years".split() + OFFSETS.split()
 # how often an act is of a kind, where not once
-OFTEN = {"lift-hold": 0.15, "close-aggregation": 0.2, "confirm": 3, "receipt": 2, "hold-on": 2, "open-run": 0.7}
+OFTEN = {"lift-hold": 0.15, "close-aggregation": 0.2, "confirm": 3, "receipt": 2, "event": 2, "hold-on": 2, "open-run": 0.7}
 METHODS = [b"GET", b"POST", b"HEAD", b"PUT", b"DELETE", b"OPTIONS", b"PATCH", b"TRACE", b"CONNECT", b"get", b"Post", b"M-SEARCH", b"X" * 300, b"!"]
 STRANGE_PATHS = [b"/", b"*", b"/act", b"/acts/", b"//acts", b"/acts/1", b"/run", b"/run/resume/", b"/records", b"/records/", b"/records//content",
                  b"/records/1/", b"/records/1/contents", b"/due/", b"/due", b"/certificates/", b"http://localhost/acts", b"localhost:80",
@@ -80,6 +81,12 @@ class Maker:
             return "2999-12-31"
         return self.office.day if chance < 0.95 else self.pick([FIRST_DAY, "1999-12-31", "2024-01-02", "2024-01-03"])
 
+    def occurred(self):
+        """The day of an event: the office's day, one before it, now and then one after it."""
+        days = self.pick([0, 0, 1, 30, 365, 366, 3_650, 200_000, self.random.randint(0, 800), -1, -self.random.randint(1, 400)])
+        moved = datetime.date.fromisoformat(self.office.day).toordinal() - days
+        return datetime.date.fromordinal(min(max(moved, 1), LAST_DAY.toordinal())).isoformat()
+
     def code(self, things):
         return self.pick(list(things)) if things and self.random.random() < 0.8 else self.pick(CODES)
 
@@ -122,18 +129,27 @@ class Maker:
             return self.pick(WORDS[:4])
         return self.office.action_of(self.office.records[record - 1])
 
+    def begun_by_event(self, record):
+        """A record that is here and whose period begins at its event, or else that one."""
+        office = self.office
+        found = [it["number"] for it in office.records
+                 if it["status"] == "here" and office.schedules[office.plan_of(it)]["trigger"] == "event"]
+        return self.pick(found) if found else record
+
     def act(self, kind):
         """An act that reads, of that kind."""
         office, record = self.office, self.number(self.office.records)
+        if kind in ("confirm", "event") and self.random.random() < 0.3:
+            record = self.begun_by_event(record)
         members = {
             "code": self.code(office.holds if kind == "place-hold" else CODES),
-            "trigger": self.pick("origin added closed last-addition review".split()),
+            "trigger": self.pick(TRIGGERS.split()),
             "unit": self.pick("days weeks months years".split()), "count": self.count(), "offset": self.pick(OFFSETS.split()),
             "action": self.action(record) if kind == "confirm" else self.pick(WORDS[:4]), "title": self.text_value(), "ref": self.ref(),
             "class": self.code(office.classes), "schedule": self.code(office.schedules), "parent": self.parent(),
             "aggregation": self.number(office.aggregations), "originated": self.day(), "content": self.content(), "record": record,
             "target": self.target_value(), "reason": self.text_value(), "by": self.text_value(), "hold": self.code(office.holds),
-            "digest": self.digest(),
+            "digest": self.digest(), "occurred": self.occurred(),
         }
         if kind == "reclassify":
             members["target"] = self.pick([f"aggregation:{self.number(office.aggregations)}", f"record:{record}"])
@@ -247,7 +263,7 @@ class Maker:
         act[self.member(act)] = self.raw()
 
     def add_member(self, act):
-        act[self.pick(["day", "x", "", "Act", "note", "class", "schedule", "parent", "content", "by", "é"])] = self.pick(VALUES)
+        act[self.pick(["day", "x", "", "Act", "note", "class", "schedule", "parent", "content", "by", "occurred", "é"])] = self.pick(VALUES)
 
     def change_kind(self, act):
         act["act"] = self.pick([*ACTS, "add", "", "Add-Record", "run-step "])

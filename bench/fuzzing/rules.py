@@ -8,6 +8,9 @@ import datetime
 import hashlib
 import json
 
+from fuzzing.runs import Runs
+
+EPOCH = datetime.date(1970, 1, 1)
 FIRST_DAY = "0001-01-01"
 MOST = {"schedules": 1_000, "classes": 1_000, "aggregations": 50_000, "records": 200_000, "holds": 1_000, "targets": 1_000, "runs": 10_000}
 
@@ -15,6 +18,15 @@ MOST = {"schedules": 1_000, "classes": 1_000, "aggregations": 50_000, "records":
 def compact(value):
     """A value as JSON, as the office writes it."""
     return json.dumps(value, separators=(",", ":"), sort_keys=True, ensure_ascii=False).encode()
+
+
+def day_number(day):
+    """The number of a day in a file."""
+    return (datetime.date.fromisoformat(day) - EPOCH).days
+
+
+def day_text(number):
+    return (EPOCH + datetime.timedelta(days=number)).isoformat()
 
 
 def plus(day, unit, count):
@@ -41,7 +53,7 @@ def thing_of(target):
     return (kind, name if kind == "class" else int(name))
 
 
-class Office:
+class Office(Runs):
     def __init__(self):
         self.day = FIRST_DAY
         self.schedules, self.classes, self.holds = {}, {}, {}
@@ -79,7 +91,12 @@ class Office:
             "closed": home["closed"],
             "last-addition": home["last"],
             "review": (record["review"] or record["added"]),
+            "event": self.event_day(record),
         }[self.schedules[self.plan_of(record)]["trigger"]]
+
+    def event_day(self, record):
+        """The day on which a record's event occurred."""
+        return record["event"] and record["event"]["occurred"]
 
     def due_of(self, record):
         plan, start = self.schedules[self.plan_of(record)], self.start_of(record)
@@ -106,8 +123,9 @@ class Office:
         return {
             "added": record["added"], "aggregation": record["aggregation"], "class": self.class_of(record), "confirmed": record["confirmed"],
             "digest": record["digest"], "due": self.due_of(record), "ended": ending and {"outcome": ending["outcome"], "run": ending["run"]},
-            "held": self.covering(record), "length": record["length"], "number": record["number"], "originated": record["originated"],
-            "ref": record["ref"], "schedule": self.plan_of(record), "status": record["status"], "title": record["title"],
+            "event": self.event_day(record), "held": self.covering(record), "length": record["length"], "number": record["number"],
+            "originated": record["originated"], "ref": record["ref"], "schedule": self.plan_of(record), "status": record["status"],
+            "title": record["title"],
         }
 
     def due_told(self, day):
@@ -244,6 +262,10 @@ class Office:
         return [(5, status is None), (13, status == "ended"), (19, status is not None and status != "sent"),
                 (20, status is not None and self.records[act["record"] - 1]["digest"] != act["digest"])]
 
+    def event_conditions(self, act):
+        status = self.status_of(act["record"])
+        return [(5, status is None), *self.status_conditions(status), (21, act["occurred"] > act["day"])]
+
     def refusal(self, act):
         """The number of an act's refusal, none where it is accepted."""
         if self.same_record(act):
@@ -299,6 +321,7 @@ class Office:
             "number": len(self.records) + 1, "ref": act["ref"], "title": act["title"], "originated": act["originated"], "added": act["day"],
             "aggregation": act["aggregation"], "class": act.get("class"), "schedule": act.get("schedule"), "length": len(content),
             "digest": hashlib.sha256(content).hexdigest(), "content": content, "status": "here", "review": None, "confirmed": None,
+            "event": None,
         }
 
     def add_record(self, act):
@@ -338,81 +361,5 @@ class Office:
     def receipt(self, act):
         self.records[act["record"] - 1]["status"] = "received"
 
-    # ---- runs
-
-    def running(self):
-        """The number of the run that is open."""
-        return len(self.runs) if self.runs and not self.runs[-1]["closed"] else None
-
-    def open_run(self, act):
-        self.runs.append({"day": act["day"], "by": act["by"], "cursor": 0, "closed": False})
-        return {"number": len(self.runs)}
-
-    def is_ready(self, record, day):
-        if record["status"] == "here":
-            return self.action_of(record) in ("transfer", "destroy") and self.is_due(record, day) and self.counts(record)
-        return record["status"] == "received"
-
-    def run_step(self, act):
-        run = self.runs[-1]
-        record = next((it for it in self.records[run["cursor"]:] if self.is_ready(it, run["day"])), None)
-        if record is None:
-            return self.close_run(len(self.runs))
-        run["cursor"] = record["number"]
-        entry = self.entry_of(record)
-        self.entries.append(entry)
-        ends = {"sent": "sent", "destroyed": "ended", "transferred": "ended", "skipped": record["status"]}
-        record["status"] = ends[entry["outcome"]]
-        return {"outcome": entry["outcome"], "record": record["number"]}
-
-    def entry_of(self, record):
-        held = self.covering(record)
-        if record["status"] == "here" and self.action_of(record) == "transfer":
-            outcome = "sent"
-        elif held is not None:
-            outcome = "skipped"
-        else:
-            outcome = "destroyed" if record["status"] == "here" else "transferred"
-        return {
-            "run": len(self.runs), "record": record["number"], "outcome": outcome, "class": self.class_of(record), "schedule": self.plan_of(record),
-            "due": record["confirmed"]["due"], "by": record["confirmed"]["by"], "hold": held if outcome == "skipped" else "-",
-        }
-
-    def close_run(self, number):
-        self.runs[number - 1]["closed"] = True
-        entries = [it for it in self.entries if it["run"] == number]
-        self.certificates[number] = self.certificate_text(number, entries, self.spent(entries))
-        return {"certificate": number}
-
-    def resume(self):
-        """Takes the open run to its end: the answer."""
-        if self.running() is None:
-            return {"refused": 18}
-        answer = {}
-        while "certificate" not in answer:
-            answer = self.run_step({})
-        return answer
-
-    def spent(self, entries):
-        """The aggregations that are spent and have a record below that one of the entries ended, by number."""
-        ended = {it["record"] for it in entries if it["outcome"] in ("destroyed", "transferred")}
-        below = {}
-        for record in self.records:
-            for number in self.above(record["aggregation"]):
-                below.setdefault(number, []).append(record)
-        return sorted(number for number, records in below.items()
-                      if self.aggregations[number - 1]["closed"] and all(it["status"] == "ended" for it in records)
-                      and any(it["number"] in ended for it in records))
-
-    def certificate_text(self, number, entries, spent):
-        run, found = self.runs[number - 1], [it["outcome"] for it in entries]
-        lines = [f"CERTIFICATE {number}", f"DAY {run['day']}", f"BY {run['by']}", f"ENDED {found.count('destroyed') + found.count('transferred')}",
-                 f"SENT {found.count('sent')}", f"SKIPPED {found.count('skipped')}"]
-        for it in entries:
-            record = self.records[it["record"] - 1]
-            lines.append("\t".join(["ENTRY", str(it["record"]), it["outcome"], record["ref"], it["class"], it["schedule"], it["due"], it["hold"],
-                                    it["by"], str(record["length"]), record["digest"]]))
-        lines.append(f"SPENT {len(spent)}")
-        lines += [f"AGGREGATION\t{it}\t{self.aggregations[it - 1]['ref']}" for it in spent]
-        text = "".join(f"{line}\n" for line in lines).encode()
-        return text + f"SHA256 {hashlib.sha256(text).hexdigest()}\n".encode()
+    def event(self, act):
+        self.records[act["record"] - 1]["event"] = {it: act[it] for it in ("occurred", "day", "by")}

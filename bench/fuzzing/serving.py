@@ -6,7 +6,7 @@ import tempfile
 
 from fuzzing.offices import LAST, Service, run, story, told_story
 from fuzzing.requests import Maker
-from fuzzing.rules import Office
+from fuzzing.rules import Office, day_number
 from fuzzing.wire import Asked
 
 ROUND = 10_000
@@ -114,12 +114,19 @@ def sampled(random, client):
 
 
 def records_in(file):
-    """What SQLite finds of a file's soundness, and how many records it has."""
+    """What SQLite finds of a file's soundness, how many records it has, and the rows of events, which no answer tells whole."""
     conn = sqlite3.connect(f"file:{file}?mode=ro&immutable=1", uri=True)
     try:
-        return conn.execute("PRAGMA integrity_check").fetchone()[0], conn.execute("SELECT count(*) FROM records").fetchone()[0]
+        events = conn.execute("SELECT record, occurred, day, told_by FROM events ORDER BY record").fetchall()
+        return conn.execute("PRAGMA integrity_check").fetchone()[0], conn.execute("SELECT count(*) FROM records").fetchone()[0], events
     finally:
         conn.close()
+
+
+def records_of(office):
+    """The same of the model's file."""
+    events = [(it["number"], it["event"]) for it in office.records if it["event"]]
+    return "ok", len(office.records), [(number, day_number(it["occurred"]), day_number(it["day"]), it["by"]) for number, it in events]
 
 
 def of_all_kinds(random, count, tally):
@@ -135,7 +142,7 @@ def of_all_kinds(random, count, tally):
             told_memory(count, memory, service)
             state = random.getstate()
             sampled(random, client)
-        tally.judge("records in the file", records_in(file) == ("ok", len(office.records)), repr(records_in(file)))
+        tally.judge("records and events in the file", records_in(file) == records_of(office), repr(records_in(file)))
         tally.judge("init at the end", run("init", file) == (0, b"version 2\n", b""), "it does not open")
         with Service(file, SAMPLE) as service:
             random.setstate(state)

@@ -33,10 +33,11 @@ def anything(value):
 
 TRIGGER, OFFSET, ACTION = (word(ACTS["add-schedule"][it]) for it in ("trigger", "offset", "action"))
 SCHEDULE = {"code": is_code, "start_at": TRIGGER, "unit": one_of(*LONGEST), "span": NUMBER, "roll": OFFSET, "disposal": ACTION}
+OLD_SCHEDULE = {**SCHEDULE, "start_at": one_of("origin", "added", "closed", "last-addition", "review")}
 # the last two are of version 2 alone
 FORMS = {
     "office": {"one": one_of(1), "version": one_of(1, 2), "day": DAY},
-    "schedules": SCHEDULE,
+    "schedules": OLD_SCHEDULE,
     "classes": {"code": is_code, "title": is_text, "schedule": is_code},
     "aggregations": {"num": NUMBER, "ref": is_text, "title": is_text, "parent": or_null(NUMBER), "class": or_null(is_code), "closed": or_null(DAY)},
     "records": {
@@ -71,12 +72,13 @@ class Rows:
         self.__dict__.update(tables)
         self.tables = tables
         self.plans = tables.get("schedules2", tables["schedules"])
+        self.events = tables.get("events", [])
         self.status = {it["num"]: it["status"] for it in self.records}
 
     def fault(self):
         """The name of an item that does not hold; each is asked only where those before it hold."""
-        items = (self.forms, self.edition, self.limits, self.numbering, self.forest, self.names, self.targets_stand, self.closing, self.contents_stand,
-                 self.papers, self.entries_stand, self.runs_stand, self.days)
+        items = (self.forms, self.edition, self.limits, self.numbering, self.forest, self.names, self.targets_stand, self.closing,
+                 self.contents_stand, self.papers, self.events_stand, self.entries_stand, self.runs_stand, self.days)
         return next((item.__name__ for item in items if not item()), None)
 
     def forms(self):
@@ -84,9 +86,9 @@ class Rows:
         return len(self.office) == 1 and all(form(value) for form, value in fields)
 
     def edition(self):
-        """The tables are those of the version; those of version 2 have nothing in `schedules` and, so far, no event."""
+        """The tables are those of the version; those of version 2 have nothing in `schedules`."""
         if "schedules2" in self.tables:
-            return self.office[0]["version"] == 2 and not self.tables["schedules"] and not self.tables["events"]
+            return self.office[0]["version"] == 2 and not self.tables["schedules"]
         return self.office[0]["version"] == 1
 
     def limits(self):
@@ -142,6 +144,9 @@ class Rows:
         return (whole and (record["status"] == "here" or True in confirmed)
                 and (record["status"] != "received" and not is_transferred or True in receipted))
 
+    def events_stand(self):
+        return all(it["record"] in self.status and it["occurred"] <= it["day"] for it in self.events)
+
     def entries_stand(self):
         ending = [it["record"] for it in self.entries if it["outcome"] in ("destroyed", "transferred")]
         cursors = {it["num"]: it["place"] for it in self.runs}
@@ -155,5 +160,6 @@ class Rows:
     def days(self):
         last = self.office[0]["day"]
         names = {"aggregations": ["closed"], "records": ["added", "reviewed", "conf_day", "receipt_day"], "holds": ["placed", "lifted"],
-                 "runs": ["day"]}
-        return all(row[name] is None or row[name] <= last for table, columns in names.items() for row in self.tables[table] for name in columns)
+                 "runs": ["day"], "events": ["day"]}
+        rows = ((row, columns) for table, columns in names.items() for row in self.tables.get(table, []))
+        return all(row[name] is None or row[name] <= last for row, columns in rows for name in columns)

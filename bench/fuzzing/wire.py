@@ -214,7 +214,7 @@ def or_null(part):
 
 LONGEST = {"days": 182_500, "weeks": 26_000, "months": 6_000, "years": 500}
 DAY, CODE, TEXT, NUMBER = text_part(is_day), text_part(is_code), text_part(is_text), number_part
-TRIGGERS, ACTIONS = "origin added closed last-addition review", "keep review transfer destroy"
+TRIGGERS, ACTIONS = "origin added closed last-addition review event", "keep review transfer destroy"
 ACTION = word_part(ACTIONS)
 OFFSETS = "none month quarter " + " ".join(f"from-month-{it}" for it in range(1, 13))
 ACTS = {
@@ -235,6 +235,7 @@ ACTS = {
     "confirm": {"record": NUMBER, "action": ACTION, "by": TEXT},
     "review": {"record": NUMBER, "schedule": or_null(CODE), "by": TEXT},
     "receipt": {"record": NUMBER, "digest": text_part(lambda value: bool(re.fullmatch("[0-9a-f]{64}", value))), "by": TEXT},
+    "event": {"record": NUMBER, "occurred": DAY, "by": TEXT},
     "open-run": {"by": TEXT},
     "run-step": {},
 }

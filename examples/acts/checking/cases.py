@@ -25,6 +25,7 @@ ACTS: list[dict[str, Any]] = [
     {"act": "confirm", "day": DAY, "record": 1, "action": "destroy", "by": "registrar"},
     {"act": "review", "day": DAY, "record": 1, "schedule": "D1", "by": "registrar"},
     {"act": "receipt", "day": DAY, "record": 1, "digest": "0123456789abcdef" * 4, "by": "archive"},
+    {"act": "event", "day": DAY, "record": 1, "occurred": DAY, "by": "lessee"},
     {"act": "open-run", "day": DAY, "by": "registrar"},
     {"act": "run-step"},
 ]
@@ -37,6 +38,7 @@ WRONG: dict[str, list[Any]] = {
     "day": ["31.12.2020", "2023-02-29", "3000-01-01", "2024-1-2", "0000-01-01", 20240102, None, " 2024-01-02",
             "2024-01-02T00:00"],
     "originated": ["12/31/2020", ""],
+    "occurred": ["2023-06-31", "30.6.2023", "3000-01-01", 20230630, None, ["2023-06-30"]],
     "code": ["CCTV_72", "A" * 17, "", 7, "Ä1"],
     "class": ["A" * 17, "FIN 1", {}, ""],
     "schedule": ["D_1", "A" * 17, 1, "", "D1 "],
@@ -67,7 +69,7 @@ OFFSETS = ["month", "quarter", *(f"from-month-{n}" for n in range(1, 13))]
 GOOD = [
     *ACTS,
     *(OF_KIND["add-schedule"] | {"unit": unit, "count": most} for unit, most in LONGEST.items()),
-    *(OF_KIND["add-schedule"] | {"trigger": it} for it in ("origin", "closed", "last-addition", "review")),
+    *(OF_KIND["add-schedule"] | {"trigger": it} for it in ("origin", "closed", "last-addition", "review", "event")),
     *(OF_KIND["add-schedule"] | {"action": it, "count": 0} for it in ("keep", "review", "transfer")),
     *(OF_KIND["add-schedule"] | {"offset": it} for it in OFFSETS),
     OF_KIND["add-class"] | {"code": "A" * 16, "title": "é" * 100},
@@ -78,6 +80,7 @@ GOOD = [
     OF_KIND["add-record"] | {"originated": "2999-12-31", "content": "YWJj" * 87_381 + "YQ=="},
     OF_KIND["hold-on"] | {"target": "record:4294967295"},
     OF_KIND["review"] | {"schedule": None},
+    *(OF_KIND["event"] | {"record": 4_294_967_295, "occurred": it} for it in ("0001-01-01", "2999-12-31")),
 ]
 MANY = json.dumps(ACTS).encode()
 TEXTS = {

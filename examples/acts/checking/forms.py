@@ -8,6 +8,7 @@ from collections.abc import Callable
 
 from fuzzing import wire
 
+DAYS = ("day", "originated", "occurred")
 CODES = ("code", "class", "schedule", "hold")
 TEXTS = ("title", "ref", "reason", "by")
 NUMBERS = ("aggregation", "parent", "record")
@@ -19,7 +20,7 @@ CONTROL = re.compile("[\x00-\x1f\x7f-\x9f]")
 
 # what each member must be
 FORMS = {
-    **dict.fromkeys(("day", "originated"), 'a day, as "2017-06-30"'),
+    **dict.fromkeys(DAYS, 'a day, as "2017-06-30"'),
     **dict.fromkeys(CODES, "1 to 16 ASCII letters, digits and hyphens"),
     **dict.fromkeys(TEXTS, "a text of 1 to 200 bytes without control characters"),
     **dict.fromkeys(NUMBERS, "a whole number from 1 to 4294967295, without quotes"),
@@ -100,7 +101,7 @@ def is_base64(text: str) -> bool:
 
 
 TEXT_WHYS: dict[str, Callable[[str], str]] = {
-    **dict.fromkeys(("day", "originated"), day_why), **dict.fromkeys(CODES, code_why), **dict.fromkeys(TEXTS, text_why),
+    **dict.fromkeys(DAYS, day_why), **dict.fromkeys(CODES, code_why), **dict.fromkeys(TEXTS, text_why),
     **{name: words_why(name) for name in WORDS}, "digest": digest_why, "target": target_why, "content": content_why,
 }
 

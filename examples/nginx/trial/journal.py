@@ -10,6 +10,7 @@ from trial.place import HERE, JOURNAL, ask, post, run
 
 SECRET = b"the secret of the content"
 HOLD = {"act": "place-hold", "day": "2025-01-02", "code": "Q-1", "reason": "a \"claim\" of Müller", "by": "Another"}
+EVENT = {"act": "event", "day": "2025-01-02", "record": 1, "occurred": "2024-12-31", "by": "lessee"}
 LIFT = {"act": "lift-hold", "day": "2025-01-02", "hold": "Q-1"}
 RECORD = {"act": "add-record", "day": "2025-01-02", "ref": "r1", "title": "t", "originated": "2025-01-01",
           "aggregation": 1, "content": base64.b64encode(SECRET).decode()}
@@ -72,6 +73,7 @@ def left_out(folder: str) -> None:
     for name, acts, says in (
         ("contents alone", [RECORD], "left out: contents"),
         ("contents and a hold", [RECORD, LIFT], "left out: contents, acts on holds"),
+        ("contents and an event", [RECORD, EVENT], "left out: contents, acts of disposal"),
         ("contents and other acts", [RECORD, {"act": "open-run"}, {"act": "reclassify"}], "left out: nothing was done"),
         ("escaped letters", escaped.encode(), "left out: escaped letters"),
         ("an act that does not read", typed_wrong, "left out: nothing was done"),
