@@ -1,4 +1,4 @@
-// One record, by its number: what is told of it in sentences and in facts, its content to save, and its event to be recorded.
+// One record, by its number: what is reported of it in sentences and in facts, its content to save, its event to be recorded.
 import { get } from "../ask.js";
 import { onSubmit } from "../fields.js";
 import { asking, byId, details, factsOf, failed, link, made, paragraph, quiet, save, say, sentence } from "../page.js";
