@@ -10,6 +10,7 @@ import { t } from "./texts.js";
 const KINDS = {
   day: { label: "fields.day", hint: "fields.dayHint", wrong: "fields.dayWrong", takes: isDay, mode: "numeric", isToday: true },
   listDay: { label: "fields.listDay", hint: "fields.dayHint", wrong: "fields.dayWrong", takes: isDay, mode: "numeric", isToday: true },
+  occurred: { label: "fields.occurred", hint: "fields.occurredHint", wrong: "fields.dayWrong", takes: isDay, mode: "numeric" },
   code: { label: "fields.code", hint: "fields.codeHint", wrong: "fields.codeWrong", takes: isCode },
   by: { label: "fields.by", hint: "fields.byHint", wrong: "fields.textWrong", takes: isText },
   reason: { label: "fields.reason", hint: "fields.reasonHint", wrong: "fields.textWrong", takes: isText },
@@ -82,6 +83,12 @@ function mark(input, wrong) {
   byId(`${input.id}-wrong`).textContent = wrong;
   if (wrong) input.setAttribute("aria-invalid", "true");
   else input.removeAttribute("aria-invalid");
+}
+
+/** Empties a field, and says of it no more that it is wrong. */
+export function clear(input) {
+  input.value = "";
+  mark(input, "");
 }
 
 const kindOf = (input) => KINDS[input.closest("[data-field]").dataset.field];

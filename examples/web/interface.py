@@ -57,6 +57,16 @@ def found(reference):
     return bool(part)
 
 
+def examples(part, place):
+    """Each example of a part of the description, with the schema that it stands beside."""
+    if isinstance(part, dict) and "schema" in part:
+        for name, example in part.get("examples", {}).items():
+            yield ".".join([*place, name]), part["schema"], example["value"]
+    elif isinstance(part, dict):
+        for name, value in part.items():
+            yield from examples(value, [*place, str(name)])
+
+
 def form():
     published = published_form()
     for name, schema in (("the form that stands in examples/web", FORM), ("the schema of python3-openapi-spec-validator", published)):
@@ -72,6 +82,8 @@ def form():
         jsonschema.Draft202012Validator.check_schema(schema)
     judge("each schema is one of JSON Schema 2020-12", True)
     same("each reference leads somewhere", [it for it in references(DESCRIPTION) if not found(it)], [])
+    unlike = [f"{place}: {error}" for place, schema, value in examples(DESCRIPTION, []) for error in errors(schema, value)]
+    judge("each example is of its schema", not unlike, "\n".join(unlike))
     pages = re.findall(r"^\| `(/[^`]+)` \| (GET|POST)", (TOP / "docs/HTTP.md").read_text(), re.M)
     same("its paths are those of docs/HTTP.md", [(path, method.upper()) for path, it in DESCRIPTION["paths"].items() for method in it], pages)
 
@@ -96,6 +108,7 @@ ACTS = {
     "confirm": {"record": 1, "action": "destroy", "by": "registrar"},
     "review": {"record": 1, "schedule": None, "by": "registrar"},
     "receipt": {"record": 1, "digest": "0" * 64, "by": "archive"},
+    "event": {"record": 1, "occurred": DAY, "by": "registrar"},
     "open-run": {"by": "registrar"},
     "run-step": {},
 }
@@ -104,6 +117,7 @@ OPTIONAL = {"add-aggregation": ["parent", "class"], "add-record": ["class", "sch
 WRONG = {
     "day": ["2023-02-29", "2024-1-02", "3000-01-01", "0000-12-31", 20240102, None],
     "originated": ["2024-13-01", "", None],
+    "occurred": ["2023-06-31", "2023-6-30", "3000-01-01", 20230630, "", None],
     "code": ["", "A B", "A_B", "A" * 17, "Ä", 1, None],
     "class": ["", "A B", 1],
     "schedule": ["", "A" * 17, 1],
@@ -112,7 +126,7 @@ WRONG = {
     "ref": ["", "\t", None],
     "reason": ["", "a\u0000b", None],
     "by": ["", "\u007f", 1, None],
-    "trigger": ["Added", "", None],
+    "trigger": ["Added", "Event", "events", "", None],
     "unit": ["year", None],
     "count": [-1, 501, "1", 1.5, None],
     "offset": ["from-month-0", "from-month-13", "from-month-01", None],
@@ -127,11 +141,12 @@ WRONG = {
 RIGHT = {
     "day": ["2024-01-02", "2024-02-29", "2999-12-31"],
     "originated": ["0001-01-01", "2999-12-31"],
+    "occurred": ["0001-01-01", "2024-02-29", "2999-12-31"],
     "code": ["A", "a-0", "A" * 16],
     "title": ["x" * 200, "ü" * 100, "a\u00a0b"],
     "count": [0, 500],
     "offset": ["none", "month", "quarter", "from-month-1", "from-month-12"],
-    "trigger": ["origin", "added", "closed", "last-addition", "review"],
+    "trigger": ["origin", "added", "closed", "last-addition", "review", "event"],
     "action": ["keep", "review", "transfer", "destroy"],
     "record": [1, 4294967295],
     "parent": [None, 1],
@@ -185,7 +200,7 @@ def acts(office):
     kinds = [kind for row in rows for kind in re.findall(r"`([a-z-]+)`", row)]
     mapping = DESCRIPTION["components"]["schemas"]["Act"]["discriminator"]["mapping"]
     same("there is a schema for each kind of act of docs/ACTS.md", sorted(mapping), sorted(kinds))
-    same("that is seventeen", len(kinds), 17)
+    same("that is eighteen", len(kinds), 18)
     count = 0
     for kind in kinds:
         apart = [(name, right, ACT.is_valid(act), is_read(office, act)) for right, name, act in changed(kind)]
@@ -291,6 +306,8 @@ def answers(office):
     it.ask("POST", "/acts", json.dumps([{"act": "receipt", "day": "2022-05-03", "record": 19, "digest": digest, "by": "State archive"}]))
     it.ask("GET", "/records/19")
     it.ask("POST", "/acts", city("5-lifted"))
+    contract = DESCRIPTION["paths"]["/records/{n}"]["get"]["responses"]["200"]["content"][JSON]["examples"]["contract"]["value"]
+    same("record 22, whose event is recorded by then, is the example", json.loads(it.ask("GET", "/records/22")[2]), contract)
     it.ask("POST", "/run/resume")
     it.ask("GET", "/certificates/2")
     it.ask("GET", "/records/19")

@@ -16,9 +16,10 @@ FORMS = {
     "hold-off": {"code": "H-1", "target": "C"},
     "hold-lift": {"code": "H-1"},
     "due-confirm": {"by": "Registrar"},
+    "record-event": {"occurred": "2020-05-31", "by": "Registrar"},
     "run-open": {"by": "Registrar"},
 }
-VIEWS = {"hold": "#holds", "due": "#due", "run": "#run"}
+VIEWS = {"hold": "#holds", "due": "#due", "record": "#record?number=2", "run": "#run"}
 LATE = TEXTS["fields"]["late"]
 # a day is written in one step, as by a script that tells nobody, or as by pasting it
 WRITE = "const it = document.getElementById(arguments[0]); it.value = arguments[1];"
@@ -200,7 +201,7 @@ def carried_out(story: Story) -> None:
     it.press("#run-sure")
     it.press("#run-resume button")
     same("the run of the late day: its counts", counts(), ["1", "0", "0"])
-    story.office.ask("POST", "/acts", json.dumps([{"act": "open-run", "day": after(7), "by": "Registrar"}]))
+    story.office.ask("POST", "/acts", json.dumps([{"act": "open-run", "day": after(8), "by": "Registrar"}]))
     it.press("#run-sure")
     it.press("#run-resume button")
     same("a run that takes nothing: its counts", counts(), ["0", "0", "0"])

@@ -204,7 +204,7 @@ class Story:
 
     def records(self):
         it = self.browser
-        for number in (1, 4, 8, 19, 20):
+        for number in (1, 4, 8, 19, 20, 22):
             record = self.told(f"/records/{number}")
             it.open(f"{self.proxy.page}#record?number={number}")
             facts = it.facts("#record-facts")
@@ -212,6 +212,7 @@ class Story:
             same(f"record {number}: its facts are what GET /records tells", list(facts.values()), [*plain, f"{record['length']} bytes", record["digest"]])
         words = lambda number: (it.open(f"{self.proxy.page}#record?number={number}"), it.seen("#record-told"))[1]
         says("record 1: held, in words", words(1), "It is here", "It is due on 2021-01-01.", "Hold Q-2020-17 covers it", f"Confirmed on 2022-05-02 by {WHO}: destroy")
+        says("record 22: a contract that has not ended, in words", words(22), "It has no due day", TEXTS["event"]["none"])
         says("record 4: kept, in words", words(4), "It has no due day", "No hold covers it.", "Nobody has confirmed")
         says("record 8: destroyed, in words", words(8), "It was destroyed by run 1: its content is gone from the office.", "It was due on 2019-01-30.")
         judge("record 8: there is no content to save", not it.one("#record-save").is_displayed())

@@ -1,4 +1,4 @@
-// One record, by its number: what is told of it in sentences and in facts, and its content to save.
+// One record, by its number: what is reported of it in sentences and in facts, its content to save, its event to be recorded.
 import { get } from "../ask.js";
 import { onSubmit } from "../fields.js";
 import { asking, byId, details, factsOf, failed, link, made, paragraph, quiet, save, say, sentence } from "../page.js";
@@ -7,6 +7,7 @@ import { isNumber, today } from "../plain/forms.js";
 import { visible } from "../plain/marks.js";
 import { isMissing, jsonOf } from "../plain/outcomes.js";
 import { t } from "../texts.js";
+import * as event from "./record_event.js";
 
 let shown = null;
 let asked = 0;
@@ -23,6 +24,9 @@ function ofDue(record) {
   if (record.due === null) return paragraph(t("record.noDue"));
   return paragraph(t(record.status === "ended" ? "record.dueWas" : "record.due", record));
 }
+
+/** The event with which a retention period may begin, whatever the trigger and the status are. */
+const ofEvent = (record) => paragraph(t(record.event ? "event.recorded" : "event.none", record));
 
 function ofHold(record) {
   if (record.held === null) return paragraph(t("record.free"));
@@ -49,9 +53,10 @@ function factsTold(record) {
 function tell(record) {
   shown = record;
   byId("record-heading").textContent = t("record.heading", { number: record.number, title: visible(record.title) });
-  byId("record-words").replaceChildren(ofStatus(record), ofDue(record), ofHold(record), ...ofConfirmation(record));
+  byId("record-words").replaceChildren(ofStatus(record), ofDue(record), ofEvent(record), ofHold(record), ...ofConfirmation(record));
   byId("record-facts").replaceChildren(factsTold(record));
   byId("record-content").hidden = record.status === "ended";
+  event.offer(record);
   quiet(byId("record-saved"));
   byId("record-told").hidden = false;
 }
@@ -72,6 +77,18 @@ async function open(number) {
   tell(record);
 }
 
+/** Reads the record that is shown once more, in its place: what is said of its due day then, or null where it could not be read. */
+async function readAnew() {
+  const mine = ++asked;
+  const answer = await get(`records/${shown.number}`);
+  const record = jsonOf(answer);
+  // another one is being shown by now
+  if (mine !== asked) return [];
+  if (answer.status !== 200 || !record) return null;
+  tell(record);
+  return [ofDue(record)];
+}
+
 /** Asks for the content of the record that is shown, compares its digest, and gives it to be saved. */
 async function saveContent() {
   const place = byId("record-saved");
@@ -90,6 +107,7 @@ async function saveContent() {
 
 export function start() {
   byId("record-save").addEventListener("click", saveContent);
+  event.start(readAnew);
   onSubmit(byId("record-form"), (values) => {
     const address = `#record?number=${values["record-number"]}`;
     if (location.hash === address) return open(values["record-number"]);
