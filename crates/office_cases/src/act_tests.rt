@@ -5,12 +5,12 @@ use office_days::Day;
 use office_holds::Target;
 use office_json::{ListFault, ReadFault, read_act, read_acts};
 use office_rules::{Act, NewRecord};
-use office_tree::{Code, Text};
+use office_tree::{Code, RecordNo, Text};
 use serde_json::Value;
 use std::io::Write;
 
 /// An act that is read is told by its members where it places a hold, adds a record, takes an aggregation off
-/// a hold or reclassifies, and else as `an act`.
+/// a hold, reclassifies or records an event, and else as `an act`.
 pub(crate) const ACTS: &str = r#"
     # each kind
     act {"act":"add-schedule","day":"2024-01-02","code":"D1","trigger":"added","unit":"years","count":1,"offset":"none","action":"destroy"} = an act
@@ -29,6 +29,7 @@ pub(crate) const ACTS: &str = r#"
     act {"act":"confirm","day":"2024-01-02","record":1,"action":"transfer","by":"an archivist"} = an act
     act {"act":"review","day":"2024-01-02","record":1,"schedule":"D1","by":"an archivist"} = an act
     act {"act":"receipt","day":"2024-01-02","record":1,"digest":"ba7816bf8f01cfea414140de5dae2223b00361a396177a9cb410ff61f20015ad","by":"an archive"} = an act
+    act {"act":"event","day":"2024-03-01","record":1,"occurred":"2024-02-29","by":"the court"} = 2024-03-01 event 1, the court, of 2024-02-29
     act {"act":"open-run","day":"2024-01-02","by":"an archivist"} = an act
     act {"act":"run-step"} = an act
 
@@ -36,6 +37,7 @@ pub(crate) const ACTS: &str = r#"
     act {"by":"the court","reason":"a lawsuit","code":"H1","day":"2024-01-02","act":"place-hold"} = 2024-01-02 place-hold H1, a lawsuit, the court
     act {"act":"add-record","day":"2024-01-02","ref":"r1","title":"Offer","originated":"2023-12-31","aggregation":7,"schedule":"D1","content":"YWJj"} = 2024-01-02 add-record r1, Offer, in 7, class -, schedule D1, of 2023-12-31: abc
     act {"act":"reclassify","day":"2024-01-02","target":"record:4294967295"} = 2024-01-02 reclassify Record(4294967295), class -
+    act {"by":"a tenant","occurred":"0001-01-01","record":4294967295,"day":"2999-12-31","act":"event"} = 2999-12-31 event 4294967295, a tenant, of 0001-01-01
 
     # no object, and no word of an act
     act 1 = refused 2
@@ -51,6 +53,12 @@ pub(crate) const ACTS: &str = r#"
     act {"act":"lift-hold","day":"2024-01-02","hold":null} = refused 2
     act {"act":"set-record-schedule","day":"2024-01-02","record":null} = refused 2
     act {"act":"receipt","day":"2024-01-02","record":1,"digest":null,"by":"an archive"} = refused 2
+    act {"act":"event","day":"2024-03-01","record":1,"occurred":"2024-02-29"} = refused 2
+    act {"act":"event","day":"2024-03-01","record":1,"occurred":"2024-02-29","by":null} = refused 2
+    act {"act":"event","day":"2024-03-01","record":1,"by":"the court"} = refused 2
+    act {"act":"event","day":"2024-03-01","record":1,"occurred":null,"by":"the court"} = refused 2
+    act {"act":"event","day":"2024-03-01","occurred":"2024-02-29","by":"the court"} = refused 2
+    act {"act":"event","day":"2024-03-01","record":1,"occurred":"2024-02-29","by":"the court","schedule":"D1"} = refused 2
     # values of another type
     act {"act":"lift-hold","day":20240102,"hold":"H1"} = refused 2
     act {"act":"close-aggregation","day":"2024-01-02","aggregation":"1"} = refused 2
@@ -58,6 +66,7 @@ pub(crate) const ACTS: &str = r#"
     act {"act":"set-record-schedule","day":"2024-01-02","record":1,"schedule":false} = refused 2
     # texts that are not of their form; a digest has 64 digits, in lower case
     act {"act":"lift-hold","day":"2024-02-30","hold":"H1"} = refused 2
+    act {"act":"event","day":"2024-03-01","record":1,"occurred":"2024-02-30","by":"the court"} = refused 2
     act {"act":"lift-hold","day":"2024-01-02","hold":"H 1"} = refused 2
     act {"act":"open-run","day":"2024-01-02","by":""} = refused 2
     act {"act":"open-run","day":"2024-01-02","by":"a\\nb"} = refused 2
@@ -68,6 +77,7 @@ pub(crate) const ACTS: &str = r#"
     act {"act":"confirm","day":"2024-01-02","record":0,"action":"burn","by":"an archivist"} = refused 2
     act {"act":"add-schedule","day":"2024-01-02","code":"D1","trigger":"added","unit":"ages","count":-1,"offset":"none","action":"destroy"} = refused 2
     act {"act":"close-aggregation","day":"2024-01-02","aggregation":0,"by":"an archivist"} = refused 2
+    act {"act":"event","day":"2024-03-01","record":0,"occurred":"x","by":"the court"} = refused 2
     # numbers out of their range
     act {"act":"close-aggregation","day":"2024-01-02","aggregation":0} = refused 3
     act {"act":"close-aggregation","day":"2024-01-02","aggregation":4294967296} = refused 3
@@ -78,6 +88,8 @@ pub(crate) const ACTS: &str = r#"
     act {"act":"add-schedule","day":"2024-01-02","code":"D1","trigger":"added","unit":"years","count":501,"offset":"none","action":"destroy"} = refused 3
     act {"act":"add-schedule","day":"2024-01-02","code":"D1","trigger":"added","unit":"days","count":4294967296,"offset":"none","action":"destroy"} = refused 3
     act {"act":"add-schedule","day":"2024-01-02","code":"D1","trigger":"added","unit":"days","count":-1,"offset":"none","action":"destroy"} = refused 3
+    act {"act":"event","day":"2024-03-01","record":0,"occurred":"2024-02-29","by":"the court"} = refused 3
+    act {"act":"event","day":"2024-03-01","record":4294967296,"occurred":"2024-02-29","by":"the court"} = refused 3
     act {"act":"receipt","day":"2024-01-02","record":0,"digest":"ba7816bf8f01cfea414140de5dae2223b00361a396177a9cb410ff61f20015ad","by":"an archive"} = refused 3
 
     # targets have exactly their forms
@@ -193,6 +205,12 @@ fn tell_record(out: &mut Vec<u8>, record: &NewRecord) -> Option<()> {
     out.extend_from_slice(&record.content).ok()
 }
 
+/// An event by its members.
+fn tell_event(out: &mut Vec<u8>, record_no: RecordNo, occurred: Day, by: &Text) -> Option<()> {
+    write!(out, " event {record_no}, {}, of ", by.text()).ok()?;
+    push_day(out, occurred)
+}
+
 /// An act by its members, where its kind is told so.
 fn tell_act(act: &Act, out: &mut Vec<u8>) -> Option<()> {
     match act {
@@ -218,6 +236,12 @@ fn tell_act(act: &Act, out: &mut Vec<u8>) -> Option<()> {
             code_text(class.as_ref())
         )
         .ok()),
+        Act::Event {
+            day,
+            record_no,
+            occurred,
+            by,
+        } => push_day(out, *day).and(tell_event(out, *record_no, *occurred, by)),
         _ => push(out, "an act"),
     }
 }

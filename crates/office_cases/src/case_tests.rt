@@ -1,7 +1,7 @@
 //! All cases.
 use crate::act_tests::{ACTS, CONTENTS, LISTS};
 use crate::hold_tests::{COVERED, LEAVING, LIFTED, STAYING, TREE};
-use crate::office_tests::{BASE, FEW_OF_MANY, HELD, HERE, NOTHING_TO_DO, RUN, SPENDING};
+use crate::office_tests::{BASE, EVENTS, FEW_OF_MANY, HELD, HERE, NOTHING_TO_DO, RUN, SPENDING};
 use crate::request_tests::{BODIES, HEADS};
 use crate::rows::{Subject, must_hold};
 use crate::{answer_tests, due_tests, plan_tests, proof_tests, reply_tests, word_tests};
@@ -38,6 +38,7 @@ fn offices(alloc: Global) -> Result<(), Fail> {
     must_hold(alloc, Subject::Offices, BASE, RUN)?;
     must_hold(alloc, Subject::Offices, "", FEW_OF_MANY)?;
     must_hold(alloc, Subject::Offices, BASE, HERE)?;
+    must_hold(alloc, Subject::Offices, BASE, EVENTS)?;
     must_hold(alloc, Subject::Offices, "", HELD)
 }
 

@@ -119,9 +119,9 @@ pub(crate) const FEW_OF_MANY: &str = "
 ";
 
 /// What is told of records that are here. The digests are those of `abc`, an example of FIPS 180-4, and of
-/// nothing, by `sha256sum`; what is told of record 1 has 293 bytes.
+/// nothing, by `sha256sum`; what is told of record 1 has 306 bytes.
 pub(crate) const HERE: &str = r#"
-    record 1 = {"added":"2024-01-02","aggregation":1,"class":"FIN","confirmed":null,"digest":"ba7816bf8f01cfea414140de5dae2223b00361a396177a9cb410ff61f20015ad","due":"2025-01-02","ended":null,"held":null,"length":3,"number":1,"originated":"2024-01-02","ref":"r1","schedule":"D1","status":"here","title":"r1"}
+    record 1 = {"added":"2024-01-02","aggregation":1,"class":"FIN","confirmed":null,"digest":"ba7816bf8f01cfea414140de5dae2223b00361a396177a9cb410ff61f20015ad","due":"2025-01-02","ended":null,"event":null,"held":null,"length":3,"number":1,"originated":"2024-01-02","ref":"r1","schedule":"D1","status":"here","title":"r1"}
     record 4 = none
     due 2025-01-01 = []
     due 2025-01-02 = [{"action":"destroy","class":"FIN","confirmed":false,"due":"2025-01-02","held":null,"record":1,"ref":"r1","schedule":"D1"},{"action":"destroy","class":"LEG","confirmed":false,"due":"2025-01-02","held":null,"record":2,"ref":"r2","schedule":"D1"},{"action":"destroy","class":"FIN","confirmed":false,"due":"2025-01-02","held":null,"record":3,"ref":"r3","schedule":"D1"}]
@@ -134,10 +134,51 @@ pub(crate) const HERE: &str = r#"
     2025-01-02 confirm 3 destroy = Done
     2025-01-02 open-run = Number(3)
     2025-01-02 run-step = Step(3, Destroyed)
-    record 3 = {"added":"2024-01-02","aggregation":1,"class":"FIN","confirmed":{"action":"destroy","by":"registrar","day":"2025-01-02","due":"2025-01-02"},"digest":"ba7816bf8f01cfea414140de5dae2223b00361a396177a9cb410ff61f20015ad","due":"2025-01-02","ended":{"outcome":"destroyed","run":3},"held":null,"length":3,"number":3,"originated":"2024-01-02","ref":"r3","schedule":"D1","status":"ended","title":"r3"}
+    record 3 = {"added":"2024-01-02","aggregation":1,"class":"FIN","confirmed":{"action":"destroy","by":"registrar","day":"2025-01-02","due":"2025-01-02"},"digest":"ba7816bf8f01cfea414140de5dae2223b00361a396177a9cb410ff61f20015ad","due":"2025-01-02","ended":{"outcome":"destroyed","run":3},"event":null,"held":null,"length":3,"number":3,"originated":"2024-01-02","ref":"r3","schedule":"D1","status":"ended","title":"r3"}
 
     # record 1 were it ended so, without a due day
-    record-ended-as-3 1 = {"added":"2024-01-02","aggregation":1,"class":"FIN","confirmed":null,"digest":"ba7816bf8f01cfea414140de5dae2223b00361a396177a9cb410ff61f20015ad","due":null,"ended":{"outcome":"destroyed","run":3},"held":null,"length":3,"number":1,"originated":"2024-01-02","ref":"r1","schedule":"D1","status":"ended","title":"r1"}
+    record-ended-as-3 1 = {"added":"2024-01-02","aggregation":1,"class":"FIN","confirmed":null,"digest":"ba7816bf8f01cfea414140de5dae2223b00361a396177a9cb410ff61f20015ad","due":null,"ended":{"outcome":"destroyed","run":3},"event":null,"held":null,"length":3,"number":1,"originated":"2024-01-02","ref":"r1","schedule":"D1","status":"ended","title":"r1"}
+"#;
+
+/// A record whose schedule counts from an event has no due day until its event is recorded; a later event takes
+/// the place of the earlier.
+pub(crate) const EVENTS: &str = r#"
+    2024-01-03 add-schedule E event years 2 none destroy = Done
+    2024-01-03 set-record-schedule 1 E = Done
+    record 1 = {"added":"2024-01-02","aggregation":1,"class":"FIN","confirmed":null,"digest":"ba7816bf8f01cfea414140de5dae2223b00361a396177a9cb410ff61f20015ad","due":null,"ended":null,"event":null,"held":null,"length":3,"number":1,"originated":"2024-01-02","ref":"r1","schedule":"E","status":"here","title":"r1"}
+    # no such record; a day before the office's; an event after the day of its act, which leaves the office's day
+    2024-03-01 event 9 2024-02-29 = refused 5
+    2024-01-02 event 1 2024-01-02 = refused 1
+    2024-03-01 event 1 2024-03-02 = refused 21
+    today = 2024-01-03
+    record 1 = {"added":"2024-01-02","aggregation":1,"class":"FIN","confirmed":null,"digest":"ba7816bf8f01cfea414140de5dae2223b00361a396177a9cb410ff61f20015ad","due":null,"ended":null,"event":null,"held":null,"length":3,"number":1,"originated":"2024-01-02","ref":"r1","schedule":"E","status":"here","title":"r1"}
+    # an event before the day of its act, and one on it
+    2024-03-01 event 1 2024-02-29 = Done
+    today = 2024-03-01
+    record 1 = {"added":"2024-01-02","aggregation":1,"class":"FIN","confirmed":null,"digest":"ba7816bf8f01cfea414140de5dae2223b00361a396177a9cb410ff61f20015ad","due":"2026-02-28","ended":null,"event":"2024-02-29","held":null,"length":3,"number":1,"originated":"2024-01-02","ref":"r1","schedule":"E","status":"here","title":"r1"}
+    2024-03-01 event 1 2024-03-01 = Done
+    record 1 = {"added":"2024-01-02","aggregation":1,"class":"FIN","confirmed":null,"digest":"ba7816bf8f01cfea414140de5dae2223b00361a396177a9cb410ff61f20015ad","due":"2026-03-01","ended":null,"event":"2024-03-01","held":null,"length":3,"number":1,"originated":"2024-01-02","ref":"r1","schedule":"E","status":"here","title":"r1"}
+    # an event that is refused leaves the one before
+    2024-03-02 event 1 2024-03-03 = refused 21
+    record 1 = {"added":"2024-01-02","aggregation":1,"class":"FIN","confirmed":null,"digest":"ba7816bf8f01cfea414140de5dae2223b00361a396177a9cb410ff61f20015ad","due":"2026-03-01","ended":null,"event":"2024-03-01","held":null,"length":3,"number":1,"originated":"2024-01-02","ref":"r1","schedule":"E","status":"here","title":"r1"}
+    # an event of a record whose schedule counts from another day
+    2024-03-01 event 2 2024-02-29 = Done
+    record 2 = {"added":"2024-01-02","aggregation":2,"class":"LEG","confirmed":null,"digest":"e3b0c44298fc1c149afbf4c8996fb92427ae41e4649b934ca495991b7852b855","due":"2025-01-02","ended":null,"event":"2024-02-29","held":null,"length":0,"number":2,"originated":"2024-01-02","ref":"r2","schedule":"D1","status":"here","title":"r2"}
+
+    # the least of several refusals, also of records that are sent or ended
+    2024-02-29 event 9 2024-03-02 = refused 1
+    2024-03-01 event 9 2024-03-02 = refused 5
+    2025-01-02 add-schedule T added years 1 none transfer = Done
+    2025-01-02 set-record-schedule 2 T = Done
+    2025-01-02 confirm 2 transfer = Done
+    2025-01-02 confirm 3 destroy = Done
+    2025-01-02 open-run = Number(1)
+    2025-01-02 run-step = Step(2, Sent)
+    2025-01-02 run-step = Step(3, Destroyed)
+    2025-01-02 run-step = RunClosed(1)
+    2025-01-02 event 3 2025-01-03 = refused 13
+    2025-01-02 event 2 2025-01-03 = refused 14
+    2025-01-02 event 2 2025-01-01 = refused 14
 "#;
 
 /// A record that is confirmed and held, and another that is due beside it.
@@ -178,7 +219,7 @@ pub(crate) const HELD: &str = r#"
     2025-03-04 confirm 20 transfer = Done
     2025-03-04 place-hold H-2 = Done
     2025-03-04 hold-on H-2 record:20 = Done
-    record 20 = {"added":"2018-01-02","aggregation":7,"class":"LEG","confirmed":{"action":"transfer","by":"registrar","day":"2025-03-04","due":"2025-02-01"},"digest":"e3b0c44298fc1c149afbf4c8996fb92427ae41e4649b934ca495991b7852b855","due":"2025-02-01","ended":null,"held":"H-2","length":0,"number":20,"originated":"2017-05-04","ref":"2017/4","schedule":"T30","status":"here","title":"An \\"offer\\""}
+    record 20 = {"added":"2018-01-02","aggregation":7,"class":"LEG","confirmed":{"action":"transfer","by":"registrar","day":"2025-03-04","due":"2025-02-01"},"digest":"e3b0c44298fc1c149afbf4c8996fb92427ae41e4649b934ca495991b7852b855","due":"2025-02-01","ended":null,"event":null,"held":"H-2","length":0,"number":20,"originated":"2017-05-04","ref":"2017/4","schedule":"T30","status":"here","title":"An \\"offer\\""}
     due 2025-03-04 = [{"action":"destroy","class":"FIN","confirmed":false,"due":"2025-01-02","held":null,"record":1,"ref":"r1","schedule":"D1"},{"action":"transfer","class":"LEG","confirmed":true,"due":"2025-02-01","held":"H-2","record":20,"ref":"2017/4","schedule":"T30"}]
 "#;
 

@@ -34,6 +34,7 @@ fn form_of(name: &str) -> &'static str {
         "add-empty-record" => {
             r#"{"act":"add-record","day":"$0","ref":"$2","title":"$2","originated":"2024-01-02","aggregation":$3,"content":""}"#
         }
+        "set-record-schedule" => { r#"{"act":"$1","day":"$0","record":$2,"schedule":"$3"}"# }
         "place-hold" => {
             r#"{"act":"$1","day":"$0","code":"$2","reason":"court","by":"registrar"}"#
         }
@@ -41,6 +42,7 @@ fn form_of(name: &str) -> &'static str {
         "hold-off" => { r#"{"act":"$1","day":"$0","hold":"$2","target":"$3"}"# }
         "lift-hold" => { r#"{"act":"$1","day":"$0","hold":"$2"}"# }
         "confirm" => { r#"{"act":"$1","day":"$0","record":$2,"action":"$3","by":"registrar"}"# }
+        "event" => { r#"{"act":"$1","day":"$0","record":$2,"occurred":"$3","by":"registrar"}"# }
         "open-run" => { r#"{"act":"$1","day":"$0","by":"registrar"}"# }
         "run-step" => { r#"{"act":"$1"}"# }
         "reclassify" => { r#"{"act":"$1","day":"$0","target":"$2","class":"$3"}"# }

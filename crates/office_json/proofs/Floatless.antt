@@ -46,6 +46,7 @@ record_has_none r ending = rw (
   or_null_has_none confirmed_data confirmed_has_none r.confirmed,
   or_null_has_none day_data (λ day. refl) r.due,
   or_null_has_none ended_data ended_has_none ending,
+  or_null_has_none day_data (λ day. refl) r.event,
   code_has_none r.held,
 ) refl
 

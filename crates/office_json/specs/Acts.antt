@@ -1,4 +1,4 @@
--- Which act a value of JSON asks for, by the members of each of the seventeen kinds, or why it asks for none. Source: own.
+-- Which act a value of JSON asks for, by the members of each of the eighteen kinds, or why it asks for none. Source: own.
 use Rattle.std.specs.Prelude.{◌≡◌, ◌⊎◌, ◌∷◌, [], ℕ, ℤ, List, codes, if◌then◌else◌, Option, Some, None, Result, Ok, Err, IsOk, IsSome, MatchResult, option_and_then}
 use Rattle.std.specs.Str.{bytes_eq}
 use Rattle.serde_json.specs.Data.{Data}
@@ -184,6 +184,13 @@ receipt_asked d =
     (both (both (day_part (get (codes "day") d)) (number_part (get (codes "record") d)))
     (both (digest_part (get (codes "digest") d)) (text_part (get (codes "by") d)))))
 
+unfoldable pub event_asked : Data → Result Asked Refusal
+event_asked d =
+    only (codes "act" ∷ codes "day" ∷ codes "record" ∷ codes "occurred" ∷ codes "by" ∷ []) d
+    (made (λ p. asks (act.Event p.0.0 p.0.1 p.1.0 p.1.1))
+    (both (both (day_part (get (codes "day") d)) (number_part (get (codes "record") d)))
+    (both (day_part (get (codes "occurred") d)) (text_part (get (codes "by") d)))))
+
 unfoldable pub open_run_asked : Data → Result Asked Refusal
 open_run_asked d =
     only (codes "act" ∷ codes "day" ∷ codes "by" ∷ []) d
@@ -213,6 +220,7 @@ plain_asked word d =
     else if bytes_eq word (codes "confirm") then confirm_asked d
     else if bytes_eq word (codes "review") then review_asked d
     else if bytes_eq word (codes "receipt") then receipt_asked d
+    else if bytes_eq word (codes "event") then event_asked d
     else if bytes_eq word (codes "open-run") then open_run_asked d
     else if bytes_eq word (codes "run-step") then run_step_asked d
     else Err BadText

@@ -41,6 +41,7 @@ record_data r ending = object
     (member (codes "digest") (string (encode_lower r.digest))
     (member (codes "due") (or_null day_data r.due)
     (member (codes "ended") (or_null ended_data ending)
+    (member (codes "event") (or_null day_data r.event)
     (member (codes "held") (or_null string r.held)
     (member (codes "length") (number (unsigned r.length))
     (member (codes "number") (number (unsigned r.number))
@@ -48,7 +49,7 @@ record_data r ending = object
     (member (codes "ref") (string r.ref_text)
     (member (codes "schedule") (string r.schedule)
     (member (codes "status") (string (status_word r.status))
-    (member (codes "title") (string r.title) no_members)))))))))))))))
+    (member (codes "title") (string r.title) no_members))))))))))))))))
 
 -- ---- what the code puts, a few members at a time
 
@@ -57,8 +58,8 @@ put_first r ms = put (codes "confirmed") (or_null confirmed_data r.confirmed) (p
     (put (codes "aggregation") (number (unsigned r.aggregation)) (put (codes "added") (day_data r.added) ms)))
 
 unfoldable pub put_second : RecordView → Option Entry → Members → Members
-put_second r ending ms = put (codes "held") (or_null string r.held) (put (codes "ended") (or_null ended_data ending)
-    (put (codes "due") (or_null day_data r.due) (put (codes "digest") (string (encode_lower r.digest)) ms)))
+put_second r ending ms = put (codes "held") (or_null string r.held) (put (codes "event") (or_null day_data r.event) (put (codes "ended") (or_null ended_data ending)
+    (put (codes "due") (or_null day_data r.due) (put (codes "digest") (string (encode_lower r.digest)) ms))))
 
 unfoldable pub put_third : RecordView → Members → Members
 put_third r ms = put (codes "ref") (string r.ref_text) (put (codes "originated") (day_data r.originated)

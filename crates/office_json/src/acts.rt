@@ -17,14 +17,14 @@ use holds::{hold_off, hold_on, lift_hold, place_hold};
 use new_record::add_record;
 use office_days::Refusal;
 use office_rules::Act;
-use records::{confirm, receipt, review, set_record_schedule};
+use records::{confirm, event, receipt, review, set_record_schedule};
 use runs::{open_run, run_step};
 use schedules::{add_class, add_schedule, set_class_schedule};
 use serde_json::Value;
 use std::alloc::Global;
 
 /// The act that a value asks for: an object with the member `act`, which is the word for one of the
-/// seventeen kinds, and exactly the members of that kind, of which those that may be null may be
+/// eighteen kinds, and exactly the members of that kind, of which those that may be null may be
 /// missing.
 ///
 /// It is refused as `BadText` where it is anything else or a text is not of its form, else as
@@ -63,6 +63,7 @@ fn plain_act(alloc: Global, word: &str, value: &Value) -> Result<Act, ReadFault>
         "confirm" => confirm(alloc, value),
         "review" => review(alloc, value),
         "receipt" => receipt(alloc, value),
+        "event" => event(alloc, value),
         "open-run" => open_run(alloc, value),
         "run-step" => run_step(value),
         _ => Err(ReadFault::Refused(Refusal::BadText)),

@@ -4,7 +4,7 @@ ghost use Rattle.serde_json.specs.View.{members_view, view};
 ghost use Rattle.serde_json.specs.Written.{has_float};
 ghost use Rattle.office_json.specs.RecordJson.{confirmed_data, ended_data, or_null, put_first, put_last, put_second, put_third, record_data};
 
-use crate::told::{Told, object_of, put_all, told_code, told_due};
+use crate::told::{Told, object_of, put_all, told_code, told_day, told_due};
 use office_proof::Entry;
 use office_rules::RecordView;
 use office_tree::{Confirmation, Memory};
@@ -99,7 +99,14 @@ fn put_second(
     )?;
     let ended = ended_value(alloc, ending)?;
     serde_json::put(map, alloc, "ended", ended)?;
-    put_all(map, alloc, &[("held", told_code(told.held.as_ref()))])
+    put_all(
+        map,
+        alloc,
+        &[
+            ("event", told_day(told.event)),
+            ("held", told_code(told.held.as_ref())),
+        ],
+    )
 }
 
 /// Puts the members from `length` to `ref`.

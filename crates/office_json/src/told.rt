@@ -25,6 +25,16 @@ pub(crate) enum Told<'a> {
 }
 
 /// A day that may be missing.
+pub(crate) fn told_day(day: Option<Day>) -> Told<'static>
+    ensures { told_data result ≡ or_null day_data day }
+{
+    match day {
+        Some(day) => Told::Day(day),
+        None => Told::Nothing,
+    }
+}
+
+/// A due day that may be missing.
 pub(crate) fn told_due(due: Option<DueDay>) -> Told<'static>
     ensures { told_data result ≡ or_null day_data due }
 {

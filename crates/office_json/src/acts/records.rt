@@ -1,7 +1,7 @@
 //! The acts on records that are there.
 ghost use Rattle.std.specs.Prelude.{◌≡◌};
 ghost use Rattle.serde_json.specs.View.{view};
-ghost use Rattle.office_json.specs.Acts.{IsActRead, asked, asks, confirm_asked, receipt_asked, review_asked, set_record_schedule_asked};
+ghost use Rattle.office_json.specs.Acts.{IsActRead, asked, asks, confirm_asked, event_asked, receipt_asked, review_asked, set_record_schedule_asked};
 
 use crate::ReadFault;
 use crate::members::has_only;
@@ -106,6 +106,37 @@ pub(crate) fn receipt(alloc: Global, value: &Value) -> Result<Act, ReadFault>
     let how = both(digest_at(value, "digest"), words_at(alloc, value, "by"));
     match both(which, how) {
         Ok((which, how)) => Ok(receipt_of(which, how)),
+        Err(fault) => Err(fault),
+    }
+}
+
+/// The event of these.
+#[tactic(auto, unfolding(crate::specs::Acts::asked))]
+fn event_of(which: (Day, RecordNo), how: (Day, Text)) -> Act
+    ensures { asked result ≡ asks (Act.Event which.0 which.1 how.0 how.1) }
+{
+    let (day, record_no) = which;
+    let (occurred, by) = how;
+    Act::Event {
+        day,
+        record_no,
+        occurred,
+        by,
+    }
+}
+
+/// `event`: an event of a record is recorded, with the day on which it occurred.
+#[tactic(auto, unfolding(crate::specs::Acts::event_asked))]
+pub(crate) fn event(alloc: Global, value: &Value) -> Result<Act, ReadFault>
+    ensures { IsActRead (event_asked (view value.now)) result }
+{
+    if !has_only(value, &["act", "day", "record", "occurred", "by"]) {
+        return Err(ReadFault::Refused(Refusal::BadText));
+    }
+    let which = both(day_at(value, "day"), number_at(value, "record"));
+    let how = both(day_at(value, "occurred"), words_at(alloc, value, "by"));
+    match both(which, how) {
+        Ok((which, how)) => Ok(event_of(which, how)),
         Err(fault) => Err(fault),
     }
 }
