@@ -46,6 +46,7 @@ found_sound s marks contents formed keyed agree endings refs same =
       entries = them.stand;
       runs = agree.stand.runs;
       days = days_sound s.tree.aggregations s.tree.records s.holds s.runs s.day agree.by.tree_by agree.by.holds_by agree.by.runs_by;
+      events = agree.by.events_by;
       refs = refs;
     }
 
@@ -61,7 +62,7 @@ sound_parts s marks contents same sound =
       runs_few = sound.limits.runs_few;
       short = from_numbers (λ (head : Record). nat_le head.length 262_144 ≡ true) s.tree.records (λ r head at. le_to head.length 262_144 (sound.limits.tree_forms.records r head at).length_few);
       papers = papers_tested s.tree.records s.tree.statuses s.entries sound.papers;
-      by = record { tree_by = days.0; holds_by = days.1; runs_by = days.2 };
+      by = record { tree_by = days.0; events_by = sound.events; holds_by = days.1; runs_by = days.2 };
       stand = record {
         targets = sound.names.of_holds;
         runs = sound.runs;

@@ -16,7 +16,7 @@ use Rattle.office_founding.specs.TreeRows.{AreTreeRows}
 use Rattle.office_founding.proofs.MapRows.{keys_of_none, with_no_bytes}
 
 -- an office with these rows, whatever its contents are
-pub tables_of : (t : TableLists) (s : Office) → t.days ≡ s.day ∷ [] → AreTreeRows t.schedules t.classes t.aggregations t.records s.tree → AreRowsOf t.holds t.targets s.holds
+pub tables_of : (t : TableLists) (s : Office) → t.days ≡ s.day ∷ [] → AreTreeRows t.schedules t.classes t.aggregations t.records t.events s.tree → AreRowsOf t.holds t.targets s.holds
     → numbered_rows s.runs ≡ t.runs → entries s.entries ≡ entry_rows t.entries → entries s.certificates ≡ t.certificates → AreTablesOf t s
 unfolding rows_of
 tables_of t s day tree holds runs by certificates contents keys = record {
@@ -25,6 +25,7 @@ tables_of t s day tree holds runs by certificates contents keys = record {
   classes = sym tree.of_classes;
   aggregations = sym tree.of_aggregations;
   records = sym tree.of_records;
+  events = sym tree.of_events;
   contents = sym keys;
   holds = sym holds.columns;
   targets = holds.targets_stand;
@@ -40,6 +41,6 @@ some_contents keys ascend =
     (from_entries bytes, ap keys_of (entries_of_ordered nat_cmp nat_cmp_total bytes (subst (λ ks. IsStrictlySortedBy nat_cmp ks) (sym (keys_of_none keys)) ascend)) ∙ keys_of_none keys)
 
 -- the rows of a state's tree
-pub tree_rows : (t : TableLists) (s : State) → StandsFor t s → AreTreeRows t.schedules t.classes t.aggregations t.records s.office.tree
+pub tree_rows : (t : TableLists) (s : State) → StandsFor t s → AreTreeRows t.schedules t.classes t.aggregations t.records t.events s.office.tree
 unfolding rows_of
-tree_rows t s stand = record { of_schedules = sym stand.schedules; of_classes = sym stand.classes; of_aggregations = sym stand.aggregations; of_records = sym stand.records }
+tree_rows t s stand = record { of_schedules = sym stand.schedules; of_classes = sym stand.classes; of_aggregations = sym stand.aggregations; of_records = sym stand.records; of_events = sym stand.events }

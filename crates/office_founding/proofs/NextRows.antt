@@ -12,6 +12,7 @@ use Rattle.office_rows.proofs.Ascending.{keyed_next}
 use Rattle.office_tree.specs.Tree.{code_cmp}
 use Rattle.office_tree.specs.declared.aggregation.Aggregation.{Aggregation}
 use Rattle.office_tree.specs.declared.class.Class.{Class}
+use Rattle.office_tree.specs.declared.event.Event.{Event}
 use Rattle.office_tree.specs.declared.schedule.Schedule.{Schedule}
 use Rattle.office_holds.specs.Founding.{AreRowsOf, hold_rows}
 use Rattle.office_holds.specs.declared.row.HoldRow.{HoldRow}
@@ -35,6 +36,10 @@ module _ (t : TableLists) (s : State) (stand : StandsFor t s) where
   pub next_class : (done : List (List ℕ × Class)) (code : List ℕ) (it : Class) → IsFront (done ++ (code, it) ∷ []) t.classes → All (λ q. code_cmp q code ≡ Less) (keys_of done)
   unfolding rows_of
   next_class done code it front = keyed_next code_cmp s.office.tree.classes done code it front.0 (sym stand.classes ∙ front.1)
+
+  pub next_event : (done : List (ℕ × Event)) (number : ℕ) (it : Event) → IsFront (done ++ (number, it) ∷ []) t.events → All (λ q. nat_cmp q number ≡ Less) (keys_of done)
+  unfolding rows_of
+  next_event done number it front = keyed_next nat_cmp s.office.tree.events done number it front.0 (sym stand.events ∙ front.1)
 
   pub next_content : (done : List ℕ) (number : ℕ) → IsFront (done ++ number ∷ []) t.contents → All (λ q. nat_cmp q number ≡ Less) done
   unfolding rows_of

@@ -19,7 +19,7 @@ mod runs;
 
 use crate::{Founded, Gathering};
 use office_rows::{Rebuild, ordered};
-use office_tree::{Aggregation, Class, Code, Record, RecordNo, Schedule, Status, Tree};
+use office_tree::{Aggregation, Class, Code, Event, Record, RecordNo, Schedule, Status, Tree};
 use std::alloc::Global;
 use std::collections::BTreeMap;
 
@@ -31,14 +31,24 @@ fn tree_of(
     aggregations: Vec<Aggregation>,
     heads: Vec<Record>,
     statuses: Vec<Status>,
+    events: BTreeMap<RecordNo, Event>,
 ) -> Result<Tree, Rebuild>
     requires { length statuses.items ≡ length heads.items }
-    ensures ok { IfOk result (λ tree. AreTreeRows schedules.entries classes.entries (numbered_rows aggregations.items) (numbered_rows (record_rows heads.items statuses.items)) tree) }
-    ensures damaged { OnDamaged result ((tree : TreeState) → sound_tree.IsSound tree → AreTreeRows schedules.entries classes.entries (numbered_rows aggregations.items) (numbered_rows (record_rows heads.items statuses.items)) tree → ⊥) }
+    ensures ok { IfOk result (λ tree. AreTreeRows schedules.entries classes.entries (numbered_rows aggregations.items) (numbered_rows (record_rows heads.items statuses.items)) events.entries tree) }
+    ensures damaged { OnDamaged result ((tree : TreeState) → sound_tree.IsSound tree → AreTreeRows schedules.entries classes.entries (numbered_rows aggregations.items) (numbered_rows (record_rows heads.items statuses.items)) events.entries tree → ⊥) }
 {
     ordered(&schedules);
     ordered(&classes);
-    match Tree::of_parts(alloc, schedules, classes, aggregations, heads, statuses) {
+    ordered(&events);
+    match Tree::of_parts(
+        alloc,
+        schedules,
+        classes,
+        aggregations,
+        heads,
+        statuses,
+        events,
+    ) {
         Ok(Some(tree)) => Ok(tree),
         Ok(None) => Err(Rebuild::Damaged),
         Err(_) => Err(Rebuild::Memory),
@@ -68,6 +78,7 @@ impl Gathering {
             self.aggregations,
             self.heads,
             self.statuses,
+            self.events,
         )?;
         let parts = Founded {
             tree,

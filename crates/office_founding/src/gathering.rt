@@ -13,7 +13,7 @@ use office_holds::{Holds, Target};
 use office_proof::{Entry, RunNo};
 use office_rows::Rebuild;
 use office_rules::{Intake, Row, Run};
-use office_tree::{Aggregation, Class, Code, Record, RecordNo, Schedule, Status};
+use office_tree::{Aggregation, Class, Code, Event, Record, RecordNo, Schedule, Status};
 use std::alloc::Global;
 use std::collections::BTreeMap;
 use std::marker::Model;
@@ -29,6 +29,8 @@ pub struct Gathering {
     pub(crate) heads: Vec<Record>,
     /// As many as heads.
     pub(crate) statuses: Vec<Status>,
+    /// By record.
+    pub(crate) events: BTreeMap<RecordNo, Event>,
     /// The keys of contents.
     pub(crate) contents: BTreeMap<RecordNo, ()>,
     pub(crate) holds: Holds,
@@ -60,6 +62,7 @@ impl Model for Gathering {
       classes = g.classes.entries;
       aggregations = numbered_rows g.aggregations.items;
       records = numbered_rows (record_rows g.heads.items g.statuses.items);
+      events = g.events.entries;
       contents = map (λ e. e.0) g.contents.entries;
       holds = hold_rows g.holds;
       targets = g.targets.items;
@@ -83,6 +86,7 @@ impl Gathering {
             aggregations: Vec::new(alloc),
             heads: Vec::new(alloc),
             statuses: Vec::new(alloc),
+            events: BTreeMap::new(alloc),
             contents: BTreeMap::new(alloc),
             holds: Holds::new(alloc),
             targets: Log::new(),
@@ -109,6 +113,7 @@ impl Intake for Gathering {
                 aggregation,
             } => self.put_aggregation(number, aggregation),
             Row::Record { number, columns } => self.put_record(number, columns),
+            Row::Event { number, event } => self.put_event(number, event),
             Row::Content { number } => self.put_content(number),
             Row::Hold { code, hold } => self.put_hold(code, hold),
             Row::Target { hold, target } => self.put_target(hold, target),

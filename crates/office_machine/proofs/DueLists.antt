@@ -7,6 +7,7 @@ use Rattle.std.specs.Ordering.{int_cmp, nat_cmp, ordering_then, is_eq}
 use Rattle.std.specs.Cmp.{IsTotalOrder, int_cmp_total, nat_cmp_total, on_total, tied_itself}
 use Rattle.std.specs.BTreeMap.{is_at}
 use Rattle.std.specs.BTreeSet.{BTreeSet, contains}
+use Rattle.std.specs.FinMap.{FinMap, get}
 use Rattle.std.specs.Map.{values_of}
 use Rattle.std.specs.List.{AllByRecursion}
 use Rattle.std.specs.List.Sorted.{IsStrictlySortedBy}
@@ -22,6 +23,7 @@ use Rattle.std.proofs.lemmas.Map.Views.{btree_set_contains_iff, tells_apart}
 use Rattle.office_tree.specs.Lists.{holds_of, numbered}
 use Rattle.office_tree.specs.Tree.{TreeState, due_by, due_of, has_record, is_keep, schedule_of, start_by, start_in, status_of}
 use Rattle.office_tree.specs.declared.aggregation.Aggregation.{Aggregation}
+use Rattle.office_tree.specs.declared.event.Event.{Event}
 use Rattle.office_tree.specs.declared.head.Record.{Record}
 use Rattle.office_tree.specs.declared.schedule.Schedule.{Schedule}
 use Rattle.office_rules.specs.Readings.{AreDuePairs, IsDueList, due_cmp, due_here, is_due_here}
@@ -101,17 +103,17 @@ either : {A : Type 0} (b : Bool) (x : A) → cond b x x ≡ x
 either true x = refl
 either false x = refl
 
-no_start : (aggregations : List Aggregation) (records : List Record) (schedule : Schedule) (r : ℕ) → numbered records r ≡ None → start_in aggregations records schedule r ≡ None
+no_start : (aggregations : List Aggregation) (records : List Record) (events : FinMap nat_cmp Event) (schedule : Schedule) (r : ℕ) → numbered records r ≡ None → start_in aggregations records events schedule r ≡ None
 unfolding start_in
-no_start aggregations records schedule r none = ap (option_and_then (λ head. start_by schedule.trigger aggregations records head)) none
+no_start aggregations records events schedule r none = ap (option_and_then (λ head. start_by schedule.trigger aggregations records (get events r) head)) none
 
 no_due_by : (schedule : Schedule) → due_by schedule None ≡ None
 unfolding due_by
 no_due_by schedule = either (is_keep schedule.action) None
 
-no_due : (tree : TreeState) (r : ℕ) (o : Option Schedule) → numbered tree.records r ≡ None → option_and_then (λ schedule. due_by schedule (start_in tree.aggregations tree.records schedule r)) o ≡ None
+no_due : (tree : TreeState) (r : ℕ) (o : Option Schedule) → numbered tree.records r ≡ None → option_and_then (λ schedule. due_by schedule (start_in tree.aggregations tree.records tree.events schedule r)) o ≡ None
 no_due tree r None none = refl
-no_due tree r (Some schedule) none = ap (due_by schedule) (no_start tree.aggregations tree.records schedule r none) ∙ no_due_by schedule
+no_due tree r (Some schedule) none = ap (due_by schedule) (no_start tree.aggregations tree.records tree.events schedule r none) ∙ no_due_by schedule
 
 due_is : (b : Bool) (o : Option ℤ) (due : ℤ) → cond b o None ≡ Some due → (b ≡ true) × (o ≡ Some due)
 due_is true o due h = (refl, h)

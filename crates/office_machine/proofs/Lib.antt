@@ -2,6 +2,7 @@ pub mod AboveRecords
 pub mod DayWrites
 pub mod DecidedAdditions
 pub mod DecidedClasses
+pub mod DecidedEvents
 pub mod DecidedHolds
 pub mod DecidedRecords
 pub mod DecidedTree

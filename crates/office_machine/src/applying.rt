@@ -52,6 +52,7 @@ impl Parts {
                 head,
                 status,
             } => self.tree.put_record(number, head, status),
+            RowWrite::Event { number, event } => self.tree.put_event(number, event),
             RowWrite::Hold { code, hold } => self.holds.put(code, hold),
             RowWrite::Target { hold, target } => self.holds.put_target(&hold, target),
             RowWrite::TargetGone { hold, target } => {

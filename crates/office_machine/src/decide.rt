@@ -24,7 +24,8 @@ impl Parts {
             | Act::SetRecordSchedule { .. }
             | Act::Confirm { .. }
             | Act::Review { .. }
-            | Act::Receipt { .. } => self.decide_on_records(alloc, act),
+            | Act::Receipt { .. }
+            | Act::Event { .. } => self.decide_on_records(alloc, act),
             Act::PlaceHold { .. }
             | Act::HoldOn { .. }
             | Act::HoldOff { .. }
@@ -97,8 +98,8 @@ impl Parts {
         }
     }
 
-    /// What is decided of a new record, or of a record's own schedule, confirmation, review or
-    /// receipt.
+    /// What is decided of a new record, or of a record's own schedule, confirmation, review, receipt
+    /// or event.
     #[tactic(auto, unfolding(office_rules::specs::Acts::step))]
     fn decide_on_records(&self, alloc: Global, act: &Act) -> Result<Decision, Memory>
         requires sound { IsSoundOffice self.now }
@@ -130,6 +131,12 @@ impl Parts {
                 digest,
                 by,
             } => self.decide_receipt(alloc, *day, *record_no, *digest, by),
+            Act::Event {
+                day,
+                record_no,
+                occurred,
+                by,
+            } => self.decide_event(alloc, *day, *record_no, *occurred, by),
             _ => unreachable!(),
         }
     }

@@ -7,7 +7,7 @@ ghost use Rattle.office_rules.specs.Conditions.{is_same_record, same_record};
 ghost use Rattle.office_rules.specs.Effects.{new_head};
 ghost use Rattle.office_rules.specs.Sound.{IsSoundOffice};
 ghost use Rattle.office_rules.specs.State.{with_contents};
-ghost use Rattle.office_rules.specs.Steps.{step_add_record, step_confirm, step_receipt, step_review, step_set_record_schedule};
+ghost use Rattle.office_rules.specs.Steps.{step_add_record, step_confirm, step_event, step_receipt, step_review, step_set_record_schedule};
 
 use crate::deciding::two;
 use crate::parts::Parts;
@@ -16,7 +16,7 @@ use office_days::{Day, DueDay};
 use office_proof::digest_of;
 use office_rules::{copy_code, copy_plan, copy_texts};
 use office_tree::{
-    Action, Code, Confirmation, Memory, Receipt, Record, RecordNo, Review, Status, Text,
+    Action, Code, Confirmation, Event, Memory, Receipt, Record, RecordNo, Review, Status, Text,
 };
 use std::alloc::Global;
 
@@ -257,6 +257,28 @@ impl Parts {
             number: record_no,
             head,
             status: Status::Received,
+        };
+        self.go(alloc, Answer::Done, write, day)
+    }
+
+    /// What is decided of an event of a record that occurred on the day `occurred`.
+    pub(crate) fn decide_event(
+        &self,
+        alloc: Global,
+        day: Day,
+        record_no: RecordNo,
+        occurred: Day,
+        by: &Text,
+    ) -> Result<Decision, Memory>
+        ensures { IfOk result (λ d. IsDecidedTo self.now (λ contents. step_event (with_contents self.now contents) day record_no occurred by.now) d) }
+    {
+        if let Some(refusal) = self.dated(day, self.tree.check_event(day, record_no, occurred)) {
+            return Ok(Decision::Stay(Answer::Refused(refusal)));
+        }
+        let by = by.copy(alloc)?;
+        let write = RowWrite::Event {
+            number: record_no,
+            event: Event { occurred, day, by },
         };
         self.go(alloc, Answer::Done, write, day)
     }

@@ -137,6 +137,7 @@ impl Parts {
             schedule,
             action,
             due,
+            event: tree.event_day(record_no),
             held,
             confirmed,
             counts,

@@ -51,12 +51,16 @@ impl Founded {
         self.are_entries_right()
     }
 
-    /// Whether no day of an act is after the office's.
+    /// Whether no day of an act is after the office's, and each event is of a record that is there and not ahead of its
+    /// act.
     fn is_by(&self) -> bool
         ensures yes { IsTrue result → IsOfficeBy self.now }
         ensures no { result ≡ false → IsOfficeBy self.now → ⊥ }
     {
         if !self.tree.is_by(self.day) {
+            return false;
+        }
+        if !self.tree.are_events_sound(self.day) {
             return false;
         }
         if !self.holds.are_by(self.day) {

@@ -1,4 +1,4 @@
-//! The rows of records and contents taken in.
+//! The rows of records, events and contents taken in.
 ghost use Rattle.std.specs.Prelude.{◌≡◌, OnOk};
 ghost use Rattle.office_rows.specs.Rows.{OnDamaged};
 ghost use Rattle.office_rules.specs.Tables.{Begins, StandForNone, TableLists, with_row};
@@ -8,7 +8,7 @@ use crate::Gathering;
 use crate::founding::records::push_record;
 use office_rows::{Rebuild, push_keyed};
 use office_rules::RecordRow;
-use office_tree::RecordNo;
+use office_tree::{Event, RecordNo};
 
 impl Gathering {
     /// Takes a record in.
@@ -17,6 +17,14 @@ impl Gathering {
         ensures damaged { OnDamaged result ((t : TableLists) → Begins (with_row self.old (of_table.Record number columns)) t → StandForNone t) }
     {
         push_record(&mut self.heads, &mut self.statuses, number, columns)
+    }
+
+    /// Takes the event of a record in.
+    pub(super) fn put_event(&mut self, number: RecordNo, event: Event) -> Result<(), Rebuild>
+        ensures ok { OnOk result (self.new ≡ with_row self.old (of_table.Event number event)) }
+        ensures damaged { OnDamaged result ((t : TableLists) → Begins (with_row self.old (of_table.Event number event)) t → StandForNone t) }
+    {
+        push_keyed(&mut self.events, number, event)
     }
 
     /// Takes the key of a content in.

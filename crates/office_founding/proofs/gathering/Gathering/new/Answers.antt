@@ -6,21 +6,22 @@ use Rattle.office_founding.proofs.Gathered.{no_hold_rows, nothing_gathered}
 use Rattle.office_founding.proofs.gathering.Gathering.new.Goals as goal
 
 pub invariant_of-result : goal.invariant_of-result
-invariant_of-result c = rw (c.new-4.ensures.items, c.new-5.ensures.items, c.new-7.ensures, c.new-8.ensures, c.new-10.ensures.empty) nothing_gathered
+invariant_of-result c = rw (c.new-4.ensures.items, c.new-5.ensures.items, c.new-8.ensures, c.new-9.ensures, c.new-11.ensures.empty) nothing_gathered
 
 pub returns : goal.returns
 returns c =
-    let none = ap hold_rows c.new-7.ensures ∙ no_hold_rows in
+    let none = ap hold_rows c.new-8.ensures ∙ no_hold_rows in
     λ i. record {
       days = [];
       schedules = c.new.ensures.empty i;
       classes = c.new-2.ensures.empty i;
       aggregations = numbered_rows (c.new-3.ensures.items i);
       records = numbered_rows (record_rows (c.new-4.ensures.items i) (c.new-5.ensures.items i));
-      contents = map (λ e. e.0) (c.new-6.ensures.empty i);
+      events = c.new-6.ensures.empty i;
+      contents = map (λ e. e.0) (c.new-7.ensures.empty i);
       holds = none i;
-      targets = c.new-8.ensures i;
-      runs = numbered_rows (c.new-9.ensures.items i);
-      entries = map (λ e. e.1) (c.new-10.ensures.empty i);
-      certificates = c.new-11.ensures.empty i;
+      targets = c.new-9.ensures i;
+      runs = numbered_rows (c.new-10.ensures.items i);
+      entries = map (λ e. e.1) (c.new-11.ensures.empty i);
+      certificates = c.new-12.ensures.empty i;
     }
