@@ -5,13 +5,11 @@ use Rattle.std.proofs.lemmas.List.Sorted.{length_permutation}
 use Rattle.std.proofs.lemmas.Result.{IfErr-weaker, IfOk-weaker}
 use Rattle.sqlite_value.specs.Order.{Row}
 use Rattle.sqlite_trees.proofs.ListLemmas.{IsPermutation-same}
-use Rattle.sqlite.specs.Effect.{Database}
-use Rattle.sqlite.specs.State.{State, HasCleanDisk}
+use Rattle.sqlite.specs.State.{State}
 use Rattle.office_sql.specs.declared.editions.Edition.{Edition}
 use Rattle.office_sql.specs.declared.editions.Edition.TheVariants as edition
 use Rattle.office_sql.specs.Office.{IsAtRestOver}
 use Rattle.office_sql.specs.declared.reading.OfficeTable.TheVariants as table
-use Rattle.office_sql.specs.Reads.{bag_of}
 use Rattle.office_store.specs.Adopted.{ConfirmsEdition, FindsNone}
 use Rattle.office_store.specs.declared.fault.Fault.{Fault}
 
@@ -40,28 +38,17 @@ NamesTwo ed old = IsAtRestOver ed old → Some edition.Two ≡ Some ed
 not_one : (old : State) → NamesTwo edition.One old → IsAtRestOver edition.One old → ⊥
 not_one old named rest = let two : Some edition.Two ≡ Some edition.One = named rest in cc
 
--- the first of the two tables has a row, or is not read
-pub first_fails : (ed : Edition) (old new : State) → NamesTwo ed old → (f : Fault) → FindsNone {X = Unit {0}} edition.Two table.OldSchedules old new (Err f) → ConfirmsEdition ed edition.Two old new (Err f)
-first_fails edition.One old new named f it =
-    record { is = λ clean rest. tt; same = λ clean rest. tt; damaged = λ clean rest. absurd (not_one old named rest); leaves = λ clean rest. absurd (not_one old named rest) }
-first_fails edition.Two old new named f it =
-    record { is = λ clean rest. tt; same = λ clean rest. tt; damaged = λ clean rest wrong now emptied. it.damaged clean rest wrong (none_had emptied.0); leaves = it.leaves }
-
--- the second is looked at, where the first has no row
-pub second_looked : (ed : Edition) (old mid new : State) → NamesTwo ed old → (result : Result (Unit {0}) Fault) → FindsNone {X = Unit {0}} edition.Two table.OldSchedules old mid (Ok tt) → (HasCleanDisk new → HasCleanDisk mid)
-    → FindsNone {X = Unit {0}} edition.Two table.Events mid new result → ConfirmsEdition ed edition.Two old new result
-second_looked edition.One old mid new named result it disk next =
+-- it is found out that `schedules` has no row, or that it has one, or it is not read
+pub schedules_looked : (ed : Edition) (old new : State) → NamesTwo ed old → (result : Result (Unit {0}) Fault) → FindsNone {X = Unit {0}} edition.Two table.OldSchedules old new result → ConfirmsEdition ed edition.Two old new result
+schedules_looked edition.One old new named result it =
     let never = not_one old named in
     record { is = λ clean rest. absurd (never rest); same = λ clean rest. absurd (never rest); damaged = λ clean rest. absurd (never rest); leaves = λ clean rest. absurd (never rest) }
-second_looked edition.Two old mid new named result it disk next =
-    let first = λ (clean : HasCleanDisk new) (rest : IsAtRestOver edition.Two old). it.none (disk clean) rest in
-    let events = λ (clean : HasCleanDisk new) (rest : IsAtRestOver edition.Two old). ap (λ (d : Database). bag_of table.Events d.trees) (first clean rest).2 in
-    record {
-      is = λ clean rest. IfOk-weaker result _ _ (λ x none. (refl, (IsPermutation-same _ _ (sym (first clean rest).0), IsPermutation-same _ _ (sym (sym (events clean rest) ∙ none.0))))) (next.none clean (first clean rest).1);
-      same = λ clean rest. IfOk-weaker result _ _ (λ x none. (none.1, none.2 ∙ (first clean rest).2)) (next.none clean (first clean rest).1);
-      damaged = λ clean rest. IfErr-weaker result _ _ (λ f some wrong now emptied. some wrong (events clean rest ∙ none_had emptied.1)) (next.damaged clean (first clean rest).1);
-      leaves = λ clean rest db may. it.leaves (disk clean) rest db (next.leaves clean (first clean rest).1 db may);
-    }
+schedules_looked edition.Two old new named result it = record {
+  is = λ clean rest. IfOk-weaker result _ _ (λ x none. (refl, IsPermutation-same _ _ (sym none.0))) (it.none clean rest);
+  same = λ clean rest. IfOk-weaker result _ _ (λ x none. (none.1, none.2)) (it.none clean rest);
+  damaged = λ clean rest. IfErr-weaker result _ _ (λ f some wrong now emptied. some wrong (none_had emptied)) (it.damaged clean rest);
+  leaves = it.leaves;
+}
 
 -- the names are those of version 1, of which no table is to have no row
 pub one_confirmed : (ed : Edition) (old : State) → (IsAtRestOver ed old → Some edition.One ≡ Some ed) → ConfirmsEdition ed edition.One old old (Ok tt)

@@ -1,5 +1,6 @@
--- The schedules of either version are read of their own table, and what is told of the version by the names of tables.
-use Rattle.std.proofs.Common.{◌≡◌, All, List, [], ◌∷◌, Some, refl}
+-- The schedules of either version are read of their own table, the events of version 2 of theirs, and what is told of the version by the names of tables.
+use Rattle.std.proofs.Common.{◌≡◌, All, List, [], ◌∷◌, Some, true, false, refl, sym, subst, arith}
+use Rattle.std.proofs.lemmas.List.Sorted.{IsPermutation-refl}
 use Rattle.sqlite_value.specs.Order.{Row}
 use Rattle.sqlite_schema.specs.Names.{same_name}
 use Rattle.sqlite_trees.specs.Tree.{Trees}
@@ -10,6 +11,8 @@ use Rattle.office_sql.specs.declared.editions.Edition.TheVariants as edition
 use Rattle.office_sql.specs.Names.{layout_of}
 use Rattle.office_sql.specs.declared.reading.OfficeTable.TheVariants as table
 use Rattle.office_sql.specs.Reads.{IsByKey, bag_of, key_of}
+use Rattle.office_store.specs.Stands.{events_in}
+use Rattle.office_store.specs.Taken.{HaveEventsCome}
 
 pub schedules_by_key : (ed : Edition) (db : Trees) (rows : List Row) → IsByKey (key_of (schedules_table ed)) (bag_of (schedules_table ed) db) rows → IsByKey (0 ∷ []) (rows_of (schedules_of ed) db) rows
 schedules_by_key edition.One db rows by = by
@@ -22,6 +25,16 @@ all_schedules_too P edition.Two db all = all
 pub schedules_are_a_table : (ed : Edition) → IsTableOf ed (schedules_table ed)
 schedules_are_a_table edition.One = tt
 schedules_are_a_table edition.Two = tt
+
+-- no event has come yet
+pub no_event_yet : (ed : Edition) (db : Trees) → HaveEventsCome ed false false db []
+no_event_yet edition.One db = refl
+no_event_yet edition.Two db = refl
+
+-- the events that have come whole are read
+pub events_by_key : (ed : Edition) (db : Trees) (rows : List Row) → HaveEventsCome ed true true db rows → IsByKey (0 ∷ []) (events_in ed db) rows
+events_by_key edition.One db rows none = subst (IsByKey (0 ∷ []) []) (sym none) (record { same = IsPermutation-refl _; sorted = λ k d low high. absurd (omega arith) })
+events_by_key edition.Two db rows by = by
 
 -- the names of the tables are those of one version
 pub layout_is : (ed : Edition) → layout_of (schema_of ed) ≡ Some ed

@@ -17,7 +17,7 @@ use Rattle.office_sql.specs.declared.editions.Edition.TheVariants as edition
 use Rattle.office_sql.specs.Office.{IsAtRest, IsAtRestOver, IsOffice, office_over}
 use Rattle.office_sql.specs.Schema.{at, aggregations, certificates, classes, contents, entries, events, holds, office, records, runs, schedules, targets}
 use Rattle.office_sql.specs.Shown.{certificate_row, content_row, office_row}
-use Rattle.office_saving.specs.Encoded.{aggregation_shown, class_shown, entry_shown, hold_shown, record_shown, run_shown, schedule_shown, target_shown}
+use Rattle.office_saving.specs.Encoded.{aggregation_shown, class_shown, entry_shown, event_shown, hold_shown, record_shown, run_shown, schedule_shown, target_shown}
 
 -- the table has these rows and no others, in any order
 abbrev pub Has : Table → Trees → List Row → Type 0
@@ -33,10 +33,15 @@ HasTargets db is_target =
 abbrev pub HasContents : Trees → ByteMap → Type 0
 HasContents db bytes = Has (at 9 contents) db (map (λ e. content_row (pos e.0) e.1) (finmap.entries bytes))
 
--- `schedules` and `events` have no row in version 2
+-- the rows of `events`; version 1 has no events
+abbrev pub events_in : Edition → Trees → List Row
+events_in edition.One db = []
+events_in edition.Two db = bags.rows_of (at 20 events) db
+
+-- `schedules` has no row in version 2
 abbrev pub IsEmptied : Edition → Trees → Type 0
 IsEmptied edition.One db = Unit {0}
-IsEmptied edition.Two db = Has (at 1 schedules) db [] × Has (at 20 events) db []
+IsEmptied edition.Two db = Has (at 1 schedules) db []
 
 -- the tables of that version have these rows; `office` has one, of that version
 pub record StandsIn (e : Edition) (t : TableRows) (db : Trees) : Type 0 where
@@ -45,6 +50,7 @@ pub record StandsIn (e : Edition) (t : TableRows) (db : Trees) : Type 0 where
   pub classes : Has (at 3 classes) db (map (λ e. class_shown e.0 e.1) t.classes)
   pub aggregations : Has (at 5 aggregations) db (map (λ e. aggregation_shown e.0 e.1) t.aggregations)
   pub records : Has (at 7 records) db (map (λ e. record_shown e.0 e.1) t.records)
+  pub events : IsPermutation (map (λ e. event_shown e.0 e.1) t.events) (events_in e db)
   pub contents : Has (at 9 contents) db (map (λ e. content_row (pos e.0) e.1) t.contents)
   pub holds : Has (at 10 holds) db (map (λ e. hold_shown e.0 e.1) t.holds)
   pub targets : HasTargets db t.targets

@@ -1,0 +1,34 @@
+//! The rows of events.
+ghost use Rattle.office_store.specs.Stored.{IsEventPair, IsRowOf, event_handed, event_pair};
+
+use crate::columns::{day, has_columns, words};
+use crate::stored::Stored;
+use office_rules::Row as TableRow;
+use office_sql::{BadValue, number};
+use office_tree::{Event, RecordNo};
+use sqlite::Row;
+use std::alloc::Global;
+
+impl Stored for (RecordNo, Event) {
+    ghost shown = { event_pair };
+
+    ghost IsRow = { IsRowOf event_pair IsEventPair };
+
+    ghost handed = { event_handed };
+
+    fn read(alloc: Global, row: &Row) -> Result<(RecordNo, Event), BadValue> {
+        has_columns(row, 4)?;
+        let numbered = number(row, 0)?;
+        let event = Event {
+            occurred: day(row, 1)?,
+            day: day(row, 2)?,
+            by: words(alloc, row, 3)?,
+        };
+        Ok((numbered, event))
+    }
+
+    fn into_row(self) -> TableRow {
+        let (number, event) = self;
+        TableRow::Event { number, event }
+    }
+}
