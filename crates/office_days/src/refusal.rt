@@ -1,3 +1,4 @@
+//! Why the office refuses an act.
 ghost use Rattle.std.specs.Prelude.{◌≡◌};
 
 /// Why the office refuses what it is asked. A refusal changes nothing.

@@ -1,3 +1,4 @@
+//! The writes of a change, done to the office in memory.
 ghost use Rattle.std.specs.Prelude.{◌≡◌, ◌<◌, ◌≤◌, length, OnOk, OnErr};
 ghost use Rattle.office_tree.specs.Lasting.{KeepsHead};
 ghost use Rattle.office_tree.specs.Rows.{put_record};

@@ -1,3 +1,4 @@
+//! What is decided of each kind of act.
 ghost use Rattle.std.specs.Prelude.{IfOk};
 ghost use Rattle.office_rules.specs.Acts.{IsDecidedFor, IsOnAggregations, IsOnHolds, IsOnRecords, IsOnRuns, IsOnSchedules};
 ghost use Rattle.office_rules.specs.Sound.{IsSoundOffice};

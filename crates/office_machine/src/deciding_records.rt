@@ -1,3 +1,4 @@
+//! What is decided of an act on a record.
 ghost use Rattle.std.specs.Prelude.{◌≡◌, IfOk};
 ghost use Rattle.std.specs.Option.{option_copied, option_map};
 ghost use Rattle.sha2.specs.Sha256.{sha256};

@@ -1,3 +1,4 @@
+//! What is read of one record, of entries and of certificates.
 ghost use Rattle.std.specs.Prelude.{◌≡◌, ◌↔◌, IfOk, IsTrue, Some};
 ghost use Rattle.std.specs.FinMap.{from_entries, get, values};
 ghost use Rattle.std.specs.Option.{option_copied, option_map};

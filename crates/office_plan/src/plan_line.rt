@@ -1,3 +1,4 @@
+//! What a line of a plan file asks for.
 ghost use Rattle.std.specs.Prelude.{◌≡◌, ◌<◌, ◌==◌, map, IfOk};
 ghost use Rattle.office_plan.specs.PlanLines.{action_at, aggregation_line, class_line, close_line, code_at, day_at, days_at, disposal_at, event_line, is_line, keeping_at, line_asked, line_by_words, number_at, offset_at, optional_code_at, optional_number_at, period_at, place_at, record_line, schedule_at, schedule_line, trigger_at, word_at};
 

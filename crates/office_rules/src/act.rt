@@ -1,3 +1,4 @@
+//! The acts.
 use crate::NewRecord;
 use office_days::{Day, Offset, Period};
 use office_holds::Target;

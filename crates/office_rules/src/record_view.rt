@@ -1,3 +1,4 @@
+//! What is reported of a record.
 use office_days::{Day, DueDay};
 use office_tree::{Action, AggNo, Code, Confirmation, RecordNo, Status, Text};
 

@@ -1,3 +1,4 @@
+//! The rows of all of the office's tables.
 use crate::{RecordRow, Run};
 use office_days::Day;
 use office_holds::{HoldRow, Target};

@@ -1,3 +1,4 @@
+//! A tree made of its parts, where these are sound.
 ghost use Rattle.std.specs.Prelude.{◌≡◌, ◌↔◌, ◌<◌, ◌≤◌, ℕ, IsTrue, IfOk, IfSome, MatchOption, true, false, length, nat_le, Some};
 ghost use Rattle.std.specs.BTreeMap as map;
 ghost use Rattle.std.specs.FinMap.{contains_key, from_entries, len};

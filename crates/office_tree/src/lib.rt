@@ -1,10 +1,11 @@
-//! The tree of the office: disposal schedules, classes, aggregations and record heads.
+//! The tree of the office: disposal schedules, classes, aggregations, record heads and their events.
 //!
 //! An aggregation holds records and other aggregations, at most eight deep. Each record has a
 //! **class**: its own, else that of the nearest aggregation above it that has one. Its **plan**
 //! is its own disposal schedule, else the schedule of its class. The plan's trigger tells the
 //! **start day**, and its retention period and calendar offset tell the **due day**, on which the
-//! record may be disposed of.
+//! record may be disposed of. A trigger may wait for the record's **event**, as the end of a contract:
+//! there is no due day before one is recorded.
 //!
 //! Each act on the tree comes as a pair: `check_..` says why it is refused, with the least number,
 //! or `None`; `apply_..` asks that its check gives `None` and makes the change, or answers

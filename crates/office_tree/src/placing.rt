@@ -1,3 +1,4 @@
+//! Rows put in by their keys.
 ghost use Rattle.std.specs.Prelude.{◌≡◌, ◌+◌, ◌<◌, ◌≤◌, OnOk, OnErr, IsOk, IsTrue, false, length, vec_len, vec_capacity};
 ghost use Rattle.std.specs.FinMap.{contains_key};
 ghost use Rattle.office_tree.specs.Lasting.{KeepsAggregation, KeepsHead};

@@ -1,3 +1,4 @@
+//! The plan, the start day and the due day of a record.
 ghost use Rattle.std.specs.Prelude.{◌≡◌, ◌<◌, ◌≤◌, IsTrue, Some, length};
 ghost use Rattle.std.specs.FinMap.{from_entries};
 ghost use Rattle.std.specs.Option.{option_and_then, option_map};

@@ -1,7 +1,8 @@
+//! What the retention period of a schedule begins with.
 ghost use Rattle.std.specs.Prelude.{◌≡◌};
 ghost use Rattle.office_tree.specs.Words.{trigger_named, trigger_word};
 
-/// The event whose day starts the period of a schedule.
+/// What begins the retention period of a schedule.
 #[derive(Clone, Copy, PartialEq, Eq, Debug)]
 pub enum Trigger {
     /// The record's own day of origin.
