@@ -1,4 +1,5 @@
 pub mod Calendar
+pub mod ConfirmCounts
 pub mod Due
 pub mod Limits
 pub mod Numerals

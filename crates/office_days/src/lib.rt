@@ -25,7 +25,7 @@ mod text;
 mod thing_number;
 mod unit;
 
-pub use confirm_days::{ConfirmDays, deadline};
+pub use confirm_days::{ConfirmDays, deadline, read_confirm_days};
 pub use day::Day;
 pub use due::{DueDay, due_day};
 pub use last_day::Deadline;

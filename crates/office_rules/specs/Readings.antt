@@ -1,12 +1,13 @@
 -- What is read of the office. Source: own; what is told of a record is MoReq2010's, its record, disposal scheduling and
 -- disposal holding services.
-use Rattle.std.specs.Prelude.{◌≡◌, ◌↔◌, IsTrue, ℕ, ◌==◌, Bool, ◌&&◌, List, [], Option, Some, None, ℤ, pos, int_le, if◌then◌else◌}
+use Rattle.std.specs.Prelude.{◌≡◌, ◌↔◌, IsTrue, ℕ, ◌==◌, Bool, not, ◌&&◌, List, [], Option, Some, None, ℤ, pos, int_le, int_lt, if◌then◌else◌}
 use Rattle.std.specs.List.{find, Contains}
 use Rattle.std.specs.List.Sorted.{IsStrictlySortedBy}
-use Rattle.std.specs.Option.{unwrap_or}
+use Rattle.std.specs.Option.{option_map, unwrap_or}
 use Rattle.std.specs.Ordering.{int_cmp, nat_cmp, ordering_then}
 use Rattle.std.specs.declared.cmp.Ordering.{Ordering}
 use Rattle.std.specs.FinMap.{values}
+use Rattle.office_days.specs.Due.{deadline_from}
 use Rattle.office_tree.specs.Disposal.{counts, is_here}
 use Rattle.office_tree.specs.Lists.{holds_of, numbered}
 use Rattle.office_tree.specs.Tree.{TreeState, action_of, class_of, due_of, event_day, plan_of, status_of}
@@ -79,3 +80,22 @@ due_cmp tree r q = ordering_then (int_cmp (unwrap_or (due_of tree r) (pos 0)) (u
 pub record IsDueList (tree : TreeState) (day : ℤ) (list : List ℕ) : Type 0 where
   pub these : (r : ℕ) → (Contains list r ↔ IsTrue (is_due_here tree day r))
   pub in_order : IsStrictlySortedBy (due_cmp tree) list
+
+-- ---- what is overdue
+
+-- the record is here, its deadline, so many days after its due day, is before that day, and no confirmation of it counts
+abbrev pub is_overdue : TreeState → ℤ → ℕ → ℕ → Bool
+is_overdue tree day n r = holds_of (status_of tree r) is_here && (holds_of (due_of tree r) (λ due. int_lt (deadline_from due n) day) && not (counts tree r))
+
+-- its deadline; of a record without a due day, which is never overdue, any day
+abbrev pub deadline_or : TreeState → ℕ → ℕ → ℤ
+deadline_or tree n r = unwrap_or (option_map (λ due. deadline_from due n) (due_of tree r)) (pos 0)
+
+-- by deadline, then number
+abbrev pub deadline_cmp : TreeState → ℕ → ℕ → ℕ → Ordering
+deadline_cmp tree n r q = ordering_then (int_cmp (deadline_or tree n r) (deadline_or tree n q)) (nat_cmp r q)
+
+-- what is overdue on a day, so many days after the due day: the records that should have been confirmed by then and were not, by deadline, then number (own)
+pub record IsOverdueList (tree : TreeState) (day : ℤ) (n : ℕ) (list : List ℕ) : Type 0 where
+  pub these : (r : ℕ) → (Contains list r ↔ IsTrue (is_overdue tree day n r))
+  pub in_order : IsStrictlySortedBy (deadline_cmp tree n) list

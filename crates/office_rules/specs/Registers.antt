@@ -1,4 +1,4 @@
--- What the registers tell, row by row: the records that are due on a day, and the entries of all runs. Source: own; what is told
+-- What the registers tell, row by row: the records that are due on a day, those that are overdue, and the entries of all runs. Source: own; what is told
 -- of a record is MoReq2010's, its record, disposal scheduling and disposal holding services.
 use Rattle.std.specs.Prelude.{◌≡◌, ℕ, ℤ, Bool, List, [], ◌∷◌, Option, Some, None}
 use Rattle.std.specs.Option.{option_copied, unwrap_or}
@@ -10,7 +10,7 @@ use Rattle.office_tree.specs.declared.action.Action.TheVariants.{Keep}
 use Rattle.office_tree.specs.declared.head.Record.{Record}
 use Rattle.office_holds.specs.Holds.{least_covering}
 use Rattle.office_proof.specs.declared.entry.Entry.{Entry}
-use Rattle.office_rules.specs.Readings.{IsDueList, all_entries_of}
+use Rattle.office_rules.specs.Readings.{IsDueList, IsOverdueList, all_entries_of}
 use Rattle.office_rules.specs.State.{Office}
 use Rattle.office_rules.specs.declared.due_row.DueRow.{DueRow}
 use Rattle.office_rules.specs.declared.entry_row.EntryRow.{EntryRow}
@@ -74,6 +74,10 @@ due_rows_of s (r ∷ rs) = and_due (due_row s r) (due_rows_of s rs)
 -- the rows of a day: of each record of its due list, in their order
 abbrev pub AreDueRows : Office → ℤ → List DueTold → Type 0
 AreDueRows s day rows = (list : List ℕ) × IsDueList s.tree day list × (rows ≡ due_rows_of s list)
+
+-- the rows of what is overdue on a day, so many days after the due day: of each record of that list, in their order
+abbrev pub AreOverdueRows : Office → ℤ → ℕ → List DueTold → Type 0
+AreOverdueRows s day n rows = (list : List ℕ) × IsOverdueList s.tree day n list × (rows ≡ due_rows_of s list)
 
 -- ---- the entries
 
