@@ -2,7 +2,7 @@
 ghost use Rattle.std.specs.Prelude.{◌≡◌, IfOk, false};
 ghost use Rattle.clap.specs.Words.{app_of, new_app, rule_of, with_subcommand};
 ghost use Rattle.clap.specs.declared.builder.command.Command.TheViews.{out-Command as fields_of};
-ghost use Rattle.office_words.specs.Command.{office_app, operand, with_csv_commands, with_file_commands, with_operands, with_plain_commands, with_run_commands, with_service_command};
+ghost use Rattle.office_words.specs.Command.{office_app, operand, with_csv_commands, with_file_commands, with_operands, with_overdue_command, with_plain_commands, with_run_commands, with_service_command};
 
 use clap::{Arg, Command};
 use std::alloc::{AllocError, Global};
@@ -206,6 +206,33 @@ fn with_csv_commands<'a>(alloc: Global, command: Command<'a>) -> Result<Command<
     )
 }
 
+/// With the command that writes what is overdue as CSV.
+#[tactic(auto, unfolding(crate::specs::Command::with_overdue_command))]
+fn with_overdue_command<'a>(alloc: Global, command: Command<'a>) -> Result<Command<'a>, AllocError>
+    ensures { IfOk result (λ c. app_of c ≡ with_overdue_command (app_of command.entry)) }
+{
+    with_command(
+        alloc,
+        command,
+        "overdue",
+        "Writes the register of what is overdue as CSV",
+        &[
+            Operand {
+                name: "FILE",
+                help: "The office's file",
+            },
+            Operand {
+                name: "DAY",
+                help: "The day on which it is overdue, as 2017-06-30",
+            },
+            Operand {
+                name: "COUNT",
+                help: "Days after its due day within which a record is to be confirmed, 3650 at most",
+            },
+        ],
+    )
+}
+
 /// With the command that answers requests to that office.
 #[tactic(auto, unfolding(crate::specs::Command::with_service_command))]
 fn with_service_command<'a>(alloc: Global, command: Command<'a>) -> Result<Command<'a>, AllocError>
@@ -245,5 +272,6 @@ pub(crate) fn office_command<'a>(alloc: Global) -> Result<Command<'a>, AllocErro
     let command = with_file_commands(alloc, command)?;
     let command = with_run_commands(alloc, command)?;
     let command = with_csv_commands(alloc, command)?;
+    let command = with_overdue_command(alloc, command)?;
     with_service_command(alloc, command)
 }
