@@ -81,11 +81,7 @@ with_run_commands app = with_subcommand (with_subcommand app resume_app.top) cer
 
 -- with the commands that take and give texts of CSV
 unfoldable pub with_csv_commands : App → App
-with_csv_commands app = with_subcommand (with_subcommand app import_app.top) export_app.top
-
--- with the command that writes what is overdue as CSV
-unfoldable pub with_overdue_command : App → App
-with_overdue_command app = with_subcommand app overdue_app.top
+with_csv_commands app = with_subcommand (with_subcommand (with_subcommand app import_app.top) export_app.top) overdue_app.top
 
 -- with the command that answers requests to that office
 unfoldable pub with_service_command : App → App
@@ -94,8 +90,7 @@ with_service_command app = with_subcommand app serve_app.top
 -- `office COMMAND ..`
 unfoldable pub office_app : App
 office_app =
-    with_service_command (with_overdue_command (with_csv_commands
-    (with_run_commands (with_file_commands (with_plain_commands (with_commands (new_app (codes "office"))))))))
+    with_service_command (with_csv_commands (with_run_commands (with_file_commands (with_plain_commands (with_commands (new_app (codes "office")))))))
 
 -- the text of an operand; `clap` takes no words in which one lacks
 abbrev pub text_of : Text → List Row → Text

@@ -2,7 +2,7 @@
 ghost use Rattle.std.specs.Prelude.{◌≡◌, IfOk, false};
 ghost use Rattle.clap.specs.Words.{app_of, new_app, rule_of, with_subcommand};
 ghost use Rattle.clap.specs.declared.builder.command.Command.TheViews.{out-Command as fields_of};
-ghost use Rattle.office_words.specs.Command.{office_app, operand, with_csv_commands, with_file_commands, with_operands, with_overdue_command, with_plain_commands, with_run_commands, with_service_command};
+ghost use Rattle.office_words.specs.Command.{office_app, operand, with_csv_commands, with_file_commands, with_operands, with_plain_commands, with_run_commands, with_service_command};
 
 use clap::{Arg, Command};
 use std::alloc::{AllocError, Global};
@@ -188,7 +188,7 @@ fn with_csv_commands<'a>(alloc: Global, command: Command<'a>) -> Result<Command<
             },
         ],
     )?;
-    with_command(
+    let command = with_command(
         alloc,
         command,
         "export",
@@ -203,14 +203,7 @@ fn with_csv_commands<'a>(alloc: Global, command: Command<'a>) -> Result<Command<
                 help: "entries, or the day of what is due, as 2017-06-30",
             },
         ],
-    )
-}
-
-/// With the command that writes what is overdue as CSV.
-#[tactic(auto, unfolding(crate::specs::Command::with_overdue_command))]
-fn with_overdue_command<'a>(alloc: Global, command: Command<'a>) -> Result<Command<'a>, AllocError>
-    ensures { IfOk result (λ c. app_of c ≡ with_overdue_command (app_of command.entry)) }
-{
+    )?;
     with_command(
         alloc,
         command,
@@ -272,6 +265,5 @@ pub(crate) fn office_command<'a>(alloc: Global) -> Result<Command<'a>, AllocErro
     let command = with_file_commands(alloc, command)?;
     let command = with_run_commands(alloc, command)?;
     let command = with_csv_commands(alloc, command)?;
-    let command = with_overdue_command(alloc, command)?;
     with_service_command(alloc, command)
 }
