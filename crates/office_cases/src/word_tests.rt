@@ -99,6 +99,10 @@ fn tell_register(register: &Register, out: &mut Vec<u8>) -> Option<()> {
     match register {
         Register::Entries => push(out, "entries"),
         Register::Due(day) => push_day(out, *day),
+        Register::Overdue(day, days) => {
+            push_day(out, *day)?;
+            write!(out, " {}", days.count()).ok()
+        }
     }
 }
 
@@ -126,12 +130,9 @@ fn tell_order(order: &Order<'_>, out: &mut Vec<u8>) -> Option<()> {
         Order::Export { file, register } => push(out, "export ")
             .and(tell_register(register, out))
             .and(push_all(out, &["", file])),
-        Order::Overdue { file, day, days } => {
-            push(out, "overdue ").and(push_day(out, *day))?;
-            write!(out, " {}", days.count())
-                .ok()
-                .and(push_all(out, &["", file]))
-        }
+        Order::Overdue { file, day, days } => push(out, "overdue ")
+            .and(tell_register(&Register::Overdue(*day, *days), out))
+            .and(push_all(out, &["", file])),
         Order::Serve { file, port, count } => {
             write!(out, "serve {port} {count}")
                 .ok()
