@@ -188,7 +188,7 @@ fn with_csv_commands<'a>(alloc: Global, command: Command<'a>) -> Result<Command<
             },
         ],
     )?;
-    with_command(
+    let command = with_command(
         alloc,
         command,
         "export",
@@ -201,6 +201,26 @@ fn with_csv_commands<'a>(alloc: Global, command: Command<'a>) -> Result<Command<
             Operand {
                 name: "REGISTER",
                 help: "entries, or the day of what is due, as 2017-06-30",
+            },
+        ],
+    )?;
+    with_command(
+        alloc,
+        command,
+        "overdue",
+        "Writes the register of what is overdue as CSV",
+        &[
+            Operand {
+                name: "FILE",
+                help: "The office's file",
+            },
+            Operand {
+                name: "DAY",
+                help: "The day on which it is overdue, as 2017-06-30",
+            },
+            Operand {
+                name: "COUNT",
+                help: "Days after its due day within which a record is to be confirmed, 3650 at most",
             },
         ],
     )
