@@ -233,7 +233,7 @@ def pictures(view: View) -> None:
     def opened() -> None:
         view.browser.press("#record-review-part summary")
         view.browser.write(record_review_by=WHO)
-        view.browser.driver.execute_script("document.getElementById('record-facts').scrollIntoView()")
+        view.browser.driver.execute_script("document.getElementById('record-event').scrollIntoView()")
 
     shots(view.browser, "record-acts", f"{view.story.proxy.page}#record?number=1", opened)
 
