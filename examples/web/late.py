@@ -68,15 +68,15 @@ def fill(office: Office) -> None:
     acts = [
         {**schedule, "code": "D1", "trigger": "added", "count": 1, "action": "destroy"},
         {**schedule, "code": "D12", "trigger": "added", "count": 12, "action": "destroy"},
-        {**schedule, "code": "R1", "trigger": "review", "count": 1, "action": "review"},
-        {**schedule, "code": "T1", "trigger": "added", "count": 1, "action": "transfer"},
+        {**schedule, "code": "REV-1", "trigger": "review", "count": 1, "action": "review"},
+        {**schedule, "code": "SEND-1", "trigger": "added", "count": 1, "action": "transfer"},
         {"act": "add-class", **day, "code": "C", "title": "Letters", "schedule": "D1"},
         {"act": "add-aggregation", **day, "ref": "A", "title": "Letters", "class": "C"},
     ]
     record = {"act": "add-record", **day, "originated": after(-800), "aggregation": 1, "content": "YWJj"}
     acts += [
         {**record, "ref": f"r{number}", "title": f"Letter {number}", "schedule": code}
-        for number, code in enumerate((None, "D12", "R1", "T1", None), 1)
+        for number, code in enumerate((None, "D12", "REV-1", "SEND-1", None), 1)
     ]
     day = {"day": after(-400)}
     acts += [

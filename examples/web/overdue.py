@@ -16,19 +16,19 @@ DAY, COUNT = "2025-02-10", "30"
 # the schedules: trigger, count of years, action
 SCHEDULES = {
     "D1": ("added", 1, "destroy"),
-    "T1": ("added", 1, "transfer"),
-    "R1": ("review", 1, "review"),
+    "SEND-1": ("added", 1, "transfer"),
+    "REV-1": ("review", 1, "review"),
     "K": ("added", 1, "keep"),
 }
 # the records, by number: the day of filing, the class, and a schedule of its own or none
 RECORDS = [
     ("2024-01-02", "FIN", None),
     ("2024-01-02", "LEG", None),
-    ("2024-01-02", "FIN", "T1"),
-    ("2024-01-02", "LEG", "R1"),
+    ("2024-01-02", "FIN", "SEND-1"),
+    ("2024-01-02", "LEG", "REV-1"),
     ("2024-01-02", "FIN", "K"),
     ("2024-01-05", "LEG", None),
-    ("2024-01-08", "FIN", "T1"),
+    ("2024-01-08", "FIN", "SEND-1"),
     ("2024-01-11", "FIN", None),
     ("2024-01-12", "LEG", None),
     ("2024-03-01", "FIN", None),
@@ -159,7 +159,7 @@ def listed(view: View) -> None:
     )
     for name, value, takes in (
         ("class", "LEG", lambda row: row["class"] == "LEG"),
-        ("schedule", "T1", lambda row: row["schedule"] == "T1"),
+        ("schedule", "SEND-1", lambda row: row["schedule"] == "SEND-1"),
         ("action", "review", lambda row: row["action"] == "review"),
         ("held", "H-1", lambda row: row["held"] == "H-1"),
         ("held", "-", lambda row: not row["held"]),
