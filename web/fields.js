@@ -1,6 +1,7 @@
 // Fields and forms: what a field takes, what is wrong in one, and the ticks that a form asks for before anything is sent.
 import { byId, made, paragraph } from "./page.js";
-import { isCode, isDay, isNumber, isTarget, isText, today } from "./plain/forms.js";
+import { isCode, isConfirmDays, isDay, isNumber, isTarget, isText, today } from "./plain/forms.js";
+import { PLAN_KINDS } from "./plain/plan_kinds.js";
 import { t } from "./texts.js";
 
 /**
@@ -18,7 +19,19 @@ const KINDS = {
   certificate: { label: "fields.certificate", wrong: "fields.numberWrong", takes: isNumber, mode: "numeric" },
   run: { label: "fields.run", wrong: "fields.numberWrong", takes: isNumber, mode: "numeric" },
   target: { label: "fields.target", hint: "fields.targetHint", takes: isText },
+  overdueDay: { label: "overdue.day", hint: "fields.dayHint", wrong: "fields.dayWrong", takes: isDay, mode: "numeric", isToday: true },
+  confirmDays: { label: "overdue.count", hint: "overdue.countHint", wrong: "overdue.countWrong", takes: isConfirmDays, mode: "numeric" },
+  ...PLAN_KINDS,
 };
+
+/** What a field is written into, or chosen from. */
+function inputOf(id, kind) {
+  const told = { id, "aria-describedby": `${id}-hint ${id}-wrong` };
+  if (kind.choices) return made("select", told, ...kind.choices.map((value) => made("option", { value }, t(`${kind.words}.${value}`))));
+  const input = made("input", { ...told, type: "text", autocomplete: "off", spellcheck: "false", autocapitalize: "off" });
+  if (kind.mode) input.inputMode = kind.mode;
+  return input;
+}
 
 /** Builds the field that `<div data-field="KIND" id="ID">` names: a label, a hint, an input and room for what is wrong. */
 export function field(place) {
@@ -26,8 +39,7 @@ export function field(place) {
   const kind = KINDS[dataset.field];
   place.removeAttribute("id");
   place.className = "field";
-  const input = made("input", { id, type: "text", autocomplete: "off", spellcheck: "false", autocapitalize: "off", "aria-describedby": `${id}-hint ${id}-wrong` });
-  if (kind.mode) input.inputMode = kind.mode;
+  const input = inputOf(id, kind);
   if (kind.isToday) input.dataset.today = input.value = today();
   place.append(
     made("label", { for: id }, t(kind.label)),
@@ -79,7 +91,7 @@ export function untick(form) {
 // ---- what is wrong in a form
 
 /** Says at a field what is wrong with it, or that nothing is. */
-function mark(input, wrong) {
+export function mark(input, wrong) {
   byId(`${input.id}-wrong`).textContent = wrong;
   if (wrong) input.setAttribute("aria-invalid", "true");
   else input.removeAttribute("aria-invalid");
@@ -99,7 +111,8 @@ function wrongOf(input) {
   const kind = input.closest("form").querySelector("select");
   const target = input.closest("[data-field]").dataset.field === "target";
   if (target) return isTarget(kind.value, input.value) ? "" : t(kind.value === "class" ? "fields.codeWrong" : "fields.numberWrong");
-  return kindOf(input).takes(input.value) ? "" : t(kindOf(input).wrong);
+  const { takes, wrong, optional } = kindOf(input);
+  return (optional && input.value === "") || takes(input.value, input.form) ? "" : t(wrong);
 }
 
 /** The values of a form's fields by their ids, or null where one is wrong: that is said, and the first such has the focus. */
@@ -113,7 +126,7 @@ function valuesOf(form) {
   first?.focus();
   if (first) return null;
   if (form.querySelector("[data-field=by]")) shareBy(form.querySelector("[data-field=by] input").value);
-  return Object.fromEntries(inputs.map((input) => [input.id, input.value]));
+  return Object.fromEntries([...inputs, ...form.querySelectorAll("[data-field] > select")].map((input) => [input.id, input.value]));
 }
 
 /** Who acts is asked once for as long as the page is open: the other forms get the name too, where they have none yet. */

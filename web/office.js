@@ -6,10 +6,12 @@ import * as certificate from "./views/certificate.js";
 import * as due from "./views/due.js";
 import * as fault from "./views/fault.js";
 import * as holds from "./views/holds.js";
+import * as overdue from "./views/overdue.js";
+import * as plan from "./views/plan.js";
 import * as record from "./views/record.js";
 import * as run from "./views/run.js";
 
-const VIEWS = { due, record, certificate, run, holds, fault };
+const VIEWS = { due, overdue, record, certificate, run, holds, plan, fault };
 
 /** The view and the words that an address names; due, where it names none. */
 function named(hash) {

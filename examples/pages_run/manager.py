@@ -17,6 +17,7 @@ ROWS = [
     Row("./office export manager.db"),
     Row("cp manager.db"),
     Row("./office resume manager.db"),
+    Row("./office overdue manager.db"),
     Row("./office certificate manager.db"),
     Row("./office serve manager.db 8080 1 &", serves=True),
     Row("curl -o survey.txt", then=is_served),

@@ -292,6 +292,8 @@ def answers(office):
     it.ask("GET", "/due/2022-05-02")
     it.ask("GET", "/due/2999-12-31")
     it.ask("GET", "/due/2022-02-30")
+    for day, count in (("2022-05-02", "30"), ("2999-12-31", "3650"), ("2022-05-02", "0030"), ("2022-02-30", "x"), ("2022-05-02", "3651"), ("2022-05-02", "-1")):
+        it.ask("GET", f"/overdue/{day}/{count}")
     it.ask("GET", "/certificates/1")
     same("a step of a run", json.loads(it.ask("POST", "/acts", b'[{"act":"run-step"}]')[2]), [{"outcome": "skipped", "record": 1}])
     it.ask("POST", "/run/resume")
@@ -315,7 +317,7 @@ def answers(office):
     it.ask("POST", "/acts", b'[{"act":"run-step"},{"act":"walk"}]')
     for path in ("/acts", "/run/resume"):
         it.send(f"POST {path} HTTP/1.1\r\n\r\n".encode())
-    for path in ("/records/1", "/records/1/content", "/due/2022-05-02", "/certificates/1"):
+    for path in ("/records/1", "/records/1/content", "/due/2022-05-02", "/overdue/2022-05-02/30", "/certificates/1"):
         it.send(f"GET {path} HTTP/1.1\r\n\r\n".encode())
     host = "POST /acts HTTP/1.1\r\nHost: localhost\r\n"
     it.send(f"{host}\r\n".encode())

@@ -1,5 +1,6 @@
 """A day later than today: each form with the day of an act asks for a tick, and sends nothing without it."""
 import datetime
+import hashlib
 import json
 import pathlib
 
@@ -16,10 +17,32 @@ FORMS = {
     "hold-off": {"code": "H-1", "target": "C"},
     "hold-lift": {"code": "H-1"},
     "due-confirm": {"by": "Registrar"},
+    "overdue-confirm": {"by": "Registrar"},
     "record-event": {"occurred": "2020-05-31", "by": "Registrar"},
+    "record-review": {"by": "Registrar"},
+    "record-schedule": {"schedule": "D12"},
+    "record-class": {"class": "C"},
+    "record-receipt": {"digest": hashlib.sha256(b"abc").hexdigest(), "by": "Registrar"},
+    "plan-schedule": {"code": "P1", "count": "3"},
+    "plan-class": {"code": "P", "title": "Plans", "schedule": "P1"},
+    "plan-rule": {"class": "P", "schedule": "D1"},
+    "plan-aggregation": {"ref": "P", "title": "Plans", "class": "P"},
+    "plan-reclassify": {"number": "2", "class": "C"},
+    "plan-close": {"aggregation": "2"},
+    "plan-own": {"record": "2", "schedule": "D12"},
     "run-open": {"by": "Registrar"},
 }
-VIEWS = {"hold": "#holds", "due": "#due", "record": "#record?number=2", "run": "#run"}
+VIEWS = {"hold": "#holds", "due": "#due", "overdue": "#overdue", "plan": "#plan", "run": "#run"}
+# the record of each form that is for one
+RECORDS = {
+    "record-event": 2,
+    "record-review": 3,
+    "record-schedule": 2,
+    "record-class": 2,
+    "record-receipt": 4,
+    "due-confirm": 1,
+    "overdue-confirm": 5,
+}
 LATE = TEXTS["fields"]["late"]
 # a day is written in one step, as by a script that tells nobody, or as by pasting it
 WRITE = "const it = document.getElementById(arguments[0]); it.value = arguments[1];"
@@ -39,69 +62,52 @@ def after(days: int) -> str:
 
 
 def fill(office: Office) -> None:
-    """One record that is due since a year, and one that is due in nine years or ten."""
+    """Two records that are due since a year, one to be reviewed, one that was sent, and one that is due later."""
     day = {"day": after(-800)}
+    schedule = {"act": "add-schedule", **day, "unit": "years", "offset": "none"}
     acts = [
-        {
-            "act": "add-schedule",
-            **day,
-            "code": "D1",
-            "trigger": "added",
-            "unit": "years",
-            "count": 1,
-            "offset": "none",
-            "action": "destroy",
-        },
-        {
-            "act": "add-schedule",
-            **day,
-            "code": "D12",
-            "trigger": "added",
-            "unit": "years",
-            "count": 12,
-            "offset": "none",
-            "action": "destroy",
-        },
+        {**schedule, "code": "D1", "trigger": "added", "count": 1, "action": "destroy"},
+        {**schedule, "code": "D12", "trigger": "added", "count": 12, "action": "destroy"},
+        {**schedule, "code": "REV-1", "trigger": "review", "count": 1, "action": "review"},
+        {**schedule, "code": "SEND-1", "trigger": "added", "count": 1, "action": "transfer"},
         {"act": "add-class", **day, "code": "C", "title": "Letters", "schedule": "D1"},
         {"act": "add-aggregation", **day, "ref": "A", "title": "Letters", "class": "C"},
-        {
-            "act": "add-record",
-            **day,
-            "ref": "r1",
-            "title": "One",
-            "originated": after(-800),
-            "aggregation": 1,
-            "content": "YWJj",
-        },
-        {
-            "act": "add-record",
-            **day,
-            "ref": "r2",
-            "title": "Two",
-            "originated": after(-800),
-            "aggregation": 1,
-            "schedule": "D12",
-            "content": "YWJj",
-        },
+    ]
+    record = {"act": "add-record", **day, "originated": after(-800), "aggregation": 1, "content": "YWJj"}
+    acts += [
+        {**record, "ref": f"r{number}", "title": f"Letter {number}", "schedule": code}
+        for number, code in enumerate((None, "D12", "REV-1", "SEND-1", None), 1)
+    ]
+    day = {"day": after(-400)}
+    acts += [
+        {"act": "confirm", **day, "record": 4, "action": "transfer", "by": "Registrar"},
+        {"act": "open-run", **day, "by": "Registrar"},
     ]
     assert office.ask("POST", "/acts", json.dumps(acts))[0] == 200
-
-
-def day_of(form: str) -> str:
-    return "due-confirm-day" if form == "due-confirm" else f"{form}-day"
+    assert office.ask("POST", "/run/resume")[0] == 200
 
 
 class Form:
     """One form of the page, which sends one act with a day."""
 
     def __init__(self, story: Story, name: str) -> None:
-        self.story, self.browser, self.name, self.day = story, story.browser, name, day_of(name)
+        self.story, self.browser, self.name, self.day = story, story.browser, name, f"{name}-day"
 
     def fill(self) -> None:
-        self.browser.go(VIEWS[self.name.split("-")[0]])
-        self.browser.write(**{f"{self.name}-{field}": value for field, value in FORMS[self.name].items()})
-        if self.name == "due-confirm" and not self.browser.one("#due-table tbody input").is_selected():
-            self.story.mark(1)
+        it, view = self.browser, self.name.split("-")[0]
+        it.go(f"#record?number={RECORDS[self.name]}" if view == "record" else VIEWS[view])
+        it.driver.execute_script(
+            "document.getElementById(arguments[0]).closest('details')?.setAttribute('open', '')", self.name
+        )
+        it.write(**{f"{self.name}-{field}": value for field, value in FORMS[self.name].items()})
+        if view in ("due", "overdue"):
+            self.mark(f"#{view}-table input[aria-label='Mark record {RECORDS[self.name]}']")
+
+    def mark(self, css: str) -> None:
+        box = self.browser.one(css)
+        if not box.is_selected():
+            self.browser.driver.execute_script("arguments[0].scrollIntoView({block: 'center'})", box)
+            box.click()
 
     def says_late(self) -> str:
         return self.browser.text(f"#{self.day}-late")
@@ -128,7 +134,7 @@ def ahead(story: Story) -> None:
     same(
         "a list of a late day, by its address: the day of the confirmation is today",
         (len(story.due_table()), days()),
-        (2, after(0)),
+        (4, after(0)),
     )
     same("and it says that it looks ahead", it.seen("#due-ahead"), TEXTS["due"]["ahead"].format(today=after(0)))
     it.open(story.proxy.page)
@@ -138,10 +144,10 @@ def ahead(story: Story) -> None:
     same(
         "a list of a late day, by its form: the day of the confirmation is today",
         (len(story.due_table()), days()),
-        (2, after(0)),
+        (4, after(0)),
     )
     it.press("#due-form button")
-    same("and when that list is read again", (len(story.due_table()), days()), (2, after(0)))
+    same("and when that list is read again", (len(story.due_table()), days()), (4, after(0)))
 
 
 def asked(story: Story, name: str, late: str) -> None:
@@ -171,7 +177,7 @@ def asked(story: Story, name: str, late: str) -> None:
     same(f"{name}: a day that a script wrote asks for it too", form.press(), 0)
     form.tick()
     same(f"{name}: with the tick one request is sent", form.press(), 1)
-    outcome = it.one("#due-answer" if name == "due-confirm" else f"#{name}-outcome")
+    outcome = it.one(f"#{name.removesuffix('-confirm')}-answer" if name.endswith("-confirm") else f"#{name}-outcome")
     judge(f"{name}: and its act is done", "done" in outcome.get_attribute("class"), outcome.text)
     judge(f"{name}: then the tick is gone", not it.one(f"#{form.day}-sure").is_selected())
 
@@ -200,8 +206,10 @@ def carried_out(story: Story) -> None:
     it.go("#run")
     it.press("#run-sure")
     it.press("#run-resume button")
-    same("the run of the late day: its counts", counts(), ["1", "0", "0"])
-    story.office.ask("POST", "/acts", json.dumps([{"act": "open-run", "day": after(8), "by": "Registrar"}]))
+    same("the run of the late day: its counts", counts(), ["3", "0", "0"])
+    story.office.ask(
+        "POST", "/acts", json.dumps([{"act": "open-run", "day": after(len(FORMS) + 1), "by": "Registrar"}])
+    )
     it.press("#run-sure")
     it.press("#run-resume button")
     same("a run that takes nothing: its counts", counts(), ["0", "0", "0"])
@@ -224,17 +232,17 @@ def clock(story: Story) -> None:
     same("and a day that somebody wrote stays", it.one("#run-open-day").get_attribute("value"), after(2))
 
 
-def all_forms() -> None:
+def all_forms(browser: Browser) -> None:
     """Each form with the day of an act is among those that are tried."""
-    page = (TOP / "web/index.html").read_text()
-    same("each form with a day is tried", page.count('data-field="day"'), len(FORMS))
+    days = "return Array.from(document.querySelectorAll('[data-field=day] > input'), (it) => it.id).sort()"
+    same("each form with a day is tried", browser.driver.execute_script(days), sorted(f"{name}-day" for name in FORMS))
 
 
 def tell(office: Office, proxy: Proxy, browser: Browser, folder: pathlib.Path) -> None:
-    all_forms()
     fill(office)
     story = Story(office, proxy, browser, folder)
     browser.open(proxy.page)
+    all_forms(browser)
     ahead(story)
     browser.open(proxy.page)
     for number, name in enumerate(FORMS, 1):

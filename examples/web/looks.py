@@ -6,7 +6,7 @@ import subprocess
 from judging import judge, same
 from place import TOP
 
-VIEWS = {"due": "#due?day=2022-05-02", "record": "#record?number=1", "certificate": "#certificate?number=1", "run": "#run?number=1", "holds": "#holds?code=Q-2020-17", "fault": "#fault"}
+VIEWS = {"due": "#due?day=2022-05-02", "overdue": "#overdue?day=2022-05-02&count=30", "record": "#record?number=1", "certificate": "#certificate?number=1", "run": "#run?number=1", "holds": "#holds?code=Q-2020-17", "fault": "#fault"}
 
 # the least contrast of any text that is seen with what is behind it, with that text
 CONTRAST = """

@@ -1,4 +1,5 @@
 // What a field takes: the forms of docs/ACTS.md and docs/LIMITS.md. Each function says whether a text is of its form.
+import { MOST_DAYS } from "./days.js";
 
 const encoder = new TextEncoder();
 const LAST_NUMBER = 4294967295;
@@ -17,6 +18,9 @@ export const isCode = (text) => /^[A-Za-z0-9-]{1,16}$/.test(text);
 
 /** The number of a thing. */
 export const isNumber = (text) => /^[1-9][0-9]{0,9}$/.test(text) && Number(text) <= LAST_NUMBER;
+
+/** How many days a record has to be confirmed in. */
+export const isConfirmDays = (text) => /^[0-9]{1,9}$/.test(text) && Number(text) <= MOST_DAYS;
 
 /** A title, a ref, a reason or a name: 1 to 200 bytes of UTF-8 without control characters. */
 export function isText(text) {

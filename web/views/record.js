@@ -1,4 +1,4 @@
-// One record, by its number: what is reported of it in sentences and in facts, its content to save, its event to be recorded.
+// One record, by its number: what is reported of it in sentences and in facts, its content to save, and what can be recorded of it.
 import { get } from "../ask.js";
 import { onSubmit } from "../fields.js";
 import { asking, byId, details, factsOf, failed, link, made, paragraph, quiet, save, say, sentence } from "../page.js";
@@ -7,6 +7,7 @@ import { isNumber, today } from "../plain/forms.js";
 import { visible } from "../plain/marks.js";
 import { isMissing, jsonOf } from "../plain/outcomes.js";
 import { t } from "../texts.js";
+import * as acts from "./record_acts.js";
 import * as event from "./record_event.js";
 
 let shown = null;
@@ -57,6 +58,7 @@ function tell(record) {
   byId("record-facts").replaceChildren(factsTold(record));
   byId("record-content").hidden = record.status === "ended";
   event.offer(record);
+  acts.offer(record);
   quiet(byId("record-saved"));
   byId("record-told").hidden = false;
 }
@@ -108,6 +110,7 @@ async function saveContent() {
 export function start() {
   byId("record-save").addEventListener("click", saveContent);
   event.start(readAnew);
+  acts.start(readAnew);
   onSubmit(byId("record-form"), (values) => {
     const address = `#record?number=${values["record-number"]}`;
     if (location.hash === address) return open(values["record-number"]);

@@ -1,0 +1,74 @@
+// Lists of records, due or overdue: which rows are shown, in which order, and what they add up to.
+import { daysBefore } from "./days.js";
+
+/** The columns of a list, what it may be filtered by, the column by which the office orders it, and its totals. */
+export const DUE = {
+  columns: ["record", "ref", "class", "schedule", "action", "due", "held", "confirmed"],
+  filters: ["class", "schedule", "action", "held", "confirmed"],
+  order: "due",
+  totals: ["count", "destroy", "transfer", "review", "held", "confirmed", "shown"],
+};
+export const OVERDUE = {
+  columns: ["record", "ref", "class", "schedule", "action", "due", "deadline", "held"],
+  filters: ["class", "schedule", "action", "held"],
+  order: "deadline",
+  totals: ["count", "destroy", "transfer", "review", "held", "shown"],
+};
+
+/** The word of a row for a column: a hold's code or none, yes or no, else the member itself. */
+export function valueOf(row, name) {
+  if (name === "held") return row.held ?? "";
+  if (name === "confirmed") return row.confirmed ? "yes" : "no";
+  return row[name];
+}
+
+/** Whether a filter takes a row. An empty one takes all. */
+function takes(row, name, wanted) {
+  if (wanted === "") return true;
+  if (name === "held" && wanted === "*") return row.held !== null;
+  if (name === "held" && wanted === "-") return row.held === null;
+  return valueOf(row, name) === wanted;
+}
+
+/** The rows that each filter takes. */
+export function filtered(rows, filter) {
+  const wanted = Object.entries(filter);
+  return rows.filter((row) => wanted.every(([name, value]) => takes(row, name, value)));
+}
+
+const compared = (one, other) => (one < other ? -1 : one > other ? 1 : 0);
+
+/** Rows by one column, or as the office gave them; equal ones stay in their order. */
+export function sorted(rows, column, down) {
+  if (!column) return rows;
+  const order = [...rows].sort((one, other) => compared(valueOf(one, column), valueOf(other, column)));
+  return down ? order.reverse() : order;
+}
+
+/** Each value of a filter with how many rows have it, by value. */
+export function choices(rows, name) {
+  const counts = new Map();
+  for (const row of rows) counts.set(valueOf(row, name), (counts.get(valueOf(row, name)) ?? 0) + 1);
+  return [...counts].sort(([one], [other]) => compared(one, other));
+}
+
+export function totals(rows) {
+  const count = (holds) => rows.filter(holds).length;
+  return {
+    count: rows.length,
+    destroy: count((row) => row.action === "destroy"),
+    transfer: count((row) => row.action === "transfer"),
+    review: count((row) => row.action === "review"),
+    held: count((row) => row.held !== null),
+    confirmed: count((row) => row.confirmed),
+  };
+}
+
+/** Whether a row may be confirmed: what is to be reviewed is not. */
+export const canBeConfirmed = (row) => row.action !== "review";
+
+/** How many rows of the due list of a day are overdue: unconfirmed, and due more than so many days before that day. */
+export function overdueAmong(rows, day, count) {
+  const before = daysBefore(day, count);
+  return rows.filter((row) => !row.confirmed && row.due < before).length;
+}

@@ -1,0 +1,49 @@
+// The kinds of fields that the forms of the filing plan and of a record have, as those of fields.js. One with `choices` is
+// a list to choose from, whose words are the texts below `words`; one that is `optional` may be left empty.
+import { LONGEST, OFFSETS, UNITS } from "./days.js";
+import { isCode, isNumber, isText } from "./forms.js";
+
+export const TRIGGERS = ["origin", "added", "closed", "last-addition", "review", "event"];
+export const ACTIONS = ["destroy", "transfer", "review", "keep"];
+
+/** Whether this is a count of the unit that the same form has. */
+function isCount(text, form) {
+  const unit = form.querySelector("[data-field=unit] > select").value;
+  return /^[0-9]{1,9}$/.test(text) && Number(text) <= LONGEST[unit];
+}
+
+const isDigest = (text) => /^[0-9a-f]{64}$/.test(text);
+const label = (name) => `plan.fields.${name}`;
+const code = (name) => ({ label: label(name), hint: "fields.codeHint", wrong: "fields.codeWrong", takes: isCode });
+const there = (name) => ({ ...code(name), hint: "plan.fields.codeHint" });
+const maybe = (name, hint) => ({ ...code(name), hint: label(hint), optional: true });
+const text = (name) => ({ label: label(name), hint: label(`${name}Hint`), wrong: "fields.textWrong", takes: isText });
+const number = (name) => ({ label: label(name), wrong: "fields.numberWrong", takes: isNumber, mode: "numeric" });
+const choice = (name, choices, words) => ({ label: label(name), choices, words });
+// what is written in one form alone: its hint says also what is wrong
+const own = (name, takes) => ({ label: label(name), hint: label(`${name}Hint`), wrong: label(`${name}Hint`), takes });
+
+export const PLAN_KINDS = {
+  scheduleCode: code("scheduleCode"),
+  classCode: code("classCode"),
+  schedule: there("schedule"),
+  class: there("class"),
+  maybeClass: maybe("class", "maybeClassHint"),
+  ownClass: maybe("ownClass", "ownClassHint"),
+  ownSchedule: maybe("ownSchedule", "ownScheduleHint"),
+  nextSchedule: maybe("nextSchedule", "nextScheduleHint"),
+  title: text("title"),
+  ref: text("ref"),
+  trigger: choice("trigger", TRIGGERS, "plan.triggers"),
+  unit: choice("unit", [...UNITS].reverse(), "plan.units"),
+  offset: choice("offset", OFFSETS, "plan.offsets"),
+  action: choice("action", ACTIONS, "plan.actions"),
+  count: { ...own("count", isCount), mode: "numeric" },
+  // it is no part of an act: what is wrong with it is said where the example is
+  example: { label: "plan.fields.example", hint: "fields.dayHint", takes: () => true, mode: "numeric", isToday: true },
+  aggregation: number("aggregation"),
+  parent: { ...number("parent"), hint: "plan.fields.parentHint", optional: true },
+  classified: choice("classified", ["aggregation", "record"], "fields.kinds"),
+  number: number("number"),
+  digest: own("digest", isDigest),
+};

@@ -1,0 +1,66 @@
+// Forms that ask for one act each, made from a description: their fields, what is sent, and what is said of the answer.
+import { post } from "../ask.js";
+import { clear, field, onSubmit, untick } from "../fields.js";
+import { asking, byId, failed, made, paragraph, say, told, translate } from "../page.js";
+import { bodyOf } from "../plain/acts.js";
+import { fatesOf } from "../plain/outcomes.js";
+import { t } from "../texts.js";
+
+/**
+ * @typedef {object} ActForm
+ * @property {string} id the form's id, with which those of its fields begin
+ * @property {string} words the texts of the form: title, about, unrecorded, submit, done and lost
+ * @property {Object<string, string>} fields the kind of each field, by its name
+ * @property {function(Object<string, any>): object} act the act of these values; a field that was left empty is null
+ * @property {string[]} [clears] the fields that are empty again once the act is done
+ * @property {function(object, string): Promise<void>} [after] is called with the act and its fate
+ */
+
+/** The parts of a form, without what is around it. */
+export function partsOf({ id, words, fields }) {
+  const places = Object.entries(fields).map(([name, kind]) => made("div", { "data-field": kind, id: `${id}-${name}` }));
+  for (const place of places) field(place);
+  const hint = (name) => made("p", { class: "hint", "data-text": `${words}.${name}` });
+  return [hint("about"), hint("unrecorded"), ...places, made("button", { "data-text": `${words}.submit` })];
+}
+
+/** The values of a form by the names of its fields. */
+function named({ id, fields }, values) {
+  return Object.fromEntries(Object.keys(fields).map((name) => [name, values[`${id}-${name}`] || null]));
+}
+
+/** Says what came of an act: `done`, `refused`, `undone` or `unknown`. */
+function sayFate(place, words, act, answer) {
+  const { answers, end } = fatesOf(answer, 1);
+  const [given] = answers;
+  const isDone = Boolean(given?.done || given?.number);
+  if (end === "unknown") say(place, "unknown", ...told(answer), paragraph(t(`${words}.lost`, act)));
+  else if (isDone) say(place, "done", paragraph(t(`${words}.done`, { ...act, number: given.number })), ...told(answer));
+  else failed(place, answer);
+  if (end !== "answered") return end;
+  return isDone ? "done" : "refused";
+}
+
+async function ask(description, values) {
+  const { id, words, clears = [], after } = description;
+  const place = byId(`${id}-outcome`);
+  const act = description.act(named(description, values));
+  asking(place);
+  untick(byId(id));
+  const fate = sayFate(place, words, act, await post("acts", bodyOf([act])));
+  if (fate === "done") for (const name of clears) clear(byId(`${id}-${name}`));
+  await after?.(act, fate);
+}
+
+/** A form with room for its outcome, as a step of a view. Once it is in the page, `begin` lets it work. */
+export function stepOf(description) {
+  const { id, words } = description;
+  const form = made("form", { id }, made("h3", { "data-text": `${words}.title` }), ...partsOf(description));
+  const outcome = made("div", { id: `${id}-outcome`, class: "outcome", role: "status" });
+  const step = made("div", { class: "step" }, form, outcome);
+  translate(step);
+  return step;
+}
+
+/** Lets a form of the page ask for its act. */
+export const begin = (description) => onSubmit(byId(description.id), (values) => ask(description, values));

@@ -1,0 +1,272 @@
+// A list of records whose action may be confirmed, as Due and Overdue: its address, rows, totals, filters, order and marks.
+import { get } from "../ask.js";
+import { onSubmit } from "../fields.js";
+import { asking, byId, failed, made, paragraph, quiet, say } from "../page.js";
+import { today } from "../plain/forms.js";
+import { canBeConfirmed, choices, filtered, sorted, totals } from "../plain/lists.js";
+import { jsonOf } from "../plain/outcomes.js";
+import { t } from "../texts.js";
+import { confirmMarked } from "./confirmation.js";
+import { addParts } from "./list_parts.js";
+import { ListTable, recordOf } from "./list_table.js";
+
+/**
+ * @typedef {object} Asked
+ * @property {function(string): boolean} takes whether a value is right
+ * @property {string} wrong the text of a wrong one
+ */
+
+/**
+ * What one view is, beside the columns, filters, order and totals of plain/lists.js:
+ * @typedef {object} Kind
+ * @property {string} name the view's name, with which its ids and texts begin
+ * @property {Object<string, Asked>} asks the words of its address that ask for a list
+ * @property {function(): Object<string, string>} first what is asked where the address has none of them
+ * @property {function(Object<string, string>): string} path the path that is asked
+ * @property {function(URLSearchParams): void} [readMore] reads further words of the address
+ * @property {function(): Object<string, string>} [more] the further words of the address
+ * @property {function(RecordList): void} [shown] is called once a list is shown
+ */
+
+const isSame = (one, other) => JSON.stringify(one) === JSON.stringify(other);
+
+export class RecordList {
+  /** What was asked for the list, its rows, those that are shown, the marked records, the filter and the order. */
+  question = null;
+  rows = [];
+  shown = [];
+  marks = new Set();
+  filter = {};
+  column = "";
+  down = false;
+  #asked = 0;
+  #table = null;
+
+  /** @param {Kind} kind */
+  constructor(kind) {
+    this.kind = kind;
+  }
+
+  /** A part of this view, by its name. */
+  part(name) {
+    return byId(`${this.kind.name}-${name}`);
+  }
+
+  #text(key, values) {
+    return t(`${this.kind.name}.${key}`, values);
+  }
+
+  // ---- the address
+
+  /** The address of the list as it is shown. */
+  #addressOf(question) {
+    const { name, filters, more } = this.kind;
+    const words = new URLSearchParams({ ...question, ...more?.() });
+    for (const filter of filters) if (this.filter[filter]) words.set(filter, this.filter[filter]);
+    if (this.column) words.set("sort", `${this.down ? "-" : ""}${this.column}`);
+    return `#${name}?${words}`;
+  }
+
+  #readWords(words) {
+    const { filters, columns, readMore } = this.kind;
+    this.filter = Object.fromEntries(filters.map((name) => [name, words.get(name) ?? ""]));
+    const sort = words.get("sort") ?? "";
+    this.down = sort.startsWith("-");
+    this.column = columns.includes(sort.replace(/^-/, "")) ? sort.replace(/^-/, "") : "";
+    readMore?.(words);
+  }
+
+  keepAddress() {
+    history.replaceState(null, "", this.#addressOf(this.question));
+  }
+
+  // ---- the list
+
+  #tellTotals() {
+    const sums = { ...totals(this.rows), shown: this.shown.length };
+    const word = (name) => made("dt", {}, this.#text(`totals.${name}`));
+    const sum = (name) => made("div", {}, word(name), made("dd", {}, String(sums[name])));
+    this.part("totals").replaceChildren(...this.kind.totals.map(sum));
+    const counts = { days: this.question.count, count: this.rows.length, shown: this.shown.length };
+    this.part("caption").textContent = this.#text("caption", { ...this.question, ...counts });
+  }
+
+  /** The words of a choice: a hold's code is none where a row is not held. */
+  #choiceWord(name, value) {
+    if (name === "action") return t(`actions.${value}`);
+    return name === "confirmed" ? t(`due.${value}`) : value;
+  }
+
+  #tellChoices() {
+    for (const name of this.kind.filters) {
+      const values = choices(this.rows, name).filter(([value]) => value !== "");
+      const held = this.rows.filter((row) => row.held !== null).length;
+      const more = name === "held" ? [["*", t("due.held"), held], ["-", t("due.free"), this.rows.length - held]] : [];
+      const found = [...more, ...values.map(([value, count]) => [value, this.#choiceWord(name, value), count])];
+      // a filter that no row of this list meets is still told
+      const wanted = this.filter[name];
+      if (wanted && !found.some(([value]) => value === wanted)) found.push([wanted, wanted, 0]);
+      const option = ([value, text, count]) => made("option", { value }, t("due.choice", { value: text, count }));
+      const options = found.map(option);
+      this.part(name).replaceChildren(made("option", { value: "" }, t("due.all")), ...options);
+      this.part(name).value = wanted ?? "";
+    }
+  }
+
+  /** Shows the rows that the filter takes, in their order. */
+  #draw() {
+    this.shown = sorted(filtered(this.rows, this.filter), this.column, this.down);
+    this.#table.show(this.shown);
+    this.#table.tellOrder(this.column || this.kind.order, this.down);
+    this.#tellTotals();
+    this.#tellMarks();
+    this.kind.shown?.(this);
+  }
+
+  #sortBy(column) {
+    this.down = this.column === column && !this.down;
+    this.column = column;
+    this.keepAddress();
+    this.#draw();
+  }
+
+  #filterBy(name, value) {
+    this.filter[name] = value;
+    this.keepAddress();
+    this.#draw();
+  }
+
+  #showAll() {
+    this.filter = {};
+    for (const name of this.kind.filters) this.part(name).value = "";
+    this.keepAddress();
+    this.#draw();
+  }
+
+  #showList(there) {
+    for (const name of ["totals", "list"]) this.part(name).hidden = !there;
+  }
+
+  /** Takes another list in place of the one that is shown, and says where it looks ahead of today. */
+  #take(question, rows) {
+    this.question = question;
+    this.rows = rows;
+    this.marks = new Set();
+    this.#table.begin((record) => this.marks.has(record));
+    this.part("ahead").textContent = question.day > today() ? t("due.ahead", { today: today() }) : "";
+    this.#tellChoices();
+    this.#draw();
+    this.#showList(rows.length > 0);
+  }
+
+  /** Shows no list, as where another one could not be had. */
+  #forget() {
+    this.question = null;
+    this.#showList(false);
+  }
+
+  /** Asks for a list, and shows it; whether it could. */
+  async open(question) {
+    const mine = ++this.#asked;
+    const place = this.part("outcome");
+    for (const [name, value] of Object.entries(question)) this.part(name).value = value;
+    asking(place);
+    const answer = await get(this.kind.path(question));
+    if (mine !== this.#asked) return false;
+    const rows = jsonOf(answer);
+    if (answer.status !== 200 || !Array.isArray(rows)) {
+      failed(place, answer);
+      if (!isSame(question, this.question)) this.#forget();
+      return false;
+    }
+    this.#take(question, rows);
+    if (rows.length) quiet(place);
+    else say(place, "done", paragraph(this.#text("none", { ...question, days: question.count })));
+    return true;
+  }
+
+  // ---- marks
+
+  #tellMarks() {
+    const shown = this.shown.filter((row) => this.marks.has(row.record)).length;
+    this.part("marked").textContent = t("due.marked", { count: this.marks.size, hidden: this.marks.size - shown });
+    this.part("submit").textContent = t("due.submit", { count: this.marks.size });
+    // only then it stays in sight, over the rows (office.css)
+    this.part("panel").classList.toggle("marking", this.marks.size > 0);
+  }
+
+  /** Marks these records and no others. */
+  markOnly(records) {
+    this.marks = new Set(records);
+    this.#table.tick();
+    this.#tellMarks();
+  }
+
+  #markShown() {
+    const more = this.shown.filter((row) => canBeConfirmed(row) && !row.confirmed).map((row) => row.record);
+    this.markOnly([...this.marks, ...more]);
+  }
+
+  #markOne({ target }) {
+    if (target.type !== "checkbox") return;
+    if (target.checked) this.marks.add(recordOf(target));
+    else this.marks.delete(recordOf(target));
+    this.#tellMarks();
+  }
+
+  markedRows() {
+    return this.rows.filter((row) => this.marks.has(row.record));
+  }
+
+  // ---- the view
+
+  /** Goes to the list that the form asks for, or reads it anew where it is shown. */
+  #go(values) {
+    quiet(this.part("panel-outcome"));
+    quiet(this.part("answer"));
+    const { name, asks } = this.kind;
+    const question = Object.fromEntries(Object.keys(asks).map((word) => [word, values[`${name}-${word}`]]));
+    const address = this.#addressOf(question);
+    if (!isSame(question, this.question) && location.hash !== address) {
+      location.hash = address;
+      return null;
+    }
+    history.replaceState(null, "", address);
+    return this.open(question);
+  }
+
+  start() {
+    const { name, columns, filters } = this.kind;
+    addParts(name, filters);
+    this.#table = new ListTable(name, columns, (column) => this.#sortBy(column));
+    onSubmit(this.part("form"), (values) => this.#go(values));
+    onSubmit(this.part("confirm"), (values) => confirmMarked(this, values));
+    for (const filter of filters) {
+      this.part(filter).addEventListener("change", ({ target }) => this.#filterBy(filter, target.value));
+    }
+    this.part("all").addEventListener("click", () => this.#showAll());
+    this.part("mark").addEventListener("click", () => this.#markShown());
+    this.part("unmark").addEventListener("click", () => this.markOnly([]));
+    this.part("print").addEventListener("click", () => print());
+    this.part("skip").addEventListener("click", () => this.part("confirm-day").focus());
+    this.part("table").addEventListener("change", (event) => this.#markOne(event));
+    addEventListener("beforeprint", () => this.#table.finish());
+  }
+
+  /** Shows the list that the address names; where it names none the one that is here already, or the first one. */
+  show(words) {
+    const { asks, first } = this.kind;
+    const given = Object.keys(asks).filter((name) => words.has(name));
+    if (!given.length) return this.question ? this.keepAddress() : this.open(first());
+    const question = { ...first(), ...Object.fromEntries(given.map((name) => [name, words.get(name)])) };
+    const wrong = Object.keys(asks).find((name) => !asks[name].takes(question[name]));
+    if (wrong) {
+      this.#forget();
+      return say(this.part("outcome"), "wrong", paragraph(t(asks[wrong].wrong)));
+    }
+    this.#readWords(words);
+    if (!isSame(question, this.question)) return this.open(question);
+    this.#tellChoices();
+    return this.#draw();
+  }
+}

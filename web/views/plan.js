@@ -1,0 +1,113 @@
+// The filing plan: schedules, classes and aggregations, and what classes, aggregations and records get of them later.
+import { byId, made, paragraph } from "../page.js";
+import { dueDay, LONGEST } from "../plain/days.js";
+import { isDay } from "../plain/forms.js";
+import { t } from "../texts.js";
+import { begin, stepOf } from "./act_form.js";
+
+/** The forms, by the heading that they are below. */
+const FORMS = {
+  schedules: [
+    {
+      id: "plan-schedule",
+      words: "plan.schedule",
+      fields: {
+        code: "scheduleCode",
+        trigger: "trigger",
+        count: "count",
+        unit: "unit",
+        offset: "offset",
+        action: "action",
+        example: "example",
+        day: "day",
+      },
+      act: ({ example, ...members }) => ({ act: "add-schedule", ...members, count: Number(members.count) }),
+      clears: ["code"],
+    },
+  ],
+  classes: [
+    {
+      id: "plan-class",
+      words: "plan.class",
+      fields: { code: "classCode", title: "title", schedule: "schedule", day: "day" },
+      act: (members) => ({ act: "add-class", ...members }),
+      clears: ["code", "title"],
+    },
+    {
+      id: "plan-rule",
+      words: "plan.rule",
+      fields: { class: "class", schedule: "schedule", day: "day" },
+      act: (members) => ({ act: "set-class-schedule", ...members }),
+    },
+  ],
+  aggregations: [
+    {
+      id: "plan-aggregation",
+      words: "plan.aggregation",
+      fields: { ref: "ref", title: "title", parent: "parent", class: "maybeClass", day: "day" },
+      act: (members) => ({ act: "add-aggregation", ...members, parent: members.parent && Number(members.parent) }),
+      clears: ["ref", "title"],
+    },
+    {
+      id: "plan-close",
+      words: "plan.close",
+      fields: { aggregation: "aggregation", day: "day" },
+      act: ({ day, aggregation }) => ({ act: "close-aggregation", day, aggregation: Number(aggregation) }),
+      clears: ["aggregation"],
+    },
+  ],
+  changes: [
+    {
+      id: "plan-reclassify",
+      words: "plan.reclassify",
+      fields: { kind: "classified", number: "number", class: "ownClass", day: "day" },
+      act: (it) => ({ act: "reclassify", day: it.day, target: `${it.kind}:${it.number}`, class: it.class }),
+    },
+    {
+      id: "plan-own",
+      words: "plan.own",
+      fields: { record: "record", schedule: "ownSchedule", day: "day" },
+      act: ({ day, record, schedule }) => ({ act: "set-record-schedule", day, record: Number(record), schedule }),
+    },
+  ],
+};
+
+// ---- the due day of an example, by the same rule as the office's
+
+const valueOf = (name) => byId(`plan-schedule-${name}`).value.trim();
+
+/** What the example says of the rule that is written, or what is still wanting. */
+function exampleWords() {
+  const names = ["trigger", "unit", "count", "offset", "action", "example"];
+  const [trigger, unit, count, offset, action, start] = names.map(valueOf);
+  if (action === "keep") return [t("plan.example.keep")];
+  if (!/^[0-9]{1,9}$/.test(count) || Number(count) > LONGEST[unit]) return [t("plan.example.noCount")];
+  if (!isDay(start)) return [t("fields.dayWrong")];
+  const rule = { unit, count: Number(count), offset };
+  const due = dueDay(start, rule);
+  const said = [t(`plan.example.${trigger}`, { start, due }), t(`plan.then.${action}`)];
+  const isMoved = due !== dueDay(start, { ...rule, offset: "none" });
+  return offset === "none" || isMoved ? said : [...said, t("plan.example.stays", { due })];
+}
+
+const tellExample = () => byId("plan-example").replaceChildren(paragraph(exampleWords().join(" ")));
+
+/** The example is told anew with each letter. */
+function addExample() {
+  const place = byId("plan-schedule-example").closest(".field");
+  place.after(made("div", { id: "plan-example", class: "example", role: "status" }));
+  for (const kind of ["input", "change"]) byId("plan-schedule").addEventListener(kind, tellExample);
+  tellExample();
+}
+
+export function start() {
+  for (const [name, forms] of Object.entries(FORMS)) {
+    const steps = made("div", { class: `steps ${name}` }, ...forms.map(stepOf));
+    byId("plan-forms").append(made("h2", {}, t(`plan.${name}`)), steps);
+    forms.forEach(begin);
+  }
+  addExample();
+}
+
+/** Shows the forms, whatever the address says besides. */
+export function show() {}

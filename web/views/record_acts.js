@@ -1,0 +1,89 @@
+// What else is recorded of a record beside its event: a review, a receipt, a schedule or a class of its own.
+import { clear } from "../fields.js";
+import { byId, made, paragraph, quiet, translate } from "../page.js";
+import { t } from "../texts.js";
+import { begin, partsOf } from "./act_form.js";
+
+/** The record that the forms are for, by its number. */
+let subject = null;
+
+/** The forms; each is offered for a record of one status. */
+const FORMS = [
+  {
+    id: "record-review",
+    words: "recordActs.review",
+    fields: { schedule: "nextSchedule", day: "day", by: "by" },
+    act: ({ day, schedule, by }) => ({ act: "review", day, record: subject, schedule, by }),
+    status: "here",
+    clears: ["schedule"],
+  },
+  {
+    id: "record-schedule",
+    words: "recordActs.schedule",
+    fields: { schedule: "ownSchedule", day: "day" },
+    act: ({ day, schedule }) => ({ act: "set-record-schedule", day, record: subject, schedule }),
+    status: "here",
+    clears: ["schedule"],
+  },
+  {
+    id: "record-class",
+    words: "recordActs.class",
+    fields: { class: "ownClass", day: "day" },
+    act: (it) => ({ act: "reclassify", day: it.day, target: `record:${subject}`, class: it.class }),
+    status: "here",
+    clears: ["class"],
+  },
+  {
+    id: "record-receipt",
+    words: "recordActs.receipt",
+    fields: { digest: "digest", day: "day", by: "by" },
+    act: ({ day, digest, by }) => ({ act: "receipt", day, record: subject, digest, by }),
+    status: "sent",
+    clears: ["digest"],
+  },
+];
+
+/** A form behind a summary, since most records want none of them. Its outcome stays in sight. */
+function partOf(description) {
+  const { id, words } = description;
+  const summary = made("summary", {}, made("h3", { "data-text": `${words}.title` }));
+  const form = made("form", { id }, ...partsOf(description));
+  const part = made("details", { id: `${id}-part`, class: "act" }, summary, form);
+  const outcome = made("div", { id: `${id}-outcome`, class: "outcome", role: "status" });
+  const both = made("div", { class: "inset" }, part, outcome);
+  translate(both);
+  return both;
+}
+
+/** Offers the forms that a record of this status takes. Those of another record begin anew. */
+export function offer({ number, status }) {
+  for (const { id, status: wanted } of FORMS) byId(`${id}-part`).hidden = status !== wanted;
+  if (number === subject) return;
+  subject = number;
+  for (const { id, clears } of FORMS) {
+    for (const name of clears) clear(byId(`${id}-${name}`));
+    quiet(byId(`${id}-outcome`));
+    byId(`${id}-part`).open = false;
+  }
+}
+
+/**
+ * Starts the forms. `readAnew` reads the record that is shown once more: what is said of its due day, or null where it
+ * could not be read.
+ */
+export function start(readAnew) {
+  byId("record-acts").append(...FORMS.map(partOf));
+  for (const description of FORMS) {
+    const { id } = description;
+    const number = (act) => act.record ?? Number(act.target.split(":")[1]);
+    const after = async (act, fate) => {
+      // another record is shown by now, or nothing was done
+      if (subject !== number(act) || fate === "undone") return;
+      const place = byId(`${id}-outcome`);
+      const due = await readAnew();
+      if (due === null) place.append(paragraph(t("event.stale")));
+      else if (fate === "done") place.firstChild?.after(...due);
+    };
+    begin({ ...description, after });
+  }
+}
