@@ -134,15 +134,15 @@ return [document.documentElement.lang, document.title, found.filter((it) => !(it
 
 def languages(folder, proxy, open_browser):
     """One more file in texts/ is one more language, and no text stands anywhere else."""
-    strange = written(json.loads((TOP / "web/texts/en.json").read_text())) | {"lang": "de"}
-    file = folder / "web/texts/de.json"
+    strange = written(json.loads((TOP / "web/texts/en.json").read_text())) | {"lang": "nl"}
+    file = folder / "web/texts/nl.json"
     file.write_text(json.dumps(strange, ensure_ascii=False))
-    with open_browser(folder, "de-CH") as other:
+    with open_browser(folder, "nl-BE") as other:
         other.know(proxy.page)
         for name, address in VIEWS.items():
             other.open(proxy.page + address)
             lang, title, left = other.driver.execute_script(FOREIGN)
-            same(f"{name}: in another language no English text is left", (lang, "⟦" in title, left), ("de", True, []))
+            same(f"{name}: in another language no English text is left", (lang, "⟦" in title, left), ("nl", True, []))
     file.unlink()
     with open_browser(folder, "fr-FR") as other:
         other.know(proxy.page)
@@ -165,13 +165,13 @@ def paper(browser, proxy, folder):
         judge(f"{name}: and nothing that is pressed", not any(it in text for it in not_wanted), text)
 
 
-def pictures(browser, proxy, place, names):
-    """A picture of each of these views, wide and narrow, where a place for them is given."""
+def pictures(browser, proxy, place, names, more="", widths=(1280, 400)):
+    """A picture of each of these views, wide and narrow, where a place for them is given; `more` follows the view's name."""
     if place is None:
         return
     place.mkdir(parents=True, exist_ok=True)
     for name in names:
-        for width in (1280, 400):
+        for width in widths:
             browser.open(proxy.page + VIEWS[name])
             if name == "due":
                 browser.press("#due-mark")
@@ -179,4 +179,4 @@ def pictures(browser, proxy, place, names):
             if name == "record":
                 browser.press("#record-save")
             browser.driver.execute_script("document.activeElement.blur(); scrollTo(0, 0)")
-            browser.picture(place / f"{name}-{width}.png", width, 1400 if width == 400 else 1900)
+            browser.picture(place / f"{name}{more}-{width}.png", width, 1400 if width == 400 else 1900)
