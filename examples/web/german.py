@@ -1,13 +1,17 @@
 """The page in German: each view has the words of web/texts/de.json and no English one, at each width, and acts are explained in it."""
 import json
+import os
 import pathlib
+import shutil
+import subprocess
 from collections.abc import Callable, Iterator
 
+import catalogue
 import layout
 import looks
 from browser import Browser
 from judging import judge, same
-from place import TOP, Proxy
+from place import OFFICE, TOP, Proxy
 from texts import flat
 
 ENGLISH = flat(json.loads((TOP / "web/texts/en.json").read_text()))
@@ -27,11 +31,11 @@ def foreign() -> set[str]:
     return {text for text in ENGLISH.values() if len(text) > 2 and text not in GERMAN.values()}
 
 
-def views(it: Browser, proxy: Proxy) -> None:
-    for name, address in looks.VIEWS.items():
+def views(it: Browser, proxy: Proxy, addresses: dict[str, str]) -> None:
+    for name, address in addresses.items():
         it.open(proxy.page + address)
         lang, title, read = it.driver.execute_script(READ)
-        same(f"German: {name}: the page says its language and its title", (lang, title), ("de", GERMAN["page.title"].format(view=GERMAN[f"{name}.title"])))
+        same(f"German: {name}: the page says its language and its title", (lang, title), ("de", GERMAN["page.title"].format(view=GERMAN[f"{name.split()[0]}.title"])))
         same(f"German: {name}: no English text is left", sorted(set(read) & foreign()), [])
         strange = [(key, text) for key, text in it.driver.execute_script(NAMED) if text != GERMAN.get(key)]
         same(f"German: {name}: each part has the words of the file", strange, [])
@@ -62,13 +66,28 @@ def acts(it: Browser, proxy: Proxy) -> None:
     judge("German: a record is described in German", GERMAN["record.status.destroyed"].format(run=1) in seen, seen)
 
 
+def listed(it: Browser, proxy: Proxy, folder: pathlib.Path, pictures: pathlib.Path | None) -> None:
+    """The catalogue in German, which goes again after that."""
+    copy = folder / "german.db"
+    subprocess.run([catalogue.SERVICE / "office-backup", folder / "archive.db", copy], check=True, env={**os.environ, "OFFICE": OFFICE})
+    catalogue.make(proxy, copy)
+    parts = ("records", "aggregations", "classes", "schedules", "holds", "runs")
+    views(it, proxy, {f"catalogue {part}": f"#catalogue?part={part}" for part in parts})
+    it.open(f"{proxy.page}#catalogue?part=schedules")
+    shown = {row[0]: row[1:] for row in it.table("#catalogue-part .schedules")}
+    same("German: a schedule in words", shown["COR-3"], ["mit der letzten Ablage in der Akte", "3 Jahre", "ab dem nächsten Quartalsersten", "vernichten"])
+    catalogue.pictures(it, proxy, pictures, "-german")
+    shutil.rmtree(proxy.folder / "catalogue")
+
+
 def tell(proxy: Proxy, folder: pathlib.Path, open_browser: Callable[..., Iterator[Browser]], pictures: pathlib.Path | None) -> None:
     """All of it, while the first run of the city archive is closed and its hold in force."""
     with open_browser(folder, "de-DE") as it:
         it.know(proxy.page)
-        views(it, proxy)
+        views(it, proxy, looks.VIEWS)
         for name in ("due", "certificate"):
             layout.words(it, proxy.page + looks.VIEWS[name], f"German: {name}")
         acts(it, proxy)
-        looks.pictures(it, proxy, pictures, ["due", "record", "certificate", "run", "holds", "fault"], "-german", (1280,))
+        looks.pictures(it, proxy, pictures, ["due", "outlook", "record", "certificate", "run", "holds", "fault"], "-german", (1280,))
+        listed(it, proxy, folder, pictures)
         same("German: the browser's console complains of nothing", it.complaints(), [])

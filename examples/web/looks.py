@@ -6,7 +6,7 @@ import subprocess
 from judging import judge, same
 from place import TOP
 
-VIEWS = {"due": "#due?day=2022-05-02", "record": "#record?number=1", "certificate": "#certificate?number=1", "run": "#run?number=1", "holds": "#holds?code=Q-2020-17", "fault": "#fault"}
+VIEWS = {"due": "#due?day=2022-05-02", "record": "#record?number=1", "certificate": "#certificate?number=1", "run": "#run?number=1", "holds": "#holds?code=Q-2020-17", "outlook": "#outlook", "catalogue": "#catalogue", "fault": "#fault"}
 
 # the least contrast of any text that is seen with what is behind it, with that text
 CONTRAST = """
@@ -44,26 +44,30 @@ return Array.from(document.querySelectorAll("section:not([hidden]) :is(input, se
 WIDE = "return [document.documentElement.scrollWidth, innerWidth]"
 
 
-def readable(browser, proxy):
+def readable_view(browser, proxy, name, address):
+    """One view: contrast in light and dark; widths, sizes and names."""
     for scheme in ("light", "dark"):
         browser.light(scheme)
-        for name, address in VIEWS.items():
-            browser.open(proxy.page + address)
-            ratio, where = browser.driver.execute_script(CONTRAST)
-            judge(f"{name}, {scheme}: each text has a contrast of 4.5 at least, the least {ratio:.1f}", ratio >= 4.5, where)
-            edge = browser.driver.execute_script(EDGES)
-            judge(f"{name}, {scheme}: each field's edge has 3 at least, the least {edge:.1f}", edge >= 3)
+        browser.open(proxy.page + address)
+        ratio, where = browser.driver.execute_script(CONTRAST)
+        judge(f"{name}, {scheme}: each text has a contrast of 4.5 at least, the least {ratio:.1f}", ratio >= 4.5, where)
+        edge = browser.driver.execute_script(EDGES)
+        judge(f"{name}, {scheme}: each field's edge has 3 at least, the least {edge:.1f}", edge >= 3)
     browser.light("light")
+    for width in (1280, 400, 320):
+        browser.width(width)
+        browser.open(proxy.page + address)
+        there, wanted = browser.driver.execute_script(WIDE)
+        judge(f"{name}: nothing is wider than {width} pixels", there <= wanted, f"{there}")
+        same(f"{name}: nothing that is pressed is smaller than 24 pixels at {width}", browser.driver.execute_script(SMALL), [])
+    browser.width(1280)
+    same(f"{name}: each field, button, link and table has a name", browser.driver.execute_script(NAMELESS), [])
+    same(f"{name}: one heading of the first level is seen", len([it for it in browser.all("h1") if it.is_displayed()]), 1)
+
+
+def readable(browser, proxy):
     for name, address in VIEWS.items():
-        for width in (1280, 400, 320):
-            browser.width(width)
-            browser.open(proxy.page + address)
-            there, wanted = browser.driver.execute_script(WIDE)
-            judge(f"{name}: nothing is wider than {width} pixels", there <= wanted, f"{there}")
-            same(f"{name}: nothing that is pressed is smaller than 24 pixels at {width}", browser.driver.execute_script(SMALL), [])
-        browser.width(1280)
-        same(f"{name}: each field, button, link and table has a name", browser.driver.execute_script(NAMELESS), [])
-        same(f"{name}: one heading of the first level is seen", len([it for it in browser.all("h1") if it.is_displayed()]), 1)
+        readable_view(browser, proxy, name, address)
     browser.width(400)
     browser.open(proxy.page + VIEWS["due"])
     roles = [node["role"]["value"] for node in browser.driver.execute_cdp_cmd("Accessibility.getFullAXTree", {})["nodes"] if not node["ignored"]]
