@@ -2,16 +2,19 @@
 import { field, renewDays } from "./fields.js";
 import { byId, translate } from "./page.js";
 import { all, load, t } from "./texts.js";
+import * as offers from "./offers.js";
+import * as catalogue from "./views/catalogue.js";
 import * as certificate from "./views/certificate.js";
 import * as due from "./views/due.js";
 import * as fault from "./views/fault.js";
 import * as holds from "./views/holds.js";
+import * as outlook from "./views/outlook.js";
 import * as overdue from "./views/overdue.js";
 import * as plan from "./views/plan.js";
 import * as record from "./views/record.js";
 import * as run from "./views/run.js";
 
-const VIEWS = { due, overdue, record, certificate, run, holds, plan, fault };
+const VIEWS = { due, overdue, outlook, record, plan, run, certificate, holds, catalogue, fault };
 
 /** The view and the words that an address names; due, where it names none. */
 function named(hash) {
@@ -62,6 +65,7 @@ async function begin() {
   translate(document);
   // the views come first, so that a list is whole before its links are left out
   for (const view of Object.values(VIEWS)) view.start();
+  offers.start();
   byId("skip").addEventListener("click", skip);
   addEventListener("hashchange", () => show(true));
   addEventListener("focus", renewDays);

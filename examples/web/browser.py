@@ -113,6 +113,12 @@ class Browser:
         self.driver.save_screenshot(str(file))
         self.width(1280)
 
+    def shot(self, file):
+        """A picture of what is seen in the window as it is."""
+        file.parent.mkdir(parents=True, exist_ok=True)
+        time.sleep(0.3)
+        self.driver.save_screenshot(str(file))
+
     def paper(self, file):
         """What is printed, as a PDF; its bytes."""
         pdf = base64.b64decode(self.driver.execute_cdp_cmd("Page.printToPDF", {"printBackground": False, "preferCSSPageSize": True, "generateTaggedPDF": False})["data"])

@@ -6,7 +6,18 @@ import subprocess
 from judging import judge, same
 from place import TOP
 
-VIEWS = {"due": "#due?day=2022-05-02", "overdue": "#overdue?day=2022-05-02&count=30", "record": "#record?number=1", "certificate": "#certificate?number=1", "run": "#run?number=1", "holds": "#holds?code=Q-2020-17", "fault": "#fault"}
+VIEWS = {
+    "due": "#due?day=2022-05-02",
+    "overdue": "#overdue?day=2022-05-02&count=30",
+    "outlook": "#outlook",
+    "record": "#record?number=1",
+    "plan": "#plan",
+    "run": "#run?number=1",
+    "certificate": "#certificate?number=1",
+    "holds": "#holds?code=Q-2020-17",
+    "catalogue": "#catalogue",
+    "fault": "#fault",
+}
 
 # the least contrast of any text that is seen with what is behind it, with that text
 CONTRAST = """
@@ -44,26 +55,30 @@ return Array.from(document.querySelectorAll("section:not([hidden]) :is(input, se
 WIDE = "return [document.documentElement.scrollWidth, innerWidth]"
 
 
-def readable(browser, proxy):
+def readable_view(browser, proxy, name, address):
+    """One view: contrast in light and dark; widths, sizes and names."""
     for scheme in ("light", "dark"):
         browser.light(scheme)
-        for name, address in VIEWS.items():
-            browser.open(proxy.page + address)
-            ratio, where = browser.driver.execute_script(CONTRAST)
-            judge(f"{name}, {scheme}: each text has a contrast of 4.5 at least, the least {ratio:.1f}", ratio >= 4.5, where)
-            edge = browser.driver.execute_script(EDGES)
-            judge(f"{name}, {scheme}: each field's edge has 3 at least, the least {edge:.1f}", edge >= 3)
+        browser.open(proxy.page + address)
+        ratio, where = browser.driver.execute_script(CONTRAST)
+        judge(f"{name}, {scheme}: each text has a contrast of 4.5 at least, the least {ratio:.1f}", ratio >= 4.5, where)
+        edge = browser.driver.execute_script(EDGES)
+        judge(f"{name}, {scheme}: each field's edge has 3 at least, the least {edge:.1f}", edge >= 3)
     browser.light("light")
+    for width in (1280, 400, 320):
+        browser.width(width)
+        browser.open(proxy.page + address)
+        there, wanted = browser.driver.execute_script(WIDE)
+        judge(f"{name}: nothing is wider than {width} pixels", there <= wanted, f"{there}")
+        same(f"{name}: nothing that is pressed is smaller than 24 pixels at {width}", browser.driver.execute_script(SMALL), [])
+    browser.width(1280)
+    same(f"{name}: each field, button, link and table has a name", browser.driver.execute_script(NAMELESS), [])
+    same(f"{name}: one heading of the first level is seen", len([it for it in browser.all("h1") if it.is_displayed()]), 1)
+
+
+def readable(browser, proxy):
     for name, address in VIEWS.items():
-        for width in (1280, 400, 320):
-            browser.width(width)
-            browser.open(proxy.page + address)
-            there, wanted = browser.driver.execute_script(WIDE)
-            judge(f"{name}: nothing is wider than {width} pixels", there <= wanted, f"{there}")
-            same(f"{name}: nothing that is pressed is smaller than 24 pixels at {width}", browser.driver.execute_script(SMALL), [])
-        browser.width(1280)
-        same(f"{name}: each field, button, link and table has a name", browser.driver.execute_script(NAMELESS), [])
-        same(f"{name}: one heading of the first level is seen", len([it for it in browser.all("h1") if it.is_displayed()]), 1)
+        readable_view(browser, proxy, name, address)
     browser.width(400)
     browser.open(proxy.page + VIEWS["due"])
     roles = [node["role"]["value"] for node in browser.driver.execute_cdp_cmd("Accessibility.getFullAXTree", {})["nodes"] if not node["ignored"]]
@@ -134,15 +149,15 @@ return [document.documentElement.lang, document.title, found.filter((it) => !(it
 
 def languages(folder, proxy, open_browser):
     """One more file in texts/ is one more language, and no text stands anywhere else."""
-    strange = written(json.loads((TOP / "web/texts/en.json").read_text())) | {"lang": "de"}
-    file = folder / "web/texts/de.json"
+    strange = written(json.loads((TOP / "web/texts/en.json").read_text())) | {"lang": "nl"}
+    file = folder / "web/texts/nl.json"
     file.write_text(json.dumps(strange, ensure_ascii=False))
-    with open_browser(folder, "de-CH") as other:
+    with open_browser(folder, "nl-BE") as other:
         other.know(proxy.page)
         for name, address in VIEWS.items():
             other.open(proxy.page + address)
             lang, title, left = other.driver.execute_script(FOREIGN)
-            same(f"{name}: in another language no English text is left", (lang, "⟦" in title, left), ("de", True, []))
+            same(f"{name}: in another language no English text is left", (lang, "⟦" in title, left), ("nl", True, []))
     file.unlink()
     with open_browser(folder, "fr-FR") as other:
         other.know(proxy.page)
@@ -165,13 +180,13 @@ def paper(browser, proxy, folder):
         judge(f"{name}: and nothing that is pressed", not any(it in text for it in not_wanted), text)
 
 
-def pictures(browser, proxy, place, names):
-    """A picture of each of these views, wide and narrow, where a place for them is given."""
+def pictures(browser, proxy, place, names, more="", widths=(1280, 400)):
+    """A picture of each of these views, wide and narrow, where a place for them is given; `more` follows the view's name."""
     if place is None:
         return
     place.mkdir(parents=True, exist_ok=True)
     for name in names:
-        for width in (1280, 400):
+        for width in widths:
             browser.open(proxy.page + VIEWS[name])
             if name == "due":
                 browser.press("#due-mark")
@@ -179,4 +194,4 @@ def pictures(browser, proxy, place, names):
             if name == "record":
                 browser.press("#record-save")
             browser.driver.execute_script("document.activeElement.blur(); scrollTo(0, 0)")
-            browser.picture(place / f"{name}-{width}.png", width, 1400 if width == 400 else 1900)
+            browser.picture(place / f"{name}{more}-{width}.png", width, 1400 if width == 400 else 1900)

@@ -113,6 +113,7 @@ class Proxy:
             ('https://$server_name" $from_here', f'https://$server_name:{self.port}" $from_here'),
             ("127.0.0.1:8080", f"127.0.0.1:{office_port}"),
             ("/usr/local/share/office/web/", f"{self.web}/"),
+            ("/var/lib/office-catalogues/city/now/", f"{self.folder}/catalogue/now/"),
             ("/etc/nginx/office/", f"{self.folder}/"),
             ("/var/log/nginx/office.error.log", f"{self.folder}/error.log"),
             ("/var/log/nginx/office.access.log", f"{self.folder}/access.log"),

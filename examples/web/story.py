@@ -213,7 +213,7 @@ class Story:
         words = lambda number: (it.open(f"{self.proxy.page}#record?number={number}"), it.seen("#record-told"))[1]
         says("record 1: held, in words", words(1), "It is here", "It is due on 2021-01-01.", "Hold Q-2020-17 covers it", f"Confirmed on 2022-05-02 by {WHO}: destroy")
         says("record 22: a contract that has not ended, in words", words(22), "It has no due day", TEXTS["event"]["none"])
-        says("record 4: kept, in words", words(4), "It has no due day", "No hold covers it.", "Nobody has confirmed")
+        says("record 4: kept, in words", words(4), "It has no due day", "No hold covers it.", TEXTS["record"]["unconfirmed"])
         says("record 8: destroyed, in words", words(8), "It was destroyed by run 1: its content is gone from the office.", "It was due on 2019-01-30.")
         judge("record 8: there is no content to save", not it.one("#record-save").is_displayed())
         says("record 19: sent, in words", words(19), "It was sent to the archive")

@@ -1,4 +1,8 @@
-"""The words of refusals, faults, statuses and answers of the proxy stand in web/texts, for the page. docs/ERRORS.md says the same."""
+"""The words of refusals, faults, statuses and answers of the proxy stand in web/texts, for the page. docs/ERRORS.md says the same.
+
+Each language has the same texts, with the same places for values.
+"""
+import collections
 import json
 import re
 
@@ -34,10 +38,33 @@ def shared(page, name):
     return {row[0]: dict(zip(columns, row[1:], strict=True)) for row in rows}
 
 
-def keys(part, before=""):
-    """The names of all texts of a file."""
-    pairs = part.items() if isinstance(part, dict) else enumerate(part) if isinstance(part, list) else ()
-    return {before} if not pairs else set().union(*(keys(value, f"{before}.{name}") for name, value in pairs))
+# what the page finds a row by, or what the office itself says: the same in each language
+FIXED = re.compile(r"refusals\.\d+\.name|statuses\.\d+\.status")
+
+
+def flat(part, before=""):
+    """All texts of a file, by their names."""
+    if isinstance(part, str):
+        return {before[1:]: part}
+    pairs = part.items() if isinstance(part, dict) else enumerate(part)
+    return dict(found for name, value in pairs for found in flat(value, f"{before}.{name}").items())
+
+
+def places(text):
+    """The places for values in a text, and the words of JSON that the office answers with."""
+    return collections.Counter(re.findall(r"\{\w+\}|\"\w+\":?", text))
+
+
+def language(file, english):
+    """A language has each text and no other one, each with the same places, and none is empty that is not empty in English."""
+    other = flat(json.loads(file.read_text()))
+    name = f"web/texts/{file.name}"
+    same(f"{name} has each text and no other", sorted(other.keys() ^ english.keys()), [])
+    both = sorted(other.keys() & english.keys())
+    same(f"{name} has the same places in each", [key for key in both if places(other[key]) != places(english[key])], [])
+    same(f"{name} leaves none empty", [key for key in both if bool(other[key].strip()) != bool(english[key].strip())], [])
+    same(f"{name} has the same names and statuses", [key for key in both if FIXED.fullmatch(key) and other[key] != english[key]], [])
+    same(f"{name} names its language", other["lang"], file.stem)
 
 
 def named(page):
@@ -60,9 +87,9 @@ def tell():
     english = json.loads((TOP / "web/texts/en.json").read_text())
     for name, (heading, _) in TABLES.items():
         same(f"docs/ERRORS.md and web/texts/en.json say the same: {heading}", english[name], shared(page, name))
-    for file in sorted((TOP / "web/texts").glob("*.json")):
-        other = json.loads(file.read_text())
-        same(f"web/texts/{file.name} has each text", keys(other) ^ keys(english), set())
-        same(f"web/texts/{file.name} names its language", other["lang"], file.stem)
+    files = sorted((TOP / "web/texts").glob("*.json"))
+    judge("there are English and German", {"en", "de"} <= {file.stem for file in files}, str(files))
+    for file in files:
+        language(file, flat(english))
     missing = sorted(key for key in named(TOP / "web") if not there(english, key) and not key.endswith(".js"))
     judge("each text that the page names is there", not missing, str(missing))

@@ -1,0 +1,79 @@
+// The catalogue that office-catalogue made, where nginx serves one: its parts are read once each, all of one moment.
+import { get } from "./ask.js";
+import { indexOf, treeOf } from "./plain/catalogue.js";
+import { jsonOf } from "./plain/outcomes.js";
+
+/** The moment of what was read, or null where nothing was; what its file `about` says; its parts and what is made of them. */
+let moment = null;
+let about = null;
+let parts = new Map();
+let made = new Map();
+/** The last answer that was no part of a catalogue. */
+let last = null;
+
+/** A file of the catalogue, or null where there is none. */
+async function read(name) {
+  const answer = await get(`catalogue/${name}.json`);
+  const body = answer.status === 200 ? jsonOf(answer) : undefined;
+  if (typeof body?.moment === "string" && Array.isArray(body[name])) return body;
+  last = answer;
+  return null;
+}
+
+/** Takes the catalogue of another moment in place of the one that was read. */
+function take(body) {
+  if (body?.moment !== moment) {
+    parts = new Map();
+    made = new Map();
+  }
+  moment = body?.moment ?? null;
+  about = body?.about[0] ?? null;
+}
+
+/** Looks which catalogue is there: its moment, or null where there is none. */
+export async function refresh() {
+  take(await read("about"));
+  return moment;
+}
+
+/** Whether a catalogue was there when somebody looked last. */
+export const isThere = () => moment !== null;
+export const aboutIt = () => ({ ...about, moment });
+export const lastAnswer = () => last;
+
+/** Reads a part; where a new catalogue has taken the place of the one before meanwhile, what was read before is forgotten. */
+async function readPart(name) {
+  let body = await read(name);
+  if (body && body.moment !== moment) {
+    take(await read("about"));
+    body = body.moment === moment ? body : await read(name);
+  }
+  if (!body || body.moment !== moment) throw new Error("no catalogue");
+  return body[name];
+}
+
+/** The rows of a part, as `classes`; null where they could not be had. */
+export async function part(name) {
+  if (moment === null) return null;
+  if (!parts.has(name)) parts.set(name, readPart(name));
+  const asked = parts.get(name);
+  try {
+    return await asked;
+  } catch {
+    if (parts.get(name) === asked) parts.delete(name);
+    return null;
+  }
+}
+
+/** What is made of a part's rows, once for each catalogue. */
+async function ofPart(key, name, make) {
+  const rows = await part(name);
+  if (rows === null) return null;
+  if (made.get(key)?.rows !== rows) made.set(key, { rows, what: make(rows) });
+  return made.get(key).what;
+}
+
+/** The records as a search goes through them: each is its number, ref, title, the number of its aggregation, and its status. */
+export const records = () => ofPart("records", "records", (rows) => indexOf(rows, ([, ref, title]) => `${ref} ${title}`));
+export const aggregations = () => ofPart("aggregations", "aggregations", (rows) => indexOf(rows, ({ ref, title }) => `${ref} ${title}`));
+export const tree = () => ofPart("tree", "aggregations", treeOf);

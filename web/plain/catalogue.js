@@ -1,0 +1,79 @@
+// The catalogue: a search over many refs and titles, and the tree of aggregations with what is in it.
+
+const foldedPart = (part) => part.normalize("NFD").replace(/\p{M}/gu, "").replaceAll("ß", "ss");
+
+/** A text as it is searched: without case and accents, ß as ss. */
+export const folded = (text) => text.toLowerCase().replace(/[^\u0000-\u007f]+/g, foldedPart);
+
+/** The words of a question, the longest first, which is the rarest as a rule. */
+const wordsOf = (question) => folded(question).split(/\s+/).filter(Boolean).sort((one, other) => other.length - one.length);
+
+/**
+ * The texts of many rows as one long text, a line a row, so that a word is looked for in all of them at once. `textOf` gives the
+ * text of a row.
+ */
+export function indexOf(rows, textOf) {
+  const text = folded(`${rows.map(textOf).join("\n")}\n`);
+  const starts = new Uint32Array(rows.length + 1);
+  for (let row = 1; row <= rows.length; row += 1) starts[row] = text.indexOf("\n", starts[row - 1]) + 1;
+  return { rows, starts, text };
+}
+
+/** The rows whose texts have all words of the question, in their order: how many there are, and those of `takes` up to `most`. */
+export function search(index, question, most, takes = () => true) {
+  const { rows, starts, text } = index;
+  const [first = "", ...others] = wordsOf(question);
+  const found = [];
+  let count = 0;
+  const look = (row) => {
+    if (!takes(rows[row])) return;
+    count += 1;
+    if (found.length < most) found.push(rows[row]);
+  };
+  if (!first) {
+    for (let row = 0; row < rows.length; row += 1) look(row);
+    return { count, found };
+  }
+  let row = 0;
+  for (let at = text.indexOf(first); at !== -1; at = text.indexOf(first, starts[row + 1])) {
+    while (starts[row + 1] <= at) row += 1;
+    const line = others.length ? text.slice(starts[row], starts[row + 1]) : "";
+    if (others.every((word) => line.includes(word))) look(row);
+  }
+  return { count, found };
+}
+
+export const STATUSES = ["here", "sent", "received", "ended"];
+
+/**
+ * Aggregations as a tree: the roots, those within each by its number, all by number, and how many records of each status are in
+ * each with all that is in it. A parent's number is below that of what is in it.
+ */
+export function treeOf(aggregations) {
+  const byNumber = new Map(aggregations.map((it) => [it.number, it]));
+  const within = new Map();
+  const totals = new Map(aggregations.map((it) => [it.number, Object.fromEntries(STATUSES.map((status) => [status, it[status]]))]));
+  for (const it of [...aggregations].reverse()) {
+    if (it.parent === null) continue;
+    const above = totals.get(it.parent);
+    for (const status of STATUSES) above[status] += totals.get(it.number)[status];
+  }
+  for (const it of aggregations) {
+    if (it.parent === null) continue;
+    if (!within.has(it.parent)) within.set(it.parent, []);
+    within.get(it.parent).push(it);
+  }
+  return { roots: aggregations.filter((it) => it.parent === null), within, byNumber, totals };
+}
+
+/** The aggregations that contain this one, from the root on. */
+export function above(tree, aggregation) {
+  const found = [];
+  for (let it = tree.byNumber.get(aggregation.parent); it; it = tree.byNumber.get(it.parent)) found.unshift(it);
+  return found;
+}
+
+/** The class of an aggregation: its own, else that of the nearest one that contains it. */
+export function classOf(tree, aggregation) {
+  return aggregation.class ?? above(tree, aggregation).findLast((it) => it.class !== null)?.class ?? "";
+}

@@ -1,0 +1,77 @@
+// What falls due in the years to come: the rows of a due list by year or by month, by action, and what of them is held or confirmed.
+
+export const ACTIONS = ["destroy", "transfer", "review"];
+export const STATES = ["confirmed", "held", "open"];
+
+/** So many years are shown one by one at most; those before them are one period, and those after them another one. */
+const MOST = 30;
+const LAST = 2999;
+
+/** What is known of a row: a hold comes first, since what is held is destroyed by nobody, confirmed or not. */
+const stateOf = (row) => (row.held !== null ? "held" : row.confirmed ? "confirmed" : "open");
+
+const none = () => Object.fromEntries(ACTIONS.map((action) => [action, Object.fromEntries(STATES.map((state) => [state, 0]))]));
+
+/** Counts of no row: in all, held, confirmed (also what is held), and by action and state. */
+const empty = () => ({ total: 0, held: 0, confirmed: 0, by: none() });
+
+function add(counts, row) {
+  counts.total += 1;
+  if (row.held !== null) counts.held += 1;
+  if (row.confirmed) counts.confirmed += 1;
+  counts.by[row.action][stateOf(row)] += 1;
+}
+
+/** How many rows of an action a period has, whatever their state. */
+export const countOf = (counts, action) => STATES.reduce((sum, state) => sum + counts.by[action][state], 0);
+
+/** The years that have a row, the first one first. */
+export const yearsOf = (rows) => [...new Set(rows.map((row) => Number(row.due.slice(0, 4))))].sort((one, other) => one - other);
+
+const dayOf = (year, end) => `${String(year).padStart(4, "0")}-${end}`;
+const yearPeriod = (year) => ({ kind: "year", year, from: dayOf(year, "01-01"), to: dayOf(year, "12-31"), counts: empty() });
+
+/** The years that are shown one by one: all from the first to the last, or those from a little before this one on. */
+function shownYears(years, now) {
+  const [first, last] = [years[0], years[years.length - 1]];
+  if (last - first < MOST) return [first, last];
+  const start = Math.max(first, Math.min(now - 3, last - MOST + 1));
+  return [start, Math.max(start, ...years.filter((year) => year < start + MOST))];
+}
+
+/** The periods of years, each with its days and its counts, as of this year. */
+export function byYear(rows, now) {
+  const years = yearsOf(rows);
+  if (!years.length) return [];
+  const [first, last] = shownYears(years, now);
+  const periods = Array.from({ length: last - first + 1 }, (_, at) => yearPeriod(first + at));
+  const before = { kind: "before", year: first, from: dayOf(1, "01-01"), to: dayOf(first - 1, "12-31"), counts: empty() };
+  const after = { kind: "after", year: last, from: dayOf(last + 1, "01-01"), to: dayOf(LAST, "12-31"), counts: empty() };
+  for (const row of rows) {
+    const year = Number(row.due.slice(0, 4));
+    add((year < first ? before : year > last ? after : periods[year - first]).counts, row);
+  }
+  return [...(before.counts.total ? [before] : []), ...periods, ...(after.counts.total ? [after] : [])];
+}
+
+const lastOf = (year, month) => new Date(Date.UTC(2000 + (year % 400), month, 0)).getUTCDate();
+const digits = (number) => String(number).padStart(2, "0");
+
+/** The twelve months of a year, each with its days and its counts. */
+export function byMonth(rows, year) {
+  const periods = Array.from({ length: 12 }, (_, at) => {
+    const month = digits(at + 1);
+    return { kind: "month", year, month: at + 1, from: dayOf(year, `${month}-01`), to: dayOf(year, `${month}-${digits(lastOf(year, at + 1))}`), counts: empty() };
+  });
+  for (const row of rows) if (Number(row.due.slice(0, 4)) === year) add(periods[Number(row.due.slice(5, 7)) - 1].counts, row);
+  return periods;
+}
+
+/** The steps of an axis up to so many: whole numbers, at most five of them, each 1, 2 or 5 with zeros. */
+export function stepsUpTo(most) {
+  const size = 10 ** Math.floor(Math.log10(Math.max(1, most / 5)));
+  const step = Math.max(1, [1, 2, 5, 10].map((it) => it * size).find((it) => it * 5 >= most));
+  const steps = [];
+  for (let at = 0; at < most + step; at += step) steps.push(at);
+  return steps;
+}

@@ -1,0 +1,177 @@
+// The catalogue: records and aggregations, searched as one types; classes, schedules, holds and runs as lists.
+import { aboutIt, aggregations, lastAnswer, part, records, refresh, tree } from "../catalogue.js";
+import { asking, byId, failed, link, made, paragraph, quiet, say } from "../page.js";
+import { STATUSES, search } from "../plain/catalogue.js";
+import { today } from "../plain/forms.js";
+import { visible } from "../plain/marks.js";
+import { t } from "../texts.js";
+import { addressOf, aggregationsTable, grouped, listOf, recordsTable } from "./catalogue_tables.js";
+import { treeList } from "./catalogue_tree.js";
+
+const PARTS = ["records", "aggregations", "classes", "schedules", "holds", "runs"];
+const SEARCHED = ["records", "aggregations"];
+/** So many rows are shown at first, and so many more each time that more are asked for. */
+const FIRST = 50;
+const MORE = 200;
+
+/** What the address asks for: a part, the words that are looked for, a status and an aggregation; and how many rows are shown. */
+const asked = { part: "records", text: "", status: "", aggregation: "", most: FIRST };
+let turn = 0;
+
+const select = (name) => byId(`catalogue-${name}`);
+const keepAddress = () => history.replaceState(null, "", addressOf(asked));
+
+// ---- what is said of the catalogue
+
+/** A moment by this browser's clock, as 2026-11-26 23:45. */
+function clockOf(moment) {
+  const at = new Date(moment);
+  return `${today(at)} ${at.toTimeString().slice(0, 5)}`;
+}
+
+/** Says of which moment the catalogue is, and how old that is. */
+function tellMoment() {
+  const { moment, day } = aboutIt();
+  const minutes = Math.max(0, Math.round((Date.now() - Date.parse(moment)) / 60000));
+  const age = minutes < 120 ? t("catalogue.minutes", { count: minutes }) : t("catalogue.hours", { count: Math.round(minutes / 60) });
+  const time = made("time", { datetime: moment }, t("catalogue.moment", { moment: clockOf(moment), age }));
+  byId("catalogue-moment").replaceChildren(time, ` ${t("catalogue.day", { day })}`);
+}
+
+function tellParts() {
+  const about = aboutIt();
+  const links = PARTS.map((name) => {
+    const words = t("catalogue.choice", { part: t(`catalogue.parts.${name}`), count: grouped(about[name]) });
+    const it = link(`#catalogue?part=${name}`, words);
+    if (name === asked.part) it.setAttribute("aria-current", "true");
+    return made("li", {}, it);
+  });
+  byId("catalogue-parts").replaceChildren(...links);
+}
+
+// ---- the parts
+
+/** Says how many rows were found, and offers more of them. */
+function tellFound(key, found, count, all) {
+  byId("catalogue-count").textContent = t(key, { count: grouped(count), all: grouped(all), shown: grouped(found.length) });
+  byId("catalogue-more").hidden = found.length >= count;
+}
+
+/** The number of a record or an aggregation that is asked for outright comes first. */
+function withNumber({ found, count }, rows, numberOf, takes) {
+  const number = Number(asked.text);
+  const it = /^[1-9]\d*$/.test(asked.text) ? rows[number - 1] : undefined;
+  if (!it || numberOf(it) !== number || !takes(it)) return { found, count };
+  const others = found.filter((row) => row !== it);
+  return { found: [it, ...others], count: others.length < found.length ? count : count + 1 };
+}
+
+async function tellRecords() {
+  const [index, order] = [await records(), await tree()];
+  if (!index || !order) return null;
+  const within = Number(asked.aggregation);
+  const takes = ([, , , aggregation, status]) => (!asked.status || status === asked.status) && (!asked.aggregation || aggregation === within);
+  const { found, count } = withNumber(search(index, asked.text, asked.most, takes), index.rows, ([number]) => number, takes);
+  return () => {
+    tellFound("catalogue.found", found, count, index.rows.length);
+    const it = order.byNumber.get(within);
+    const words = it ? [paragraph(t("catalogue.within", { number: it.number, ref: visible(it.ref), title: visible(it.title) })), link("#catalogue?part=records", t("catalogue.everywhere"))] : [];
+    select("within").replaceChildren(...words);
+    return found.length ? [recordsTable(found, order)] : [];
+  };
+}
+
+async function tellAggregations() {
+  const [index, order] = [await aggregations(), await tree()];
+  if (!index || !order) return null;
+  if (!asked.text) {
+    return () => {
+      tellFound("catalogue.roots", order.roots, order.roots.length, index.rows.length);
+      return [treeList(order)];
+    };
+  }
+  const { found, count } = withNumber(search(index, asked.text, asked.most), index.rows, ({ number }) => number, () => true);
+  return () => {
+    tellFound("catalogue.found", found, count, index.rows.length);
+    return found.length ? [aggregationsTable(found, order)] : [];
+  };
+}
+
+async function tellList() {
+  const rows = await part(asked.part);
+  if (!rows) return null;
+  return () => {
+    byId("catalogue-count").textContent = rows.length ? "" : t("catalogue.none");
+    byId("catalogue-more").hidden = true;
+    return rows.length ? [listOf(asked.part, rows)] : [];
+  };
+}
+
+const TELLERS = { records: tellRecords, aggregations: tellAggregations };
+
+function tellNone() {
+  byId("catalogue-there").hidden = true;
+  const { status } = lastAnswer();
+  if (status === 404 || status === 200) return say(byId("catalogue-outcome"), "unknown", paragraph(t("catalogue.missing")), paragraph(t("catalogue.missingDo")));
+  return failed(byId("catalogue-outcome"), lastAnswer());
+}
+
+/** Shows what is asked for now. What was asked for before and comes later is not shown any more. */
+async function draw() {
+  const mine = ++turn;
+  const place = byId("catalogue-part");
+  // a part that is there already comes at once, without a word of waiting
+  const waiting = setTimeout(() => asking(byId("catalogue-outcome"), t("catalogue.reading")), 100);
+  const tell = await (TELLERS[asked.part] ?? tellList)();
+  clearTimeout(waiting);
+  if (mine !== turn) return;
+  place.removeAttribute("aria-busy");
+  if (!tell) return tellNone();
+  quiet(byId("catalogue-outcome"));
+  select("within").replaceChildren();
+  place.replaceChildren(...tell());
+}
+
+/** Looks for what is written in the field by now. */
+function look() {
+  asked.text = select("text").value.trim();
+  asked.status = select("status").value;
+  asked.most = FIRST;
+  keepAddress();
+  return draw();
+}
+
+// ---- the view
+
+export function start() {
+  const options = STATUSES.map((status) => made("option", { value: status }, t(`catalogue.statuses.${status}`)));
+  select("status").append(made("option", { value: "" }, t("catalogue.all")), ...options);
+  select("text").addEventListener("input", look);
+  select("status").addEventListener("change", look);
+  byId("catalogue-search").addEventListener("submit", (event) => event.preventDefault());
+  byId("catalogue-more").addEventListener("click", () => {
+    asked.most += MORE;
+    draw();
+  });
+}
+
+/** Shows the part that the address names, of the catalogue that is there by now. */
+export async function show(words) {
+  const named = words.get("part");
+  Object.assign(asked, { part: PARTS.includes(named) ? named : "records", text: words.get("text") ?? "", aggregation: words.get("aggregation") ?? "", most: FIRST });
+  asked.status = STATUSES.includes(words.get("status")) ? words.get("status") : "";
+  select("text").value = asked.text;
+  select("status").value = asked.status;
+  byId("catalogue-search").hidden = !SEARCHED.includes(asked.part);
+  select("status-field").hidden = asked.part !== "records";
+  byId("catalogue-part").setAttribute("aria-busy", "true");
+  const moment = await refresh();
+  if (moment === null) {
+    byId("catalogue-part").removeAttribute("aria-busy");
+    return tellNone();
+  }
+  byId("catalogue-there").hidden = false;
+  tellMoment();
+  tellParts();
+  return draw();
+}

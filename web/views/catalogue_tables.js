@@ -1,0 +1,99 @@
+// The tables of the catalogue: what was found of records and aggregations, and the lists of classes, schedules, holds and runs.
+import { link, made, tableOf } from "../page.js";
+import { STATUSES, above, classOf } from "../plain/catalogue.js";
+import { visible } from "../plain/marks.js";
+import { t } from "../texts.js";
+
+const word = (name) => t(`catalogue.columns.${name}`);
+/** A count with its thousands apart, as the language has it. */
+export const grouped = (count) => count.toLocaleString(document.documentElement.lang);
+
+const recordLink = (number) => link(`#record?number=${number}`, number);
+
+/** The address of a part with what is looked for in it. */
+export function addressOf({ part, text = "", status = "", aggregation = "" }) {
+  const words = new URLSearchParams({ part, ...(text && { text }), ...(status && { status }), ...(aggregation && { aggregation }) });
+  return `#catalogue?${words}`;
+}
+
+export const recordsOf = (aggregation, words) => link(addressOf({ part: "records", aggregation }), words);
+
+/** The number of an aggregation, which leads to its records. */
+function aggregationLink(number, tree) {
+  const it = tree.byNumber.get(number);
+  return it ? recordsOf(number, `${number} · ${visible(it.ref)}`) : String(number);
+}
+
+export function recordsTable(rows, tree) {
+  const words = ["number", "ref", "title", "aggregation", "status"].map(word);
+  const cells = rows.map(([number, ref, title, aggregation, status]) => [recordLink(number), visible(ref), visible(title), aggregationLink(aggregation, tree), t(`catalogue.statuses.${status}`)]);
+  return tableOf(t("catalogue.parts.records"), words, cells, "found records");
+}
+
+/** How many records of each status there are, as `here 4, ended 2`; of those that there are none of nothing is said. */
+export function countsOf(counts) {
+  const there = STATUSES.filter((status) => counts[status] > 0);
+  const told = there.map((status) => t("catalogue.count", { status: t(`catalogue.statuses.${status}`), count: grouped(counts[status]) }));
+  return told.length ? told.join(", ") : t("catalogue.empty");
+}
+
+export function aggregationsTable(rows, tree) {
+  const words = ["number", "ref", "title", "within", "class", "closed", "counts"].map(word);
+  const cells = rows.map((it) => [
+    recordsOf(it.number, it.number),
+    visible(it.ref),
+    visible(it.title),
+    above(tree, it).map(({ ref }) => visible(ref)).join(" › "),
+    classOf(tree, it),
+    it.closed ?? "",
+    countsOf(tree.totals.get(it.number)),
+  ]);
+  return tableOf(t("catalogue.parts.aggregations"), words, cells, "found aggregations");
+}
+
+/** A period in words, as `7 years`. */
+export function periodOf({ count, unit }) {
+  return t(`catalogue.units.${unit}.${count === 1 ? "one" : "many"}`, { count });
+}
+
+export function offsetOf({ offset }) {
+  const [, month] = /^from-month-(\d+)$/.exec(offset) ?? [];
+  return month ? t("catalogue.offsets.from", { month: t(`catalogue.months.${month}`) }) : t(`catalogue.offsets.${offset}`);
+}
+
+/** A schedule in words, as for whoever chooses one. */
+export const scheduleWords = (it) => [periodOf(it), t(`catalogue.triggers.${it.trigger}`), t(`actions.${it.action}`)].join(" · ");
+
+function targetLink(target) {
+  const [kind, name] = target.split(":");
+  const words = t(`catalogue.targets.${kind}`, { name });
+  if (kind === "record") return link(`#record?number=${name}`, words);
+  return kind === "aggregation" ? recordsOf(name, words) : words;
+}
+
+/** Each target on a line of its own; of very many they are in a box that scrolls. */
+const targetsOf = ({ targets }) => made("ul", { class: "targets" }, ...targets.map((it) => made("li", {}, targetLink(it))));
+
+const stateOf = (run) => t(run.closed ? "catalogue.closedRun" : "catalogue.openRun");
+
+/** The lists: their columns, and the cells of a row. */
+const LISTS = {
+  classes: { columns: ["code", "title", "schedule"], cells: (it) => [it.code, visible(it.title), it.schedule] },
+  schedules: {
+    columns: ["code", "trigger", "period", "offset", "action"],
+    cells: (it) => [it.code, t(`catalogue.triggers.${it.trigger}`), periodOf(it), offsetOf(it), t(`actions.${it.action}`)],
+  },
+  holds: {
+    columns: ["code", "reason", "placed", "by", "lifted", "targets"],
+    cells: (it) => [link(`#holds?code=${it.code}`, it.code), visible(it.reason), it.placed, visible(it.by), it.lifted ?? t("catalogue.inForce"), targetsOf(it)],
+  },
+  runs: {
+    columns: ["run", "day", "by", "state", "ended", "sent", "skipped"],
+    cells: (it) => [it.closed ? link(`#certificate?number=${it.number}`, it.number) : String(it.number), it.day, visible(it.by), stateOf(it), it.ended, it.sent, it.skipped],
+  },
+};
+
+export function listOf(part, rows) {
+  const { columns, cells } = LISTS[part];
+  return tableOf(t(`catalogue.parts.${part}`), columns.map(word), rows.map((it) => cells(it).map((cell) => (typeof cell === "number" ? String(cell) : cell))), `found ${part}`);
+}
