@@ -18,6 +18,12 @@ const KINDS = {
   certificate: { label: "fields.certificate", wrong: "fields.numberWrong", takes: isNumber, mode: "numeric" },
   run: { label: "fields.run", wrong: "fields.numberWrong", takes: isNumber, mode: "numeric" },
   target: { label: "fields.target", hint: "fields.targetHint", takes: isText },
+  allPrefix: { label: "file.common.prefix", hint: "file.common.prefixHint", takes: isText },
+  allTitle: { label: "file.common.title", hint: "file.common.titleHint", takes: isText },
+  allOriginated: { label: "file.common.originated", hint: "file.common.originatedHint", takes: isDay, mode: "numeric" },
+  allAggregation: { label: "file.common.aggregation", hint: "file.common.aggregationHint", takes: isNumber, mode: "numeric" },
+  allClass: { label: "file.common.class", hint: "file.common.classHint", takes: isCode },
+  allSchedule: { label: "file.common.schedule", hint: "file.common.scheduleHint", takes: isCode },
 };
 
 /** Builds the field that `<div data-field="KIND" id="ID">` names: a label, a hint, an input and room for what is wrong. */
@@ -79,7 +85,7 @@ export function untick(form) {
 // ---- what is wrong in a form
 
 /** Says at a field what is wrong with it, or that nothing is. */
-function mark(input, wrong) {
+export function mark(input, wrong) {
   byId(`${input.id}-wrong`).textContent = wrong;
   if (wrong) input.setAttribute("aria-invalid", "true");
   else input.removeAttribute("aria-invalid");

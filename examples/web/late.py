@@ -17,9 +17,14 @@ FORMS = {
     "hold-lift": {"code": "H-1"},
     "due-confirm": {"by": "Registrar"},
     "record-event": {"occurred": "2020-05-31", "by": "Registrar"},
+    "file-send": {},
     "run-open": {"by": "Registrar"},
 }
-VIEWS = {"hold": "#holds", "due": "#due", "record": "#record?number=2", "run": "#run"}
+VIEWS = {"hold": "#holds", "due": "#due", "file": "#file", "record": "#record?number=2", "run": "#run"}
+# what is chosen in a view first: a file, and what is in it
+CHOSEN = {
+    "file": ("late.txt", "A letter"),
+}
 LATE = TEXTS["fields"]["late"]
 # a day is written in one step, as by a script that tells nobody, or as by pasting it
 WRITE = "const it = document.getElementById(arguments[0]); it.value = arguments[1];"
@@ -98,10 +103,21 @@ class Form:
         self.story, self.browser, self.name, self.day = story, story.browser, name, day_of(name)
 
     def fill(self) -> None:
-        self.browser.go(VIEWS[self.name.split("-")[0]])
+        view = self.name.split("-")[0]
+        self.browser.go(VIEWS[view])
+        if view in CHOSEN:
+            self.choose(view, *CHOSEN[view])
         self.browser.write(**{f"{self.name}-{field}": value for field, value in FORMS[self.name].items()})
         if self.name == "due-confirm" and not self.browser.one("#due-table tbody input").is_selected():
             self.story.mark(1)
+
+    def choose(self, view: str, name: str, text: str) -> None:
+        file = self.story.folder / name
+        file.write_text(text)
+        self.browser.one(f"#{view}-choose").send_keys(str(file))
+        self.browser.wait(lambda: self.browser.one(f"#{self.name}").is_displayed(), f"{name} is not shown")
+        if view == "file":
+            self.browser.write(file_all_aggregation="1")
 
     def says_late(self) -> str:
         return self.browser.text(f"#{self.day}-late")

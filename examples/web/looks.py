@@ -6,7 +6,7 @@ import subprocess
 from judging import judge, same
 from place import TOP
 
-VIEWS = {"due": "#due?day=2022-05-02", "record": "#record?number=1", "certificate": "#certificate?number=1", "run": "#run?number=1", "holds": "#holds?code=Q-2020-17", "fault": "#fault"}
+VIEWS = {"due": "#due?day=2022-05-02", "record": "#record?number=1", "certificate": "#certificate?number=1", "run": "#run?number=1", "holds": "#holds?code=Q-2020-17", "fault": "#fault", "file": "#file"}
 
 # the least contrast of any text that is seen with what is behind it, with that text
 CONTRAST = """
@@ -71,6 +71,26 @@ def readable(browser, proxy):
     there = {role: roles.count(role) for role in ("table", "row", "columnheader", "rowheader", "cell")}
     same("a narrow list is still a table for a screen reader", there, {"table": 1, "row": rows + 1, "columnheader": 9, "rowheader": rows, "cell": 8 * rows})
     browser.width(1280)
+
+
+def judge_view(browser, name, width):
+    """What is seen of a view, as it is just now: contrast, edges, sizes, names, and that nothing is too wide."""
+    ratio, where = browser.driver.execute_script(CONTRAST)
+    judge(f"{name}: each text has a contrast of 4.5 at least, the least {ratio:.1f}", ratio >= 4.5, where)
+    edge = browser.driver.execute_script(EDGES)
+    judge(f"{name}: each field's edge has 3 at least, the least {edge:.1f}", edge >= 3)
+    there, _ = browser.driver.execute_script(WIDE)
+    judge(f"{name}: nothing is wider", there <= width, f"{there}")
+    same(f"{name}: nothing that is pressed is smaller than 24 pixels", browser.driver.execute_script(SMALL), [])
+    same(f"{name}: each field, button, link and table has a name", browser.driver.execute_script(NAMELESS), [])
+
+
+def picture(browser, file, width, height):
+    """What is seen of a view in a window of this size; of a narrow one more of what is below."""
+    file.parent.mkdir(parents=True, exist_ok=True)
+    full = browser.driver.execute_script("return document.documentElement.scrollHeight")
+    browser.width(width, height if width > 400 else min(full, 1400))
+    browser.driver.save_screenshot(str(file))
 
 
 FOCUSED = """const it = document.activeElement; const style = getComputedStyle(it); const box = it.getBoundingClientRect();

@@ -1,0 +1,91 @@
+// What the views File and Import share: acts are sent with their progress, and what became of each is said in words.
+import { post } from "../ask.js";
+import { byId, factsOf, link, made, paragraph, say, sentence, told } from "../page.js";
+import { counted, isSettled, sendAll } from "../plain/sending.js";
+import { all, t } from "../texts.js";
+
+/** A number as people of the page's language write it. */
+export const grouped = (number) => new Intl.NumberFormat(all().lang).format(number);
+
+const LOOKS = { added: "done", same: "done", refused: "wrong", unread: "wrong", unknown: "unknown", left: "unknown" };
+
+/** What became of one act, in words. */
+export function fateWords(fate) {
+  const record = fate.number === undefined ? "" : link(`#record?number=${fate.number}`, fate.number);
+  if (fate.kind !== "refused") return made("span", { class: `fate ${LOOKS[fate.kind]}` }, ...sentence(`filing.${fate.kind}`, { record }));
+  const row = all().refusals[fate.refusal] ?? { name: "", meaning: "", do: "" };
+  const refusal = t("said.refusal", { number: fate.refusal, name: row.name });
+  const strong = made("strong", {}, refusal);
+  return made("span", { class: "fate wrong" }, strong, ` ${t("said.meaning", row)} ${t("said.do", row)}`);
+}
+
+/** Sends items of the view `name`, and shows how far that is; `changed` is called after each request. The answer that stopped it, or null. */
+export async function send(name, items, changed) {
+  const bar = byId(`${name}-bar`);
+  const stop = byId(`${name}-stop`);
+  const held = document.querySelectorAll(`#${name} [data-held]`);
+  let goesOn = true;
+  const end = () => {
+    goesOn = false;
+    byId(`${name}-at`).textContent = t("filing.stopping");
+  };
+  const stay = (event) => event.preventDefault();
+  const hold = (is) => {
+    for (const part of held) part.inert = is;
+    byId(`${name}-progress`).hidden = !is;
+  };
+  stop.addEventListener("click", end);
+  // a page that is left just now would not learn what became of the acts
+  addEventListener("beforeunload", stay);
+  hold(true);
+  const answer = await sendAll(items, post, ({ behind, list, lists }) => {
+    changed();
+    bar.value = behind / items.length;
+    if (goesOn) byId(`${name}-at`).textContent = t("filing.progress", { behind: grouped(behind), count: grouped(items.length), list, lists });
+    return goesOn;
+  });
+  stop.removeEventListener("click", end);
+  removeEventListener("beforeunload", stay);
+  hold(false);
+  changed();
+  return answer;
+}
+
+const FACTS = ["added", "same", "refused", "unread", "unknown", "left"];
+
+/** Says what became of all that was sent: the counts, the answer that stopped it, and what can be done now. */
+export function sayFates(place, items, answer) {
+  const counts = counted(items);
+  const facts = FACTS.filter((kind) => counts[kind] || kind === "added").map((kind) => [t(`filing.counts.${kind}`), grouped(counts[kind])]);
+  const settled = items.filter(isSettled).length;
+  const words = { settled: grouped(settled), count: grouped(items.length) };
+  const end = made("p", { class: "verdict" }, t(settled === items.length ? "filing.whole" : "filing.partly", words));
+  const stopped = counts.unknown + counts.left ? [paragraph(t(counts.unknown ? "filing.retryUnknown" : "filing.retry"))] : [];
+  const kind = settled === items.length ? "done" : counts.refused + counts.unread ? "wrong" : "unknown";
+  say(place, kind, end, factsOf(facts), ...(answer ? told(answer) : []), ...stopped);
+}
+
+/** Takes what is dropped on a place, as what is chosen by its field. A folder is no file. */
+export function onDrop(place, take) {
+  const over = (is) => place.classList.toggle("over", is);
+  for (const name of ["dragenter", "dragover"]) {
+    place.addEventListener(name, (event) => {
+      event.preventDefault();
+      over(true);
+    });
+  }
+  place.addEventListener("dragleave", (event) => over(place.contains(event.relatedTarget)));
+  place.addEventListener("drop", (event) => {
+    event.preventDefault();
+    over(false);
+    const entries = [...event.dataTransfer.items].map((item) => item.webkitGetAsEntry?.());
+    const isFolder = (at) => entries.length === event.dataTransfer.files.length && entries[at]?.isDirectory;
+    const files = [...event.dataTransfer.files];
+    take(files.filter((_, at) => !isFolder(at)), files.filter((_, at) => isFolder(at)).map(({ name }) => name));
+  });
+}
+
+/** A file that is dropped beside the place for it would be opened in place of the page. */
+export function guardPage() {
+  for (const name of ["dragover", "drop"]) addEventListener(name, (event) => event.preventDefault());
+}
