@@ -7,10 +7,11 @@ import * as due from "./views/due.js";
 import * as fault from "./views/fault.js";
 import * as file from "./views/file.js";
 import * as holds from "./views/holds.js";
+import * as sheet from "./views/import.js";
 import * as record from "./views/record.js";
 import * as run from "./views/run.js";
 
-const VIEWS = { due, file, record, certificate, run, holds, fault };
+const VIEWS = { due, file, import: sheet, record, certificate, run, holds, fault };
 
 /** The view and the words that an address names; due, where it names none. */
 function named(hash) {

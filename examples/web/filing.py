@@ -1,10 +1,12 @@
-"""Files through the page: 40 are dropped, one of them too large; refusals, the same again, and answers that are lost."""
+"""Files through the page: 40 are dropped, one of them too large; refusals, the same again, answers that are lost."""
 from __future__ import annotations
 
 import hashlib
 import json
 import pathlib
 import time
+
+from selenium.webdriver.common.keys import Keys
 
 import looks
 from browser import Browser
@@ -29,6 +31,13 @@ window.fetch = async (...words) => {
   if (words[1]?.body && left-- === 0) { await there(...words); window.fetch = there; throw new TypeError("no answer"); }
   return there(...words);
 };
+"""
+
+# the top of the view, or where the list begins
+SHOWN = """
+document.activeElement.blur();
+const list = document.querySelector("section:not([hidden]) :is(#file-common, #import-totals)");
+scrollTo(0, arguments[0] ? list.getBoundingClientRect().top + scrollY - 12 : 0);
 """
 
 
@@ -69,7 +78,8 @@ class View:
         """Drops files as from the windows of a desktop."""
         place = self.browser.one(where)
         self.browser.driver.execute_script("arguments[0].scrollIntoView({block: 'center'})", place)
-        box = self.browser.driver.execute_script("const it = arguments[0].getBoundingClientRect(); return [it.x, it.y]", place)
+        script = "const it = arguments[0].getBoundingClientRect(); return [it.x, it.y]"
+        box = self.browser.driver.execute_script(script, place)
         data = {"items": [], "files": [str(it) for it in files], "dragOperationsMask": 1}
         for kind in ("dragEnter", "dragOver", "drop"):
             at = {"type": kind, "x": box[0] + 20, "y": box[1] + 20, "data": data}
@@ -94,7 +104,8 @@ class View:
     def totals(self) -> dict[str, int]:
         names = {word: name for name, word in WORDS["totals"].items()}
         facts = self.browser.driver.execute_script(
-            "return Array.from(document.querySelectorAll('#file-totals > div'), (it) => [it.children[0].textContent, it.children[1].textContent])")
+            "return Array.from(document.querySelectorAll('#file-totals > div'),"
+            " (it) => [it.children[0].textContent, it.children[1].textContent])")
         return {names[word]: int(number.replace(",", "")) for word, number in facts}
 
     def file(self) -> int:
@@ -160,8 +171,8 @@ def wrong(view: View) -> None:
         field.clear()
         field.send_keys(value)
     it.write(file_all_prefix="LET/2023/")
-    same("what is written in a row stays", view.rows()[1][1:5], ["LET/2023/letter 02.pdf"[:0] + "LET/2024/second",
-                                                                 "The second letter", "2023-12-31", "1"])
+    stays = ["LET/2024/second", "The second letter", "2023-12-31", "1"]
+    same("what is written in a row stays", view.rows()[1][1:5], stays)
     # a row of an aggregation that is not there
     it.all("#file-table tbody tr:nth-child(3) input")[3].clear()
     it.all("#file-table tbody tr:nth-child(3) input")[3].send_keys("9")
@@ -174,7 +185,8 @@ def filed(view: View, files: list[pathlib.Path]) -> None:
     requests = view.totals()["requests"]
     same("so many requests were sent as it said", view.file(), requests)
     bodies = it.driver.execute_script("return window.bodies.map((it) => new TextEncoder().encode(it).length)")
-    judge(f"each body is below 1 MiB, the longest {max(bodies)}", max(bodies) < BODY and len(bodies) == requests, str(bodies))
+    is_below = max(bodies) < BODY and len(bodies) == requests
+    judge(f"each body is below 1 MiB, the longest {max(bodies)}", is_below, str(bodies))
     judge(f"more than one request was needed, {requests}", requests > 1)
     same("38 are filed, one is refused", view.counts(), {"added": "38", "refused": "1"})
     row = TEXTS["refusals"]["5"]
@@ -185,7 +197,8 @@ def filed(view: View, files: list[pathlib.Path]) -> None:
     same("the button says what is left", it.seen("#file-submit"), WORDS["again"].format(count=1))
     same("mended it is sent alone", (view.file(), view.counts()), (1, {"added": "1"}))
     numbers = [int(digits(answer)) for answer in view.answers() if answer != WORDS["large"]]
-    same("each has a number of its own", sorted(numbers), list(range(min(numbers), min(numbers) + 39)))
+    first = min(numbers)
+    same("each has a number of its own", sorted(numbers), list(range(first, first + 39)))
     wrong_ = []
     fit = [(number, file) for number, file in enumerate(files, 1) if number != 23]
     for record, (number, file) in zip(numbers, fit, strict=True):
@@ -258,7 +271,8 @@ def stopped(view: View, folder: pathlib.Path) -> None:
     office.start(before=full(office.file, 300))
     sent = view.file()
     counts = view.counts()
-    judge("a fault stops it in the middle", counts["added"] != "0" and counts.get("unknown") == "1" and sent == 1, str(counts))
+    in_the_middle = counts["added"] != "0" and counts.get("unknown") == "1" and sent == 1
+    judge("a fault stops it in the middle", in_the_middle, str(counts))
     says("which is said in words", view.outcome(), "503", TEXTS["faults"]["31"]["meaning"], FILING["retryUnknown"])
     office.stop()
     view.file()
@@ -267,9 +281,32 @@ def stopped(view: View, folder: pathlib.Path) -> None:
     files[7].unlink()
     view.file()
     counts = {name: int(count) for name, count in view.counts().items()}
-    same("then all but a file that is gone are filed", (counts["added"] + counts.get("same", 0) > 0, counts["unread"]), (True, 1))
+    same("then one is left, whose file is gone", counts["unread"], 1)
     same("its row says so", view.answers()[-1], FILING["unread"])
-    same("the others are filed", len({answer for answer in view.answers()[:-1] if answer.startswith(("Filed", "There"))}), 7)
+    same("the others are filed", len({it for it in view.answers()[:-1] if it.startswith(("Filed", "There"))}), 7)
+
+
+def keyboard(view: View, files: list[pathlib.Path]) -> None:
+    """Each part is reached by the keyboard, in the order of the page, outlined and in sight; Enter files."""
+    it = view.browser
+    view.open()
+    view.choose(files[:2])
+    it.one("#file-choose").send_keys(Keys.SHIFT, Keys.TAB)
+    stops = looks.stops(it, 40)
+    part = [f"file-all-{name}" for name in ("prefix", "title", "originated", "aggregation", "class", "schedule")]
+    rows = [field.get_attribute("id") for field in it.all("#file-table input")]
+    wanted = ["file-choose", *part, "file-off-all", *rows, "file-send-day", "file-submit"]
+    same("keyboard: each part is reached, in the order of the page", [name for name in stops if name in wanted], wanted)
+    it.one("#file-table .off").send_keys(Keys.ENTER)
+    same("keyboard: a file is taken off, and the next one has the focus", (len(view.rows()), focused(it)), (1, "1"))
+    it.one("#file-table .off").send_keys(Keys.ENTER)
+    same("keyboard: without a file the field to choose some has it", view.focus(), "file-choose")
+
+
+def focused(it: Browser) -> str:
+    """In which row of the list the focus is."""
+    script = "return String(document.activeElement.closest('tr')?.rowIndex)"
+    return it.driver.execute_script(script)
 
 
 def readable(view: View, files: list[pathlib.Path], pictures: pathlib.Path | None) -> None:
@@ -282,19 +319,23 @@ def readable(view: View, files: list[pathlib.Path], pictures: pathlib.Path | Non
             view.open()
             shown = [files[0], files[4], files[6], files[22]]
             view.choose(shown)
-            it.write(file_all_prefix="LET/2023/", file_all_aggregation="1", file_all_originated="2024-01-01")
+            # other refs each time, so that they are new
+            prefix = f"LET/{width}-{height}{scheme[0]}/"
+            it.write(file_all_prefix=prefix, file_all_aggregation="1", file_all_originated="2024-01-01")
             it.all("#file-table tbody tr:nth-child(1) input")[3].clear()
             it.all("#file-table tbody tr:nth-child(1) input")[3].send_keys("9")
             view.file()
             looks.judge_view(it, f"file, {scheme}, {width} pixels", width)
             if pictures:
-                it.driver.execute_script("document.activeElement.blur(); scrollTo(0, 0)")
+                it.driver.execute_script(SHOWN, height == 900 and width > 400)
                 looks.picture(it, pictures / f"file-{width}x{height}-{scheme}.png", width, height)
     it.light("light")
     it.width(1280)
 
 
-def tell(office: Office, proxy: Proxy, browser: Browser, folder: pathlib.Path, pictures: pathlib.Path | None = None) -> None:
+def tell(
+    office: Office, proxy: Proxy, browser: Browser, folder: pathlib.Path, pictures: pathlib.Path | None = None
+) -> None:
     fill(office)
     view = View(Story(office, proxy, browser, folder))
     # first, while the office's file is small
@@ -305,4 +346,5 @@ def tell(office: Office, proxy: Proxy, browser: Browser, folder: pathlib.Path, p
     filed(view, files)
     again(view, files)
     lost(view, folder)
+    keyboard(view, files)
     readable(view, files, pictures)

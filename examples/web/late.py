@@ -18,12 +18,14 @@ FORMS = {
     "due-confirm": {"by": "Registrar"},
     "record-event": {"occurred": "2020-05-31", "by": "Registrar"},
     "file-send": {},
+    "import-send": {},
     "run-open": {"by": "Registrar"},
 }
-VIEWS = {"hold": "#holds", "due": "#due", "file": "#file", "record": "#record?number=2", "run": "#run"}
+VIEWS = {"hold": "#holds", "due": "#due", "file": "#file", "import": "#import", "record": "#record?number=2", "run": "#run"}
 # what is chosen in a view first: a file, and what is in it
 CHOSEN = {
     "file": ("late.txt", "A letter"),
+    "import": ("late.csv", "ref,title,originated,aggregation\nL/1,Late,2020-01-01,1\n"),
 }
 LATE = TEXTS["fields"]["late"]
 # a day is written in one step, as by a script that tells nobody, or as by pasting it
@@ -217,7 +219,7 @@ def carried_out(story: Story) -> None:
     it.press("#run-sure")
     it.press("#run-resume button")
     same("the run of the late day: its counts", counts(), ["1", "0", "0"])
-    story.office.ask("POST", "/acts", json.dumps([{"act": "open-run", "day": after(8), "by": "Registrar"}]))
+    story.office.ask("POST", "/acts", json.dumps([{"act": "open-run", "day": after(len(FORMS) + 1), "by": "Registrar"}]))
     it.press("#run-sure")
     it.press("#run-resume button")
     same("a run that takes nothing: its counts", counts(), ["0", "0", "0"])

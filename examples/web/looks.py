@@ -6,7 +6,7 @@ import subprocess
 from judging import judge, same
 from place import TOP
 
-VIEWS = {"due": "#due?day=2022-05-02", "record": "#record?number=1", "certificate": "#certificate?number=1", "run": "#run?number=1", "holds": "#holds?code=Q-2020-17", "fault": "#fault", "file": "#file"}
+VIEWS = {"due": "#due?day=2022-05-02", "record": "#record?number=1", "certificate": "#certificate?number=1", "run": "#run?number=1", "holds": "#holds?code=Q-2020-17", "fault": "#fault", "file": "#file", "import": "#import"}
 
 # the least contrast of any text that is seen with what is behind it, with that text
 CONTRAST = """
@@ -89,12 +89,28 @@ def picture(browser, file, width, height):
     """What is seen of a view in a window of this size; of a narrow one more of what is below."""
     file.parent.mkdir(parents=True, exist_ok=True)
     full = browser.driver.execute_script("return document.documentElement.scrollHeight")
-    browser.width(width, height if width > 400 else min(full, 1400))
+    browser.width(width, height if width > 400 else min(full, 2400))
     browser.driver.save_screenshot(str(file))
 
 
 FOCUSED = """const it = document.activeElement; const style = getComputedStyle(it); const box = it.getBoundingClientRect();
 return [it.id || it.textContent || it.getAttribute("aria-label"), style.outlineStyle !== "none" && parseFloat(style.outlineWidth) >= 2, box.bottom > 0 && box.top < innerHeight, it.tagName]"""
+
+
+def stops(browser, most):
+    """The stops of the keyboard from the focus on, each by its id or name; each is outlined and in sight."""
+    from selenium.webdriver.common.keys import Keys
+    names, wrong = [], []
+    for _ in range(most):
+        browser.driver.switch_to.active_element.send_keys(Keys.TAB)
+        name, outlined, inside, tag = browser.driver.execute_script(FOCUSED)
+        if tag == "BODY" or name == "skip":
+            break
+        names.append(name)
+        if not outlined or not inside:
+            wrong.append(name)
+    same("keyboard: each stop is outlined and in sight", wrong, [])
+    return names
 
 
 def keyboard(browser, proxy):

@@ -48,7 +48,8 @@ export function wrongOf(name, value) {
 export function wrongsOf(all) {
   const seen = new Set();
   return all.map((values) => {
-    const wrong = Object.fromEntries(MEMBERS.map((name) => [name, wrongOf(name, values[name])]).filter(([, key]) => key));
+    const said = MEMBERS.map((name) => [name, wrongOf(name, values[name])]);
+    const wrong = Object.fromEntries(said.filter(([, key]) => key));
     if (!wrong.ref && seen.has(values.ref)) wrong.ref = "file.twice";
     seen.add(values.ref);
     return wrong;
@@ -60,11 +61,10 @@ export function actBytes(day, values, size) {
   return bytesOf(JSON.stringify(addRecord(day, { ...values, content: "" }))) + 4 * Math.ceil(size / 3);
 }
 
-/** What the files add up to: those that fit, those that are too large, and those that are filed by now. */
+/** What the files add up to: how many, of how many bytes, and how many of them are too large. */
 export function sizes(files) {
-  const large = files.filter(({ size }) => size > MOST_CONTENT);
-  const sum = (some) => some.reduce((bytes, { size }) => bytes + size, 0);
-  return { count: files.length, bytes: sum(files), large: large.length, fit: files.length - large.length };
+  const large = files.filter(({ size }) => size > MOST_CONTENT).length;
+  return { count: files.length, bytes: files.reduce((sum, { size }) => sum + size, 0), large };
 }
 
 // a multiple of three, so that the parts of base64 can be joined

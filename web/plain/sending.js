@@ -8,9 +8,10 @@ const ROOM = 1024;
 const MOST_ACTS = 100;
 
 /**
- * An act that is to be sent: how many bytes it has as JSON, how it is made (null where it cannot be), and what became of it.
+ * An act that is to be sent: how many bytes it has as JSON, how it is made (null where it cannot be), what it became.
  * @typedef {{ bytes: number, make: () => Promise<object | null>, fate: Fate | null }} Item
- * @typedef {{ kind: "added" | "same" | "refused" | "unknown" | "left" | "unread", number?: number, refusal?: number }} Fate
+ * @typedef {{ kind: "added" | "same" | "refused" | "unknown" | "left" | "unread", number?: number, refusal?: number }}
+ *   Fate
  */
 
 /** The items in lists, in their order, each of which fits into one body. */

@@ -1,14 +1,16 @@
 // Filing: files are dropped or chosen, each becomes a record, and their acts go to the office in few requests.
 import { mark, onSubmit, untick } from "../fields.js";
-import { byId, made, paragraph, quiet, say } from "../page.js";
+import { byId, paragraph, quiet, say } from "../page.js";
 import { addRecord } from "../plain/acts.js";
-import { MEMBERS, MOST_CONTENT, MOST_FILES, actBytes, base64, forAll, sizes, wrongOf, wrongsOf } from "../plain/filing.js";
+import {
+  MEMBERS, MOST_CONTENT, MOST_FILES, actBytes, base64, forAll, sizes, wrongOf, wrongsOf,
+} from "../plain/filing.js";
 import { today } from "../plain/forms.js";
 import { visible } from "../plain/marks.js";
 import { batches, isSettled } from "../plain/sending.js";
 import { t } from "../texts.js";
 import { isLarge, rowOf, tellAnswer, tellHead, tellValues } from "./file_rows.js";
-import { grouped, guardPage, onDrop, sayFates, send } from "./filing.js";
+import { grouped, guardPage, onDrop, sayFates, send, tellSums } from "./filing.js";
 
 /** The files that are listed, in their order; what is written for all of them is in the fields. */
 let entries = [];
@@ -27,20 +29,27 @@ const isToBeFiled = (entry) => !isSettled(entry) && !isLarge(entry);
 // ---- what is listed
 
 function tellTotals() {
-  const sums = sizes(entries.map(({ file }) => file));
+  const { count, bytes, large } = sizes(entries.map(({ file }) => file));
   const filed = entries.filter(isSettled).length;
   const ready = entries.filter(isToBeFiled);
   for (const entry of ready) entry.bytes = actBytes(today(), valuesOf(entry), entry.file.size);
-  const shown = { count: sums.count, bytes: sums.bytes, large: sums.large, filed, ready: ready.length, requests: batches(ready).length };
-  const facts = Object.entries(shown).map(([name, sum]) => made("div", {}, made("dt", {}, t(`file.totals.${name}`)), made("dd", {}, grouped(sum))));
-  byId("file-totals").replaceChildren(...facts);
-  byId("file-caption").textContent = t("file.caption", { count: grouped(sums.count) });
+  tellSums("file", { count, bytes, large, filed, ready: ready.length, requests: batches(ready).length });
+  byId("file-caption").textContent = t("file.caption", { count: grouped(count) });
   const tried = ready.some(({ fate }) => fate);
-  if (!isSending) byId("file-submit").textContent = t(tried ? "file.again" : "file.submit", { count: grouped(ready.length) });
+  const key = tried ? "file.again" : "file.submit";
+  if (!isSending) byId("file-submit").textContent = t(key, { count: grouped(ready.length) });
   byId("file-off-filed").hidden = filed === 0;
-  const many = { count: grouped(sums.large), most: grouped(MOST_CONTENT) };
-  if (sums.large) say(byId("file-large"), "wrong", paragraph(t("file.tooLarge", many)), paragraph(t("file.tooLargeDo")));
-  else quiet(byId("file-large"));
+  tellLarge(large);
+}
+
+/** Says how many files are too large, and what to do: once, so that a screen reader does not hear it at each letter. */
+function tellLarge(count) {
+  const place = byId("file-large");
+  if (place.dataset.count === String(count)) return;
+  place.dataset.count = count;
+  const words = { count: grouped(count), most: grouped(MOST_CONTENT) };
+  if (count) say(place, "wrong", paragraph(t("file.tooLarge", words)), paragraph(t("file.tooLargeDo")));
+  else quiet(place);
 }
 
 /** Shows the list, once there is one. */
@@ -83,7 +92,8 @@ function take(files, folders = []) {
   entries.push(...more);
   byId("file-table").tBodies[0].append(...more.map((entry) => rowOf(entry, { edited, removed })));
   const said = folders.map((name) => paragraph(t("file.folder", { name: visible(name) })));
-  if (files.length > room) said.push(paragraph(t("file.tooMany", { most: grouped(MOST_FILES), count: grouped(files.length - room) })));
+  const over = { most: grouped(MOST_FILES), count: grouped(files.length - room) };
+  if (files.length > room) said.push(paragraph(t("file.tooMany", over)));
   if (said.length) say(byId("file-taken"), "wrong", ...said);
   else quiet(byId("file-taken"));
   quiet(byId("file-send-outcome"));

@@ -28,13 +28,15 @@ function fieldOf(entry, name, edited) {
   return [input, made("strong", { class: "wrong", id: `${id}-wrong` })];
 }
 
-/** The row of a file. `edited` is called with what somebody writes, `removed` once the file is to be taken off the list. */
+/** The row of a file. `edited` is called with what somebody writes, `removed` once the file is to be taken off. */
 export function rowOf(entry, { edited, removed }) {
   const name = visible(entry.file.name);
-  const off = made("button", { type: "button", class: "quiet off", "aria-label": t("file.offOf", { name }) }, t("file.off"));
+  const named = { type: "button", class: "quiet off", "aria-label": t("file.offOf", { name }) };
+  const off = made("button", named, t("file.off"));
   off.addEventListener("click", () => removed(entry));
   const size = t("file.size", { bytes: grouped(entry.file.size) });
-  const first = made("th", { scope: "row", role: "rowheader" }, made("span", { class: "named" }, name), made("span", { class: "hint" }, size));
+  const words = [made("span", { class: "named" }, name), made("span", { class: "hint" }, size)];
+  const first = made("th", { scope: "row", role: "rowheader" }, ...words);
   const cells = MEMBERS.map((member) => made("td", { role: "cell" }, ...fieldOf(entry, member, edited)));
   const answer = made("td", { role: "cell" });
   entry.off = off;
@@ -62,5 +64,7 @@ export function tellAnswer(entry) {
 
 /** Writes the values of a record, where nobody is writing another one just then. */
 export function tellValues(entry, values) {
-  for (const name of MEMBERS) if (entry.inputs[name].value.trim() !== values[name]) entry.inputs[name].value = values[name];
+  for (const name of MEMBERS) {
+    if (entry.inputs[name].value.trim() !== values[name]) entry.inputs[name].value = values[name];
+  }
 }

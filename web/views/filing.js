@@ -12,14 +12,24 @@ const LOOKS = { added: "done", same: "done", refused: "wrong", unread: "wrong", 
 /** What became of one act, in words. */
 export function fateWords(fate) {
   const record = fate.number === undefined ? "" : link(`#record?number=${fate.number}`, fate.number);
-  if (fate.kind !== "refused") return made("span", { class: `fate ${LOOKS[fate.kind]}` }, ...sentence(`filing.${fate.kind}`, { record }));
+  const words = sentence(`filing.${fate.kind}`, { record });
+  if (fate.kind !== "refused") return made("span", { class: `fate ${LOOKS[fate.kind]}` }, ...words);
   const row = all().refusals[fate.refusal] ?? { name: "", meaning: "", do: "" };
   const refusal = t("said.refusal", { number: fate.refusal, name: row.name });
   const strong = made("strong", {}, refusal);
   return made("span", { class: "fate wrong" }, strong, ` ${t("said.meaning", row)} ${t("said.do", row)}`);
 }
 
-/** Sends items of the view `name`, and shows how far that is; `changed` is called after each request. The answer that stopped it, or null. */
+/** The sums of the view `name`, each with its word. */
+export function tellSums(name, sums) {
+  const words = ([sum, number]) => [made("dt", {}, t(`${name}.totals.${sum}`)), made("dd", {}, grouped(number))];
+  byId(`${name}-totals`).replaceChildren(...Object.entries(sums).map((it) => made("div", {}, ...words(it))));
+}
+
+/**
+ * Sends items of the view `name`, and shows how far that is; `changed` is called after each request. The answer that
+ * stopped it, or null.
+ */
 export async function send(name, items, changed) {
   const bar = byId(`${name}-bar`);
   const stop = byId(`${name}-stop`);
@@ -41,7 +51,8 @@ export async function send(name, items, changed) {
   const answer = await sendAll(items, post, ({ behind, list, lists }) => {
     changed();
     bar.value = behind / items.length;
-    if (goesOn) byId(`${name}-at`).textContent = t("filing.progress", { behind: grouped(behind), count: grouped(items.length), list, lists });
+    const words = { behind: grouped(behind), count: grouped(items.length), list, lists };
+    if (goesOn) byId(`${name}-at`).textContent = t("filing.progress", words);
     return goesOn;
   });
   stop.removeEventListener("click", end);
@@ -56,11 +67,14 @@ const FACTS = ["added", "same", "refused", "unread", "unknown", "left"];
 /** Says what became of all that was sent: the counts, the answer that stopped it, and what can be done now. */
 export function sayFates(place, items, answer) {
   const counts = counted(items);
-  const facts = FACTS.filter((kind) => counts[kind] || kind === "added").map((kind) => [t(`filing.counts.${kind}`), grouped(counts[kind])]);
+  const kinds = FACTS.filter((it) => counts[it] || it === "added");
+  const facts = kinds.map((it) => [t(`filing.counts.${it}`), grouped(counts[it])]);
   const settled = items.filter(isSettled).length;
   const words = { settled: grouped(settled), count: grouped(items.length) };
   const end = made("p", { class: "verdict" }, t(settled === items.length ? "filing.whole" : "filing.partly", words));
-  const stopped = counts.unknown + counts.left ? [paragraph(t(counts.unknown ? "filing.retryUnknown" : "filing.retry"))] : [];
+  const retry = counts.unknown ? "filing.retryUnknown" : "filing.retry";
+  const stopped = counts.unknown + counts.left ? [paragraph(t(retry))] : [];
+  if (counts.same) stopped.unshift(paragraph(t("filing.sameAbout")));
   const kind = settled === items.length ? "done" : counts.refused + counts.unread ? "wrong" : "unknown";
   say(place, kind, end, factsOf(facts), ...(answer ? told(answer) : []), ...stopped);
 }
