@@ -21,6 +21,14 @@ const KINDS = {
   target: { label: "fields.target", hint: "fields.targetHint", takes: isText },
   overdueDay: { label: "overdue.day", hint: "fields.dayHint", wrong: "fields.dayWrong", takes: isDay, mode: "numeric", isToday: true },
   confirmDays: { label: "overdue.count", hint: "overdue.countHint", wrong: "overdue.countWrong", takes: isConfirmDays, mode: "numeric" },
+  allPrefix: { label: "file.common.prefix", hint: "file.common.prefixHint", takes: isText },
+  allTitle: { label: "file.common.title", hint: "file.common.titleHint", takes: isText },
+  allOriginated: { label: "file.common.originated", hint: "file.common.originatedHint", takes: isDay, mode: "numeric" },
+  allAggregation: {
+    label: "file.common.aggregation", hint: "file.common.aggregationHint", takes: isNumber, mode: "numeric",
+  },
+  allClass: { label: "file.common.class", hint: "file.common.classHint", takes: isCode },
+  allSchedule: { label: "file.common.schedule", hint: "file.common.scheduleHint", takes: isCode },
   ...PLAN_KINDS,
 };
 

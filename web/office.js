@@ -1,20 +1,36 @@
 // The page: it reads its words, starts its views, and shows the one that the address names, as #record?number=8.
 import { field, renewDays } from "./fields.js";
-import { byId, translate } from "./page.js";
-import { all, load, t } from "./texts.js";
 import * as offers from "./offers.js";
+import { byId, made, translate } from "./page.js";
+import { all, load, t } from "./texts.js";
 import * as catalogue from "./views/catalogue.js";
 import * as certificate from "./views/certificate.js";
 import * as due from "./views/due.js";
 import * as fault from "./views/fault.js";
+import * as file from "./views/file.js";
 import * as holds from "./views/holds.js";
+import * as sheet from "./views/import.js";
 import * as outlook from "./views/outlook.js";
 import * as overdue from "./views/overdue.js";
 import * as plan from "./views/plan.js";
 import * as record from "./views/record.js";
 import * as run from "./views/run.js";
 
-const VIEWS = { due, overdue, outlook, record, plan, run, certificate, holds, catalogue, fault };
+/** The views, in the order of the navigation. */
+const VIEWS = {
+  due,
+  overdue,
+  outlook,
+  record,
+  file,
+  import: sheet,
+  plan,
+  run,
+  certificate,
+  holds,
+  catalogue,
+  fault,
+};
 
 /** The view and the words that an address names; due, where it names none. */
 function named(hash) {
@@ -58,10 +74,18 @@ function withLinks() {
   }
 }
 
+/** The links to the views. The one that tells the faults is reached from the view Run. */
+function addLinks() {
+  const names = Object.keys(VIEWS).filter((name) => name !== "fault");
+  const links = names.map((name) => made("a", { href: `#${name}`, "data-text": `${name}.title` }));
+  byId("views").append(...links.map((link) => made("li", {}, link)));
+}
+
 async function begin() {
   await load(navigator.languages);
   document.documentElement.lang = all().lang;
   for (const place of document.querySelectorAll("[data-field]")) field(place);
+  addLinks();
   translate(document);
   // the views come first, so that a list is whole before its links are left out
   for (const view of Object.values(VIEWS)) view.start();

@@ -26,7 +26,7 @@ def has(name: str, columns: str, table: str) -> Callable[[Shell], None]:
 ROWS = [
     Row("./office apply letters.db examples/import/office.json"),
     Row("./office import letters.db 2024-01-02 examples/import/letters.csv"),
-    Row("examples/import/from_spreadsheet examples/import/sheets/unicode_text.txt -o records.csv"),
+    Row("examples/import/convert examples/import/sheets/unicode_text.txt -o records.csv"),
     Row("./office import letters.db 2024-01-02 records.csv"),
     Row("./office export letters.db 2027-06-01 > due.csv", prints="", then=has("due.csv", DUE, "records")),
     Row("./office export letters.db entries > entries.csv", prints="", then=has("entries.csv", ENTRIES, "entries")),

@@ -10,7 +10,8 @@ from selenium.webdriver.support.ui import Select
 
 from place import NAME, PASSWORD
 
-WAIT = 60
+# a program that is compiled with checks takes half a minute for a MiB of contents
+WAIT = 300
 
 
 class Browser:

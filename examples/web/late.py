@@ -23,6 +23,8 @@ FORMS = {
     "record-schedule": {"schedule": "D12"},
     "record-class": {"class": "C"},
     "record-receipt": {"digest": hashlib.sha256(b"abc").hexdigest(), "by": "Registrar"},
+    "file-send": {},
+    "import-send": {},
     "plan-schedule": {"code": "P1", "count": "3"},
     "plan-class": {"code": "P", "title": "Plans", "schedule": "P1"},
     "plan-rule": {"class": "P", "schedule": "D1"},
@@ -32,7 +34,20 @@ FORMS = {
     "plan-own": {"record": "2", "schedule": "D12"},
     "run-open": {"by": "Registrar"},
 }
-VIEWS = {"hold": "#holds", "due": "#due", "overdue": "#overdue", "plan": "#plan", "run": "#run"}
+VIEWS = {
+    "hold": "#holds",
+    "due": "#due",
+    "overdue": "#overdue",
+    "file": "#file",
+    "import": "#import",
+    "plan": "#plan",
+    "run": "#run",
+}
+# what is chosen in a view first: a file, and what is in it
+CHOSEN = {
+    "file": ("late.txt", "A letter"),
+    "import": ("late.csv", "ref,title,originated,aggregation\nL/1,Late,2020-01-01,1\n"),
+}
 # the record of each form that is for one
 RECORDS = {
     "record-event": 2,
@@ -96,6 +111,8 @@ class Form:
     def fill(self) -> None:
         it, view = self.browser, self.name.split("-")[0]
         it.go(f"#record?number={RECORDS[self.name]}" if view == "record" else VIEWS[view])
+        if view in CHOSEN:
+            self.choose(view, *CHOSEN[view])
         it.driver.execute_script(
             "document.getElementById(arguments[0]).closest('details')?.setAttribute('open', '')", self.name
         )
@@ -108,6 +125,14 @@ class Form:
         if not box.is_selected():
             self.browser.driver.execute_script("arguments[0].scrollIntoView({block: 'center'})", box)
             box.click()
+
+    def choose(self, view: str, name: str, text: str) -> None:
+        file = self.story.folder / name
+        file.write_text(text)
+        self.browser.one(f"#{view}-choose").send_keys(str(file))
+        self.browser.wait(lambda: self.browser.one(f"#{self.name}").is_displayed(), f"{name} is not shown")
+        if view == "file":
+            self.browser.write(file_all_aggregation="1")
 
     def says_late(self) -> str:
         return self.browser.text(f"#{self.day}-late")

@@ -11,6 +11,8 @@ VIEWS = {
     "overdue": "#overdue?day=2022-05-02&count=30",
     "outlook": "#outlook",
     "record": "#record?number=1",
+    "file": "#file",
+    "import": "#import",
     "plan": "#plan",
     "run": "#run?number=1",
     "certificate": "#certificate?number=1",
@@ -88,8 +90,44 @@ def readable(browser, proxy):
     browser.width(1280)
 
 
+def judge_view(browser, name, width):
+    """What is seen of a view, as it is just now: contrast, edges, sizes, names, and that nothing is too wide."""
+    ratio, where = browser.driver.execute_script(CONTRAST)
+    judge(f"{name}: each text has a contrast of 4.5 at least, the least {ratio:.1f}", ratio >= 4.5, where)
+    edge = browser.driver.execute_script(EDGES)
+    judge(f"{name}: each field's edge has 3 at least, the least {edge:.1f}", edge >= 3)
+    there, _ = browser.driver.execute_script(WIDE)
+    judge(f"{name}: nothing is wider", there <= width, f"{there}")
+    same(f"{name}: nothing that is pressed is smaller than 24 pixels", browser.driver.execute_script(SMALL), [])
+    same(f"{name}: each field, button, link and table has a name", browser.driver.execute_script(NAMELESS), [])
+
+
+def picture(browser, file, width, height):
+    """What is seen of a view in a window of this size; of a narrow one more of what is below."""
+    file.parent.mkdir(parents=True, exist_ok=True)
+    full = browser.driver.execute_script("return document.documentElement.scrollHeight")
+    browser.width(width, height if width > 400 else min(full, 2400))
+    browser.driver.save_screenshot(str(file))
+
+
 FOCUSED = """const it = document.activeElement; const style = getComputedStyle(it); const box = it.getBoundingClientRect();
 return [it.id || it.textContent || it.getAttribute("aria-label"), style.outlineStyle !== "none" && parseFloat(style.outlineWidth) >= 2, box.bottom > 0 && box.top < innerHeight, it.tagName]"""
+
+
+def stops(browser, most):
+    """The stops of the keyboard from the focus on, each by its id or name; each is outlined and in sight."""
+    from selenium.webdriver.common.keys import Keys
+    names, wrong = [], []
+    for _ in range(most):
+        browser.driver.switch_to.active_element.send_keys(Keys.TAB)
+        name, outlined, inside, tag = browser.driver.execute_script(FOCUSED)
+        if tag == "BODY" or name == "skip":
+            break
+        names.append(name)
+        if not outlined or not inside:
+            wrong.append(name)
+    same("keyboard: each stop is outlined and in sight", wrong, [])
+    return names
 
 
 def keyboard(browser, proxy):

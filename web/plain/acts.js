@@ -7,6 +7,9 @@ const encoder = new TextEncoder();
 
 export const confirm = (row, day, by) => ({ act: "confirm", day, record: row.record, action: row.action, by });
 export const recordEvent = (day, record, occurred, by) => ({ act: "event", day, record, occurred, by });
+export const addRecord = (day, { ref, title, originated, aggregation, class: code, schedule, content }) => ({
+  act: "add-record", day, ref, title, originated, aggregation: Number(aggregation), class: code || null, schedule: schedule || null, content,
+});
 export const openRun = (day, by) => ({ act: "open-run", day, by });
 export const placeHold = (day, code, reason, by) => ({ act: "place-hold", day, code, reason, by });
 export const holdOn = (day, hold, target) => ({ act: "hold-on", day, hold, target });

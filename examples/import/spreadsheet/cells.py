@@ -18,21 +18,26 @@ FORMULA_ERRORS = {"#N/A", "#REF!", "#VALUE!", "#NAME?", "#DIV/0!", "#NULL!", "#N
 
 
 class Wrong(Exception):
-    """What is wrong with a cell; the text follows the cell's own."""
+    """What is wrong with a cell; the text follows the cell's own. The kind is one word for each such text."""
+
+    def __init__(self, kind: str, text: str) -> None:
+        super().__init__(text)
+        self.kind = kind
 
 
 def text_of(cell: str) -> str:
     """A ref or a title."""
     if not cell:
-        raise Wrong("the cell is empty")
+        raise Wrong("empty", "the cell is empty")
     if cell in FORMULA_ERRORS or re.fullmatch("#{3,}", cell):
-        raise Wrong("is the error of a formula, or a column that was too narrow")
+        raise Wrong("formula", "is the error of a formula, or a column that was too narrow")
     if LINE_BREAK.search(cell):
-        raise Wrong("has a line break: write it in one line, or say --join-lines")
+        raise Wrong("lines", "has a line break: write it in one line, or say --join-lines")
     if found := CONTROL.search(cell):
-        raise Wrong(f"has the control character U+{ord(found[0]):04X}")
+        raise Wrong("control", f"has the control character U+{ord(found[0]):04X}")
     if len(cell.encode()) > LONGEST_TEXT:
-        raise Wrong(f"has {len(cell)} characters in {len(cell.encode())} bytes; at most {LONGEST_TEXT} bytes fit")
+        bytes_ = len(cell.encode())
+        raise Wrong("long", f"has {len(cell)} characters in {bytes_} bytes; at most {LONGEST_TEXT} bytes fit")
     return cell
 
 
@@ -41,41 +46,43 @@ def in_one_line(cell: str) -> str:
     return " ".join(part.strip(" \t") for part in LINE_BREAK.split(cell))
 
 
-def note_of(cell: str) -> str | None:
-    """What somebody should look at in a text that is of its form."""
-    if re.fullmatch(r"\d[.,]\d+E\+\d+", cell):
-        return "looks like a long number that a sheet has shortened"
+def note_of(cell: str) -> tuple[str, str] | None:
+    """What somebody should look at in a text that is of its form: its kind, and a text."""
+    if re.fullmatch(r"[0-9][.,][0-9]+E\+[0-9]+", cell):
+        return "shortened", "looks like a long number that a sheet has shortened"
     if "\ufffd" in cell:
-        return "has the mark of a character that was lost before this file was written"
+        return "lost", "has the mark of a character that was lost before this file was written"
     if found := UNSEEN.search(cell):
-        return f"has the character U+{ord(found[0]):04X}, which nobody sees"
+        return "unseen", f"has the character U+{ord(found[0]):04X}, which nobody sees"
     return None
 
 
 def number_of(cell: str) -> str:
     """The number of an aggregation."""
     if not cell:
-        raise Wrong("the cell is empty: write the number of the aggregation, which `office apply` printed")
+        why = "the cell is empty: write the number of the aggregation, which `office apply` printed"
+        raise Wrong("numberless", why)
     if not re.fullmatch("[0-9]+", cell):
-        raise Wrong("is no whole number in digits: give the column the form of a number without decimals")
+        why = "is no whole number in digits: give the column the form of a number without decimals"
+        raise Wrong("number", why)
     if not 1 <= int(cell) <= LARGEST_NUMBER:
-        raise Wrong(f"is no number from 1 to {LARGEST_NUMBER:,}")
+        raise Wrong("range", f"is no number from 1 to {LARGEST_NUMBER:,}")
     return cell
 
 
 def code_of(cell: str) -> str:
     """The code of a class or of a schedule, or none."""
     if cell and not re.fullmatch("[A-Za-z0-9-]+", cell):
-        raise Wrong("is no code: a code has ASCII letters, digits and hyphens alone")
+        raise Wrong("code", "is no code: a code has ASCII letters, digits and hyphens alone")
     if len(cell) > LONGEST_CODE:
-        raise Wrong(f"has {len(cell)} characters, and a code has at most {LONGEST_CODE}")
+        raise Wrong("longCode", f"has {len(cell)} characters, and a code has at most {LONGEST_CODE}")
     return cell
 
 
 def too_long(what: str, length: int) -> Wrong:
     kilobytes = -(-length // 1024)
-    return Wrong(f"{what} {length:,} bytes ({kilobytes:,} KB); a content has at most {LONGEST_CONTENT:,} (256 KB): "
-                 "see \"Contents above 256 KB\" in docs/CSV.md")
+    return Wrong("large", f"{what} {length:,} bytes ({kilobytes:,} KB); a content has at most {LONGEST_CONTENT:,} "
+                          "(256 KB): see \"Contents above 256 KB\" in docs/CSV.md")
 
 
 def content_of(cell: str) -> str:
@@ -88,7 +95,7 @@ def content_of(cell: str) -> str:
     if content is None or base64.b64encode(content).decode() != joined:
         is_cut = len(cell) == LONGEST_CELL
         why_cut = ": Excel cut it at 32,767 characters, say --files" if is_cut else ""
-        raise Wrong(f"is no base64 with padding{why_cut}")
+        raise Wrong("cut" if is_cut else "base64", f"is no base64 with padding{why_cut}")
     if len(content) > LONGEST_CONTENT:
         raise too_long("represents", len(content))
     return joined
@@ -116,7 +123,8 @@ class Files:
             path = (root / name).resolve()
             if is_file(path) and path.is_relative_to(root):
                 return path
-        raise Wrong(f"is no file in the folder {self.folder}: is it spelled so there? --folder names another folder")
+        why = f"is no file in the folder {self.folder}: is it spelled so there? --folder names another folder"
+        raise Wrong("file", why)
 
     def check(self, cell: str) -> None:
         if cell:
@@ -129,7 +137,7 @@ class Files:
         try:
             path.open("rb").close()
         except OSError as why:
-            raise Wrong(f"the file cannot be read: {why.strerror}") from why
+            raise Wrong("unread", f"the file cannot be read: {why.strerror}") from why
 
     def content(self, cell: str) -> str:
         """The base64 of a file, or of its manifest where it is too large."""

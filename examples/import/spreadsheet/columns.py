@@ -5,19 +5,23 @@ import re
 from collections.abc import Mapping
 from dataclasses import dataclass
 
-from spreadsheet.sheet import Row, Unreadable, letters
+from spreadsheet.sheet import NEAR_TOP, Row, Unreadable, letters
 
 NAMES = ["ref", "title", "originated", "aggregation", "class", "schedule", "content"]
 NEEDED = ["ref", "title", "originated", "aggregation"]
-# other names that sheets have for them, as `plain` makes them
+# Other names that sheets have for them, as `plain` makes them: in English, then in German. web/sheet/columns.js has the
+# same, and examples/import/cases tries each.
 SYNONYMS: dict[str, list[str]] = {
-    "ref": ["reference", "reference no", "reference number", "ref no", "file no", "file number", "record no"],
-    "title": ["name", "subject"],
-    "originated": ["date", "day", "document date", "date of document", "originated on"],
-    "aggregation": ["aggregation no", "aggregation number", "folder no", "folder number"],
-    "class": ["class code", "classification"],
-    "schedule": ["schedule code", "disposal schedule", "retention schedule"],
-    "content": [],
+    "ref": ["reference", "reference no", "reference number", "ref no", "file no", "file number", "record no",
+            "aktenzeichen", "az", "geschäftszeichen", "signatur", "kennzeichen"],
+    "title": ["name", "subject", "titel", "betreff", "bezeichnung"],
+    "originated": ["date", "day", "document date", "date of document", "originated on",
+                   "datum", "entstanden", "entstanden am", "entstehungsdatum"],
+    "aggregation": ["aggregation no", "aggregation number", "folder no", "folder number",
+                    "akte nr", "akten nr", "aktennummer"],
+    "class": ["class code", "classification", "klasse", "klassifikation", "aktenplan"],
+    "schedule": ["schedule code", "disposal schedule", "retention schedule", "frist", "aufbewahrungsfrist"],
+    "content": ["inhalt"],
 }
 
 
@@ -73,7 +77,7 @@ def place_of(name: str, header: list[str]) -> int:
     found = found or [at for at in range(len(header)) if letters(at) == name]
     if len(found) != 1:
         many = "two columns are" if found else "no column is"
-        raise Unreadable(f"{many} named \"{name}\"; the header has {names_of(header)}")
+        raise Unreadable("name", f"{many} named \"{name}\"; the header has {names_of(header)}")
     return found[0]
 
 
@@ -94,18 +98,20 @@ def columns_of(rows: list[Row], number: int, mapped: Words, values: Words) -> Co
             continue
         if name in places:
             both = f"{letters(places[name])} and {letters(at)}"
-            raise Unreadable(f"{both} may both be the column {name}: say --column {name}={letters(at)}")
+            raise Unreadable("both", f"{both} may both be the column {name}: say --column {name}={letters(at)}")
         places[name] = at
     missing = [it for it in NEEDED if it not in places and it not in values]
     if missing:
-        raise Unreadable(why_missing(rows, number, header, missing))
+        raise Unreadable(*why_missing(rows, number, header, missing))
     return Columns({it: places[it] for it in NAMES if it in places}, dict(values), header)
 
 
-def why_missing(rows: list[Row], number: int, header: list[str], missing: list[str]) -> str:
-    better = next((row for row in rows[:20] if known(row.cells) > max(known(header), 1)), None)
+def why_missing(rows: list[Row], number: int, header: list[str], missing: list[str]) -> tuple[str, str]:
+    better = next((row for row in rows[:NEAR_TOP] if known(row.cells) > max(known(header), 1)), None)
     if better:
-        return f"row {number} is no header, but row {better.number} looks like one: say --header {better.number}"
+        why = f"row {number} is no header, but row {better.number} looks like one: say --header {better.number}"
+        return "header", why
     same = ", or --set aggregation=1 for the same in each row" if "aggregation" in missing else ""
-    return (f"no column for {', '.join(missing)} in row {number}, which has {names_of(header) or 'nothing'}: "
-            f"say --column {missing[0]}=HEADER{same}")
+    there = names_of(header) or "nothing"
+    why = f"no column for {', '.join(missing)} in row {number}, which has {there}"
+    return "missing", f"{why}: say --column {missing[0]}=HEADER{same}"

@@ -73,7 +73,8 @@ def order_of(cells: Iterable[tuple[str, str]], asked: str | None, first_year: in
             continue
         left = [it for it in fits if it in read]
         if not left:
-            raise Unreadable(f"{where}: \"{text}\" has another order than the days above it, as {shown or seen[0][1]}: "
+            above = shown or seen[0][1]
+            raise Unreadable("mixed", f"{where}: \"{text}\" has another order than the days above it, as {above}: "
                              "say --days dmy, mdy or ymd, and correct the other cells")
         if len(left) < len(fits):
             shown = f"{text} in {where}"
@@ -81,7 +82,7 @@ def order_of(cells: Iterable[tuple[str, str]], asked: str | None, first_year: in
         seen.append((where, text, read))
     doubtful = next((it for it in seen if len({it[2][order] for order in fits}) > 1), None)
     if doubtful:
-        raise Unreadable(why_doubtful(*doubtful, fits))
+        raise Unreadable("doubtful", why_doubtful(*doubtful, fits))
     return Order(fits[0] if seen else "ymd", shown if len(fits) == 1 else None)
 
 
@@ -97,17 +98,18 @@ def day_read(text: str, order: str, first_year: int | None) -> datetime.date | N
     return read.get("ymd") if YEAR_FIRST.fullmatch(text) else read.get(order)
 
 
-def why_no_day(text: str, order: str, first_year: int | None) -> str:
-    """What is wrong with a text that is no day in a column of that order."""
+def why_no_day(text: str, order: str, first_year: int | None) -> tuple[str, str]:
+    """What is wrong with a text that is no day in a column of that order: its kind, and a text."""
     if not text:
-        return "there is no day"
+        return "dayless", "there is no day"
     if readings(text, first_year):
-        return f"is no day in the order {ORDERS[order]}"
+        return "order", f"is no day in the order {ORDERS[order]}"
     if YEAR_FIRST.fullmatch(text) or YEAR_LAST.fullmatch(text) or (first_year and SHORT_YEAR.fullmatch(text)):
-        return f"is no day of the calendar from 0001-01-01 to {LAST_YEAR}-12-31"
+        return "calendar", f"is no day of the calendar from 0001-01-01 to {LAST_YEAR}-12-31"
     if SHORT_YEAR.fullmatch(text):
-        return "has two digits of the year: give the column a form with four, or say --years 1930 for 1930 to 2029"
+        why = "has two digits of the year: give the column a form with four, or say --years 1930 for 1930 to 2029"
+        return "short", why
     if it := SERIAL.fullmatch(text):
         meant = FIRST_SERIAL + datetime.timedelta(days=int(it[1]))
-        return f"is the number by which a sheet stores {meant}: give the column the form of a day"
-    return "is no day: write it as 2020-12-31"
+        return "serial", f"is the number by which a sheet stores {meant}: give the column the form of a day"
+    return "day", "is no day: write it as 2020-12-31"

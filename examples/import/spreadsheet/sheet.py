@@ -12,13 +12,19 @@ SEPARATORS = {"comma": ",", "semicolon": ";", "tab": "\t", "bar": "|"}
 # what a file begins with, and how its text is encoded then
 MARKS = ((codecs.BOM_UTF8, "utf-8-sig", "UTF-8 with a mark"), (codecs.BOM_UTF16_LE, "utf-16", "UTF-16"),
          (codecs.BOM_UTF16_BE, "utf-16", "UTF-16"))
+# a header that is further down is looked for in so many rows
+NEAR_TOP = 20
 WORKBOOKS = (b"PK\x03\x04", b"\xd0\xcf\x11\xe0")
 # a letter beyond ASCII as UTF-8 writes it; in Windows-1252 it would be a pair as "Ã¼"
 UTF8_LETTER = re.compile(rb"\xc3[\x80-\xbf]")
 
 
 class Unreadable(Exception):
-    """The sheet cannot be read without more words; the text says which."""
+    """The sheet cannot be read without more words; the text says which. The kind is one word for each such text."""
+
+    def __init__(self, kind: str, text: str) -> None:
+        super().__init__(text)
+        self.kind = kind
 
 
 @dataclass(frozen=True)
@@ -55,21 +61,22 @@ def in_quotes(cell: str) -> str:
 def decoded(data: bytes, encoding: str | None) -> tuple[str, str]:
     """The text of a file, and the name of its encoding."""
     if data.startswith(WORKBOOKS):
-        raise Unreadable("this is a workbook: save it as \"CSV UTF-8\" in the spreadsheet program")
+        raise Unreadable("workbook", "this is a workbook: save it as \"CSV UTF-8\" in the spreadsheet program")
     if encoding:
         return in_encoding(data, encoding, encoding), encoding
     for mark, codec, name in MARKS:
         if data.startswith(mark):
             return in_encoding(data, codec, name), name
     if b"\0" in data:
-        raise Unreadable("the text has zero bytes: say --encoding utf-16-le, if it is Unicode text without a mark")
+        why = "the text has zero bytes: say --encoding utf-16-le, if it is Unicode text without a mark"
+        raise Unreadable("zero", why)
     try:
         return data.decode(), "UTF-8"
     except UnicodeDecodeError as why:
         if UTF8_LETTER.search(data):
             line = data.count(b"\n", 0, why.start) + 1
             both = f"some of the file is UTF-8, but line {line} is not"
-            raise Unreadable(f"{both}: save it again, or say --encoding windows-1252") from why
+            raise Unreadable("half", f"{both}: save it again, or say --encoding windows-1252") from why
     return in_encoding(data, "windows-1252", "Windows-1252"), "Windows-1252"
 
 
@@ -78,7 +85,8 @@ def in_encoding(data: bytes, codec: str, name: str) -> str:
         return data.decode(codec).removeprefix("\ufeff")
     except UnicodeDecodeError as why:
         line = data.count(b"\n", 0, why.start) + 1
-        raise Unreadable(f"byte {data[why.start]:02X} in line {line} is not {name}: say --encoding") from why
+        byte = f"byte {data[why.start]:02X} in line {line} is not {name}"
+        raise Unreadable("encoding", f"{byte}: say --encoding") from why
 
 
 def is_encoding(name: str) -> bool:
@@ -93,26 +101,34 @@ Known = Callable[[list[str]], int]
 
 
 def separated(text: str, known: Known, header: int, asked: str | None) -> tuple[str, list[Row]]:
-    """The separator's name, and all rows. By it the header has the most known names, and then the most cells."""
+    """The separator's name, and all rows.
+
+    By it the header has the most known names, or else a row near the top has them, or else the header the most cells.
+    """
     said = re.match(r"sep=(.)(?:\r\n|\r|\n)", text)
     if said:
         # the line with which a program says the separator to Excel, which shows no row for it
         text = text[said.end():]
         asked = asked or next((name for name, it in SEPARATORS.items() if it == said[1]), None)
     if not text.strip():
-        raise Unreadable("the file is empty")
+        raise Unreadable("empty", "the file is empty")
     name = asked or max(SEPARATORS, key=lambda it: likeness(text, SEPARATORS[it], known, header))
     return name, list(rows(text, SEPARATORS[name]))
 
 
-def likeness(text: str, separator: str, known: Known, header: int) -> tuple[int, int]:
+def likeness(text: str, separator: str, known: Known, header: int) -> tuple[int, int, int]:
+    """How many names of the header are known, how many of any row near the top, and how many cells the header has."""
+    names = best = cells = 0
     try:
         for row in rows(text, separator):
+            if row.number > max(header, NEAR_TOP):
+                break
+            best = max(best, known(row.cells))
             if row.number == header:
-                return known(row.cells), len(row.cells)
+                names, cells = known(row.cells), len(row.cells)
     except Unreadable:
         pass
-    return 0, 0
+    return names, best, cells
 
 
 def rows(text: str, separator: str) -> Iterator[Row]:
@@ -124,4 +140,4 @@ def rows(text: str, separator: str) -> Iterator[Row]:
             number += 1
             yield Row(number, cells)
     except csv.Error as why:
-        raise Unreadable(f"row {number + 1}: the quotes do not match ({why})") from why
+        raise Unreadable("quotes", f"row {number + 1}: the quotes do not match ({why})") from why

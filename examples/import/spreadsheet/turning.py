@@ -20,6 +20,9 @@ class Findings:
     wrong: list[int] = field(default_factory=list)
     said: list[str] = field(default_factory=list)
     notes: list[str] = field(default_factory=list)
+    # the row, the column's name and the kind of each that is wrong, and of each that somebody should look at
+    kinds: list[tuple[int, str, str]] = field(default_factory=list)
+    looks: list[tuple[int, str, str]] = field(default_factory=list)
     empty: int = 0
 
     def count(self) -> int:
@@ -73,14 +76,14 @@ class Turner:
     def ref(self, row: Row, cell: str) -> str:
         text = text_of(cell)
         if text in self.refs:
-            raise Wrong(f"is the ref of row {self.refs[text]} too, and each record has a ref of its own")
+            raise Wrong("twice", f"is the ref of row {self.refs[text]} too, and each record has a ref of its own")
         self.refs[text] = row.number
         return text
 
     def day(self, cell: str) -> str:
         read = day_read(cell, self.order.name, self.first_year)
         if read is None:
-            raise Wrong(why_no_day(cell, self.order.name, self.first_year))
+            raise Wrong(*why_no_day(cell, self.order.name, self.first_year))
         return read.isoformat()
 
     def content(self, cell: str) -> str:
@@ -103,11 +106,16 @@ class Turner:
             try:
                 values.append(part(cell))
             except Wrong as why:
+                found.kinds.append((row.number, name, why.kind))
                 said.append(f"{self.where(row, name)} ({name}): {in_quotes(cell) + ' ' if cell else ''}{why}")
             note = note_of(cell) if name in ("ref", "title") else None
-            found.notes += [f"{self.where(row, name)} ({name}): {in_quotes(cell)} {note}"] if note else []
-        said += [f"{place(at, row.number)}: {in_quotes(row.cells[at])} is in a column without a name"
-                 for at in self.columns.nameless(len(row.cells)) if row.cells[at].strip()]
+            if note:
+                found.looks.append((row.number, name, note[0]))
+                found.notes.append(f"{self.where(row, name)} ({name}): {in_quotes(cell)} {note[1]}")
+        for at in self.columns.nameless(len(row.cells)):
+            if row.cells[at].strip():
+                found.kinds.append((row.number, "", "nameless"))
+                said.append(f"{place(at, row.number)}: {in_quotes(row.cells[at])} is in a column without a name")
         if said:
             found.wrong.append(row.number)
             found.said += said

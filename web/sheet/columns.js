@@ -1,0 +1,77 @@
+// Which column of a sheet is which column of an import, by the names in its header.
+import { NEAR_TOP, letters } from "./rows.js";
+import { Unreadable, stripped } from "./unreadable.js";
+
+export const NAMES = ["ref", "title", "originated", "aggregation", "class", "schedule", "content"];
+export const NEEDED = ["ref", "title", "originated", "aggregation"];
+/** Other names that sheets have for them, as `plain` makes them: as in examples/import/spreadsheet/columns.py. */
+const SYNONYMS = {
+  ref: [
+    "reference", "reference no", "reference number", "ref no", "file no", "file number", "record no",
+    "aktenzeichen", "az", "geschäftszeichen", "signatur", "kennzeichen",
+  ],
+  title: ["name", "subject", "titel", "betreff", "bezeichnung"],
+  originated: [
+    "date", "day", "document date", "date of document", "originated on",
+    "datum", "entstanden", "entstanden am", "entstehungsdatum",
+  ],
+  aggregation: [
+    "aggregation no", "aggregation number", "folder no", "folder number",
+    "akte nr", "akten nr", "aktennummer",
+  ],
+  class: ["class code", "classification", "klasse", "klassifikation", "aktenplan"],
+  schedule: ["schedule code", "disposal schedule", "retention schedule", "frist", "aufbewahrungsfrist"],
+  content: ["inhalt"],
+};
+
+/** A name without capitals, marks and doubled spaces. */
+export const plain = (name) => stripped(name.toLowerCase().replaceAll("ß", "ss").replace(/[\s_.:\-]+/g, " "));
+
+/** The import's column that a name of a header is for, or none. */
+export const columnNamed = (name) => NAMES.find((it) => plain(name) === it || SYNONYMS[it].includes(plain(name)));
+
+/** How many names of a header are known. */
+export const known = (header) => header.filter(columnNamed).length;
+
+/** The place of a column that somebody chose, or names by its header or, where none has that, by its letters. */
+function placeOf(name, header) {
+  if (typeof name === "number") return name;
+  let found = header.map((_, at) => at).filter((at) => plain(header[at]) === plain(name));
+  if (!found.length) found = header.map((_, at) => at).filter((at) => letters(at) === name);
+  if (found.length !== 1) throw new Unreadable("name", { name });
+  return found[0];
+}
+
+/**
+ * The columns by the header in row `number`: those that somebody maps (null: none), then those whose names are known.
+ * `values` are the same in each row.
+ * @returns {{ places: Record<string, number>, values: Record<string, string>, header: string[] }}
+ */
+export function columnsOf(rows, number, mapped = {}, values = {}) {
+  const header = rows[number - 1]?.cells ?? [];
+  const places = {};
+  for (const name of NAMES) if ((mapped[name] ?? null) !== null) places[name] = placeOf(mapped[name], header);
+  header.forEach((cell, at) => {
+    const name = columnNamed(cell);
+    if (!name || name in mapped || name in values || Object.values(places).includes(at)) return;
+    if (name in places) throw new Unreadable("both", { name, one: letters(places[name]), other: letters(at) });
+    places[name] = at;
+  });
+  const missing = NEEDED.filter((name) => !(name in places) && !(name in values));
+  if (missing.length) throw whyMissing(rows, number, header, missing);
+  return { places, values, header };
+}
+
+function whyMissing(rows, number, header, missing) {
+  const least = Math.max(known(header), 1);
+  const better = rows.slice(0, NEAR_TOP).find((row) => known(row.cells) > least);
+  if (better) return new Unreadable("header", { row: number, better: better.number });
+  return new Unreadable("missing", { row: number, missing });
+}
+
+/** The places of a row with so many cells for which the header has no name. */
+export function nameless({ places, header }, width) {
+  const used = new Set(Object.values(places));
+  const hasName = (at) => at < header.length && stripped(header[at]) !== "";
+  return Array.from({ length: width }, (_, at) => at).filter((at) => !used.has(at) && !hasName(at));
+}

@@ -1,0 +1,198 @@
+// Filing: files are dropped or chosen, each becomes a record, and their acts go to the office in few requests.
+import { mark, onSubmit, untick } from "../fields.js";
+import { byId, paragraph, quiet, say } from "../page.js";
+import { addRecord } from "../plain/acts.js";
+import {
+  MEMBERS, MOST_CONTENT, MOST_FILES, actBytes, base64, forAll, sizes, wrongOf, wrongsOf,
+} from "../plain/filing.js";
+import { today } from "../plain/forms.js";
+import { visible } from "../plain/marks.js";
+import { batches, isSettled } from "../plain/sending.js";
+import { t } from "../texts.js";
+import { isLarge, rowOf, tellAnswer, tellHead, tellValues } from "./file_rows.js";
+import { addPanel, grouped, guardPage, onDrop, sayFates, send, tellSums } from "./filing.js";
+
+/** The files that are listed, in their order; what is written for all of them is in the fields. */
+let entries = [];
+let lastId = 0;
+let isSending = false;
+
+const COMMON = ["prefix", ...MEMBERS.slice(1)];
+const commonField = (name) => byId(`file-all-${name}`);
+const common = () => Object.fromEntries(COMMON.map((name) => [name, commonField(name).value.trim()]));
+
+/** What the record of a file will be: what is written in its row, else what is written for all. */
+const valuesOf = (entry, shared = common()) => ({ ...forAll(shared, entry.file), ...entry.own });
+
+const isToBeFiled = (entry) => !isSettled(entry) && !isLarge(entry);
+
+// ---- what is listed
+
+function tellTotals() {
+  const { count, bytes, large } = sizes(entries.map(({ file }) => file));
+  const filed = entries.filter(isSettled).length;
+  const ready = entries.filter(isToBeFiled);
+  for (const entry of ready) entry.bytes = actBytes(today(), valuesOf(entry), entry.file.size);
+  tellSums("file", { count, bytes, large, filed, ready: ready.length, requests: batches(ready).length });
+  byId("file-caption").textContent = t("file.caption", { count: grouped(count) });
+  const tried = ready.some(({ fate }) => fate);
+  const key = tried ? "file.again" : "file.submit";
+  if (!isSending) byId("file-submit").textContent = t(key, { count: grouped(ready.length) });
+  byId("file-off-filed").hidden = filed === 0;
+  tellLarge(large);
+}
+
+/** Says how many files are too large, and what to do: once, so that a screen reader does not hear it at each letter. */
+function tellLarge(count) {
+  const place = byId("file-large");
+  if (place.dataset.count === String(count)) return;
+  place.dataset.count = count;
+  const words = { count: grouped(count), most: grouped(MOST_CONTENT) };
+  if (count) say(place, "wrong", paragraph(t("file.tooLarge", words)), paragraph(t("file.tooLargeDo")));
+  else quiet(place);
+}
+
+/** Shows the list, once there is one. */
+function tell() {
+  const shared = common();
+  for (const entry of entries) {
+    tellValues(entry, valuesOf(entry, shared));
+    tellAnswer(entry);
+  }
+  byId("file-list").hidden = entries.length === 0;
+  tellTotals();
+}
+
+function edited(entry, name, value) {
+  entry.own[name] = value.trim();
+  mark(entry.inputs[name], "");
+}
+
+function removed(entry) {
+  const at = entries.indexOf(entry);
+  entries.splice(at, 1);
+  entry.row.remove();
+  tell();
+  (entries[at] ?? entries[at - 1])?.off.focus();
+  if (!entries.length) byId("file-choose").focus();
+}
+
+function remove(these) {
+  for (const entry of these) entry.row.remove();
+  entries = entries.filter((entry) => !these.includes(entry));
+  quiet(byId("file-send-outcome"));
+  tell();
+}
+
+/** Lists more files, and says which could not be taken. */
+function take(files, folders = []) {
+  const room = Math.max(0, MOST_FILES - entries.length);
+  const more = files.slice(0, room).map((file) => ({ id: ++lastId, file, own: {}, fate: null }));
+  for (const entry of more) entry.make = () => actOf(entry);
+  entries.push(...more);
+  byId("file-table").tBodies[0].append(...more.map((entry) => rowOf(entry, { edited, removed })));
+  const said = folders.map((name) => paragraph(t("file.folder", { name: visible(name) })));
+  const over = { most: grouped(MOST_FILES), count: grouped(files.length - room) };
+  if (files.length > room) said.push(paragraph(t("file.tooMany", over)));
+  if (said.length) say(byId("file-taken"), "wrong", ...said);
+  else quiet(byId("file-taken"));
+  quiet(byId("file-send-outcome"));
+  tell();
+}
+
+// ---- what is sent
+
+let day = "";
+
+/** The act that files a record, or null where its file cannot be read any more, or is another one by now. */
+async function actOf(entry) {
+  try {
+    const bytes = new Uint8Array(await entry.file.arrayBuffer());
+    if (bytes.length !== entry.file.size) return null;
+    return addRecord(day, { ...valuesOf(entry), content: base64(bytes) });
+  } catch {
+    return null;
+  }
+}
+
+/** Says what is wrong with what is written for all files: whether something is. */
+function markCommon(ready) {
+  const shared = common();
+  for (const name of MEMBERS.slice(1)) {
+    const isNeeded = name === "aggregation" && ready.some((entry) => entry.own.aggregation === undefined);
+    const wrong = shared[name] || isNeeded ? wrongOf(name, shared[name]) : "";
+    mark(commonField(name), wrong ? t(wrong) : "");
+  }
+  return byId("file-common").querySelector("[aria-invalid]");
+}
+
+/** Says what is wrong in the rows: the first field that is, or none. What is wrong for all is said once, above them. */
+function markRows(ready) {
+  const shared = common();
+  const wrongs = wrongsOf(entries.map((entry) => valuesOf(entry, shared)));
+  let first = null;
+  for (const entry of ready) {
+    const wrong = wrongs[entries.indexOf(entry)];
+    for (const name of MEMBERS) {
+      const isOwn = name === "ref" || name === "title" || entry.own[name] !== undefined;
+      mark(entry.inputs[name], wrong[name] && isOwn ? t(wrong[name]) : "");
+      if (wrong[name] && isOwn) first ??= entry.inputs[name];
+    }
+  }
+  return first;
+}
+
+async function fileAll(values) {
+  const place = byId("file-send-outcome");
+  const ready = entries.filter(isToBeFiled);
+  if (!ready.length) return say(place, "wrong", paragraph(t("file.nothing")));
+  const inRows = markRows(ready);
+  const wrong = markCommon(ready) ?? inRows;
+  if (wrong) {
+    say(place, "wrong", paragraph(t("file.wrong")));
+    return wrong.focus();
+  }
+  quiet(place);
+  untick(byId("file-send"));
+  day = values["file-send-day"];
+  for (const entry of ready) entry.bytes = actBytes(day, valuesOf(entry), entry.file.size);
+  isSending = true;
+  const answer = await send("file", ready, tell);
+  isSending = false;
+  tell();
+  sayFates(place, ready, answer);
+  place.focus();
+}
+
+// ---- the view
+
+export function start() {
+  guardPage();
+  addPanel("file");
+  tellHead(byId("file-table"));
+  const choose = byId("file-choose");
+  choose.addEventListener("change", () => {
+    take([...choose.files]);
+    // so that the same file can be chosen again
+    choose.value = "";
+  });
+  onDrop(byId("file-drop"), take);
+  for (const name of COMMON) {
+    commonField(name).addEventListener("input", () => {
+      mark(commonField(name), "");
+      tell();
+    });
+  }
+  byId("file-off-all").addEventListener("click", () => {
+    remove(entries);
+    byId("file-choose").focus();
+  });
+  byId("file-off-filed").addEventListener("click", () => {
+    remove(entries.filter(isSettled));
+    byId("file-choose").focus();
+  });
+  onSubmit(byId("file-send"), fileAll);
+}
+
+/** Shows the files that are listed. */
+export function show() {}

@@ -1,0 +1,70 @@
+// The table of the view File: a row for each file, with what its record will be and what became of it.
+import { label, made } from "../page.js";
+import { MEMBERS, MOST_CONTENT } from "../plain/filing.js";
+import { visible } from "../plain/marks.js";
+import { isSettled } from "../plain/sending.js";
+import { t } from "../texts.js";
+import { fateWords, grouped } from "./filing.js";
+
+const COLUMNS = ["file", ...MEMBERS, "answer"];
+
+/** The headings. */
+export function tellHead(table) {
+  const words = COLUMNS.map((name) => t(`file.columns.${name}`));
+  const heads = words.map((word) => made("th", { scope: "col", role: "columnheader" }, word));
+  table.tHead.replaceChildren(made("tr", { role: "row" }, ...heads));
+  label(table, words);
+}
+
+/** The field for one value of a record, with room for what is wrong with it. */
+function fieldOf(entry, name, edited) {
+  const id = `file-row-${entry.id}-${name}`;
+  const words = { name: visible(entry.file.name), column: t(`file.columns.${name}`) };
+  const input = made("input", {
+    id, type: "text", autocomplete: "off", spellcheck: "false", autocapitalize: "off",
+    "aria-label": t("file.fieldOf", words), "aria-describedby": `${id}-wrong`,
+  });
+  input.addEventListener("input", () => edited(entry, name, input.value));
+  return [input, made("strong", { class: "wrong", id: `${id}-wrong` })];
+}
+
+/** The row of a file. `edited` is called with what somebody writes, `removed` once the file is to be taken off. */
+export function rowOf(entry, { edited, removed }) {
+  const name = visible(entry.file.name);
+  const named = { type: "button", class: "quiet off", "aria-label": t("file.offOf", { name }) };
+  const off = made("button", named, t("file.off"));
+  off.addEventListener("click", () => removed(entry));
+  const size = t("file.size", { bytes: grouped(entry.file.size) });
+  const words = [made("span", { class: "named" }, name), made("span", { class: "hint" }, size)];
+  const first = made("th", { scope: "row", role: "rowheader" }, ...words);
+  const cells = MEMBERS.map((member) => made("td", { role: "cell" }, ...fieldOf(entry, member, edited)));
+  const answer = made("td", { role: "cell" });
+  entry.off = off;
+  entry.answer = answer;
+  entry.inputs = Object.fromEntries(MEMBERS.map((member, at) => [member, cells[at].firstChild]));
+  entry.row = made("tr", { role: "row" }, first, ...cells, answer);
+  return entry.row;
+}
+
+export const isLarge = (entry) => entry.file.size > MOST_CONTENT;
+
+function words(entry) {
+  if (entry.fate) return fateWords(entry.fate);
+  if (isLarge(entry)) return made("strong", { class: "wrong" }, t("file.large"));
+  return made("span", { class: "hint" }, t("file.ready"));
+}
+
+/** Shows what became of a file. One that is filed is not written into any more. */
+export function tellAnswer(entry) {
+  entry.answer.replaceChildren(words(entry), entry.off);
+  const fixed = isSettled(entry) || isLarge(entry);
+  for (const input of Object.values(entry.inputs)) input.readOnly = fixed;
+  entry.row.classList.toggle("fixed", fixed);
+}
+
+/** Writes the values of a record, where nobody is writing another one just then. */
+export function tellValues(entry, values) {
+  for (const name of MEMBERS) {
+    if (entry.inputs[name].value.trim() !== values[name]) entry.inputs[name].value = values[name];
+  }
+}

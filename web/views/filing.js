@@ -1,0 +1,123 @@
+// What the views File and Import share: acts are sent with their progress, and what became of each is said in words.
+import { post } from "../ask.js";
+import { field } from "../fields.js";
+import { byId, factsOf, link, made, paragraph, say, sentence, told, translate } from "../page.js";
+import { counted, isSettled, sendAll } from "../plain/sending.js";
+import { all, t } from "../texts.js";
+
+/** A number as people of the page's language write it. */
+export const grouped = (number) => new Intl.NumberFormat(all().lang).format(number);
+
+const LOOKS = { added: "done", same: "done", refused: "wrong", unread: "wrong", unknown: "unknown", left: "unknown" };
+
+/** What became of one act, in words. */
+export function fateWords(fate) {
+  const record = fate.number === undefined ? "" : link(`#record?number=${fate.number}`, fate.number);
+  const words = sentence(`filing.${fate.kind}`, { record });
+  if (fate.kind !== "refused") return made("span", { class: `fate ${LOOKS[fate.kind]}` }, ...words);
+  const row = all().refusals[fate.refusal] ?? { name: "", meaning: "", do: "" };
+  const refusal = t("said.refusal", { number: fate.refusal, name: row.name });
+  const strong = made("strong", {}, refusal);
+  return made("span", { class: "fate wrong" }, strong, ` ${t("said.meaning", row)} ${t("said.do", row)}`);
+}
+
+/** The sums of the view `name`, each with its word. */
+export function tellSums(name, sums) {
+  const words = ([sum, number]) => [made("dt", {}, t(`${name}.totals.${sum}`)), made("dd", {}, grouped(number))];
+  byId(`${name}-totals`).replaceChildren(...Object.entries(sums).map((it) => made("div", {}, ...words(it))));
+}
+
+/** The form that sends, with room for its progress and for what came of it: the first part of the view's last panel. */
+export function addPanel(name) {
+  const day = made("div", { "data-field": "day", id: `${name}-send-day` });
+  field(day);
+  const about = made("p", { class: "hint", "data-text": `${name}.sendAbout` });
+  const legend = made("legend", { "data-text": `${name}.send` });
+  const form = made("form", { id: `${name}-send` }, made("fieldset", {}, legend, day, made("button", { id: `${name}-submit` }), about));
+  const bar = made("progress", { id: `${name}-bar`, max: "1", value: "0", "aria-labelledby": `${name}-at` });
+  const at = made("span", { id: `${name}-at`, role: "status" });
+  const stop = made("button", { type: "button", id: `${name}-stop`, class: "quiet", "data-text": "filing.stop" });
+  const progress = made("div", { id: `${name}-progress`, class: "progress", hidden: "" }, bar, at, stop);
+  const outcome = made("div", { id: `${name}-send-outcome`, class: "outcome", role: "status", tabindex: "-1" });
+  const panel = byId(`${name}-sending`);
+  panel.prepend(form, progress, outcome);
+  translate(panel);
+}
+
+/**
+ * Sends items of the view `name`, and shows how far that is; `changed` is called after each request. The answer that
+ * stopped it, or null.
+ */
+export async function send(name, items, changed) {
+  const bar = byId(`${name}-bar`);
+  const stop = byId(`${name}-stop`);
+  const held = document.querySelectorAll(`#${name} [data-held]`);
+  let goesOn = true;
+  const end = () => {
+    goesOn = false;
+    byId(`${name}-at`).textContent = t("filing.stopping");
+  };
+  const stay = (event) => event.preventDefault();
+  const hold = (is) => {
+    for (const part of held) part.inert = is;
+    byId(`${name}-progress`).hidden = !is;
+  };
+  stop.addEventListener("click", end);
+  // a page that is left just now would not learn what became of the acts
+  addEventListener("beforeunload", stay);
+  hold(true);
+  const answer = await sendAll(items, post, ({ behind, list, lists }) => {
+    changed();
+    bar.value = behind / items.length;
+    const words = { behind: grouped(behind), count: grouped(items.length), list, lists };
+    if (goesOn) byId(`${name}-at`).textContent = t("filing.progress", words);
+    return goesOn;
+  });
+  stop.removeEventListener("click", end);
+  removeEventListener("beforeunload", stay);
+  hold(false);
+  changed();
+  return answer;
+}
+
+const FACTS = ["added", "same", "refused", "unread", "unknown", "left"];
+
+/** Says what became of all that was sent: the counts, the answer that stopped it, and what can be done now. */
+export function sayFates(place, items, answer) {
+  const counts = counted(items);
+  const kinds = FACTS.filter((it) => counts[it] || it === "added");
+  const facts = kinds.map((it) => [t(`filing.counts.${it}`), grouped(counts[it])]);
+  const settled = items.filter(isSettled).length;
+  const words = { settled: grouped(settled), count: grouped(items.length) };
+  const end = made("p", { class: "verdict" }, t(settled === items.length ? "filing.whole" : "filing.partly", words));
+  const retry = counts.unknown ? "filing.retryUnknown" : "filing.retry";
+  const stopped = counts.unknown + counts.left ? [paragraph(t(retry))] : [];
+  if (counts.same) stopped.unshift(paragraph(t("filing.sameAbout")));
+  const kind = settled === items.length ? "done" : counts.refused + counts.unread ? "wrong" : "unknown";
+  say(place, kind, end, factsOf(facts), ...(answer ? told(answer) : []), ...stopped);
+}
+
+/** Takes what is dropped on a place, as what is chosen by its field. A folder is no file. */
+export function onDrop(place, take) {
+  const over = (is) => place.classList.toggle("over", is);
+  for (const name of ["dragenter", "dragover"]) {
+    place.addEventListener(name, (event) => {
+      event.preventDefault();
+      over(true);
+    });
+  }
+  place.addEventListener("dragleave", (event) => over(place.contains(event.relatedTarget)));
+  place.addEventListener("drop", (event) => {
+    event.preventDefault();
+    over(false);
+    const entries = [...event.dataTransfer.items].map((item) => item.webkitGetAsEntry?.());
+    const isFolder = (at) => entries.length === event.dataTransfer.files.length && entries[at]?.isDirectory;
+    const files = [...event.dataTransfer.files];
+    take(files.filter((_, at) => !isFolder(at)), files.filter((_, at) => isFolder(at)).map(({ name }) => name));
+  });
+}
+
+/** A file that is dropped beside the place for it would be opened in place of the page. */
+export function guardPage() {
+  for (const name of ["dragover", "drop"]) addEventListener(name, (event) => event.preventDefault());
+}

@@ -1,0 +1,226 @@
+// Import: a CSV of a spreadsheet program is read, shown as the records that its rows will be, and sent in few requests.
+import { onSubmit, untick } from "../fields.js";
+import { byId, made, paragraph, quiet, save, say } from "../page.js";
+import { addRecord, bytesOf } from "../plain/acts.js";
+import { today } from "../plain/forms.js";
+import { visible } from "../plain/marks.js";
+import { batches, isSettled } from "../plain/sending.js";
+import { NAMES, plain } from "../sheet/columns.js";
+import { SEPARATORS, written } from "../sheet/rows.js";
+import { glimpsed, turned } from "../sheet/turning.js";
+import { Unreadable } from "../sheet/unreadable.js";
+import { t } from "../texts.js";
+import { addPanel, grouped, onDrop, sayFates, send, tellSums } from "./filing.js";
+import * as reading from "./import_reading.js";
+import * as preview from "./import_rows.js";
+
+/** A sheet with more bytes is not read: the page would stand still. */
+const MOST_BYTES = 64 * 1048576;
+
+/** The sheet that is shown: its name and bytes, what somebody says of it, and what came of it. */
+const sheet = { name: "", bytes: null, options: {}, found: null };
+let isSending = false;
+let day = "";
+
+const rows = () => sheet.found?.rows ?? [];
+const items = () => rows().map((row) => row.item).filter(Boolean);
+const left = () => items().filter((item) => !isSettled(item));
+
+// ---- reading
+
+const wordsOf = (row) => Object.fromEntries(NAMES.map((name, at) => [name, row.values[at] ?? ""]));
+
+/** The item by which a good row is sent. */
+function itemOf(row) {
+  const values = wordsOf(row);
+  const bytes = bytesOf(JSON.stringify(addRecord(today(), values)));
+  return { bytes, make: async () => addRecord(day, values), fate: null };
+}
+
+/** What keeps a sheet from being read, and what can be done; where a day has two readings, one is chosen here. */
+function sayUnreadable({ kind, values }) {
+  const words = { ...values };
+  if (values.missing) words.missing = values.missing.map((name) => t(`import.columns.${name}`)).join(", ");
+  if (values.name && NAMES.includes(values.name)) words.name = t(`import.columns.${values.name}`);
+  if (values.text) words.text = visible(values.text);
+  if (values.encoding) words.encoding = t(`import.encodings.${values.encoding}`);
+  const buttons = Object.entries(values.read ?? {}).map(([order, read]) => {
+    const meant = t("import.readAs", { day: read, order: t(`import.orders.${order}`) });
+    const button = made("button", { type: "button", class: "quiet" }, meant);
+    button.addEventListener("click", () => {
+      changed({ days: order });
+      byId("import-filter").focus();
+    });
+    return button;
+  });
+  const choice = buttons.length ? [made("div", { class: "tools" }, ...buttons)] : [];
+  const look = kind === "doubtful" ? "unknown" : "wrong";
+  say(byId("import-outcome"), look, paragraph(t(`import.unreadable.${kind}`, words)), ...choice);
+}
+
+/** Reads the sheet as it is said; null where it cannot be read, which is said too. */
+function read() {
+  try {
+    return turned(sheet.bytes, sheet.options);
+  } catch (why) {
+    if (!(why instanceof Unreadable)) throw why;
+    // the header is further down: it is taken there, and the field says so
+    if (why.kind === "header" && sheet.options.header === undefined) {
+      sheet.options.header = why.values.better;
+      return read();
+    }
+    sayUnreadable(why);
+    return null;
+  }
+}
+
+/** The header by which columns are chosen, also of a sheet that cannot be read whole. */
+function headerOf() {
+  try {
+    return sheet.found ? { ...sheet.found, header: sheet.found.columns.header } : glimpsed(sheet.bytes, sheet.options);
+  } catch (why) {
+    if (!(why instanceof Unreadable)) throw why;
+    return { header: [] };
+  }
+}
+
+/** Reads the sheet anew, and shows what came of it. */
+function tell() {
+  quiet(byId("import-outcome"));
+  quiet(byId("import-send-outcome"));
+  sheet.found = read();
+  for (const row of rows()) row.item = row.wrong.length ? null : itemOf(row);
+  const there = headerOf();
+  reading.tell(sheet.options, there.header, { ...there, places: sheet.found?.columns.places });
+  byId("import-sheet").hidden = false;
+  byId("import-rows").hidden = !sheet.found;
+  byId("import-heading").textContent = visible(sheet.name);
+  if (!sheet.found) return;
+  tellUnused();
+  preview.take(rows());
+  tellTotals();
+}
+
+/** Says which columns of the sheet are not used. */
+function tellUnused() {
+  const { header, places } = sheet.found.columns;
+  const used = new Set(Object.values(places));
+  const unused = header.filter((cell, at) => !used.has(at) && cell.trim()).map((cell) => visible(cell.trim()));
+  byId("import-unused").textContent = unused.length ? t("import.unused", { names: unused.join(", ") }) : "";
+}
+
+/** Takes what somebody says of the sheet, and reads it anew. */
+function changed(said) {
+  const { columns, set, ...others } = said;
+  sheet.options = { ...sheet.options, ...others };
+  if (columns) sheet.options.columns = said.header ? {} : { ...sheet.options.columns, ...columns };
+  if (set) {
+    sheet.options.set = { ...sheet.options.set, ...set };
+    for (const [name, value] of Object.entries(set)) if (value === undefined) delete sheet.options.set[name];
+  }
+  tell();
+}
+
+/** Takes a file in place of the sheet that is shown. */
+async function take([file]) {
+  if (!file) return;
+  byId("import-sheet").hidden = true;
+  const place = byId("import-outcome");
+  if (file.size > MOST_BYTES) {
+    return say(place, "wrong", paragraph(t("import.tooLarge", { most: grouped(MOST_BYTES) })));
+  }
+  try {
+    sheet.bytes = new Uint8Array(await file.arrayBuffer());
+  } catch {
+    return say(place, "wrong", paragraph(t("import.noFile")));
+  }
+  sheet.name = file.name;
+  sheet.options = {};
+  sheet.found = null;
+  const { header } = headerOf();
+  const { columns, set, days } = reading.recalled(header);
+  sheet.options = { columns, set };
+  // the order of an earlier sheet is taken only where this one shows none
+  if (days) {
+    try {
+      turned(sheet.bytes, sheet.options);
+    } catch (why) {
+      if (why.kind === "doubtful") sheet.options.days = days;
+    }
+  }
+  tell();
+}
+
+// ---- what is sent
+
+function tellTotals() {
+  const ready = left();
+  const wrong = rows().filter((row) => row.wrong.length).length;
+  const filed = items().filter(isSettled).length;
+  const { empty } = sheet.found;
+  const requests = batches(ready).length;
+  tellSums("import", { count: rows().length, ready: ready.length, wrong, empty, filed, requests });
+  const key = ready.some(({ fate }) => fate) ? "file.again" : "import.submit";
+  if (!isSending) byId("import-submit").textContent = t(key, { count: grouped(ready.length) });
+  const refused = rows().filter(preview.isRefused).length;
+  byId("import-save").hidden = refused === 0;
+  byId("import-save").textContent = t("import.save", { count: grouped(refused) });
+}
+
+function progressed() {
+  preview.draw();
+  tellTotals();
+}
+
+async function importAll(values) {
+  const place = byId("import-send-outcome");
+  const ready = left();
+  if (!ready.length) return say(place, "wrong", paragraph(t("import.nothing")));
+  quiet(place);
+  untick(byId("import-send"));
+  day = values["import-send-day"];
+  reading.remember(sheet.found);
+  isSending = true;
+  const answer = await send("import", ready, progressed);
+  isSending = false;
+  progressed();
+  sayFates(place, ready, answer);
+  const wrong = rows().filter((row) => row.wrong.length).length;
+  if (wrong) place.append(paragraph(t("import.leftOut", { count: grouped(wrong) })));
+  if (rows().some(preview.isRefused)) place.append(paragraph(t("import.saveAbout")));
+  place.focus();
+}
+
+/** Saves the rows that were not taken, as the sheet has them, each with the reason, in the sheet's own separator. */
+function saveRefused() {
+  const { header } = sheet.found.columns;
+  // a column of reasons from the time before goes
+  const reason = t("import.reason");
+  const before = header.findIndex((cell) => plain(cell) === plain(reason));
+  const refused = rows().filter(preview.isRefused);
+  const width = Math.max(header.length, ...refused.map((row) => row.cells.length));
+  const cells = (row) => Array.from({ length: width }, (_, at) => row[at] ?? "").filter((_, at) => at !== before);
+  const lines = refused.map((row) => [...cells(row.cells), preview.reasonOf(row)]);
+  const text = written([[...cells(header), reason], ...lines], SEPARATORS[sheet.found.separator]);
+  save(t("import.file", { name: sheet.name.replace(/\.[^.]*$/, "") }), new TextEncoder().encode(text), "text/csv");
+}
+
+// ---- the view
+
+export function start() {
+  addPanel("import");
+  const choose = byId("import-choose");
+  choose.addEventListener("change", async () => {
+    await take([...choose.files]);
+    // so that the same file can be chosen again, once it is mended
+    choose.value = "";
+  });
+  onDrop(byId("import-drop"), take);
+  reading.start(changed);
+  preview.start();
+  byId("import-save").addEventListener("click", saveRefused);
+  onSubmit(byId("import-send"), importAll);
+}
+
+/** Shows the sheet that was chosen. */
+export function show() {}

@@ -1,0 +1,117 @@
+// How a sheet is read, in the view Import: what was found, what somebody chooses instead, and which column is which.
+import { byId, made } from "../page.js";
+import { visible } from "../plain/marks.js";
+import { ENCODINGS } from "../sheet/bytes.js";
+import { NAMES, plain } from "../sheet/columns.js";
+import { ORDERS } from "../sheet/days.js";
+import { SEPARATORS, letters } from "../sheet/rows.js";
+import { t } from "../texts.js";
+
+/** What a column may be in place of one of the sheet. */
+const NONE = "none";
+const SAME = "same";
+/** The members of a record that may well be the same in each row. */
+const SHARED = ["title", "originated", "aggregation", "class", "schedule"];
+
+/** Where the words of the choices of a field are. */
+const WORDS = { encoding: "encodings", separator: "separators", days: "orders" };
+
+const select = (name) => byId(`import-${name}`);
+const options = (pairs) => pairs.map(([value, text]) => made("option", { value }, text));
+
+/** What was matched by hand, for as long as the page is open: names of headers, values for all rows, orders of days. */
+const remembered = { names: new Map(), values: {}, orders: new Map() };
+
+const signature = (header) => header.map(plain).join("|");
+
+/** Keeps in mind what was said of a sheet, for the next one with the same names. */
+export function remember({ columns, order }) {
+  for (const [name, at] of Object.entries(columns.places)) remembered.names.set(plain(columns.header[at]), name);
+  remembered.values = { ...columns.values };
+  remembered.orders.set(signature(columns.header), order.name);
+}
+
+/** What was said of an earlier sheet, as far as this header has the same names. */
+export function recalled(header) {
+  const columns = {};
+  header.forEach((cell, at) => {
+    const name = remembered.names.get(plain(cell));
+    if (name && !(name in columns)) columns[name] = at;
+  });
+  const days = remembered.orders.get(signature(header));
+  return { columns, set: days ? { ...remembered.values } : {}, days };
+}
+
+/** Whether the order of days was that of an earlier sheet. */
+export const recalledOrder = (header) => remembered.orders.get(signature(header));
+
+// ---- the fields
+
+/** Fills the fields that have the same choices for each sheet; `changed` is called with what somebody chooses. */
+export function start(changed) {
+  const choices = { encoding: Object.keys(ENCODINGS), separator: Object.keys(SEPARATORS), days: ORDERS };
+  for (const [name, values] of Object.entries(choices)) {
+    const pairs = values.map((value) => [value, t(`import.${WORDS[name]}.${value}`)]);
+    select(name).append(...options([["", t("import.found")], ...pairs]));
+    select(name).addEventListener("change", () => changed({ [name]: select(name).value || undefined }));
+  }
+  const years = [1930, 1950, 2000].map((first) => [first, t("import.years", { first, last: first + 99 })]);
+  select("years").append(...options([["", t("import.noYears")], ...years]));
+  select("years").addEventListener("change", () => changed({ years: Number(select("years").value) || undefined }));
+  select("join").addEventListener("change", () => changed({ joinLines: select("join").checked }));
+  const header = select("header");
+  header.addEventListener("change", () => {
+    const row = Math.min(Math.max(1, Number.parseInt(header.value, 10) || 1), 999999);
+    changed({ header: row, columns: {} });
+  });
+  byId("import-columns").append(...NAMES.map((name) => columnField(name, changed)));
+}
+
+/** The field that says which column of the sheet is one of an import. */
+function columnField(name, changed) {
+  const id = `import-column-${name}`;
+  const choice = made("select", { id });
+  const named = { "aria-label": t("import.sameOf", { name: t(`import.columns.${name}`) }) };
+  const plainly = { type: "text", autocomplete: "off", spellcheck: "false" };
+  const value = made("input", { id: `import-same-${name}`, ...plainly, ...named });
+  const tell = () => {
+    value.hidden = choice.value !== SAME;
+    const columns = { [name]: choice.value === NONE || choice.value === SAME ? null : Number(choice.value) };
+    changed({ columns, set: { [name]: choice.value === SAME ? value.value.trim() : undefined } });
+  };
+  choice.addEventListener("change", () => {
+    tell();
+    if (!value.hidden) value.focus();
+  });
+  value.addEventListener("change", tell);
+  value.hidden = true;
+  return made("div", { class: "field" }, made("label", { for: id }, t(`import.columns.${name}`)), choice, value);
+}
+
+/** The words of a column of the sheet: its letters and its name. */
+const columnWords = (cell, at) => `${letters(at)}: ${visible(cell.trim()) || t("import.nameless")}`;
+
+/** Shows what was found of a sheet, and what somebody chose. */
+export function tell(options_, header, found) {
+  const there = { encoding: found.encoding, separator: found.separator, days: found.order?.name };
+  for (const [name, value] of Object.entries(there)) {
+    const words = value ? t("import.foundIs", { value: t(`import.${WORDS[name]}.${value}`) }) : t("import.found");
+    select(name).options[0].text = words;
+    select(name).value = options_[name] ?? "";
+  }
+  select("years").value = options_.years ?? "";
+  select("header").value = options_.header ?? 1;
+  select("join").checked = Boolean(options_.joinLines);
+  const places = header.map((cell, at) => [at, columnWords(cell, at)]);
+  for (const name of NAMES) {
+    const choice = select(`column-${name}`);
+    const same = SHARED.includes(name) ? [[SAME, t("import.same")]] : [];
+    choice.replaceChildren(...options([[NONE, t("import.none")], ...same, ...places]));
+    const value = options_.set?.[name];
+    const at = found.places?.[name] ?? options_.columns?.[name];
+    choice.value = value !== undefined ? SAME : at ?? NONE;
+    const input = select(`same-${name}`);
+    input.hidden = choice.value !== SAME;
+    if (document.activeElement !== input) input.value = value ?? "";
+  }
+}

@@ -1,0 +1,106 @@
+// The preview of the view Import: what each row of the sheet will be, what is wrong with it, and what became of it.
+import { byId, label, made } from "../page.js";
+import { visible } from "../plain/marks.js";
+import { isSettled } from "../plain/sending.js";
+import { contentBytes } from "../sheet/cells.js";
+import { NAMES } from "../sheet/columns.js";
+import { t } from "../texts.js";
+import { fateWords, grouped } from "./filing.js";
+
+const COLUMNS = ["row", ...NAMES, "answer"];
+/** So many rows are shown, and as many more each time that somebody asks for more. */
+const SHOWN = 200;
+
+let rows = [];
+let shown = SHOWN;
+
+/** A cell in a message: its beginning. */
+const inShort = (text) => visible(text.length <= 40 ? text : `${text.slice(0, 37)}...`);
+
+/** What is wrong with a cell, or what somebody should look at, in words; where it is in the sheet comes first. */
+export function foundWords(found, section) {
+  const name = found.name ? ` (${t(`import.columns.${found.name}`)})` : "";
+  const text = found.text ? ` ${t("import.quoted", { text: inShort(found.text) })}` : "";
+  const values = { ...found.values, order: found.values.order ? t(`import.orders.${found.values.order}`) : "" };
+  for (const key of ["bytes", "most", "count"]) if (key in values) values[key] = grouped(values[key]);
+  return `${found.where}${name}:${text} ${t(`import.${section}.${found.kind}`, values)}`;
+}
+
+/** Whether a row was not taken: it is wrong, or the office refused it. */
+export const isRefused = (row) => row.wrong.length > 0 || row.item?.fate?.kind === "refused";
+
+/** Why a row was not taken, in one text: what is wrong with it, or the refusal. */
+export function reasonOf(row) {
+  if (row.wrong.length) return row.wrong.map((it) => foundWords(it, "wrong")).join("; ");
+  return fateWords(row.item.fate).textContent;
+}
+
+const TAKES = {
+  all: () => true,
+  good: (row) => !row.wrong.length,
+  wrong: isRefused,
+  look: (row) => row.notes.length > 0,
+  open: (row) => row.item?.fate && !isSettled(row.item) && row.item.fate.kind !== "refused",
+};
+
+function answerOf(row) {
+  const look = (it) => t("import.lookAt", { what: foundWords(it, "look") });
+  const notes = row.notes.map((it) => made("p", { class: "fate unknown" }, look(it)));
+  const wrongs = row.wrong.map((it) => made("p", { class: "fate wrong" }, foundWords(it, "wrong")));
+  if (wrongs.length) return [...wrongs, ...notes];
+  if (row.item.fate) return [fateWords(row.item.fate), ...notes];
+  return [made("span", { class: "hint" }, t("import.ready")), ...notes];
+}
+
+/** A cell of the preview: the value that will be sent, else what the sheet has. */
+function cellOf(row, name, at) {
+  const value = row.values[at];
+  const wrong = row.wrong.find((it) => it.name === name);
+  if (wrong) return made("td", { role: "cell", class: "bad" }, inShort(wrong.text));
+  const isContent = name === "content" && value;
+  const words = isContent ? t("import.bytes", { count: grouped(contentBytes(value)) }) : visible(value ?? "");
+  return made("td", { role: "cell" }, words);
+}
+
+function nodeOf(row) {
+  const cells = NAMES.map((name, at) => cellOf(row, name, at));
+  const number = made("th", { scope: "row", role: "rowheader" }, String(row.number));
+  return made("tr", { role: "row" }, number, ...cells, made("td", { role: "cell" }, ...answerOf(row)));
+}
+
+/** Shows the rows that the filter takes, as many as are asked for. */
+export function draw() {
+  const takes = TAKES[byId("import-filter").value] ?? TAKES.all;
+  const taken = rows.filter(takes);
+  byId("import-table").tBodies[0].replaceChildren(...taken.slice(0, shown).map(nodeOf));
+  const count = Math.min(shown, taken.length);
+  const words = { count: grouped(rows.length), shown: grouped(count), taken: grouped(taken.length) };
+  byId("import-caption").textContent = t("import.caption", words);
+  const left = taken.length - count;
+  byId("import-more").hidden = left === 0;
+  byId("import-more").textContent = t("import.more", { count: grouped(Math.min(left, SHOWN)) });
+}
+
+/** Takes the rows of a sheet in place of those of the one before. */
+export function take(these) {
+  rows = these;
+  shown = SHOWN;
+  draw();
+}
+
+export function start() {
+  const words = COLUMNS.map((name) => t(`import.columns.${name}`));
+  const heads = words.map((word) => made("th", { scope: "col", role: "columnheader" }, word));
+  byId("import-table").tHead.append(made("tr", { role: "row" }, ...heads));
+  label(byId("import-table"), words);
+  const filters = Object.keys(TAKES).map((name) => made("option", { value: name }, t(`import.filters.${name}`)));
+  byId("import-filter").append(...filters);
+  byId("import-filter").addEventListener("change", () => {
+    shown = SHOWN;
+    draw();
+  });
+  byId("import-more").addEventListener("click", () => {
+    shown += SHOWN;
+    draw();
+  });
+}
