@@ -14,7 +14,7 @@ export const OFFSETS = ["none", "month", "quarter", ...MONTHS.map((month) => `fr
 const floor = Math.floor;
 const isLeap = (year) => (year % 4 === 0 && year % 100 !== 0) || year % 400 === 0;
 
-function lengthOfMonth(year, month) {
+export function lengthOfMonth(year, month) {
   if (month === 2) return isLeap(year) ? 29 : 28;
   return [4, 6, 9, 11].includes(month) ? 30 : 31;
 }
@@ -26,7 +26,9 @@ function read(text) {
 }
 
 const digits = (number, count) => String(number).padStart(count, "0");
-const written = ({ year, month, day }) => `${digits(year, 4)}-${digits(month, 2)}-${digits(day, 2)}`;
+
+/** A day as 2024-02-29. */
+export const written = ({ year, month, day }) => `${digits(year, 4)}-${digits(month, 2)}-${digits(day, 2)}`;
 
 /** How many days a day is after 0000-03-01. Years begin in March here, so that a leap day is the last of its year. */
 function numberOf({ year, month, day }) {

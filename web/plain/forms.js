@@ -1,10 +1,8 @@
 // What a field takes: the forms of docs/ACTS.md and docs/LIMITS.md. Each function says whether a text is of its form.
-import { MOST_DAYS } from "./days.js";
+import { lengthOfMonth, MOST_DAYS, written } from "./days.js";
 
 const encoder = new TextEncoder();
 const LAST_NUMBER = 4294967295;
-
-const lengthOfMonth = (year, month) => new Date(Date.UTC(2000 + (year % 400), month, 0)).getUTCDate();
 
 /** A day of the calendar, from 0001-01-01 to 2999-12-31. */
 export function isDay(text) {
@@ -33,6 +31,5 @@ export const isTarget = (kind, text) => (kind === "class" ? isCode(text) : isNum
 
 /** Today, by the clock of this browser. */
 export function today(now = new Date()) {
-  const digits = (number, count) => String(number).padStart(count, "0");
-  return `${digits(now.getFullYear(), 4)}-${digits(now.getMonth() + 1, 2)}-${digits(now.getDate(), 2)}`;
+  return written({ year: now.getFullYear(), month: now.getMonth() + 1, day: now.getDate() });
 }

@@ -1,5 +1,7 @@
 // What falls due in the years to come: the rows of a due list by year or by month, by action, and what of them is held or confirmed.
 
+import { lengthOfMonth, written } from "./days.js";
+
 export const ACTIONS = ["destroy", "transfer", "review"];
 export const STATES = ["confirmed", "held", "open"];
 
@@ -28,8 +30,15 @@ export const countOf = (counts, action) => STATES.reduce((sum, state) => sum + c
 /** The years that have a row, the first one first. */
 export const yearsOf = (rows) => [...new Set(rows.map((row) => Number(row.due.slice(0, 4))))].sort((one, other) => one - other);
 
-const dayOf = (year, end) => `${String(year).padStart(4, "0")}-${end}`;
-const yearPeriod = (year) => ({ kind: "year", year, from: dayOf(year, "01-01"), to: dayOf(year, "12-31"), counts: empty() });
+const firstOf = (year) => written({ year, month: 1, day: 1 });
+const lastOf = (year) => written({ year, month: 12, day: 31 });
+const yearPeriod = (year) => ({ kind: "year", year, from: firstOf(year), to: lastOf(year), counts: empty() });
+
+function monthPeriod(year, month) {
+  const from = written({ year, month, day: 1 });
+  const to = written({ year, month, day: lengthOfMonth(year, month) });
+  return { kind: "month", year, month, from, to, counts: empty() };
+}
 
 /** The years that are shown one by one: all from the first to the last, or those from a little before this one on. */
 function shownYears(years, now) {
@@ -45,8 +54,8 @@ export function byYear(rows, now) {
   if (!years.length) return [];
   const [first, last] = shownYears(years, now);
   const periods = Array.from({ length: last - first + 1 }, (_, at) => yearPeriod(first + at));
-  const before = { kind: "before", year: first, from: dayOf(1, "01-01"), to: dayOf(first - 1, "12-31"), counts: empty() };
-  const after = { kind: "after", year: last, from: dayOf(last + 1, "01-01"), to: dayOf(LAST, "12-31"), counts: empty() };
+  const before = { kind: "before", year: first, from: firstOf(1), to: lastOf(first - 1), counts: empty() };
+  const after = { kind: "after", year: last, from: firstOf(last + 1), to: lastOf(LAST), counts: empty() };
   for (const row of rows) {
     const year = Number(row.due.slice(0, 4));
     add((year < first ? before : year > last ? after : periods[year - first]).counts, row);
@@ -54,15 +63,9 @@ export function byYear(rows, now) {
   return [...(before.counts.total ? [before] : []), ...periods, ...(after.counts.total ? [after] : [])];
 }
 
-const lastOf = (year, month) => new Date(Date.UTC(2000 + (year % 400), month, 0)).getUTCDate();
-const digits = (number) => String(number).padStart(2, "0");
-
 /** The twelve months of a year, each with its days and its counts. */
 export function byMonth(rows, year) {
-  const periods = Array.from({ length: 12 }, (_, at) => {
-    const month = digits(at + 1);
-    return { kind: "month", year, month: at + 1, from: dayOf(year, `${month}-01`), to: dayOf(year, `${month}-${digits(lastOf(year, at + 1))}`), counts: empty() };
-  });
+  const periods = Array.from({ length: 12 }, (_, at) => monthPeriod(year, at + 1));
   for (const row of rows) if (Number(row.due.slice(0, 4)) === year) add(periods[Number(row.due.slice(5, 7)) - 1].counts, row);
   return periods;
 }

@@ -1,4 +1,5 @@
 // Days as sheets write them, and in which order a column has day, month and year.
+import { written } from "../plain/days.js";
 import { isDay } from "../plain/forms.js";
 import { Unreadable, Wrong } from "./unreadable.js";
 
@@ -11,11 +12,9 @@ const SHORT_YEAR = new RegExp(`^(\\d{1,2})([./-]) ?(\\d{1,2})\\2 ?(\\d{1,2})${TI
 const SERIAL = /^([1-9]\d{4})(?:[.,]\d+)?$/;
 const FIRST_SERIAL = Date.UTC(1899, 11, 30);
 
-const digits = (number, count) => String(number).padStart(count, "0");
-
 /** A day as 2020-12-31, or null where the calendar has none. */
 function day(year, month, dayOfMonth) {
-  const text = `${digits(year, 4)}-${digits(month, 2)}-${digits(dayOfMonth, 2)}`;
+  const text = written({ year, month, day: dayOfMonth });
   return isDay(text) ? text : null;
 }
 
