@@ -6,7 +6,7 @@ import subprocess
 from judging import judge, same
 from place import TOP
 
-VIEWS = {"due": "#due?day=2022-05-02", "overdue": "#overdue?day=2022-05-02&count=30", "record": "#record?number=1", "certificate": "#certificate?number=1", "run": "#run?number=1", "holds": "#holds?code=Q-2020-17", "fault": "#fault"}
+VIEWS = {"due": "#due?day=2022-05-02", "overdue": "#overdue?day=2022-05-02&count=30", "record": "#record?number=1", "certificate": "#certificate?number=1", "run": "#run?number=1", "holds": "#holds?code=Q-2020-17", "plan": "#plan", "fault": "#fault"}
 
 # the least contrast of any text that is seen with what is behind it, with that text
 CONTRAST = """
@@ -42,13 +42,20 @@ return Array.from(document.querySelectorAll("section:not([hidden]) :is(input, se
   .filter((node) => node.checkVisibility()).filter((node) => { const it = node.getBoundingClientRect(); return it.width && (it.height < 24 || it.width < 24); }).map((node) => node.outerHTML)
 """
 WIDE = "return [document.documentElement.scrollWidth, innerWidth]"
+# what is behind a summary is looked at too
+UNFOLD = "for (const it of document.querySelectorAll('section:not([hidden]) details')) it.open = true"
+
+
+def unfolded(browser, address):
+    browser.open(address)
+    browser.driver.execute_script(UNFOLD)
 
 
 def readable(browser, proxy):
     for scheme in ("light", "dark"):
         browser.light(scheme)
         for name, address in VIEWS.items():
-            browser.open(proxy.page + address)
+            unfolded(browser, proxy.page + address)
             ratio, where = browser.driver.execute_script(CONTRAST)
             judge(f"{name}, {scheme}: each text has a contrast of 4.5 at least, the least {ratio:.1f}", ratio >= 4.5, where)
             edge = browser.driver.execute_script(EDGES)
@@ -57,7 +64,7 @@ def readable(browser, proxy):
     for name, address in VIEWS.items():
         for width in (1280, 400, 320):
             browser.width(width)
-            browser.open(proxy.page + address)
+            unfolded(browser, proxy.page + address)
             there, wanted = browser.driver.execute_script(WIDE)
             judge(f"{name}: nothing is wider than {width} pixels", there <= wanted, f"{there}")
             same(f"{name}: nothing that is pressed is smaller than 24 pixels at {width}", browser.driver.execute_script(SMALL), [])
