@@ -1,4 +1,4 @@
-// Requests to the six paths, which stand in the folder above this page. Each is sent once, and nothing of an answer is kept.
+// Requests to the paths of the office, which are in the folder above this page. Each is sent once, and no answer is kept.
 
 /** The address of a path, without the name and password that the page's own address may carry. */
 export function placeOf(path, page = location.href) {

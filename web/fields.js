@@ -1,6 +1,6 @@
 // Fields and forms: what a field takes, what is wrong in one, and the ticks that a form asks for before anything is sent.
 import { byId, made, paragraph } from "./page.js";
-import { isCode, isConfirmDays, isDay, isNumber, isTarget, isText, today } from "./plain/forms.js";
+import { isCode, isDay, isNumber, isTarget, isText, today } from "./plain/forms.js";
 import { PLAN_KINDS } from "./plain/plan_kinds.js";
 import { t } from "./texts.js";
 
@@ -19,8 +19,6 @@ const KINDS = {
   certificate: { label: "fields.certificate", wrong: "fields.numberWrong", takes: isNumber, mode: "numeric" },
   run: { label: "fields.run", wrong: "fields.numberWrong", takes: isNumber, mode: "numeric" },
   target: { label: "fields.target", hint: "fields.targetHint", takes: isText },
-  overdueDay: { label: "overdue.day", hint: "fields.dayHint", wrong: "fields.dayWrong", takes: isDay, mode: "numeric", isToday: true },
-  confirmDays: { label: "overdue.count", hint: "overdue.countHint", wrong: "overdue.countWrong", takes: isConfirmDays, mode: "numeric" },
   allPrefix: { label: "file.common.prefix", hint: "file.common.prefixHint", takes: isText },
   allTitle: { label: "file.common.title", hint: "file.common.titleHint", takes: isText },
   allOriginated: { label: "file.common.originated", hint: "file.common.originatedHint", takes: isDay, mode: "numeric" },
@@ -35,7 +33,8 @@ const KINDS = {
 /** What a field is written into, or chosen from. */
 function inputOf(id, kind) {
   const told = { id, "aria-describedby": `${id}-hint ${id}-wrong` };
-  if (kind.choices) return made("select", told, ...kind.choices.map((value) => made("option", { value }, t(`${kind.words}.${value}`))));
+  const option = (value) => made("option", { value }, t(`${kind.words}.${value}`));
+  if (kind.choices) return made("select", told, ...kind.choices.map(option));
   const input = made("input", { ...told, type: "text", autocomplete: "off", spellcheck: "false", autocapitalize: "off" });
   if (kind.mode) input.inputMode = kind.mode;
   return input;
@@ -134,7 +133,8 @@ function valuesOf(form) {
   first?.focus();
   if (first) return null;
   if (form.querySelector("[data-field=by]")) shareBy(form.querySelector("[data-field=by] input").value);
-  return Object.fromEntries([...inputs, ...form.querySelectorAll("[data-field] > select")].map((input) => [input.id, input.value]));
+  const chosen = form.querySelectorAll("[data-field] > select");
+  return Object.fromEntries([...inputs, ...chosen].map((input) => [input.id, input.value]));
 }
 
 /** Who acts is asked once for as long as the page is open: the other forms get the name too, where they have none yet. */

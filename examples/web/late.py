@@ -6,7 +6,7 @@ import pathlib
 
 from browser import Browser
 from judging import judge, same
-from place import TOP, Office, Proxy
+from place import Office, Proxy
 from story import TEXTS, Story, says
 
 TODAY = datetime.date.today()

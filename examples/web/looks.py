@@ -55,13 +55,20 @@ return Array.from(document.querySelectorAll("section:not([hidden]) :is(input, se
   .filter((node) => node.checkVisibility()).filter((node) => { const it = node.getBoundingClientRect(); return it.width && (it.height < 24 || it.width < 24); }).map((node) => node.outerHTML)
 """
 WIDE = "return [document.documentElement.scrollWidth, innerWidth]"
+# what is behind a summary is looked at too
+UNFOLD = "for (const it of document.querySelectorAll('section:not([hidden]) details')) it.open = true"
+
+
+def unfolded(browser, address):
+    browser.open(address)
+    browser.driver.execute_script(UNFOLD)
 
 
 def readable_view(browser, proxy, name, address):
     """One view: contrast in light and dark; widths, sizes and names."""
     for scheme in ("light", "dark"):
         browser.light(scheme)
-        browser.open(proxy.page + address)
+        unfolded(browser, proxy.page + address)
         ratio, where = browser.driver.execute_script(CONTRAST)
         judge(f"{name}, {scheme}: each text has a contrast of 4.5 at least, the least {ratio:.1f}", ratio >= 4.5, where)
         edge = browser.driver.execute_script(EDGES)
@@ -69,7 +76,7 @@ def readable_view(browser, proxy, name, address):
     browser.light("light")
     for width in (1280, 400, 320):
         browser.width(width)
-        browser.open(proxy.page + address)
+        unfolded(browser, proxy.page + address)
         there, wanted = browser.driver.execute_script(WIDE)
         judge(f"{name}: nothing is wider than {width} pixels", there <= wanted, f"{there}")
         same(f"{name}: nothing that is pressed is smaller than 24 pixels at {width}", browser.driver.execute_script(SMALL), [])

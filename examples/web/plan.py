@@ -285,7 +285,7 @@ def cases(count: int) -> list[tuple[str, int, str, str]]:
 
 
 def counted(plan: Plan, singly: int = 2000, planned: int = 20000) -> None:
-    """The page's module gives the due days of the program: of `office due` one by one, of `office plan` many at once."""
+    """The page's module gives the program's due days: of `office due` one by one, of `office plan` many at once."""
     these = cases(singly)
     due = lambda it: plan.browser.driver.execute_async_script(DUE_DAYS, it)
     there = due(these)

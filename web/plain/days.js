@@ -82,9 +82,6 @@ function offsetFrom(day, offset) {
 /** The due day of a record whose period begins on this day: the end of the period, then the offset. */
 export const dueDay = (start, { unit, count, offset }) => written(offsetFrom(endOf(read(start), unit, count), offset));
 
-/** The day until which a record of this due day is to be confirmed. */
-export const deadline = (due, count) => written(daysLater(read(due), count));
-
 /** The day so many days before, or the first of the calendar where it has none. */
 export function daysBefore(day, count) {
   const found = daysLater(read(day), -count);

@@ -1,10 +1,10 @@
-// The kinds of fields that the forms of the filing plan and of a record have, as those of fields.js. One with `choices` is
-// a list to choose from, whose words are the texts below `words`; one that is `optional` may be left empty.
+// The kinds of fields that the filing plan, a record and what is overdue have, as those of fields.js. One with `choices`
+// is a list to choose from, whose words are the texts below `words`; one that is `optional` may be left empty.
 import { LONGEST, OFFSETS, UNITS } from "./days.js";
-import { isCode, isNumber, isText } from "./forms.js";
+import { isCode, isConfirmDays, isDay, isNumber, isText } from "./forms.js";
 
-export const TRIGGERS = ["origin", "added", "closed", "last-addition", "review", "event"];
-export const ACTIONS = ["destroy", "transfer", "review", "keep"];
+const TRIGGERS = ["origin", "added", "closed", "last-addition", "review", "event"];
+const ACTIONS = ["destroy", "transfer", "review", "keep"];
 
 /** Whether this is a count of the unit that the same form has. */
 function isCount(text, form) {
@@ -19,6 +19,7 @@ const there = (name) => ({ ...code(name), hint: "plan.fields.codeHint" });
 const maybe = (name, hint) => ({ ...code(name), hint: label(hint), optional: true });
 const text = (name) => ({ label: label(name), hint: label(`${name}Hint`), wrong: "fields.textWrong", takes: isText });
 const number = (name) => ({ label: label(name), wrong: "fields.numberWrong", takes: isNumber, mode: "numeric" });
+const day = { hint: "fields.dayHint", wrong: "fields.dayWrong", takes: isDay, mode: "numeric" };
 const choice = (name, choices, words) => ({ label: label(name), choices, words });
 // what is written in one form alone: its hint says also what is wrong
 const own = (name, takes) => ({ label: label(name), hint: label(`${name}Hint`), wrong: label(`${name}Hint`), takes });
@@ -45,5 +46,13 @@ export const PLAN_KINDS = {
   parent: { ...number("parent"), hint: "plan.fields.parentHint", optional: true },
   classified: choice("classified", ["aggregation", "record"], "fields.kinds"),
   number: number("number"),
+  overdueDay: { ...day, label: "overdue.day", isToday: true },
+  confirmDays: {
+    label: "overdue.count",
+    hint: "overdue.countHint",
+    wrong: "overdue.countWrong",
+    takes: isConfirmDays,
+    mode: "numeric",
+  },
   digest: own("digest", isDigest),
 };

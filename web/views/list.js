@@ -1,4 +1,4 @@
-// A list of records whose action may be confirmed, as Due and Overdue: its address, rows, totals, filters, order and marks.
+// A list of records that can be confirmed, as Due and Overdue: its address, rows, totals, filters, order and marks.
 import { get } from "../ask.js";
 import { onSubmit } from "../fields.js";
 import { asking, byId, failed, made, paragraph, quiet, say } from "../page.js";

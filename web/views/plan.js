@@ -1,5 +1,5 @@
 // The filing plan: schedules, classes and aggregations, and what classes, aggregations and records get of them later.
-import { byId, made, paragraph } from "../page.js";
+import { byId, made, sentence } from "../page.js";
 import { dueDay, LONGEST } from "../plain/days.js";
 import { isDay } from "../plain/forms.js";
 import { t } from "../texts.js";
@@ -76,6 +76,9 @@ const FORMS = {
 
 const valueOf = (name) => byId(`plan-schedule-${name}`).value.trim();
 
+/** A day that is not broken over two lines. */
+const dayOf = (text) => made("time", { datetime: text }, text);
+
 /** What the example says of the rule that is written, or what is still wanting. */
 function exampleWords() {
   const names = ["trigger", "unit", "count", "offset", "action", "example"];
@@ -85,12 +88,13 @@ function exampleWords() {
   if (!isDay(start)) return [t("fields.dayWrong")];
   const rule = { unit, count: Number(count), offset };
   const due = dueDay(start, rule);
-  const said = [t(`plan.example.${trigger}`, { start, due }), t(`plan.then.${action}`)];
+  const said = sentence(`plan.example.${trigger}`, { start: dayOf(start), due: dayOf(due) });
+  said.push(" ", t(`plan.then.${action}`));
   const isMoved = due !== dueDay(start, { ...rule, offset: "none" });
-  return offset === "none" || isMoved ? said : [...said, t("plan.example.stays", { due })];
+  return offset === "none" || isMoved ? said : [...said, " ", t("plan.example.stays")];
 }
 
-const tellExample = () => byId("plan-example").replaceChildren(paragraph(exampleWords().join(" ")));
+const tellExample = () => byId("plan-example").replaceChildren(made("p", {}, ...exampleWords()));
 
 /** The example is told anew with each letter. */
 function addExample() {
