@@ -162,6 +162,7 @@ ROWS = [
     Row("cp examples/service/city.conf"),
     Row("cp examples/service/office@.service"),
     Row("cp examples/service/office-compact@.service"),
+    Row("cp examples/service/office-catalogue@.service"),
     Row("install -m 755 examples/service/office-backup"),
     Row("install -m 755 examples/service/office-compact"),
     Row("systemd-analyze verify /etc/systemd/system/office@.service", then=city_serves),
@@ -204,6 +205,9 @@ ROWS = [
         then=is_stopped),
     Row(f"office-restore {CITY} city.db", like=r"what was there: \S+\.before-\w+\n",
         then=is_restored),
+    Row("install -d -o office -g www-data -m 2750 /var/lib/office-catalogues/city"),
+    Row("office-catalogue city.db /var/lib/office-catalogues/city", prints=""),
+    Row("curl --silent --compressed --cacert /etc/nginx/office/office.crt", like=r'.*"records":33\}\s*\]\}\s*'),
     Row(f"office-compact {CITY}", like=r"(.*\n)?records: 33, the same\n.*", then=is_compact),
     Row("shred --remove", then=is_shredded),
 ]
