@@ -3,7 +3,7 @@ import { get } from "./ask.js";
 import { indexOf, treeOf } from "./plain/catalogue.js";
 import { jsonOf } from "./plain/outcomes.js";
 
-/** The moment of what was read, or null where nothing was; what its file `about` says; its parts and what is made of them. */
+/** The moment of what was read, or null where nothing was; what `about` says; its parts and what is made of them. */
 let moment = null;
 let about = null;
 let parts = new Map();
@@ -41,7 +41,7 @@ export const isThere = () => moment !== null;
 export const aboutIt = () => ({ ...about, moment });
 export const lastAnswer = () => last;
 
-/** Reads a part; where a new catalogue has taken the place of the one before meanwhile, what was read before is forgotten. */
+/** Reads a part; where a new catalogue has come meanwhile, what was read of the one before is forgotten. */
 async function readPart(name) {
   let body = await read(name);
   if (body && body.moment !== moment) {
@@ -73,7 +73,10 @@ async function ofPart(key, name, make) {
   return made.get(key).what;
 }
 
-/** The records as a search goes through them: each is its number, ref, title, the number of its aggregation, and its status. */
-export const records = () => ofPart("records", "records", (rows) => indexOf(rows, ([, ref, title]) => `${ref} ${title}`));
-export const aggregations = () => ofPart("aggregations", "aggregations", (rows) => indexOf(rows, ({ ref, title }) => `${ref} ${title}`));
+const recordIndex = (rows) => indexOf(rows, ([, ref, title]) => `${ref} ${title}`);
+const aggregationIndex = (rows) => indexOf(rows, ({ ref, title }) => `${ref} ${title}`);
+
+/** The records as a search goes through them: each is its number, ref, title, aggregation, and status. */
+export const records = () => ofPart("records", "records", recordIndex);
+export const aggregations = () => ofPart("aggregations", "aggregations", aggregationIndex);
 export const tree = () => ofPart("tree", "aggregations", treeOf);

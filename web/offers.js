@@ -1,4 +1,4 @@
-// Codes and numbers of the catalogue, offered in the fields of all forms. Where there is no catalogue nothing is offered.
+// Codes and numbers of the catalogue, offered in the fields of all forms. Without a catalogue nothing is offered.
 import { aggregations, isThere, part, records, refresh } from "./catalogue.js";
 import { made } from "./page.js";
 import { search } from "./plain/catalogue.js";
@@ -9,8 +9,10 @@ import { scheduleWords } from "./views/catalogue_tables.js";
 const LIST = "offers";
 /** So many are offered at a time: what is written makes them fewer. */
 const MOST = 50;
+/** So many milliseconds after it was looked for, a catalogue is looked for again. */
+const LATER = 600000;
 
-/** What a field asks for, by its kind (`data-field`); the first that is like it. A kind that names none of these has no offers. */
+/** What a field asks for, by its kind (`data-field`): the first that is like it; a kind like none has no offers. */
 const KINDS = [
   // the code of what is new
   [/^(schedule|class)Code$/, ""],
@@ -25,7 +27,7 @@ const KINDS = [
 /** What a field beside a choice asks for: by what is chosen there. */
 const CHOSEN = { class: "classes", aggregation: "aggregations", record: "records" };
 
-/** The part of the catalogue that a field asks for; for what a hold is put on, and what gets another class, as the choice beside it says. */
+/** The part of the catalogue that a field asks for; beside a choice of what a number or a code is of, as that says. */
 function partOf(input) {
   const { field, offers } = input.closest("[data-field]").dataset;
   if (offers !== undefined) return offers;
@@ -54,21 +56,30 @@ function numbered(index, text, of) {
   const begun = [];
   if (/^[1-9]\d*$/.test(text)) {
     for (let [low, count] = [Number(text), 1]; low <= rows.length; low *= 10, count *= 10) {
-      for (let number = low; number < low + count && number <= rows.length && begun.length < MOST; number += 1) begun.push(rows[number - 1]);
+      begun.push(...rows.slice(low - 1, Math.min(low - 1 + count, low - 1 + MOST)));
     }
   }
   const others = search(index, text, MOST).found;
   return [...new Set([...begun, ...others])].slice(0, MOST).map((row) => offer(...of(row)));
 }
 
+const rowsOf = async (name) => (await part(name)) ?? [];
+const inForce = (holds) => holds.filter((it) => it.lifted === null);
+const ofSchedule = (it) => [it.code, scheduleWords(it)];
+const ofClass = (it) => [it.code, it.title];
+const ofHold = (it) => [it.code, it.reason];
+const ofRun = (it) => [String(it.number), `${it.day} · ${it.by}`];
+const ofAggregation = (it) => [String(it.number), `${it.ref} · ${it.title}`];
+const ofRecord = ([number, ref, title]) => [String(number), `${ref} · ${title}`];
+
 /** The offers of each part of the catalogue. */
 const OFFERS = {
-  schedules: async (text) => offersOf((await part("schedules")) ?? [], text, (it) => [it.code, scheduleWords(it)]),
-  classes: async (text) => offersOf((await part("classes")) ?? [], text, (it) => [it.code, it.title]),
-  holds: async (text) => offersOf(((await part("holds")) ?? []).filter((it) => it.lifted === null), text, (it) => [it.code, it.reason]),
-  runs: async (text) => offersOf([...((await part("runs")) ?? [])].reverse(), text, (it) => [String(it.number), `${it.day} · ${it.by}`]),
-  aggregations: async (text) => numbered(await aggregations(), text, (it) => [String(it.number), `${it.ref} · ${it.title}`]),
-  records: async (text) => numbered(await records(), text, ([number, ref, title]) => [String(number), `${ref} · ${title}`]),
+  schedules: async (text) => offersOf(await rowsOf("schedules"), text, ofSchedule),
+  classes: async (text) => offersOf(await rowsOf("classes"), text, ofClass),
+  holds: async (text) => offersOf(inForce(await rowsOf("holds")), text, ofHold),
+  runs: async (text) => offersOf([...(await rowsOf("runs"))].reverse(), text, ofRun),
+  aggregations: async (text) => numbered(await aggregations(), text, ofAggregation),
+  records: async (text) => numbered(await records(), text, ofRecord),
 };
 
 let turn = 0;
@@ -84,8 +95,16 @@ async function offerIn(input) {
   input.setAttribute("list", LIST);
 }
 
-function heard({ target }) {
-  if (isThere() && target.matches?.("[data-field] > input[type=text]")) offerIn(target);
+let looked = 0;
+
+async function heard({ target }) {
+  if (!isThere() || !target.matches?.("[data-field] > input[type=text]")) return;
+  // a page that stays open looks for a later catalogue now and then
+  if (Date.now() - looked > LATER) {
+    looked = Date.now();
+    await refresh();
+  }
+  offerIn(target);
 }
 
 /** Looks whether a catalogue is there, and offers what it has from then on. */
@@ -93,5 +112,6 @@ export async function start() {
   document.body.append(made("datalist", { id: LIST, "aria-label": t("catalogue.title") }));
   document.addEventListener("focusin", heard);
   document.addEventListener("input", heard);
+  looked = Date.now();
   await refresh();
 }

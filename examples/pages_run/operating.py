@@ -164,6 +164,7 @@ ROWS = [
     Row("cp examples/service/office-compact@.service"),
     Row("cp examples/service/office-overdue@.service"),
     Row("cp examples/service/office-overdue-mail@.service"),
+    Row("cp examples/service/office-catalogue@.service"),
     Row("install -m 755 examples/service/office-backup"),
     Row("install -m 755 examples/service/office-compact"),
     Row("install -m 755 examples/service/office-overdue"),
@@ -210,6 +211,9 @@ ROWS = [
     Row("mkdir -m 700 registers"),
     Row(f"office-overdue {CITY} registers", like=r"registers/overdue-\d{4}-\d\d-\d\d\.csv\n"),
     Row("cp examples/service/city.mail"),
+    Row("install -d -o office -g www-data -m 2750 /var/lib/office-catalogues/city"),
+    Row("office-catalogue city.db /var/lib/office-catalogues/city", prints=""),
+    Row("curl --silent --compressed --cacert /etc/nginx/office/office.crt", like=r'.*"records":33\}\s*\]\}\s*'),
     Row(f"office-compact {CITY}", like=r"(.*\n)?records: 33, the same\n.*", then=is_compact),
     Row("shred --remove", then=is_shredded),
 ]

@@ -1,9 +1,6 @@
-"""The page in German: each view has the words of web/texts/de.json and no English one, at each width, and acts are explained in it."""
+"""The page in German: each view has the words of web/texts/de.json and no English one; acts are explained in it."""
 import json
-import os
 import pathlib
-import shutil
-import subprocess
 from collections.abc import Callable, Iterator
 
 import catalogue
@@ -11,7 +8,7 @@ import layout
 import looks
 from browser import Browser
 from judging import judge, same
-from place import OFFICE, TOP, Proxy
+from place import TOP, Proxy
 from texts import flat
 
 ENGLISH = flat(json.loads((TOP / "web/texts/en.json").read_text()))
@@ -19,8 +16,12 @@ GERMAN = flat(json.loads((TOP / "web/texts/de.json").read_text()))
 # every text that is seen or read out, but for what the office reports and for codes
 READ = """
 const found = []; const walk = document.createTreeWalker(document.body, NodeFilter.SHOW_TEXT);
-while (walk.nextNode()) if (!walk.currentNode.parentElement.closest("code, pre, script, #loading")) found.push(walk.currentNode.data.trim());
-for (const it of document.querySelectorAll("[aria-label], [title]")) found.push((it.getAttribute("aria-label") ?? it.title).trim());
+while (walk.nextNode()) {
+  const node = walk.currentNode;
+  if (!node.parentElement.closest("code, pre, script, #loading")) found.push(node.data.trim());
+}
+const named = document.querySelectorAll("[aria-label], [title]");
+for (const it of named) found.push((it.getAttribute("aria-label") ?? it.title).trim());
 return [document.documentElement.lang, document.title, found.filter(Boolean)];
 """
 NAMED = "return Array.from(document.querySelectorAll('[data-text]'), (it) => [it.dataset.text, it.textContent])"
@@ -35,7 +36,11 @@ def views(it: Browser, proxy: Proxy, addresses: dict[str, str]) -> None:
     for name, address in addresses.items():
         it.open(proxy.page + address)
         lang, title, read = it.driver.execute_script(READ)
-        same(f"German: {name}: the page says its language and its title", (lang, title), ("de", GERMAN["page.title"].format(view=GERMAN[f"{name.split()[0]}.title"])))
+        same(
+            f"German: {name}: the page says its language and its title",
+            (lang, title),
+            ("de", GERMAN["page.title"].format(view=GERMAN[f"{name.split()[0]}.title"])),
+        )
         same(f"German: {name}: no English text is left", sorted(set(read) & foreign()), [])
         strange = [(key, text) for key, text in it.driver.execute_script(NAMED) if text != GERMAN.get(key)]
         same(f"German: {name}: each part has the words of the file", strange, [])
@@ -53,41 +58,63 @@ def acts(it: Browser, proxy: Proxy) -> None:
     it.write(hold_place_code="Q-2020-17", hold_place_reason="Noch ein Rechtsstreit", hold_place_by="Rechtsamt")
     it.press("#hold-place button")
     seen = it.seen("#hold-place-outcome")
-    wanted = [GERMAN["said.refusal"].format(number=4, name="Exists"), GERMAN["refusals.4.meaning"], GERMAN["refusals.4.do"], '[{"refused":4}]']
-    judge("German: a refusal is explained in German, beside the office's own answer", all(word in seen for word in wanted), seen)
+    wanted = [
+        GERMAN["said.refusal"].format(number=4, name="Exists"),
+        GERMAN["refusals.4.meaning"],
+        GERMAN["refusals.4.do"],
+        '[{"refused":4}]',
+    ]
+    judge(
+        "German: a refusal is explained in German, beside the office's own answer",
+        all(word in seen for word in wanted),
+        seen,
+    )
     it.write(hold_lift_code="Q 1")
     it.press("#hold-lift button")
     same("German: a wrong field is explained in German", it.text("#hold-lift-code-wrong"), GERMAN["fields.codeWrong"])
     it.open(f"{proxy.page}#certificate?number=1")
     seen = it.seen("#certificate-verdict")
-    judge("German: a certificate agrees, in German", GERMAN["certificate.agrees"] in seen and GERMAN["certificate.wellFormed"] in seen, seen)
+    judge(
+        "German: a certificate agrees, in German",
+        GERMAN["certificate.agrees"] in seen and GERMAN["certificate.wellFormed"] in seen,
+        seen,
+    )
     it.open(f"{proxy.page}#record?number=8")
     seen = it.seen("#record-words")
     judge("German: a record is described in German", GERMAN["record.status.destroyed"].format(run=1) in seen, seen)
 
 
-def listed(it: Browser, proxy: Proxy, folder: pathlib.Path, pictures: pathlib.Path | None) -> None:
-    """The catalogue in German, which goes again after that."""
-    copy = folder / "german.db"
-    subprocess.run([catalogue.SERVICE / "office-backup", folder / "archive.db", copy], check=True, env={**os.environ, "OFFICE": OFFICE})
-    catalogue.make(proxy, copy)
+def listed(it: Browser, proxy: Proxy, pictures: pathlib.Path | None) -> None:
+    """The catalogue in German."""
     parts = ("records", "aggregations", "classes", "schedules", "holds", "runs")
     views(it, proxy, {f"catalogue {part}": f"#catalogue?part={part}" for part in parts})
     it.open(f"{proxy.page}#catalogue?part=schedules")
     shown = {row[0]: row[1:] for row in it.table("#catalogue-part .schedules")}
-    same("German: a schedule in words", shown["COR-3"], ["mit der letzten Ablage in der Akte", "3 Jahre", "ab dem nächsten Quartalsersten", "vernichten"])
+    same(
+        "German: a schedule in words",
+        shown["COR-3"],
+        ["mit der letzten Ablage in der Akte", "3 Jahre", "ab dem nächsten Quartalsersten", "vernichten"],
+    )
     catalogue.pictures(it, proxy, pictures, "-german")
-    shutil.rmtree(proxy.folder / "catalogue")
 
 
-def tell(proxy: Proxy, folder: pathlib.Path, open_browser: Callable[..., Iterator[Browser]], pictures: pathlib.Path | None) -> None:
-    """All of it, while the first run of the city archive is closed and its hold in force."""
+def tell(
+    proxy: Proxy, folder: pathlib.Path, open_browser: Callable[..., Iterator[Browser]], pictures: pathlib.Path | None
+) -> None:
+    """All of it, while the first run of the city archive is closed, its hold in force, and a catalogue there."""
     with open_browser(folder, "de-DE") as it:
         it.know(proxy.page)
         views(it, proxy, looks.VIEWS)
         for name in ("due", "certificate"):
             layout.words(it, proxy.page + looks.VIEWS[name], f"German: {name}")
         acts(it, proxy)
-        looks.pictures(it, proxy, pictures, ["due", "outlook", "record", "certificate", "run", "holds", "fault"], "-german", (1280,))
-        listed(it, proxy, folder, pictures)
+        looks.pictures(
+            it,
+            proxy,
+            pictures,
+            ["due", "outlook", "record", "certificate", "run", "holds", "fault"],
+            "-german",
+            (1280,),
+        )
+        listed(it, proxy, pictures)
         same("German: the browser's console complains of nothing", it.complaints(), [])

@@ -226,7 +226,7 @@ def paper(browser, proxy, folder):
 
 
 def pictures(browser, proxy, place, names, more="", widths=(1280, 400)):
-    """A picture of each of these views, wide and narrow, where a place for them is given; `more` follows the view's name."""
+    """A picture of each of these views where a place for them is given; `more` follows the view's name."""
     if place is None:
         return
     place.mkdir(parents=True, exist_ok=True)

@@ -15,11 +15,15 @@ BARS = """
 return Array.from(document.querySelectorAll("#outlook-chart .bar"), (bar) => ({
   says: bar.querySelector("title").textContent,
   href: bar.querySelector("a").getAttribute("href"),
-  parts: Array.from(bar.querySelectorAll("rect.line"), (it) => [it.getAttribute("class").split(" ").pop(), it.hasAttribute("fill") ? "held" : it.classList.contains("full") ? "confirmed" : "open", Number(it.getAttribute("height"))]) }));
+  parts: Array.from(bar.querySelectorAll("rect.line"), (it) => {
+    const look = it.hasAttribute("fill") ? "held" : it.classList.contains("full") ? "confirmed" : "open";
+    return [it.getAttribute("class").split(" ").pop(), look, Number(it.getAttribute("height"))];
+  }) }));
 """
 SCALE = """
 const lines = Array.from(document.querySelectorAll("#outlook-chart line"), (it) => Number(it.getAttribute("y1")));
-const told = Array.from(document.querySelectorAll("#outlook-chart text"), (it) => it.textContent).slice(0, lines.length).map((it) => Number(it.replace(/[^0-9]/g, "")));
+const texts = Array.from(document.querySelectorAll("#outlook-chart text"), (it) => it.textContent);
+const told = texts.slice(0, lines.length).map((it) => Number(it.replace(/[^0-9]/g, "")));
 return (lines[0] - lines[1]) / (told[1] - told[0]);
 """
 COUNT = 1200
@@ -28,13 +32,40 @@ COUNT = 1200
 def more() -> list[dict]:
     """Records whose due days are in many years, so that some years are shown together."""
     day = {"day": "2022-05-02"}
-    acts = [{"act": "add-schedule", **day, "code": f"F{n}", "trigger": "origin", "unit": "years", "count": n, "offset": "none", "action": action}
-            for n, action in ((1, "destroy"), (8, "transfer"), (12, "review"), (60, "destroy"))]
-    acts += [{"act": "add-class", **day, "code": f"F{n}", "title": f"For {n} years", "schedule": f"F{n}"} for n in (1, 8, 12, 60)]
-    acts += [{"act": "add-aggregation", **day, "ref": f"F/{n}", "title": f"For {n} years", "class": f"F{n}"} for n in (1, 8, 12, 60)]
+    acts = [
+        {
+            "act": "add-schedule",
+            **day,
+            "code": f"F{n}",
+            "trigger": "origin",
+            "unit": "years",
+            "count": n,
+            "offset": "none",
+            "action": action,
+        }
+        for n, action in ((1, "destroy"), (8, "transfer"), (12, "review"), (60, "destroy"))
+    ]
+    acts += [
+        {"act": "add-class", **day, "code": f"F{n}", "title": f"For {n} years", "schedule": f"F{n}"}
+        for n in (1, 8, 12, 60)
+    ]
+    acts += [
+        {"act": "add-aggregation", **day, "ref": f"F/{n}", "title": f"For {n} years", "class": f"F{n}"}
+        for n in (1, 8, 12, 60)
+    ]
     originated = lambda n: str(datetime.date(2014, 1, 1) + datetime.timedelta(days=n * 37 % 2900))
-    acts += [{"act": "add-record", **day, "ref": f"F/{n}", "title": f"Paper {n}", "originated": originated(n),
-              "aggregation": 13 + n * n % 4 if n % 7 else 16, "content": ""} for n in range(COUNT)]
+    acts += [
+        {
+            "act": "add-record",
+            **day,
+            "ref": f"F/{n}",
+            "title": f"Paper {n}",
+            "originated": originated(n),
+            "aggregation": 13 + n * n % 4 if n % 7 else 16,
+            "content": "",
+        }
+        for n in range(COUNT)
+    ]
     acts += [{"act": "hold-on", **day, "hold": "Q-2020-17", "target": f"record:{34 + n}"} for n in range(0, COUNT, 9)]
     due = [n for n in range(COUNT) if n % 7 and n * n % 4 == 0 and n % 3 == 0 and originated(n) < "2021-05-01"]
     acts += [{"act": "confirm", **day, "record": 34 + n, "action": "destroy", "by": "R. Halloran"} for n in due]
@@ -44,7 +75,14 @@ def more() -> list[dict]:
 def sums(rows: list[dict]) -> list[str]:
     """The cells of the table for these rows of the due list."""
     action = lambda name: sum(row["action"] == name for row in rows)
-    counts = [len(rows), action("destroy"), action("transfer"), action("review"), sum(row["held"] is not None for row in rows), sum(row["confirmed"] for row in rows)]
+    counts = [
+        len(rows),
+        action("destroy"),
+        action("transfer"),
+        action("review"),
+        sum(row["held"] is not None for row in rows),
+        sum(row["confirmed"] for row in rows),
+    ]
     return [f"{it:,}" for it in counts]
 
 
@@ -72,17 +110,41 @@ def years(it: Browser, proxy: Proxy, rows: list[dict]) -> None:
     found = sorted({int(row["due"][:4]) for row in rows})
     first = max(found[0], min(now - 3, found[-1] - 29))
     last = max(year for year in found if year < first + 30)
-    judge("outlook: the list is of more years than are shown one by one", found[0] < first and found[-1] > last, str(found))
+    judge(
+        "outlook: the list is of more years than are shown one by one",
+        found[0] < first and found[-1] > last,
+        str(found),
+    )
     of = lambda year: [row for row in rows if int(row["due"][:4]) == year]
-    before, after = [row for row in rows if int(row["due"][:4]) < first], [row for row in rows if int(row["due"][:4]) > last]
-    wanted = [[f"before {first}", *sums(before), ""], *([str(year), *sums(of(year)), f"Months of {year}"] for year in range(first, last + 1) if of(year)), [f"after {last}", *sums(after), ""]]
+    before, after = [row for row in rows if int(row["due"][:4]) < first], [
+        row for row in rows if int(row["due"][:4]) > last
+    ]
+    wanted = [
+        [f"before {first}", *sums(before), ""],
+        *([str(year), *sums(of(year)), f"Months of {year}"] for year in range(first, last + 1) if of(year)),
+        [f"after {last}", *sums(after), ""],
+    ]
     same("outlook: the table has what GET /due tells, year by year", there, wanted)
     drawn_as(it, [before, *(of(year) for year in range(first, last + 1)), after], "outlook")
-    same("outlook: no bar is reached by the keyboard, since the table is", it.driver.execute_script("return document.querySelectorAll('#outlook-chart a:not([tabindex=\"-1\"])').length"), 0)
+    same(
+        "outlook: no bar is reached by the keyboard, since the table is",
+        it.driver.execute_script(
+            "return document.querySelectorAll('#outlook-chart a:not([tabindex=\"-1\"])').length"
+        ),
+        0,
+    )
     year = next(year for year in range(now - 3, last) if of(year))
-    it.driver.execute_script("document.querySelectorAll('#outlook-chart .bar')[arguments[0]].querySelector('a').dispatchEvent(new MouseEvent('click', {bubbles: true, cancelable: true}))", 1 + year - first)
+    it.driver.execute_script(
+        "const bar = document.querySelectorAll('#outlook-chart .bar')[arguments[0]].querySelector('a');"
+        "bar.dispatchEvent(new MouseEvent('click', {bubbles: true, cancelable: true}))",
+        1 + year - first,
+    )
     it.settled()
-    same("outlook: a click opens Due for that time", it.driver.execute_script("return location.hash"), f"#due?day={year}-12-31&sort=-due")
+    same(
+        "outlook: a click opens Due for that time",
+        it.driver.execute_script("return location.hash"),
+        f"#due?day={year}-12-31&sort=-due",
+    )
     shown = it.table("#due-table")
     same("outlook: with its records first", shown[0][6][:4], str(year))
     same("outlook: all of them", sum(row[6][:4] == str(year) for row in shown), len(of(year)))
@@ -122,7 +184,11 @@ def pictures(it: Browser, proxy: Proxy, place: pathlib.Path | None) -> None:
 
 def tell(office: Office, proxy: Proxy, it: Browser, _folder: pathlib.Path, place: pathlib.Path | None = None) -> None:
     it.open(f"{proxy.page}#outlook")
-    same("outlook: of an empty office it says that nothing falls due", it.seen("#outlook-outcome"), "No record has a due day.")
+    same(
+        "outlook: of an empty office it says that nothing falls due",
+        it.seen("#outlook-outcome"),
+        "No record has a due day.",
+    )
     for name in ("1-schedule", "2-holdings", "3-lawsuit"):
         office.ask("POST", "/acts", city(name))
     answers = json.loads(office.ask("POST", "/acts", json.dumps(more()))[2])

@@ -1,4 +1,4 @@
-"""The words of refusals, faults, statuses and answers of the proxy stand in web/texts, for the page. docs/ERRORS.md says the same.
+"""The words of refusals, faults, statuses and answers of the proxy are in web/texts, and the same in docs/ERRORS.md.
 
 Each language has the same texts, with the same places for values.
 """
@@ -56,14 +56,16 @@ def places(text):
 
 
 def language(file, english):
-    """A language has each text and no other one, each with the same places, and none is empty that is not empty in English."""
+    """A language has each text and no other, with the same places, and none is empty that is not so in English."""
     other = flat(json.loads(file.read_text()))
     name = f"web/texts/{file.name}"
     same(f"{name} has each text and no other", sorted(other.keys() ^ english.keys()), [])
     both = sorted(other.keys() & english.keys())
     same(f"{name} has the same places in each", [key for key in both if places(other[key]) != places(english[key])], [])
-    same(f"{name} leaves none empty", [key for key in both if bool(other[key].strip()) != bool(english[key].strip())], [])
-    same(f"{name} has the same names and statuses", [key for key in both if FIXED.fullmatch(key) and other[key] != english[key]], [])
+    is_empty = lambda text: not text.strip()
+    same(f"{name} leaves none empty", [key for key in both if is_empty(other[key]) != is_empty(english[key])], [])
+    changed = [key for key in both if FIXED.fullmatch(key) and other[key] != english[key]]
+    same(f"{name} has the same names and statuses", changed, [])
     same(f"{name} names its language", other["lang"], file.stem)
 
 

@@ -6,11 +6,14 @@ const foldedPart = (part) => part.normalize("NFD").replace(/\p{M}/gu, "").replac
 export const folded = (text) => text.toLowerCase().replace(/[^\u0000-\u007f]+/g, foldedPart);
 
 /** The words of a question, the longest first, which is the rarest as a rule. */
-const wordsOf = (question) => folded(question).split(/\s+/).filter(Boolean).sort((one, other) => other.length - one.length);
+function wordsOf(question) {
+  const words = folded(question).split(/\s+/).filter(Boolean);
+  return words.sort((one, other) => other.length - one.length);
+}
 
 /**
- * The texts of many rows as one long text, a line a row, so that a word is looked for in all of them at once. `textOf` gives the
- * text of a row.
+ * The texts of many rows as one long text, a line a row, so that a word is looked for in all of them at once. `textOf`
+ * gives the text of a row.
  */
 export function indexOf(rows, textOf) {
   const text = folded(`${rows.map(textOf).join("\n")}\n`);
@@ -19,7 +22,7 @@ export function indexOf(rows, textOf) {
   return { rows, starts, text };
 }
 
-/** The rows whose texts have all words of the question, in their order: how many there are, and those of `takes` up to `most`. */
+/** The rows that have all words of the question and that `takes` takes: how many, and the first ones up to `most`. */
 export function search(index, question, most, takes = () => true) {
   const { rows, starts, text } = index;
   const [first = "", ...others] = wordsOf(question);
@@ -46,13 +49,14 @@ export function search(index, question, most, takes = () => true) {
 export const STATUSES = ["here", "sent", "received", "ended"];
 
 /**
- * Aggregations as a tree: the roots, those within each by its number, all by number, and how many records of each status are in
- * each with all that is in it. A parent's number is below that of what is in it.
+ * Aggregations as a tree: the roots, those within each by its number, all by number, and how many records of each
+ * status are in each with all that is in it. A parent's number is below that of what is in it.
  */
 export function treeOf(aggregations) {
   const byNumber = new Map(aggregations.map((it) => [it.number, it]));
   const within = new Map();
-  const totals = new Map(aggregations.map((it) => [it.number, Object.fromEntries(STATUSES.map((status) => [status, it[status]]))]));
+  const own = (it) => Object.fromEntries(STATUSES.map((status) => [status, it[status]]));
+  const totals = new Map(aggregations.map((it) => [it.number, own(it)]));
   for (const it of [...aggregations].reverse()) {
     if (it.parent === null) continue;
     const above = totals.get(it.parent);

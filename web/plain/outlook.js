@@ -1,4 +1,4 @@
-// What falls due in the years to come: the rows of a due list by year or by month, by action, and what of them is held or confirmed.
+// What falls due in the years to come: the rows of a due list by year or month, action, hold and confirmation.
 
 import { lengthOfMonth, written } from "./days.js";
 
@@ -12,7 +12,8 @@ const LAST = 2999;
 /** What is known of a row: a hold comes first, since what is held is destroyed by nobody, confirmed or not. */
 const stateOf = (row) => (row.held !== null ? "held" : row.confirmed ? "confirmed" : "open");
 
-const none = () => Object.fromEntries(ACTIONS.map((action) => [action, Object.fromEntries(STATES.map((state) => [state, 0]))]));
+const zeros = () => Object.fromEntries(STATES.map((state) => [state, 0]));
+const none = () => Object.fromEntries(ACTIONS.map((action) => [action, zeros()]));
 
 /** Counts of no row: in all, held, confirmed (also what is held), and by action and state. */
 const empty = () => ({ total: 0, held: 0, confirmed: 0, by: none() });
@@ -27,17 +28,17 @@ function add(counts, row) {
 /** How many rows of an action a period has, whatever their state. */
 export const countOf = (counts, action) => STATES.reduce((sum, state) => sum + counts.by[action][state], 0);
 
+const yearOf = (row) => Number(row.due.slice(0, 4));
+
 /** The years that have a row, the first one first. */
-export const yearsOf = (rows) => [...new Set(rows.map((row) => Number(row.due.slice(0, 4))))].sort((one, other) => one - other);
+export const yearsOf = (rows) => [...new Set(rows.map(yearOf))].sort((one, other) => one - other);
 
 const firstOf = (year) => written({ year, month: 1, day: 1 });
 const lastOf = (year) => written({ year, month: 12, day: 31 });
-const yearPeriod = (year) => ({ kind: "year", year, from: firstOf(year), to: lastOf(year), counts: empty() });
 
-function monthPeriod(year, month) {
-  const from = written({ year, month, day: 1 });
-  const to = written({ year, month, day: lengthOfMonth(year, month) });
-  return { kind: "month", year, month, from, to, counts: empty() };
+/** The years from a first to a last one, as one period. */
+function years(kind, year, first, last) {
+  return { kind, year, from: firstOf(first), to: lastOf(last), counts: empty() };
 }
 
 /** The years that are shown one by one: all from the first to the last, or those from a little before this one on. */
@@ -50,23 +51,32 @@ function shownYears(years, now) {
 
 /** The periods of years, each with its days and its counts, as of this year. */
 export function byYear(rows, now) {
-  const years = yearsOf(rows);
-  if (!years.length) return [];
-  const [first, last] = shownYears(years, now);
-  const periods = Array.from({ length: last - first + 1 }, (_, at) => yearPeriod(first + at));
-  const before = { kind: "before", year: first, from: firstOf(1), to: lastOf(first - 1), counts: empty() };
-  const after = { kind: "after", year: last, from: firstOf(last + 1), to: lastOf(LAST), counts: empty() };
+  const there = yearsOf(rows);
+  if (!there.length) return [];
+  const [first, last] = shownYears(there, now);
+  const one = (year) => years("year", year, year, year);
+  const periods = Array.from({ length: last - first + 1 }, (_, at) => one(first + at));
+  const before = years("before", first, 1, first - 1);
+  const after = years("after", last, last + 1, LAST);
   for (const row of rows) {
-    const year = Number(row.due.slice(0, 4));
+    const year = yearOf(row);
     add((year < first ? before : year > last ? after : periods[year - first]).counts, row);
   }
   return [...(before.counts.total ? [before] : []), ...periods, ...(after.counts.total ? [after] : [])];
 }
 
+function monthPeriod(year, month) {
+  const from = written({ year, month, day: 1 });
+  const to = written({ year, month, day: lengthOfMonth(year, month) });
+  return { kind: "month", year, month, from, to, counts: empty() };
+}
+
 /** The twelve months of a year, each with its days and its counts. */
 export function byMonth(rows, year) {
   const periods = Array.from({ length: 12 }, (_, at) => monthPeriod(year, at + 1));
-  for (const row of rows) if (Number(row.due.slice(0, 4)) === year) add(periods[Number(row.due.slice(5, 7)) - 1].counts, row);
+  for (const row of rows) {
+    if (yearOf(row) === year) add(periods[Number(row.due.slice(5, 7)) - 1].counts, row);
+  }
   return periods;
 }
 

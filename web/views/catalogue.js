@@ -14,7 +14,7 @@ const SEARCHED = ["records", "aggregations"];
 const FIRST = 50;
 const MORE = 200;
 
-/** What the address asks for: a part, the words that are looked for, a status and an aggregation; and how many rows are shown. */
+/** What the address asks for: a part, words, a status and an aggregation; and how many rows are shown. */
 const asked = { part: "records", text: "", status: "", aggregation: "", most: FIRST };
 let turn = 0;
 
@@ -33,7 +33,8 @@ function clockOf(moment) {
 function tellMoment() {
   const { moment, day } = aboutIt();
   const minutes = Math.max(0, Math.round((Date.now() - Date.parse(moment)) / 60000));
-  const age = minutes < 120 ? t("catalogue.minutes", { count: minutes }) : t("catalogue.hours", { count: Math.round(minutes / 60) });
+  const hours = Math.round(minutes / 60);
+  const age = minutes < 120 ? t("catalogue.minutes", { count: minutes }) : t("catalogue.hours", { count: hours });
   const time = made("time", { datetime: moment }, t("catalogue.moment", { moment: clockOf(moment), age }));
   byId("catalogue-moment").replaceChildren(time, ` ${t("catalogue.day", { day })}`);
 }
@@ -53,12 +54,15 @@ function tellParts() {
 
 /** Says how many rows were found, and offers more of them. */
 function tellFound(key, found, count, all) {
-  byId("catalogue-count").textContent = t(key, { count: grouped(count), all: grouped(all), shown: grouped(found.length) });
+  const counts = { count: grouped(count), all: grouped(all), shown: grouped(found.length) };
+  byId("catalogue-count").textContent = t(key, counts);
   byId("catalogue-more").hidden = found.length >= count;
 }
 
-/** The number of a record or an aggregation that is asked for outright comes first. */
-function withNumber({ found, count }, rows, numberOf, takes) {
+/** What is found of these rows; the one whose number is asked for outright comes first. */
+function findIn(index, numberOf, takes = () => true) {
+  const { found, count } = search(index, asked.text, asked.most, takes);
+  const { rows } = index;
   const number = Number(asked.text);
   const it = /^[1-9]\d*$/.test(asked.text) ? rows[number - 1] : undefined;
   if (!it || numberOf(it) !== number || !takes(it)) return { found, count };
@@ -66,17 +70,23 @@ function withNumber({ found, count }, rows, numberOf, takes) {
   return { found: [it, ...others], count: others.length < found.length ? count : count + 1 };
 }
 
+/** Says in which aggregation alone the records are looked for, and leads to all of them. */
+function tellWithin(it) {
+  if (!it) return;
+  const words = t("catalogue.within", { number: it.number, ref: visible(it.ref), title: visible(it.title) });
+  select("within").replaceChildren(paragraph(words), link("#catalogue?part=records", t("catalogue.everywhere")));
+}
+
 async function tellRecords() {
   const [index, order] = [await records(), await tree()];
   if (!index || !order) return null;
   const within = Number(asked.aggregation);
-  const takes = ([, , , aggregation, status]) => (!asked.status || status === asked.status) && (!asked.aggregation || aggregation === within);
-  const { found, count } = withNumber(search(index, asked.text, asked.most, takes), index.rows, ([number]) => number, takes);
+  const takes = ([, , , aggregation, status]) =>
+    (!asked.status || status === asked.status) && (!asked.aggregation || aggregation === within);
+  const { found, count } = findIn(index, ([number]) => number, takes);
   return () => {
     tellFound("catalogue.found", found, count, index.rows.length);
-    const it = order.byNumber.get(within);
-    const words = it ? [paragraph(t("catalogue.within", { number: it.number, ref: visible(it.ref), title: visible(it.title) })), link("#catalogue?part=records", t("catalogue.everywhere"))] : [];
-    select("within").replaceChildren(...words);
+    tellWithin(order.byNumber.get(within));
     return found.length ? [recordsTable(found, order)] : [];
   };
 }
@@ -90,7 +100,7 @@ async function tellAggregations() {
       return [treeList(order)];
     };
   }
-  const { found, count } = withNumber(search(index, asked.text, asked.most), index.rows, ({ number }) => number, () => true);
+  const { found, count } = findIn(index, ({ number }) => number);
   return () => {
     tellFound("catalogue.found", found, count, index.rows.length);
     return found.length ? [aggregationsTable(found, order)] : [];
@@ -111,9 +121,10 @@ const TELLERS = { records: tellRecords, aggregations: tellAggregations };
 
 function tellNone() {
   byId("catalogue-there").hidden = true;
-  const { status } = lastAnswer();
-  if (status === 404 || status === 200) return say(byId("catalogue-outcome"), "unknown", paragraph(t("catalogue.missing")), paragraph(t("catalogue.missingDo")));
-  return failed(byId("catalogue-outcome"), lastAnswer());
+  const place = byId("catalogue-outcome");
+  const answer = lastAnswer();
+  if (answer && ![200, 404].includes(answer.status)) return failed(place, answer);
+  return say(place, "unknown", paragraph(t("catalogue.missing")), paragraph(t("catalogue.missingDo")));
 }
 
 /** Shows what is asked for now. What was asked for before and comes later is not shown any more. */
@@ -158,7 +169,10 @@ export function start() {
 /** Shows the part that the address names, of the catalogue that is there by now. */
 export async function show(words) {
   const named = words.get("part");
-  Object.assign(asked, { part: PARTS.includes(named) ? named : "records", text: words.get("text") ?? "", aggregation: words.get("aggregation") ?? "", most: FIRST });
+  asked.part = PARTS.includes(named) ? named : "records";
+  asked.text = words.get("text") ?? "";
+  asked.aggregation = words.get("aggregation") ?? "";
+  asked.most = FIRST;
   asked.status = STATUSES.includes(words.get("status")) ? words.get("status") : "";
   select("text").value = asked.text;
   select("status").value = asked.status;

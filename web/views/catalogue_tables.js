@@ -1,4 +1,4 @@
-// The tables of the catalogue: what was found of records and aggregations, and the lists of classes, schedules, holds and runs.
+// The tables of the catalogue: what was found of records and aggregations; classes, schedules, holds and runs.
 import { link, made, tableOf } from "../page.js";
 import { STATUSES, above, classOf } from "../plain/catalogue.js";
 import { visible } from "../plain/marks.js";
@@ -12,8 +12,8 @@ const recordLink = (number) => link(`#record?number=${number}`, number);
 
 /** The address of a part with what is looked for in it. */
 export function addressOf({ part, text = "", status = "", aggregation = "" }) {
-  const words = new URLSearchParams({ part, ...(text && { text }), ...(status && { status }), ...(aggregation && { aggregation }) });
-  return `#catalogue?${words}`;
+  const asked = Object.entries({ part, text, status, aggregation }).filter(([, word]) => word !== "");
+  return `#catalogue?${new URLSearchParams(asked)}`;
 }
 
 export const recordsOf = (aggregation, words) => link(addressOf({ part: "records", aggregation }), words);
@@ -26,14 +26,21 @@ function aggregationLink(number, tree) {
 
 export function recordsTable(rows, tree) {
   const words = ["number", "ref", "title", "aggregation", "status"].map(word);
-  const cells = rows.map(([number, ref, title, aggregation, status]) => [recordLink(number), visible(ref), visible(title), aggregationLink(aggregation, tree), t(`catalogue.statuses.${status}`)]);
+  const cells = rows.map(([number, ref, title, aggregation, status]) => [
+    recordLink(number),
+    visible(ref),
+    visible(title),
+    aggregationLink(aggregation, tree),
+    t(`catalogue.statuses.${status}`),
+  ]);
   return tableOf(t("catalogue.parts.records"), words, cells, "found records");
 }
 
 /** How many records of each status there are, as `here 4, ended 2`; of those that there are none of nothing is said. */
 export function countsOf(counts) {
   const there = STATUSES.filter((status) => counts[status] > 0);
-  const told = there.map((status) => t("catalogue.count", { status: t(`catalogue.statuses.${status}`), count: grouped(counts[status]) }));
+  const word = (status) => t(`catalogue.statuses.${status}`);
+  const told = there.map((status) => t("catalogue.count", { status: word(status), count: grouped(counts[status]) }));
   return told.length ? told.join(", ") : t("catalogue.empty");
 }
 
@@ -58,11 +65,15 @@ export function periodOf({ count, unit }) {
 
 export function offsetOf({ offset }) {
   const [, month] = /^from-month-(\d+)$/.exec(offset) ?? [];
-  return month ? t("catalogue.offsets.from", { month: t(`catalogue.months.${month}`) }) : t(`catalogue.offsets.${offset}`);
+  if (!month) return t(`catalogue.offsets.${offset}`);
+  return t("catalogue.offsets.from", { month: t(`catalogue.months.${month}`) });
 }
 
+const triggerOf = ({ trigger }) => t(`catalogue.triggers.${trigger}`);
+const actionOf = ({ action }) => t(`actions.${action}`);
+
 /** A schedule in words, as for whoever chooses one. */
-export const scheduleWords = (it) => [periodOf(it), t(`catalogue.triggers.${it.trigger}`), t(`actions.${it.action}`)].join(" · ");
+export const scheduleWords = (it) => [periodOf(it), triggerOf(it), actionOf(it)].join(" · ");
 
 function targetLink(target) {
   const [kind, name] = target.split(":");
@@ -72,8 +83,12 @@ function targetLink(target) {
 }
 
 /** Each target on a line of its own; of very many they are in a box that scrolls. */
-const targetsOf = ({ targets }) => made("ul", { class: "targets" }, ...targets.map((it) => made("li", {}, targetLink(it))));
+function targetsOf({ targets }) {
+  return made("ul", { class: "targets" }, ...targets.map((it) => made("li", {}, targetLink(it))));
+}
 
+const holdLink = ({ code }) => link(`#holds?code=${code}`, code);
+const runLink = ({ number, closed }) => (closed ? link(`#certificate?number=${number}`, number) : number);
 const stateOf = (run) => t(run.closed ? "catalogue.closedRun" : "catalogue.openRun");
 
 /** The lists: their columns, and the cells of a row. */
@@ -81,19 +96,22 @@ const LISTS = {
   classes: { columns: ["code", "title", "schedule"], cells: (it) => [it.code, visible(it.title), it.schedule] },
   schedules: {
     columns: ["code", "trigger", "period", "offset", "action"],
-    cells: (it) => [it.code, t(`catalogue.triggers.${it.trigger}`), periodOf(it), offsetOf(it), t(`actions.${it.action}`)],
+    cells: (it) => [it.code, triggerOf(it), periodOf(it), offsetOf(it), actionOf(it)],
   },
   holds: {
     columns: ["code", "reason", "placed", "by", "lifted", "targets"],
-    cells: (it) => [link(`#holds?code=${it.code}`, it.code), visible(it.reason), it.placed, visible(it.by), it.lifted ?? t("catalogue.inForce"), targetsOf(it)],
+    cells: (it) => {
+      const lifted = it.lifted ?? t("catalogue.inForce");
+      return [holdLink(it), visible(it.reason), it.placed, visible(it.by), lifted, targetsOf(it)];
+    },
   },
   runs: {
     columns: ["run", "day", "by", "state", "ended", "sent", "skipped"],
-    cells: (it) => [it.closed ? link(`#certificate?number=${it.number}`, it.number) : String(it.number), it.day, visible(it.by), stateOf(it), it.ended, it.sent, it.skipped],
+    cells: (it) => [runLink(it), it.day, visible(it.by), stateOf(it), ...[it.ended, it.sent, it.skipped].map(grouped)],
   },
 };
 
 export function listOf(part, rows) {
   const { columns, cells } = LISTS[part];
-  return tableOf(t(`catalogue.parts.${part}`), columns.map(word), rows.map((it) => cells(it).map((cell) => (typeof cell === "number" ? String(cell) : cell))), `found ${part}`);
+  return tableOf(t(`catalogue.parts.${part}`), columns.map(word), rows.map(cells), `found ${part}`);
 }

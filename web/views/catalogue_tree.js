@@ -11,10 +11,11 @@ const SOME = 200;
 /** What is said of an aggregation once it is open. */
 function factsOf(tree, it) {
   const closed = it.closed === null ? t("catalogue.isOpen") : t("catalogue.isClosed", { day: it.closed });
-  const own = it.here + it.sent + it.received + it.ended;
+  const count = it.here + it.sent + it.received + it.ended;
   const words = t("catalogue.node", { number: it.number, class: classOf(tree, it), closed });
-  const own_ = own ? [recordsOf(it.number, t("catalogue.ownRecords", { count: grouped(own) })), ` (${countsOf(it)})`] : [t("catalogue.noRecords")];
-  return [paragraph(words, "hint"), made("p", {}, ...own_)];
+  if (!count) return [paragraph(words, "hint"), paragraph(t("catalogue.noRecords"))];
+  const records = recordsOf(it.number, t("catalogue.ownRecords", { count: grouped(count) }));
+  return [paragraph(words, "hint"), made("p", {}, records, ` (${countsOf(it)})`)];
 }
 
 function nodeOf(tree, it) {
@@ -24,7 +25,8 @@ function nodeOf(tree, it) {
   const fill = () => {
     details.removeEventListener("toggle", fill);
     const within = tree.within.get(it.number) ?? [];
-    details.append(made("div", { class: "node" }, ...factsOf(tree, it), ...(within.length ? [listOf(tree, within)] : [])));
+    const list = within.length ? [listOf(tree, within)] : [];
+    details.append(made("div", { class: "node" }, ...factsOf(tree, it), ...list));
   };
   details.addEventListener("toggle", fill);
   return made("li", {}, details);

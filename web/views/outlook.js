@@ -1,4 +1,4 @@
-// The outlook: what falls due in each year, or in each month of one, as a chart and as a table; each period leads to its due list.
+// The outlook: what falls due in each year, or in each month of one, as a chart and a table that lead to the due list.
 import { get } from "../ask.js";
 import { asking, byId, failed, link, made, paragraph, quiet, say, tableOf } from "../page.js";
 import { today } from "../plain/forms.js";
@@ -40,18 +40,20 @@ function words(period, action) {
   const { counts } = period;
   if (!action) return t("outlook.bar", { period: name(period), count: grouped(counts.total) });
   const { held, confirmed } = counts.by[action];
-  return t("outlook.part", { period: name(period), action: t(`actions.${action}`), count: grouped(countOf(counts, action)), held: grouped(held), confirmed: grouped(confirmed) });
+  const numbers = { count: grouped(countOf(counts, action)), held: grouped(held), confirmed: grouped(confirmed) };
+  return t("outlook.part", { period: name(period), action: t(`actions.${action}`), ...numbers });
 }
 
 // ---- what is shown
 
 function tellChoices() {
-  const options = yearsOf(outlook.rows).map((year) => made("option", { value: year }, String(year)));
+  const years = yearsOf(outlook.rows);
+  // a year in which nothing falls due is a choice too, where it is asked for
+  if (outlook.year !== null && !years.includes(outlook.year)) years.push(outlook.year);
+  const options = years.map((year) => made("option", { value: year }, String(year)));
   const select = byId("outlook-year");
   select.replaceChildren(made("option", { value: "" }, t("outlook.allYears")), ...options);
   select.value = outlook.year === null ? "" : String(outlook.year);
-  // a year in which nothing falls due is still told
-  if (outlook.year !== null && select.value === "") select.append(made("option", { value: outlook.year, selected: "" }, String(outlook.year)));
 }
 
 function tellLegend() {
@@ -61,12 +63,21 @@ function tellLegend() {
   byId("outlook-legend").replaceChildren(...actions, made("li", { class: "gap", "aria-hidden": "true" }), ...states);
 }
 
-const periods = () => (outlook.year === null ? byYear(outlook.rows, Number(today().slice(0, 4))) : byMonth(outlook.rows, outlook.year));
+function periods() {
+  if (outlook.year !== null) return byMonth(outlook.rows, outlook.year);
+  return byYear(outlook.rows, Number(today().slice(0, 4)));
+}
 
 function tellChart(them) {
   const place = byId("outlook-chart");
   const width = Math.floor(place.clientWidth);
-  if (width) place.replaceChildren(chartOf(them, width, width < 500 ? 260 : 340, { label, words, href, told: grouped }));
+  const height = width < 500 ? 260 : 340;
+  if (width) place.replaceChildren(chartOf(them, width, height, { label, words, href, told: grouped }));
+}
+
+/** A year leads to its months; many years together do not. */
+function monthsLink({ kind, year }) {
+  return kind === "year" ? link(`#outlook?year=${year}`, t("outlook.monthsOf", { year })) : "";
 }
 
 function tellTable(them, caption) {
@@ -75,9 +86,9 @@ function tellTable(them, caption) {
   const heads = columns.map((column) => t(`outlook.columns.${column}`));
   const rows = them.filter(({ counts }) => counts.total).map((period) => {
     const { counts } = period;
-    const sums = [counts.total, ...ACTIONS.map((action) => countOf(counts, action)), counts.held, counts.confirmed].map(grouped);
-    const months = period.kind === "year" ? link(`#outlook?year=${period.year}`, t("outlook.monthsOf", { year: period.year })) : "";
-    return [link(href(period), name(period)), ...sums, ...(year === null ? [months] : [])];
+    const byAction = ACTIONS.map((action) => countOf(counts, action));
+    const sums = [counts.total, ...byAction, counts.held, counts.confirmed].map(grouped);
+    return [link(href(period), name(period)), ...sums, ...(year === null ? [monthsLink(period)] : [])];
   });
   byId("outlook-table").replaceChildren(tableOf(caption, heads, rows, "outlook"));
 }

@@ -1,5 +1,6 @@
-// The chart of the outlook, as SVG: a bar a period, a part an action, what is confirmed filled, what is held striped, the rest pale.
-// The table beside it has the same numbers for whoever does not see it, and links for the keyboard; so it is hidden from both.
+// The chart of the outlook, as SVG: a bar a period, a part an action; what is confirmed is filled, what is held is
+// striped, the rest pale. The table beside it has the same numbers for whoever does not see it, and links for the
+// keyboard; so the chart is hidden from both.
 import { ACTIONS, STATES, countOf, stepsUpTo } from "../plain/outlook.js";
 
 const SVG = "http://www.w3.org/2000/svg";
@@ -13,12 +14,13 @@ function drawn(tag, attributes = {}, ...children) {
   return node;
 }
 
-const box = (x, y, width, height, more) => drawn("rect", { x, y, width: Math.max(0, width), height: Math.max(0, height), ...more });
+const box = (x, y, width, height, more) => drawn("rect", { x, y, width, height, ...more });
 
 /** The stripes of what is held, one pattern an action. */
 function patterns(prefix) {
-  const pattern = (action) => drawn("pattern", { id: `${prefix}-${action}`, width: 6, height: 6, patternUnits: "userSpaceOnUse", patternTransform: "rotate(45)" },
-    box(0, 0, 6, 6, { class: "under" }), box(0, 0, 3, 6, { class: `full ${action}` }));
+  const tile = { width: 6, height: 6, patternUnits: "userSpaceOnUse", patternTransform: "rotate(45)" };
+  const stripes = (action) => [box(0, 0, 6, 6, { class: "under" }), box(0, 0, 3, 6, { class: `full ${action}` })];
+  const pattern = (action) => drawn("pattern", { id: `${prefix}-${action}`, ...tile }, ...stripes(action));
   return drawn("defs", {}, ...ACTIONS.map(pattern));
 }
 
@@ -33,10 +35,11 @@ function partOf(prefix, action, state, x, y, width, height) {
 /** A small box that shows how a part looks, for the legend. */
 export function sample(action, state) {
   const prefix = `sample-${action}-${state}`;
-  return drawn("svg", { class: "sample", width: 18, height: 18, "aria-hidden": "true" }, patterns(prefix), partOf(prefix, action, state, 1, 1, 16, 16));
+  const look = { class: "sample", width: 18, height: 18, "aria-hidden": "true" };
+  return drawn("svg", look, patterns(prefix), partOf(prefix, action, state, 1, 1, 16, 16));
 }
 
-function axis(width, height, steps, yOf, told) {
+function axis(width, steps, yOf, told) {
   return steps.flatMap((step) => [
     drawn("line", { x1: LEFT, x2: width - RIGHT, y1: yOf(step), y2: yOf(step), class: step ? "grid" : "base" }),
     drawn("text", { x: LEFT - 8, y: yOf(step) + 4, "text-anchor": "end" }, told(step)),
@@ -47,7 +50,10 @@ function axis(width, height, steps, yOf, told) {
 function bar(period, { x, band, bottom, yOf, words, href }) {
   const width = Math.min(56, band * 0.72);
   const left = x + (band - width) / 2;
-  const link = (action, ...children) => drawn("a", { href: href(period, action), tabindex: "-1" }, drawn("title", {}, words(period, action)), ...children);
+  const link = (action, ...children) => {
+    const title = drawn("title", {}, words(period, action));
+    return drawn("a", { href: href(period, action), tabindex: "-1" }, title, ...children);
+  };
   const whole = link("", box(x, TOP, band, bottom - TOP, { class: "hit" }));
   let below = 0;
   const parts = ACTIONS.filter((action) => countOf(period.counts, action)).map((action) => {
@@ -63,8 +69,8 @@ function bar(period, { x, band, bottom, yOf, words, href }) {
 }
 
 /**
- * The chart of these periods, so many pixels wide. `label` is the word below a bar, `words` is what is said of a bar or of its part,
- * `href` is where that leads, `told` writes a number.
+ * The chart of these periods, so many pixels wide. `label` is the word below a bar, `words` is what is said of a bar or
+ * of its part, `href` is where that leads, `told` writes a number.
  */
 export function chartOf(periods, width, height, { label, words, href, told }) {
   const most = Math.max(1, ...periods.map(({ counts }) => counts.total));
@@ -74,7 +80,8 @@ export function chartOf(periods, width, height, { label, words, href, told }) {
   const band = (width - LEFT - RIGHT) / periods.length;
   const every = Math.ceil(46 / band);
   const bars = periods.map((period, at) => bar(period, { x: LEFT + at * band, band, bottom, yOf, words, href }));
-  const labels = periods.map((period, at) => (at % every ? "" : drawn("text", { x: LEFT + (at + 0.5) * band, y: height - 10, "text-anchor": "middle" }, label(period))));
-  return drawn("svg", { class: "chart", width, height, viewBox: `0 0 ${width} ${height}`, "aria-hidden": "true" },
-    patterns("held"), ...axis(width, height, steps, yOf, told), ...bars, ...labels.filter(Boolean));
+  const place = (at) => ({ x: LEFT + (at + 0.5) * band, y: height - 10, "text-anchor": "middle" });
+  const labels = periods.map((period, at) => (at % every ? "" : drawn("text", place(at), label(period))));
+  const look = { class: "chart", width, height, viewBox: `0 0 ${width} ${height}`, "aria-hidden": "true" };
+  return drawn("svg", look, patterns("held"), ...axis(width, steps, yOf, told), ...bars, ...labels.filter(Boolean));
 }

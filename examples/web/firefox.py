@@ -1,0 +1,121 @@
+"""Each view that an address opens, in Debian's Firefox ESR, by its --screenshot: it has no driver there.
+
+Firefox asks nobody for a password and trusts no key of its own accord. So a server of this trial is between: it asks
+nginx with the password, and gives the answers on at http://localhost, which browsers trust as they do https. It also
+keeps Firefox from its picture until the page has had time to ask the office: an image at the end of it comes late.
+"""
+import http.server
+import os
+import pathlib
+import shutil
+import struct
+import subprocess
+import tempfile
+import threading
+import time
+
+from judging import judge, same
+from place import Proxy
+
+# the address of a view, and the path that it asks for
+VIEWS = {
+    "due": ("#due?day=2022-05-02", "/due/2022-05-02"),
+    "outlook": ("#outlook", "/due/2999-12-31"),
+    "catalogue-records": ("#catalogue?part=records&text=application", "/catalogue/records.json"),
+    "catalogue-aggregations": ("#catalogue?part=aggregations", "/catalogue/aggregations.json"),
+    "catalogue-holds": ("#catalogue?part=holds", "/catalogue/holds.json"),
+    "record": ("#record?number=1", "/records/1"),
+    "certificate": ("#certificate?number=1", "/certificates/1"),
+    "run": ("#run?number=1", "/certificates/1"),
+    "holds": ("#holds?code=Q-2020-17", "/web/texts/en.json"),
+    "fault": ("#fault", "/web/texts/en.json"),
+}
+WAIT = 6.0
+
+
+class Between(http.server.BaseHTTPRequestHandler):
+    """Asks nginx, with the password."""
+
+    proxy: Proxy
+    seen: list[str] = []
+    lock = threading.Lock()
+
+    def do_GET(self) -> None:
+        Between.seen.append(self.path)
+        if self.path.startswith("/late"):
+            time.sleep(WAIT)
+            return self.give(404, {}, b"")
+        with Between.lock:
+            status, body = self.proxy.ask("GET", self.path, fields={"Accept-Encoding": "identity"})
+            head = self.proxy.head
+        if self.path.split("?")[0].endswith("/web/"):
+            body = body.replace(b"</body>", b'<img src="/late" alt=""></body>')
+        passed = {
+            name: head[name] for name in ("Content-Type", "Content-Security-Policy", "Cache-Control") if name in head
+        }
+        return self.give(status, passed, body)
+
+    def give(self, status: int, head: dict[str, str], body: bytes) -> None:
+        self.send_response(status)
+        for name, value in {**head, "Content-Length": str(len(body))}.items():
+            self.send_header(name, value)
+        self.end_headers()
+        self.wfile.write(body)
+
+    def log_message(self, *_: object) -> None:
+        pass
+
+
+def size_of(picture: pathlib.Path) -> tuple[int, int]:
+    """The width and height of a PNG."""
+    return struct.unpack(">II", picture.read_bytes()[16:24])
+
+
+def shot(address: str, picture: pathlib.Path, width: int, height: int) -> None:
+    with tempfile.TemporaryDirectory() as home:
+        profile = pathlib.Path(home) / "profile"
+        profile.mkdir()
+        subprocess.run(
+            [
+                "firefox-esr",
+                "--headless",
+                "--no-remote",
+                "--profile",
+                profile,
+                f"--window-size={width},{height}",
+                "--screenshot",
+                picture,
+                address,
+            ],
+            env={**os.environ, "HOME": home},
+            stdin=subprocess.DEVNULL,
+            stdout=subprocess.DEVNULL,
+            stderr=subprocess.DEVNULL,
+            timeout=180,
+            check=False,
+        )
+
+
+def tell(proxy: Proxy, folder: pathlib.Path, place: pathlib.Path | None) -> None:
+    """A picture of each view, of which somebody has to look what is in it; each has asked for what it shows."""
+    if not shutil.which("firefox-esr"):
+        print("not done here, without firefox-esr: each view in Firefox")
+        return
+    Between.proxy = proxy
+    server = http.server.ThreadingHTTPServer(("127.0.0.1", 0), Between)
+    threading.Thread(target=server.serve_forever, daemon=True).start()
+    try:
+        for name, (address, path) in VIEWS.items():
+            Between.seen.clear()
+            picture = (place or folder) / f"firefox-{name}.png"
+            shot(f"http://localhost:{server.server_port}/web/{address}", picture, 1280, 900)
+            judge(f"Firefox: {name}: it asks for what it shows", path in Between.seen, str(Between.seen))
+            same(f"Firefox: {name}: a picture of it", picture.exists() and size_of(picture), (1280, 900))
+            if picture.exists():
+                judge(
+                    f"Firefox: {name}: something is on it",
+                    picture.stat().st_size > 12000,
+                    str(picture.stat().st_size),
+                )
+    finally:
+        server.shutdown()
