@@ -21,7 +21,7 @@ export function fateWords(fate) {
 }
 
 /** The sums of the view `name`, each with its word. */
-export function tellSums(name, sums) {
+export function showSums(name, sums) {
   const words = ([sum, number]) => [made("dt", {}, t(`${name}.totals.${sum}`)), made("dd", {}, grouped(number))];
   byId(`${name}-totals`).replaceChildren(...Object.entries(sums).map((it) => made("div", {}, ...words(it))));
 }
