@@ -16,7 +16,7 @@ export function fateWords(fate) {
   if (fate.kind !== "refused") return made("span", { class: `fate ${LOOKS[fate.kind]}` }, ...words);
   const row = all().refusals[fate.refusal] ?? { name: "", meaning: "", do: "" };
   const refusal = t("said.refusal", { number: fate.refusal, name: row.name });
-  const strong = made("strong", {}, refusal);
+  const strong = made("strong", {}, `${refusal}.`);
   return made("span", { class: "fate wrong" }, strong, ` ${t("said.meaning", row)} ${t("said.do", row)}`);
 }
 
