@@ -26,6 +26,7 @@ const KINDS = {
     label: "file.common.aggregation", hint: "file.common.aggregationHint", takes: isNumber, mode: "numeric",
   },
   allClass: { label: "file.common.class", hint: "file.common.classHint", takes: isCode },
+  allPlace: { label: "file.common.place", hint: "file.common.placeHint", wrong: "fields.textWrong", takes: isText },
   allSchedule: { label: "file.common.schedule", hint: "file.common.scheduleHint", takes: isCode },
   ...PLAN_KINDS,
 };

@@ -134,6 +134,7 @@ def listed(view: View, files: list[pathlib.Path]) -> None:
     same("40 files are dropped: their sizes are told", (totals["count"], totals["bytes"]), (40, sum(sizes)))
     same("one of them is too large", (totals["large"], totals["ready"], totals["filed"]), (1, 39, 0))
     says("which is said, and what to do", view.browser.seen("#file-large"), "262,144", WORDS["tooLargeDo"])
+    judge("where large files are kept is not asked yet", not view.browser.one("#file-place").is_displayed())
     rows = view.rows()
     same("its row says so", [row[0] for row in rows if row[-1] == WORDS["large"]], ["letter 23.pdf"])
     same("ref and title begin as the name of the file", rows[4][:3], ["Straße 05.txt", "Straße 05.txt", "Straße 05"])
@@ -179,7 +180,7 @@ def wrong(view: View) -> None:
 
 
 def filed(view: View, files: list[pathlib.Path]) -> None:
-    """39 are sent, in few requests; one of them is refused, mended and filed."""
+    """39 are sent, in few requests; one of them is refused, corrected and filed."""
     it = view.browser
     it.driver.execute_script(WATCHED)
     requests = view.totals()["requests"]
@@ -195,7 +196,7 @@ def filed(view: View, files: list[pathlib.Path]) -> None:
     it.all("#file-table tbody tr:nth-child(3) input")[3].clear()
     it.all("#file-table tbody tr:nth-child(3) input")[3].send_keys("1")
     same("the button says what is left", it.seen("#file-submit"), WORDS["again"].format(count=1))
-    same("mended it is sent alone", (view.file(), view.counts()), (1, {"added": "1"}))
+    same("corrected it is sent alone", (view.file(), view.counts()), (1, {"added": "1"}))
     numbers = [int(digits(answer)) for answer in view.answers() if answer != WORDS["large"]]
     first = min(numbers)
     same("each has a number of its own", sorted(numbers), list(range(first, first + 39)))
@@ -233,6 +234,27 @@ def again(view: View, files: list[pathlib.Path]) -> None:
     it.press("#file-off-filed")
     same("what is filed is taken off, and the large one stays", [row[0] for row in view.rows()], ["letter 23.pdf"])
     it.press("#file-off-all")
+
+
+def manifest(view: View, files: list[pathlib.Path]) -> None:
+    """In place of the file that is too large its manifest is filed, on demand."""
+    it, large = view.browser, files[22]
+    view.open()
+    view.choose([large])
+    same("alone it makes no request", (view.totals()["ready"], view.file()), (0, 0))
+    it.write(file_all_aggregation="1", file_all_prefix="MANIFEST/")
+    buttons = lambda: [button.text for button in it.all("#file-table button")]
+    same("its row offers its manifest", buttons(), [WORDS["manifest"], WORDS["off"]])
+    it.all("#file-table button")[0].click()
+    same("then it is asked where the file is kept", view.focus(), "file-all-place")
+    same("and it can be left out again", (buttons(), view.totals()["ready"]), ([WORDS["leave"], WORDS["off"]], 1))
+    it.write(file_all_place="//server/scans/")
+    same("the manifest is filed", (view.file(), view.counts()), (1, {"added": "1"}))
+    number = int(digits(view.answers()[0]))
+    digest = hashlib.sha256(large.read_bytes()).hexdigest()
+    wanted = f"SHA256 {digest}\nLENGTH {MOST + 1}\nPLACE //server/scans/{large.name}\n"
+    content = view.story.office.ask("GET", f"/records/{number}/content")[2].decode()
+    same("it is the one that CSV.md has", content, wanted)
 
 
 def lost(view: View, folder: pathlib.Path) -> None:
@@ -291,7 +313,7 @@ def keyboard(view: View, files: list[pathlib.Path]) -> None:
     it = view.browser
     view.open()
     view.choose(files[:2])
-    it.one("#file-choose").send_keys(Keys.SHIFT, Keys.TAB)
+    it.driver.execute_script("document.getElementById('file-title').focus()")
     stops = looks.stops(it, 40)
     part = [f"file-all-{name}" for name in ("prefix", "title", "originated", "aggregation", "class", "schedule")]
     rows = [field.get_attribute("id") for field in it.all("#file-table input")]
@@ -317,7 +339,7 @@ def readable(view: View, files: list[pathlib.Path], pictures: pathlib.Path | Non
         for width, height in ((1280, 700), (1280, 900), (400, 900)):
             it.width(width, height)
             view.open()
-            shown = [files[0], files[4], files[6], files[22]]
+            shown = [files[0], files[4], files[8], files[22]]
             view.choose(shown)
             # other refs each time, so that they are new
             prefix = f"LET/{width}-{height}{scheme[0]}/"
@@ -345,6 +367,7 @@ def tell(
     wrong(view)
     filed(view, files)
     again(view, files)
+    manifest(view, files)
     lost(view, folder)
     keyboard(view, files)
     readable(view, files, pictures)

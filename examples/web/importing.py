@@ -1,4 +1,4 @@
-"""A sheet through the page: 1,000 rows of a semicolon file in Windows-1252, ten of them wrong, which are mended."""
+"""A sheet through the page: 1,000 rows of a semicolon file in Windows-1252, ten of them wrong, which are corrected."""
 from __future__ import annotations
 
 import csv
@@ -191,7 +191,7 @@ def previewed(view: View) -> None:
 
 
 def imported(view: View) -> None:
-    """990 are imported in requests of 100; the others are saved, mended, and imported."""
+    """990 are imported in requests of 100; the others are saved, corrected, and imported."""
     it = view.browser
     requests = view.totals()["requests"]
     same("so many requests were sent as it said", view.press(), requests)
@@ -211,7 +211,7 @@ def imported(view: View) -> None:
     told = view.story.told("/records/500")
     line = next(row for row in view.rows() if row[-1] == FILING["added"].format(record=500))
     same("record 500 is its row", [told["ref"], told["title"], told["originated"]], line[1:4])
-    mended(view, view.saved("bau-not-taken.csv"))
+    corrected(view, view.saved("bau-not-taken.csv"))
 
 
 def all_rows(view: View) -> list[list[str]]:
@@ -221,14 +221,14 @@ def all_rows(view: View) -> list[list[str]]:
     return view.rows()
 
 
-def mended(view: View, lines: list[list[str]]) -> None:
+def corrected(view: View, lines: list[list[str]]) -> None:
     same("the file has the sheet's own header, and the reason", lines[0], [*HEADER, WORDS["reason"]])
     same("and ten rows", len(lines), 11)
     judge("each with its reason", all(line[-1] for line in lines[1:]), str(lines))
     fixed = [[*good(number), line[-1]] for number, line in zip(sorted([*WRONG, *REFUSED]), lines[1:], strict=True)]
     text = io.StringIO()
     csv.writer(text, delimiter=";", lineterminator="\r\n").writerows([lines[0], *fixed])
-    view.choose("bau-mended.csv", text.getvalue().encode("windows-1252"))
+    view.choose("bau-corrected.csv", text.getvalue().encode("windows-1252"))
     same("what was matched by hand is remembered", view.found("column-title"), "B: Kurztext")
     totals = view.totals()
     same("all ten are right now", (totals["count"], totals["ready"], totals["wrong"]), (10, 10, 0))
@@ -237,7 +237,7 @@ def mended(view: View, lines: list[list[str]]) -> None:
 
 
 def again(view: View) -> None:
-    """The same sheet again: each row that is there already says so, also the one that was mended in its class alone."""
+    """The same sheet again: each row that is there already says so, also one corrected in its class alone."""
     view.choose("bau.csv", sheet())
     view.press()
     same("the same again", view.counts(), {"added": "0", "same": str(ROWS - len(WRONG) - 1), "refused": "1"})
@@ -282,6 +282,13 @@ def doubtful(view: View) -> None:
     same("the one that is pressed is taken", [row[3] for row in view.rows()], ["2021-05-06", "2021-07-08"])
     it.choose("#import-days", "dmy")
     same("and can be changed", [row[3] for row in view.rows()], ["2021-06-05", "2021-08-07"])
+    view.press()
+    text = "ref,title,originated,aggregation\nD/3,Three,09/10/2021,1\n"
+    view.choose("doubtful-too.csv", text.encode())
+    order = WORDS["orders"]["dmy"]
+    says("the next sheet of these columns is read alike, which is said", it.seen("#import-outcome"),
+         WORDS["recalledDays"].format(order=order))
+    same("so it is", [row[3] for row in view.rows()], ["2021-10-09"])
 
 
 def others(view: View) -> None:

@@ -123,10 +123,12 @@ return [it.id || it.textContent || it.getAttribute("aria-label"), style.outlineS
 
 def stops(browser, most):
     """The stops of the keyboard from the focus on, each by its id or name; each is outlined and in sight."""
+    from selenium.webdriver import ActionChains
     from selenium.webdriver.common.keys import Keys
     names, wrong = [], []
     for _ in range(most):
-        browser.driver.switch_to.active_element.send_keys(Keys.TAB)
+        # not to an element: what is sent to a field for files is the name of one
+        ActionChains(browser.driver).send_keys(Keys.TAB).perform()
         name, outlined, inside, tag = browser.driver.execute_script(FOCUSED)
         if tag == "BODY" or name == "skip":
             break

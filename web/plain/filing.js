@@ -56,6 +56,9 @@ export function wrongsOf(all) {
   });
 }
 
+/** The text that represents a large file in the office: its SHA-256, its length and where it is kept. */
+export const manifestOf = (digest, size, place) => `SHA256 ${digest}\nLENGTH ${size}\nPLACE ${place}\n`;
+
 /** How many bytes the act of a record has as JSON, whose content has so many bytes. */
 export function actBytes(day, values, size) {
   return bytesOf(JSON.stringify(addRecord(day, { ...values, content: "" }))) + 4 * Math.ceil(size / 3);

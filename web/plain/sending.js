@@ -57,9 +57,13 @@ function unreadPlace(answer, count) {
 
 /** Sends one list. An act that the office does not read keeps no other one back: the others go without it. */
 async function sendList(list, post) {
-  const made = await Promise.all(list.map(async (item) => ({ item, act: await item.make() })));
-  const sent = made.filter(({ act }) => act !== null);
-  for (const { item, act } of made) if (act === null) item.fate = { kind: "unread" };
+  const sent = [];
+  // one after another, since a large file is read whole
+  for (const item of list) {
+    const act = await item.make();
+    if (act === null) item.fate = { kind: "unread" };
+    else sent.push({ item, act });
+  }
   while (sent.length) {
     const answer = await post("acts", bodyOf(sent.map(({ act }) => act)));
     const place = unreadPlace(answer, sent.length);

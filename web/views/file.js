@@ -1,49 +1,58 @@
 // Filing: files are dropped or chosen, each becomes a record, and their acts go to the office in few requests.
 import { mark, onSubmit, untick } from "../fields.js";
 import { byId, paragraph, quiet, say } from "../page.js";
-import { addRecord } from "../plain/acts.js";
+import { addRecord, bytesOf } from "../plain/acts.js";
+import { digestOf } from "../plain/certificates.js";
 import {
-  MEMBERS, MOST_CONTENT, MOST_FILES, actBytes, base64, forAll, sizes, wrongOf, wrongsOf,
+  MEMBERS, MOST_CONTENT, MOST_FILES, actBytes, base64, forAll, manifestOf, sizes, wrongOf, wrongsOf,
 } from "../plain/filing.js";
-import { today } from "../plain/forms.js";
+import { isText, today } from "../plain/forms.js";
 import { visible } from "../plain/marks.js";
 import { batches, isSettled } from "../plain/sending.js";
 import { t } from "../texts.js";
-import { isLarge, rowOf, tellAnswer, tellHead, tellValues } from "./file_rows.js";
-import { addPanel, grouped, guardPage, onDrop, sayFates, send, tellSums } from "./filing.js";
+import { isLeftOut, rowOf, showAnswer, showHead, showValues } from "./file_rows.js";
+import { addPanel, grouped, guardPage, onDrop, sayFates, send, showSums } from "./filing.js";
 
 /** The files that are listed, in their order; what is written for all of them is in the fields. */
 let entries = [];
 let lastId = 0;
 let isSending = false;
 
-const COMMON = ["prefix", ...MEMBERS.slice(1)];
+const COMMON = ["prefix", ...MEMBERS.slice(1), "place"];
 const commonField = (name) => byId(`file-all-${name}`);
 const common = () => Object.fromEntries(COMMON.map((name) => [name, commonField(name).value.trim()]));
 
 /** What the record of a file will be: what is written in its row, else what is written for all. */
 const valuesOf = (entry, shared = common()) => ({ ...forAll(shared, entry.file), ...entry.own });
 
-const isToBeFiled = (entry) => !isSettled(entry) && !isLarge(entry);
+const isToBeFiled = (entry) => !isSettled(entry) && !isLeftOut(entry);
+
+/** The manifest of a large file: where it is kept is what is written for all, and its name. */
+const manifest = (entry, digest) => manifestOf(digest, entry.file.size, `${common().place}${visible(entry.file.name)}`);
+
+/** How many bytes the content of a record will have. */
+const sizeOf = (entry) => (entry.hasManifest ? bytesOf(manifest(entry, "0".repeat(64))) : entry.file.size);
+const bytesFor = (entry, actDay) => actBytes(actDay, valuesOf(entry), sizeOf(entry));
 
 // ---- what is listed
 
-function tellTotals() {
+function showTotals() {
   const { count, bytes, large } = sizes(entries.map(({ file }) => file));
   const filed = entries.filter(isSettled).length;
   const ready = entries.filter(isToBeFiled);
-  for (const entry of ready) entry.bytes = actBytes(today(), valuesOf(entry), entry.file.size);
-  tellSums("file", { count, bytes, large, filed, ready: ready.length, requests: batches(ready).length });
+  for (const entry of ready) entry.bytes = bytesFor(entry, today());
+  showSums("file", { count, bytes, large, filed, ready: ready.length, requests: batches(ready).length });
   byId("file-caption").textContent = t("file.caption", { count: grouped(count) });
   const tried = ready.some(({ fate }) => fate);
   const key = tried ? "file.again" : "file.submit";
   if (!isSending) byId("file-submit").textContent = t(key, { count: grouped(ready.length) });
   byId("file-off-filed").hidden = filed === 0;
-  tellLarge(large);
+  byId("file-place").hidden = !entries.some((entry) => entry.hasManifest);
+  showLarge(large);
 }
 
 /** Says how many files are too large, and what to do: once, so that a screen reader does not hear it at each letter. */
-function tellLarge(count) {
+function showLarge(count) {
   const place = byId("file-large");
   if (place.dataset.count === String(count)) return;
   place.dataset.count = count;
@@ -53,14 +62,14 @@ function tellLarge(count) {
 }
 
 /** Shows the list, once there is one. */
-function tell() {
+function refresh() {
   const shared = common();
   for (const entry of entries) {
-    tellValues(entry, valuesOf(entry, shared));
-    tellAnswer(entry);
+    showValues(entry, valuesOf(entry, shared));
+    showAnswer(entry);
   }
   byId("file-list").hidden = entries.length === 0;
-  tellTotals();
+  showTotals();
 }
 
 function edited(entry, name, value) {
@@ -68,11 +77,19 @@ function edited(entry, name, value) {
   mark(entry.inputs[name], "");
 }
 
+/** Files a manifest in place of a large file, or leaves it out again. */
+function replaced(entry, hasManifest) {
+  entry.hasManifest = hasManifest;
+  entry.fate = null;
+  refresh();
+  (hasManifest ? commonField("place") : entry.replace).focus();
+}
+
 function removed(entry) {
   const at = entries.indexOf(entry);
   entries.splice(at, 1);
   entry.row.remove();
-  tell();
+  refresh();
   (entries[at] ?? entries[at - 1])?.off.focus();
   if (!entries.length) byId("file-choose").focus();
 }
@@ -81,23 +98,23 @@ function remove(these) {
   for (const entry of these) entry.row.remove();
   entries = entries.filter((entry) => !these.includes(entry));
   quiet(byId("file-send-outcome"));
-  tell();
+  refresh();
 }
 
 /** Lists more files, and says which could not be taken. */
 function take(files, folders = []) {
   const room = Math.max(0, MOST_FILES - entries.length);
-  const more = files.slice(0, room).map((file) => ({ id: ++lastId, file, own: {}, fate: null }));
+  const more = files.slice(0, room).map((file) => ({ id: ++lastId, file, own: {}, fate: null, hasManifest: false }));
   for (const entry of more) entry.make = () => actOf(entry);
   entries.push(...more);
-  byId("file-table").tBodies[0].append(...more.map((entry) => rowOf(entry, { edited, removed })));
+  byId("file-table").tBodies[0].append(...more.map((entry) => rowOf(entry, { edited, removed, replaced })));
   const said = folders.map((name) => paragraph(t("file.folder", { name: visible(name) })));
   const over = { most: grouped(MOST_FILES), count: grouped(files.length - room) };
   if (files.length > room) said.push(paragraph(t("file.tooMany", over)));
   if (said.length) say(byId("file-taken"), "wrong", ...said);
   else quiet(byId("file-taken"));
   quiet(byId("file-send-outcome"));
-  tell();
+  refresh();
 }
 
 // ---- what is sent
@@ -107,8 +124,13 @@ let day = "";
 /** The act that files a record, or null where its file cannot be read any more, or is another one by now. */
 async function actOf(entry) {
   try {
-    const bytes = new Uint8Array(await entry.file.arrayBuffer());
+    let bytes = new Uint8Array(await entry.file.arrayBuffer());
     if (bytes.length !== entry.file.size) return null;
+    if (entry.hasManifest) {
+      const digest = await digestOf(bytes);
+      if (digest === null) return null;
+      bytes = new TextEncoder().encode(manifest(entry, digest));
+    }
     return addRecord(day, { ...valuesOf(entry), content: base64(bytes) });
   } catch {
     return null;
@@ -118,6 +140,7 @@ async function actOf(entry) {
 /** Says what is wrong with what is written for all files: whether something is. */
 function markCommon(ready) {
   const shared = common();
+  mark(commonField("place"), shared.place && !isText(shared.place) ? t("fields.textWrong") : "");
   for (const name of MEMBERS.slice(1)) {
     const isNeeded = name === "aggregation" && ready.some((entry) => entry.own.aggregation === undefined);
     const wrong = shared[name] || isNeeded ? wrongOf(name, shared[name]) : "";
@@ -155,11 +178,11 @@ async function fileAll(values) {
   quiet(place);
   untick(byId("file-send"));
   day = values["file-send-day"];
-  for (const entry of ready) entry.bytes = actBytes(day, valuesOf(entry), entry.file.size);
+  for (const entry of ready) entry.bytes = bytesFor(entry, day);
   isSending = true;
-  const answer = await send("file", ready, tell);
+  const answer = await send("file", ready, refresh);
   isSending = false;
-  tell();
+  refresh();
   sayFates(place, ready, answer);
   place.focus();
 }
@@ -169,7 +192,7 @@ async function fileAll(values) {
 export function start() {
   guardPage();
   addPanel("file");
-  tellHead(byId("file-table"));
+  showHead(byId("file-table"));
   const choose = byId("file-choose");
   choose.addEventListener("change", () => {
     take([...choose.files]);
@@ -180,7 +203,7 @@ export function start() {
   for (const name of COMMON) {
     commonField(name).addEventListener("input", () => {
       mark(commonField(name), "");
-      tell();
+      refresh();
     });
   }
   byId("file-off-all").addEventListener("click", () => {

@@ -9,7 +9,7 @@ import { fateWords, grouped } from "./filing.js";
 const COLUMNS = ["file", ...MEMBERS, "answer"];
 
 /** The headings. */
-export function tellHead(table) {
+export function showHead(table) {
   const words = COLUMNS.map((name) => t(`file.columns.${name}`));
   const heads = words.map((word) => made("th", { scope: "col", role: "columnheader" }, word));
   table.tHead.replaceChildren(made("tr", { role: "row" }, ...heads));
@@ -28,12 +28,23 @@ function fieldOf(entry, name, edited) {
   return [input, made("strong", { class: "wrong", id: `${id}-wrong` })];
 }
 
-/** The row of a file. `edited` is called with what somebody writes, `removed` once the file is to be taken off. */
-export function rowOf(entry, { edited, removed }) {
+/** A small button of a row: its text, and its name, which has that of the file in it. */
+function buttonOf(key, name, pressed) {
+  const named = { type: "button", class: "quiet off", "aria-label": t(`${key}Of`, { name }) };
+  const button = made("button", named, t(key));
+  button.addEventListener("click", pressed);
+  return button;
+}
+
+/**
+ * The row of a file. `edited` is called with what somebody writes, `removed` once the file is to be taken off, `replaced`
+ * once a file that is too large is to have its manifest filed, or not any more.
+ */
+export function rowOf(entry, { edited, removed, replaced }) {
   const name = visible(entry.file.name);
-  const named = { type: "button", class: "quiet off", "aria-label": t("file.offOf", { name }) };
-  const off = made("button", named, t("file.off"));
-  off.addEventListener("click", () => removed(entry));
+  const off = buttonOf("file.off", name, () => removed(entry));
+  entry.replace = buttonOf("file.manifest", name, () => replaced(entry, true));
+  entry.leave = buttonOf("file.leave", name, () => replaced(entry, false));
   const size = t("file.size", { bytes: grouped(entry.file.size) });
   const words = [made("span", { class: "named" }, name), made("span", { class: "hint" }, size)];
   const first = made("th", { scope: "row", role: "rowheader" }, ...words);
@@ -48,22 +59,26 @@ export function rowOf(entry, { edited, removed }) {
 
 export const isLarge = (entry) => entry.file.size > MOST_CONTENT;
 
+/** Whether a file is left out: it is too large, and its manifest is not filed in its place. */
+export const isLeftOut = (entry) => isLarge(entry) && !entry.hasManifest;
+
 function words(entry) {
   if (entry.fate) return fateWords(entry.fate);
-  if (isLarge(entry)) return made("strong", { class: "wrong" }, t("file.large"));
-  return made("span", { class: "hint" }, t("file.ready"));
+  if (isLeftOut(entry)) return made("strong", { class: "wrong" }, t("file.large"));
+  return made("span", { class: "hint" }, t(entry.hasManifest ? "file.manifestReady" : "file.ready"));
 }
 
 /** Shows what became of a file. One that is filed is not written into any more. */
-export function tellAnswer(entry) {
-  entry.answer.replaceChildren(words(entry), entry.off);
-  const fixed = isSettled(entry) || isLarge(entry);
+export function showAnswer(entry) {
+  const choice = isLarge(entry) && !isSettled(entry) ? [entry.hasManifest ? entry.leave : entry.replace] : [];
+  entry.answer.replaceChildren(words(entry), ...choice, entry.off);
+  const fixed = isSettled(entry) || isLeftOut(entry);
   for (const input of Object.values(entry.inputs)) input.readOnly = fixed;
   entry.row.classList.toggle("fixed", fixed);
 }
 
 /** Writes the values of a record, where nobody is writing another one just then. */
-export function tellValues(entry, values) {
+export function showValues(entry, values) {
   for (const name of MEMBERS) {
     if (entry.inputs[name].value.trim() !== values[name]) entry.inputs[name].value = values[name];
   }

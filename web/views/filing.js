@@ -17,12 +17,12 @@ export function fateWords(fate) {
   if (fate.kind !== "refused") return made("span", { class: `fate ${LOOKS[fate.kind]}` }, ...words);
   const row = all().refusals[fate.refusal] ?? { name: "", meaning: "", do: "" };
   const refusal = t("said.refusal", { number: fate.refusal, name: row.name });
-  const strong = made("strong", {}, refusal);
+  const strong = made("strong", {}, `${refusal}.`);
   return made("span", { class: "fate wrong" }, strong, ` ${t("said.meaning", row)} ${t("said.do", row)}`);
 }
 
 /** The sums of the view `name`, each with its word. */
-export function tellSums(name, sums) {
+export function showSums(name, sums) {
   const words = ([sum, number]) => [made("dt", {}, t(`${name}.totals.${sum}`)), made("dd", {}, grouped(number))];
   byId(`${name}-totals`).replaceChildren(...Object.entries(sums).map((it) => made("div", {}, ...words(it))));
 }

@@ -10,7 +10,7 @@ import { SEPARATORS, written } from "../sheet/rows.js";
 import { glimpsed, turned } from "../sheet/turning.js";
 import { Unreadable } from "../sheet/unreadable.js";
 import { t } from "../texts.js";
-import { addPanel, grouped, onDrop, sayFates, send, tellSums } from "./filing.js";
+import { addPanel, grouped, onDrop, sayFates, send, showSums } from "./filing.js";
 import * as reading from "./import_reading.js";
 import * as preview from "./import_rows.js";
 
@@ -85,24 +85,24 @@ function headerOf() {
 }
 
 /** Reads the sheet anew, and shows what came of it. */
-function tell() {
+function refresh() {
   quiet(byId("import-outcome"));
   quiet(byId("import-send-outcome"));
   sheet.found = read();
   for (const row of rows()) row.item = row.wrong.length ? null : itemOf(row);
   const there = headerOf();
-  reading.tell(sheet.options, there.header, { ...there, places: sheet.found?.columns.places });
+  reading.show(sheet.options, there.header, { ...there, places: sheet.found?.columns.places });
   byId("import-sheet").hidden = false;
   byId("import-rows").hidden = !sheet.found;
   byId("import-heading").textContent = visible(sheet.name);
   if (!sheet.found) return;
-  tellUnused();
+  showUnused();
   preview.take(rows());
-  tellTotals();
+  showTotals();
 }
 
 /** Says which columns of the sheet are not used. */
-function tellUnused() {
+function showUnused() {
   const { header, places } = sheet.found.columns;
   const used = new Set(Object.values(places));
   const unused = header.filter((cell, at) => !used.has(at) && cell.trim()).map((cell) => visible(cell.trim()));
@@ -118,14 +118,15 @@ function changed(said) {
     sheet.options.set = { ...sheet.options.set, ...set };
     for (const [name, value] of Object.entries(set)) if (value === undefined) delete sheet.options.set[name];
   }
-  tell();
+  refresh();
 }
 
 /** Takes a file in place of the sheet that is shown. */
-async function take([file]) {
+async function take([file], folders = []) {
+  const place = byId("import-outcome");
+  if (folders.length) return say(place, "wrong", paragraph(t("import.noFile")));
   if (!file) return;
   byId("import-sheet").hidden = true;
-  const place = byId("import-outcome");
   if (file.size > MOST_BYTES) {
     return say(place, "wrong", paragraph(t("import.tooLarge", { most: grouped(MOST_BYTES) })));
   }
@@ -137,29 +138,37 @@ async function take([file]) {
   sheet.name = file.name;
   sheet.options = {};
   sheet.found = null;
-  const { header } = headerOf();
-  const { columns, set, days } = reading.recalled(header);
+  const days = recall();
+  refresh();
+  const order = t(`import.orders.${days}`);
+  if (days && sheet.found) say(place, "unknown", paragraph(t("import.recalledDays", { order })));
+}
+
+/** Takes up what was said of an earlier sheet with the same names: the order of days, where only that decides it. */
+function recall() {
+  const { columns, set, days } = reading.recalled(headerOf().header);
   sheet.options = { columns, set };
-  // the order of an earlier sheet is taken only where this one shows none
-  if (days) {
-    try {
-      turned(sheet.bytes, sheet.options);
-    } catch (why) {
-      if (why.kind === "doubtful") sheet.options.days = days;
+  try {
+    turned(sheet.bytes, sheet.options);
+  } catch (why) {
+    if (!(why instanceof Unreadable)) throw why;
+    if (why.kind === "doubtful" && days) {
+      sheet.options.days = days;
+      return days;
     }
   }
-  tell();
+  return null;
 }
 
 // ---- what is sent
 
-function tellTotals() {
+function showTotals() {
   const ready = left();
   const wrong = rows().filter((row) => row.wrong.length).length;
   const filed = items().filter(isSettled).length;
   const { empty } = sheet.found;
   const requests = batches(ready).length;
-  tellSums("import", { count: rows().length, ready: ready.length, wrong, empty, filed, requests });
+  showSums("import", { count: rows().length, ready: ready.length, wrong, empty, filed, requests });
   const key = ready.some(({ fate }) => fate) ? "file.again" : "import.submit";
   if (!isSending) byId("import-submit").textContent = t(key, { count: grouped(ready.length) });
   const refused = rows().filter(preview.isRefused).length;
@@ -169,7 +178,7 @@ function tellTotals() {
 
 function progressed() {
   preview.draw();
-  tellTotals();
+  showTotals();
 }
 
 async function importAll(values) {
@@ -212,7 +221,7 @@ export function start() {
   const choose = byId("import-choose");
   choose.addEventListener("change", async () => {
     await take([...choose.files]);
-    // so that the same file can be chosen again, once it is mended
+    // so that the same file can be chosen again, once it is corrected
     choose.value = "";
   });
   onDrop(byId("import-drop"), take);

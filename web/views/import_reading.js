@@ -42,9 +42,6 @@ export function recalled(header) {
   return { columns, set: days ? { ...remembered.values } : {}, days };
 }
 
-/** Whether the order of days was that of an earlier sheet. */
-export const recalledOrder = (header) => remembered.orders.get(signature(header));
-
 // ---- the fields
 
 /** Fills the fields that have the same choices for each sheet; `changed` is called with what somebody chooses. */
@@ -74,16 +71,16 @@ function columnField(name, changed) {
   const named = { "aria-label": t("import.sameOf", { name: t(`import.columns.${name}`) }) };
   const plainly = { type: "text", autocomplete: "off", spellcheck: "false" };
   const value = made("input", { id: `import-same-${name}`, ...plainly, ...named });
-  const tell = () => {
+  const choose = () => {
     value.hidden = choice.value !== SAME;
     const columns = { [name]: choice.value === NONE || choice.value === SAME ? null : Number(choice.value) };
     changed({ columns, set: { [name]: choice.value === SAME ? value.value.trim() : undefined } });
   };
   choice.addEventListener("change", () => {
-    tell();
+    choose();
     if (!value.hidden) value.focus();
   });
-  value.addEventListener("change", tell);
+  value.addEventListener("change", choose);
   value.hidden = true;
   return made("div", { class: "field" }, made("label", { for: id }, t(`import.columns.${name}`)), choice, value);
 }
@@ -92,7 +89,7 @@ function columnField(name, changed) {
 const columnWords = (cell, at) => `${letters(at)}: ${visible(cell.trim()) || t("import.nameless")}`;
 
 /** Shows what was found of a sheet, and what somebody chose. */
-export function tell(options_, header, found) {
+export function show(options_, header, found) {
   const there = { encoding: found.encoding, separator: found.separator, days: found.order?.name };
   for (const [name, value] of Object.entries(there)) {
     const words = value ? t("import.foundIs", { value: t(`import.${WORDS[name]}.${value}`) }) : t("import.found");
