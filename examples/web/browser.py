@@ -105,21 +105,6 @@ class Browser:
         """What the browser's console complained of since it was asked last, but for failed requests, which the page tells."""
         return [it["message"] for it in self.driver.get_log("browser") if it["level"] in ("SEVERE", "WARNING") and "Failed to load resource" not in it["message"]]
 
-    def picture(self, file, width, height=None):
-        self.width(width)
-        time.sleep(0.2)
-        full = self.driver.execute_script("return document.documentElement.scrollHeight")
-        self.width(width, min(full, height) if height else full)
-        time.sleep(0.3)
-        self.driver.save_screenshot(str(file))
-        self.width(1280)
-
-    def shot(self, file):
-        """A picture of what is seen in the window as it is."""
-        file.parent.mkdir(parents=True, exist_ok=True)
-        time.sleep(0.3)
-        self.driver.save_screenshot(str(file))
-
     def paper(self, file):
         """What is printed, as a PDF; its bytes."""
         pdf = base64.b64decode(self.driver.execute_cdp_cmd("Page.printToPDF", {"printBackground": False, "preferCSSPageSize": True, "generateTaggedPDF": False})["data"])

@@ -10,7 +10,7 @@ import shutil
 import sqlite3
 import statistics
 import subprocess
-from collections.abc import Iterator
+from collections.abc import Collection, Iterator
 
 import big_office
 import looks
@@ -18,6 +18,7 @@ from browser import Browser
 from interface import city
 from judging import judge, same
 from place import OFFICE, TOP, Office, Proxy
+from shots import SCHEMES, SIZES, shots
 from story import TEXTS, says
 
 WORDS = TEXTS["catalogue"]
@@ -275,24 +276,23 @@ def large(it: Browser, proxy: Proxy) -> None:
     same("large: more are shown when asked for", len(it.table("#catalogue-part .records")), 250)
 
 
-def pictures(it: Browser, proxy: Proxy, place: pathlib.Path | None, more: str = "") -> None:
-    """Each part at three sizes, light and dark."""
-    if place is None:
-        return
-    for scheme in ("light", "dark") if not more else ("light",):
-        it.light(scheme)
-        for part, words in VIEWS.items():
-            for width, height in ((1280, 700), (1280, 900), (400, 900)) if not more else ((1280, 900),):
-                it.width(width, height)
-                it.open(f"{proxy.page}#catalogue{words}")
-                if part == "aggregations":
-                    it.driver.execute_script("document.querySelector('#catalogue-part details').open = true")
-                if part == "records":
-                    it.write(catalogue_text="bau goethe 17")
-                it.driver.execute_script("document.activeElement.blur()")
-                it.shot(place / f"catalogue-{part}{more}-{width}x{height}{'-dark' if scheme == 'dark' else ''}.png")
-    it.light("light")
-    it.width(1280)
+def pictures(
+    it: Browser,
+    proxy: Proxy,
+    more: str = "",
+    sizes: Collection[str] = tuple(SIZES),
+    schemes: Collection[str] = tuple(SCHEMES),
+) -> None:
+    """Each part; `more` follows its name."""
+    def prepare(part: str) -> None:
+        if part == "aggregations":
+            it.driver.execute_script("document.querySelector('#catalogue-part details').open = true")
+        if part == "records":
+            it.write(catalogue_text="bau goethe 17")
+
+    for part, words in VIEWS.items():
+        address = f"{proxy.page}#catalogue{words}"
+        shots(it, f"catalogue-{part}{more}", address, lambda part=part: prepare(part), sizes, schemes)
 
 
 def readable(it: Browser, proxy: Proxy, name: str, address: str) -> None:
@@ -300,7 +300,7 @@ def readable(it: Browser, proxy: Proxy, name: str, address: str) -> None:
     looks.readable_view(it, proxy, name, address)
 
 
-def tell(office: Office, proxy: Proxy, it: Browser, folder: pathlib.Path, place: pathlib.Path | None = None) -> None:
+def tell(office: Office, proxy: Proxy, it: Browser, folder: pathlib.Path) -> None:
     without(it, proxy)
     for name in ("1-schedule", "2-holdings", "3-lawsuit", "4-confirmed"):
         office.ask("POST", "/acts", city(name))
@@ -326,4 +326,4 @@ def tell(office: Office, proxy: Proxy, it: Browser, folder: pathlib.Path, place:
     large(it, proxy)
     for part, words in VIEWS.items():
         readable(it, proxy, f"catalogue, {part}", f"#catalogue{words}")
-    pictures(it, proxy, place)
+    pictures(it, proxy)

@@ -2,7 +2,6 @@
 from __future__ import annotations
 
 import hashlib
-import json
 import pathlib
 import time
 
@@ -13,6 +12,7 @@ from browser import Browser
 from judging import judge, same
 from late import after
 from place import TOP, Office, Proxy, full
+from shots import SIZES, shot
 from story import TEXTS, Story, says
 
 WORDS, FILING = TEXTS["file"], TEXTS["filing"]
@@ -331,12 +331,12 @@ def focused(it: Browser) -> str:
     return it.driver.execute_script(script)
 
 
-def readable(view: View, files: list[pathlib.Path], pictures: pathlib.Path | None) -> None:
+def readable(view: View, files: list[pathlib.Path]) -> None:
     """The view with files: contrast, sizes, names, widths; and its pictures."""
     it = view.browser
     for scheme in ("light", "dark"):
         it.light(scheme)
-        for width, height in ((1280, 700), (1280, 900), (400, 900)):
+        for size, (width, height) in SIZES.items():
             it.width(width, height)
             view.open()
             shown = [files[0], files[4], files[8], files[22]]
@@ -348,16 +348,13 @@ def readable(view: View, files: list[pathlib.Path], pictures: pathlib.Path | Non
             it.all("#file-table tbody tr:nth-child(1) input")[3].send_keys("9")
             view.file()
             looks.judge_view(it, f"file, {scheme}, {width} pixels", width)
-            if pictures:
-                it.driver.execute_script(SHOWN, height == 900 and width > 400)
-                looks.picture(it, pictures / f"file-{width}x{height}-{scheme}.png", width, height)
+            it.driver.execute_script(SHOWN, size == "1280x900")
+            shot(it, "file", size, scheme)
     it.light("light")
     it.width(1280)
 
 
-def tell(
-    office: Office, proxy: Proxy, browser: Browser, folder: pathlib.Path, pictures: pathlib.Path | None = None
-) -> None:
+def tell(office: Office, proxy: Proxy, browser: Browser, folder: pathlib.Path) -> None:
     fill(office)
     view = View(Story(office, proxy, browser, folder))
     # first, while the office's file is small
@@ -370,4 +367,4 @@ def tell(
     manifest(view, files)
     lost(view, folder)
     keyboard(view, files)
-    readable(view, files, pictures)
+    readable(view, files)

@@ -14,12 +14,14 @@ import tempfile
 import threading
 import time
 
+import shots
 from judging import judge, same
 from place import Proxy
 
 # the address of a view, and the path that it asks for
 VIEWS = {
     "due": ("#due?day=2022-05-02", "/due/2022-05-02"),
+    "overdue": ("#overdue?day=2022-05-02&count=30", "/overdue/2022-05-02/30"),
     "outlook": ("#outlook", "/due/2999-12-31"),
     "catalogue-records": ("#catalogue?part=records&text=application", "/catalogue/records.json"),
     "catalogue-aggregations": ("#catalogue?part=aggregations", "/catalogue/aggregations.json"),
@@ -28,6 +30,9 @@ VIEWS = {
     "certificate": ("#certificate?number=1", "/certificates/1"),
     "run": ("#run?number=1", "/certificates/1"),
     "holds": ("#holds?code=Q-2020-17", "/web/texts/en.json"),
+    "plan": ("#plan", "/web/texts/en.json"),
+    "file": ("#file", "/web/texts/en.json"),
+    "import": ("#import", "/web/texts/en.json"),
     "fault": ("#fault", "/web/texts/en.json"),
 }
 WAIT = 6.0
@@ -96,7 +101,7 @@ def shot(address: str, picture: pathlib.Path, width: int, height: int) -> None:
         )
 
 
-def tell(proxy: Proxy, folder: pathlib.Path, place: pathlib.Path | None) -> None:
+def tell(proxy: Proxy, folder: pathlib.Path) -> None:
     """A picture of each view, of which somebody has to look what is in it; each has asked for what it shows."""
     if not shutil.which("firefox-esr"):
         print("not done here, without firefox-esr: each view in Firefox")
@@ -107,7 +112,7 @@ def tell(proxy: Proxy, folder: pathlib.Path, place: pathlib.Path | None) -> None
     try:
         for name, (address, path) in VIEWS.items():
             Between.seen.clear()
-            picture = (place or folder) / f"firefox-{name}.png"
+            picture = (shots.PLACE or folder) / f"firefox-{name}.png"
             shot(f"http://localhost:{server.server_port}/web/{address}", picture, 1280, 900)
             judge(f"Firefox: {name}: it asks for what it shows", path in Between.seen, str(Between.seen))
             same(f"Firefox: {name}: a picture of it", picture.exists() and size_of(picture), (1280, 900))

@@ -12,6 +12,8 @@ from place import TOP, Proxy
 from texts import flat
 
 ENGLISH = flat(json.loads((TOP / "web/texts/en.json").read_text()))
+# what follows the names of pictures; their sizes and schemes
+GERMAN_PICTURES = ("-german", ("1280x900",), ("light",))
 GERMAN = flat(json.loads((TOP / "web/texts/de.json").read_text()))
 # every text that is seen or read out, but for what the office reports and for codes
 READ = """
@@ -84,7 +86,7 @@ def acts(it: Browser, proxy: Proxy) -> None:
     judge("German: a record is described in German", GERMAN["record.status.destroyed"].format(run=1) in seen, seen)
 
 
-def listed(it: Browser, proxy: Proxy, pictures: pathlib.Path | None) -> None:
+def listed(it: Browser, proxy: Proxy) -> None:
     """The catalogue in German."""
     parts = ("records", "aggregations", "classes", "schedules", "holds", "runs")
     views(it, proxy, {f"catalogue {part}": f"#catalogue?part={part}" for part in parts})
@@ -95,12 +97,10 @@ def listed(it: Browser, proxy: Proxy, pictures: pathlib.Path | None) -> None:
         shown["COR-3"],
         ["mit der letzten Ablage in der Akte", "3 Jahre", "ab dem nächsten Quartalsersten", "vernichten"],
     )
-    catalogue.pictures(it, proxy, pictures, "-german")
+    catalogue.pictures(it, proxy, *GERMAN_PICTURES)
 
 
-def tell(
-    proxy: Proxy, folder: pathlib.Path, open_browser: Callable[..., Iterator[Browser]], pictures: pathlib.Path | None
-) -> None:
+def tell(proxy: Proxy, folder: pathlib.Path, open_browser: Callable[..., Iterator[Browser]]) -> None:
     """All of it, while the first run of the city archive is closed, its hold in force, and a catalogue there."""
     with open_browser(folder, "de-DE") as it:
         it.know(proxy.page)
@@ -108,13 +108,6 @@ def tell(
         for name in ("due", "certificate"):
             layout.words(it, proxy.page + looks.VIEWS[name], f"German: {name}")
         acts(it, proxy)
-        looks.pictures(
-            it,
-            proxy,
-            pictures,
-            ["due", "outlook", "record", "certificate", "run", "holds", "fault"],
-            "-german",
-            (1280,),
-        )
-        listed(it, proxy, pictures)
+        looks.pictures(it, proxy, [name for name in looks.VIEWS if name != "catalogue"], *GERMAN_PICTURES)
+        listed(it, proxy)
         same("German: the browser's console complains of nothing", it.complaints(), [])

@@ -13,6 +13,7 @@ from filing import SHOWN
 from judging import judge, same
 from late import after
 from place import TOP, Office, Proxy
+from shots import SIZES, shot
 from story import TEXTS, Story, says
 
 WORDS, FILING = TEXTS["import"], TEXTS["filing"]
@@ -310,14 +311,14 @@ def others(view: View) -> None:
     says("which is to be looked at", view.rows()[0][-1], WORDS["look"]["unseen"])
 
 
-def readable(view: View, pictures: pathlib.Path | None) -> None:
+def readable(view: View) -> None:
     """The view with a sheet: contrast, sizes, names, widths; and its pictures."""
     it = view.browser
     lines = sheet().split(b"\r\n")
     part = b"\r\n".join([lines[0], *lines[400:412], lines[706], b""])
     for scheme in ("light", "dark"):
         it.light(scheme)
-        for width, height in ((1280, 700), (1280, 900), (400, 900)):
+        for size, (width, height) in SIZES.items():
             it.width(width, height)
             view.open()
             # other refs each time, so that they are new
@@ -326,16 +327,13 @@ def readable(view: View, pictures: pathlib.Path | None) -> None:
             looks.judge_view(it, f"import, {scheme}, {width} pixels", width)
             view.press()
             looks.judge_view(it, f"import, answered, {scheme}, {width} pixels", width)
-            if pictures:
-                it.driver.execute_script(SHOWN, height == 900 and width > 400)
-                looks.picture(it, pictures / f"import-{width}x{height}-{scheme}.png", width, height)
+            it.driver.execute_script(SHOWN, size == "1280x900")
+            shot(it, "import", size, scheme)
     it.light("light")
     it.width(1280)
 
 
-def tell(
-    office: Office, proxy: Proxy, browser: Browser, folder: pathlib.Path, pictures: pathlib.Path | None = None
-) -> None:
+def tell(office: Office, proxy: Proxy, browser: Browser, folder: pathlib.Path) -> None:
     fill(office)
     view = View(Story(office, proxy, browser, folder))
     cases(view)
@@ -347,4 +345,4 @@ def tell(
     same("the day begins as today", browser.one("#import-send-day").get_attribute("value"), after(0))
     imported(view)
     again(view)
-    readable(view, pictures)
+    readable(view)

@@ -5,6 +5,7 @@ import subprocess
 
 from judging import judge, same
 from place import TOP
+from shots import SCHEMES, SIZES, shots
 
 VIEWS = {
     "due": "#due?day=2022-05-02",
@@ -107,14 +108,6 @@ def judge_view(browser, name, width):
     judge(f"{name}: nothing is wider", there <= width, f"{there}")
     same(f"{name}: nothing that is pressed is smaller than 24 pixels", browser.driver.execute_script(SMALL), [])
     same(f"{name}: each field, button, link and table has a name", browser.driver.execute_script(NAMELESS), [])
-
-
-def picture(browser, file, width, height):
-    """What is seen of a view in a window of this size; of a narrow one more of what is below."""
-    file.parent.mkdir(parents=True, exist_ok=True)
-    full = browser.driver.execute_script("return document.documentElement.scrollHeight")
-    browser.width(width, height if width > 400 else min(full, 2400))
-    browser.driver.save_screenshot(str(file))
 
 
 FOCUSED = """const it = document.activeElement; const style = getComputedStyle(it); const box = it.getBoundingClientRect();
@@ -227,18 +220,15 @@ def paper(browser, proxy, folder):
         judge(f"{name}: and nothing that is pressed", not any(it in text for it in not_wanted), text)
 
 
-def pictures(browser, proxy, place, names, more="", widths=(1280, 400)):
-    """A picture of each of these views where a place for them is given; `more` follows the view's name."""
-    if place is None:
-        return
-    place.mkdir(parents=True, exist_ok=True)
+def pictures(browser, proxy, names, more="", sizes=tuple(SIZES), schemes=tuple(SCHEMES)):
+    """Pictures of each of these views; `more` follows the view's name."""
+    def prepare(name):
+        if name == "due":
+            browser.press("#due-mark")
+            browser.write(due_confirm_by="R. Halloran, records manager")
+        if name == "record":
+            browser.press("#record-save")
+        browser.driver.execute_script("scrollTo(0, 0)")
+
     for name in names:
-        for width in widths:
-            browser.open(proxy.page + VIEWS[name])
-            if name == "due":
-                browser.press("#due-mark")
-                browser.write(due_confirm_by="R. Halloran, records manager")
-            if name == "record":
-                browser.press("#record-save")
-            browser.driver.execute_script("document.activeElement.blur(); scrollTo(0, 0)")
-            browser.picture(place / f"{name}{more}-{width}.png", width, 1400 if width == 400 else 1900)
+        shots(browser, f"{name}{more}", proxy.page + VIEWS[name], lambda name=name: prepare(name), sizes, schemes)

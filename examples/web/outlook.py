@@ -9,6 +9,7 @@ from browser import Browser
 from interface import city
 from judging import judge, same
 from place import Office, Proxy
+from shots import shots
 
 # each bar: what it says, and the height of each part by its look; the axis
 BARS = """
@@ -169,20 +170,7 @@ def months(it: Browser, proxy: Proxy, rows: list[dict]) -> None:
     same("outlook: a row of the table opens Due for its month", last, f"#due?day={end}&sort=-due")
 
 
-def pictures(it: Browser, proxy: Proxy, place: pathlib.Path | None) -> None:
-    if place is None:
-        return
-    for scheme in ("light", "dark"):
-        it.light(scheme)
-        for width, height in ((1280, 700), (1280, 900), (400, 900)):
-            it.width(width, height)
-            it.open(f"{proxy.page}#outlook")
-            it.shot(place / f"outlook-{width}x{height}{'-dark' if scheme == 'dark' else ''}.png")
-    it.light("light")
-    it.width(1280)
-
-
-def tell(office: Office, proxy: Proxy, it: Browser, _folder: pathlib.Path, place: pathlib.Path | None = None) -> None:
+def tell(office: Office, proxy: Proxy, it: Browser, _folder: pathlib.Path) -> None:
     it.open(f"{proxy.page}#outlook")
     same(
         "outlook: of an empty office it says that nothing falls due",
@@ -198,4 +186,4 @@ def tell(office: Office, proxy: Proxy, it: Browser, _folder: pathlib.Path, place
     months(it, proxy, rows)
     looks.readable_view(it, proxy, "outlook", "#outlook")
     looks.readable_view(it, proxy, "outlook of a year", "#outlook?year=2024")
-    pictures(it, proxy, place)
+    shots(it, "outlook", f"{proxy.page}#outlook")
