@@ -16,6 +16,9 @@ export function made(tag, attributes = {}, ...children) {
 export const link = (href, text) => made("a", { href }, String(text));
 export const paragraph = (text, kind = "") => made("p", kind ? { class: kind } : {}, text);
 
+/** A number as people of the page's language write it. */
+export const grouped = (number) => number.toLocaleString(all().lang);
+
 /** A text as nodes, with an element at each of its places that has one, and a text at the others. */
 export function sentence(key, parts) {
   return t(key).split(/(\{\w+\})/).map((piece) => {

@@ -1,11 +1,11 @@
 // The catalogue: records and aggregations, searched as one types; classes, schedules, holds and runs as lists.
 import { aboutIt, aggregations, lastAnswer, part, records, refresh, tree } from "../catalogue.js";
-import { asking, byId, failed, link, made, paragraph, quiet, say } from "../page.js";
+import { asking, byId, failed, grouped, link, made, paragraph, quiet, say } from "../page.js";
 import { STATUSES, search } from "../plain/catalogue.js";
 import { today } from "../plain/forms.js";
 import { visible } from "../plain/marks.js";
 import { t } from "../texts.js";
-import { addressOf, aggregationsTable, grouped, listOf, recordsTable } from "./catalogue_tables.js";
+import { addressOf, aggregationsTable, listOf, recordsTable } from "./catalogue_tables.js";
 import { treeList } from "./catalogue_tree.js";
 
 const PARTS = ["records", "aggregations", "classes", "schedules", "holds", "runs"];

@@ -1,12 +1,11 @@
 // The tables of the catalogue: what was found of records and aggregations; classes, schedules, holds and runs.
-import { link, made, tableOf } from "../page.js";
+import { grouped, link, made, tableOf } from "../page.js";
 import { STATUSES, above, classOf } from "../plain/catalogue.js";
 import { visible } from "../plain/marks.js";
 import { t } from "../texts.js";
 
 const word = (name) => t(`catalogue.columns.${name}`);
 /** A count with its thousands apart, as the language has it. */
-export const grouped = (count) => count.toLocaleString(document.documentElement.lang);
 
 const recordLink = (number) => link(`#record?number=${number}`, number);
 

@@ -1,9 +1,9 @@
 // Aggregations as a tree: each opens to what is in it, which is put into the page only then.
-import { made, paragraph } from "../page.js";
+import { grouped, made, paragraph } from "../page.js";
 import { classOf } from "../plain/catalogue.js";
 import { visible } from "../plain/marks.js";
 import { t } from "../texts.js";
-import { countsOf, grouped, recordsOf } from "./catalogue_tables.js";
+import { countsOf, recordsOf } from "./catalogue_tables.js";
 
 /** So many are shown at a time. */
 const SOME = 200;

@@ -1,6 +1,6 @@
 // Filing: files are dropped or chosen, each becomes a record, and their acts go to the office in few requests.
 import { mark, onSubmit, untick } from "../fields.js";
-import { byId, paragraph, quiet, say } from "../page.js";
+import { byId, grouped, paragraph, quiet, say } from "../page.js";
 import { addRecord, bytesOf } from "../plain/acts.js";
 import { digestOf } from "../plain/certificates.js";
 import {
@@ -11,7 +11,7 @@ import { visible } from "../plain/marks.js";
 import { batches, isSettled } from "../plain/sending.js";
 import { t } from "../texts.js";
 import { isLeftOut, rowOf, showAnswer, showHead, showValues } from "./file_rows.js";
-import { addPanel, grouped, guardPage, onDrop, sayFates, send, showSums } from "./filing.js";
+import { addPanel, guardPage, onDrop, sayFates, send, showSums } from "./filing.js";
 
 /** The files that are listed, in their order; what is written for all of them is in the fields. */
 let entries = [];

@@ -1,10 +1,10 @@
 // The table of the view File: a row for each file, with what its record will be and what became of it.
-import { label, made } from "../page.js";
+import { grouped, label, made } from "../page.js";
 import { MEMBERS, MOST_CONTENT } from "../plain/filing.js";
 import { visible } from "../plain/marks.js";
 import { isSettled } from "../plain/sending.js";
 import { t } from "../texts.js";
-import { fateWords, grouped } from "./filing.js";
+import { fateWords } from "./filing.js";
 
 const COLUMNS = ["file", ...MEMBERS, "answer"];
 

@@ -1,12 +1,9 @@
 // What the views File and Import share: acts are sent with their progress, and what became of each is said in words.
 import { post } from "../ask.js";
 import { field } from "../fields.js";
-import { byId, factsOf, link, made, paragraph, say, sentence, told, translate } from "../page.js";
+import { byId, factsOf, grouped, link, made, paragraph, say, sentence, told, translate } from "../page.js";
 import { counted, isSettled, sendAll } from "../plain/sending.js";
 import { all, t } from "../texts.js";
-
-/** A number as people of the page's language write it. */
-export const grouped = (number) => new Intl.NumberFormat(all().lang).format(number);
 
 const LOOKS = { added: "done", same: "done", refused: "wrong", unread: "wrong", unknown: "unknown", left: "unknown" };
 

@@ -1,6 +1,6 @@
 // Import: a CSV of a spreadsheet program is read, shown as the records that its rows will be, and sent in few requests.
 import { onSubmit, untick } from "../fields.js";
-import { byId, made, paragraph, quiet, save, say } from "../page.js";
+import { byId, grouped, made, paragraph, quiet, save, say } from "../page.js";
 import { addRecord, bytesOf } from "../plain/acts.js";
 import { today } from "../plain/forms.js";
 import { visible } from "../plain/marks.js";
@@ -10,7 +10,7 @@ import { SEPARATORS, written } from "../sheet/rows.js";
 import { glimpsed, turned } from "../sheet/turning.js";
 import { Unreadable } from "../sheet/unreadable.js";
 import { t } from "../texts.js";
-import { addPanel, grouped, onDrop, sayFates, send, showSums } from "./filing.js";
+import { addPanel, onDrop, sayFates, send, showSums } from "./filing.js";
 import * as reading from "./import_reading.js";
 import * as preview from "./import_rows.js";
 

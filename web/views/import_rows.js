@@ -1,11 +1,11 @@
 // The preview of the view Import: what each row of the sheet will be, what is wrong with it, and what became of it.
-import { byId, label, made } from "../page.js";
+import { byId, grouped, label, made } from "../page.js";
 import { visible } from "../plain/marks.js";
 import { isSettled } from "../plain/sending.js";
 import { contentBytes } from "../sheet/cells.js";
 import { NAMES } from "../sheet/columns.js";
 import { t } from "../texts.js";
-import { fateWords, grouped } from "./filing.js";
+import { fateWords } from "./filing.js";
 
 const COLUMNS = ["row", ...NAMES, "answer"];
 /** So many rows are shown, and as many more each time that somebody asks for more. */

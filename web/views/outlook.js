@@ -1,6 +1,6 @@
 // The outlook: what falls due in each year, or in each month of one, as a chart and a table that lead to the due list.
 import { get } from "../ask.js";
-import { asking, byId, failed, link, made, paragraph, quiet, say, tableOf } from "../page.js";
+import { asking, byId, failed, grouped, link, made, paragraph, quiet, say, tableOf } from "../page.js";
 import { today } from "../plain/forms.js";
 import { ACTIONS, STATES, byMonth, byYear, countOf, yearsOf } from "../plain/outlook.js";
 import { jsonOf } from "../plain/outcomes.js";
@@ -12,8 +12,6 @@ const LAST_DAY = "2999-12-31";
 /** The rows of the due list of the last day that there is; the year whose months are shown, or null for all years. */
 const outlook = { rows: [], year: null };
 let asked = 0;
-
-const grouped = (count) => count.toLocaleString(document.documentElement.lang);
 
 // ---- the words of a period
 
