@@ -14,6 +14,8 @@ const LATER = 600000;
 
 /** What a field asks for, by its kind (`data-field`): the first that is like it; a kind like none has no offers. */
 const KINDS = [
+  // the code of something new is to be another one
+  [/Code$/, ""],
   [/schedule/i, "schedules"],
   [/class/i, "classes"],
   [/aggregation|parent/i, "aggregations"],
@@ -24,11 +26,11 @@ const KINDS = [
 
 const TARGETS = { class: "classes", aggregation: "aggregations", record: "records" };
 
-/** The part of the catalogue that a field asks for; for what a hold is put on that is as the choice beside it says. */
+/** The part of the catalogue that a field asks for; where that is chosen in the same form, it is as the choice says. */
 function partOf(input) {
   const { field, offers } = input.closest("[data-field]").dataset;
   if (offers !== undefined) return offers;
-  if (field === "target") return TARGETS[input.form.querySelector("select").value];
+  if (["target", "number"].includes(field)) return TARGETS[input.form.querySelector("select")?.value] ?? "";
   return KINDS.find(([kind]) => kind.test(field))?.[1] ?? "";
 }
 
