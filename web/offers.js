@@ -14,8 +14,8 @@ const LATER = 600000;
 
 /** What a field asks for, by its kind (`data-field`): the first that is like it; a kind like none has no offers. */
 const KINDS = [
-  // the code of what is new
-  [/^(schedule|class)Code$/, ""],
+  // the code of something new is to be another one
+  [/Code$/, ""],
   [/schedule/i, "schedules"],
   [/class/i, "classes"],
   [/aggregation|parent/i, "aggregations"],
@@ -24,14 +24,13 @@ const KINDS = [
   [/^code$|hold/i, "holds"],
 ];
 
-/** What a field beside a choice asks for: by what is chosen there. */
-const CHOSEN = { class: "classes", aggregation: "aggregations", record: "records" };
+const TARGETS = { class: "classes", aggregation: "aggregations", record: "records" };
 
-/** The part of the catalogue that a field asks for; beside a choice of what a number or a code is of, as that says. */
+/** The part of the catalogue that a field asks for; where that is chosen in the same form, it is as the choice says. */
 function partOf(input) {
   const { field, offers } = input.closest("[data-field]").dataset;
   if (offers !== undefined) return offers;
-  if (field === "target" || field === "number") return CHOSEN[input.form.querySelector("select").value];
+  if (["target", "number"].includes(field)) return TARGETS[input.form.querySelector("select")?.value] ?? "";
   return KINDS.find(([kind]) => kind.test(field))?.[1] ?? "";
 }
 
