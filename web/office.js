@@ -35,7 +35,7 @@ const VIEWS = {
 /** The view and the words that an address names; due, where it names none. */
 function named(hash) {
   const [name, words] = hash.replace(/^#/, "").split("?");
-  return [name in VIEWS ? name : "due", new URLSearchParams(words)];
+  return [Object.hasOwn(VIEWS, name) ? name : "due", new URLSearchParams(words)];
 }
 
 function show(focus) {

@@ -30,7 +30,8 @@ export function addPanel(name) {
   field(day);
   const about = made("p", { class: "hint", "data-text": `${name}.sendAbout` });
   const legend = made("legend", { "data-text": `${name}.send` });
-  const form = made("form", { id: `${name}-send` }, made("fieldset", {}, legend, day, made("button", { id: `${name}-submit` }), about));
+  const button = made("button", { id: `${name}-submit` });
+  const form = made("form", { id: `${name}-send` }, made("fieldset", {}, legend, day, button, about));
   const bar = made("progress", { id: `${name}-bar`, max: "1", value: "0", "aria-labelledby": `${name}-at` });
   const at = made("span", { id: `${name}-at`, role: "status" });
   const stop = made("button", { type: "button", id: `${name}-stop`, class: "quiet", "data-text": "filing.stop" });
