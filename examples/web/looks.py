@@ -2,6 +2,7 @@
 import json
 import shutil
 import subprocess
+import time
 
 from judging import judge, same
 from place import TOP
@@ -91,6 +92,9 @@ def readable(browser, proxy):
         readable_view(browser, proxy, name, address)
     browser.width(400)
     browser.open(proxy.page + VIEWS["due"])
+    # rows that are far from what is seen are not drawn
+    browser.driver.execute_script("document.getElementById('due-table').scrollIntoView()")
+    time.sleep(0.5)
     roles = [node["role"]["value"] for node in browser.driver.execute_cdp_cmd("Accessibility.getFullAXTree", {})["nodes"] if not node["ignored"]]
     rows = len(browser.table("#due-table"))
     there = {role: roles.count(role) for role in ("table", "row", "columnheader", "rowheader", "cell")}
