@@ -28,7 +28,7 @@ use Rattle.office_tree.specs.declared.event.Event.{Event}
 use Rattle.office_tree.specs.declared.head.Record.{Record}
 use Rattle.office_tree.specs.declared.schedule.Schedule.{Schedule}
 use Rattle.office_days.specs.Due.{deadline_from}
-use Rattle.office_rules.specs.Readings.{IsDueList, IsOverdueList, deadline_cmp, due_cmp, is_overdue}
+use Rattle.office_rules.specs.Readings.{deadline_cmp, due_cmp, is_overdue}
 use Rattle.office_rules.specs.Registers.{due_rows_of}
 use Rattle.office_rules.specs.State.{Office}
 use Rattle.office_tree.specs.Disposal.{counts, is_here}

@@ -13,9 +13,9 @@ use std::collections::BTreeSet;
 pub(crate) fn due_pairs(
     alloc: Global,
     tree: &Tree,
-    selection: Selection,
+    selection: &Selection,
 ) -> Result<BTreeSet<(DueDay, RecordNo)>, Memory>
-    ensures { IfOk result (λ pairs. AreSelectedPairs selection tree.now pairs.keys) }
+    ensures { IfOk result (λ pairs. AreSelectedPairs selection.now tree.now pairs.keys) }
 {
     let mut pairs = BTreeSet::new(alloc);
     for before in 0..tree.record_count() {
@@ -31,9 +31,9 @@ pub(crate) fn due_pairs(
 pub(crate) fn due_list(
     alloc: Global,
     tree: &Tree,
-    selection: Selection,
+    selection: &Selection,
 ) -> Result<Vec<RecordNo>, Memory>
-    ensures { IfOk result (λ list. IsSelectedList selection tree.now list.items) }
+    ensures { IfOk result (λ list. IsSelectedList selection.now tree.now list.items) }
 {
     let pairs = due_pairs(alloc, tree, selection)?;
     let mut list = Vec::with_capacity(alloc, pairs.len())?;

@@ -75,9 +75,9 @@ impl Parts {
     pub(crate) fn due_rows(
         &self,
         alloc: Global,
-        selection: Selection,
+        selection: &Selection,
     ) -> Result<DueRows<'_>, Memory>
-        ensures { IfOk result (λ rows. AreSelectedRows selection self.now rows) }
+        ensures { IfOk result (λ rows. AreSelectedRows selection.now self.now rows) }
     {
         let pairs = due_pairs(alloc, &self.tree, selection)?;
         Ok(DueRows {

@@ -131,14 +131,14 @@ impl Machine {
     pub fn due_list(&self, alloc: Global, day: Day) -> Result<Vec<RecordNo>, Memory>
         ensures { IfOk result (λ list. IsDueList self.now.tree day list.items) }
     {
-        due_list(alloc, &self.parts.tree, Selection::Due(day))
+        due_list(alloc, &self.parts.tree, &Selection::Due(day))
     }
 
     /// What is told of the records that are due on the day, row by row, in the order of the due list.
     pub fn due_rows(&self, alloc: Global, day: Day) -> Result<DueRows<'_>, Memory>
         ensures { IfOk result (λ rows. AreDueRows self.now day rows) }
     {
-        self.parts.due_rows(alloc, Selection::Due(day))
+        self.parts.due_rows(alloc, &Selection::Due(day))
     }
 
     /// What is overdue on the day: the records that are here whose deadline, so many days after the due day, is
@@ -151,7 +151,7 @@ impl Machine {
     ) -> Result<Vec<RecordNo>, Memory>
         ensures { IfOk result (λ list. IsOverdueList self.now.tree day days list.items) }
     {
-        due_list(alloc, &self.parts.tree, Selection::Overdue(day, days))
+        due_list(alloc, &self.parts.tree, &Selection::Overdue(day, days))
     }
 
     /// The rows of what is overdue on the day, in the order of that list.
@@ -163,7 +163,7 @@ impl Machine {
     ) -> Result<DueRows<'_>, Memory>
         ensures { IfOk result (λ rows. AreOverdueRows self.now day days rows) }
     {
-        self.parts.due_rows(alloc, Selection::Overdue(day, days))
+        self.parts.due_rows(alloc, &Selection::Overdue(day, days))
     }
 
     /// What is told of all entries, row by row, by run, then record.

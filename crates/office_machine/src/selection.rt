@@ -18,22 +18,22 @@ pub(crate) enum Selection {
 
 impl Selection {
     /// Whether it has the record, which is here and has that due day.
-    fn selects_due(self, tree: &Tree, record_no: RecordNo, due: DueDay) -> bool
+    fn selects_due(&self, tree: &Tree, record_no: RecordNo, due: DueDay) -> bool
         requires { IsTrue (has_record tree.now record_no) }
-        ensures { result ≡ selects_due self tree.now record_no due }
+        ensures { result ≡ selects_due self.now tree.now record_no due }
     {
         match self {
-            Selection::Due(day) => due.reached(day),
+            Selection::Due(day) => due.reached(*day),
             Selection::Overdue(day, days) => {
-                deadline(due, days).passed(day) && !tree.counts(record_no)
+                deadline(due, *days).passed(*day) && !tree.counts(record_no)
             }
         }
     }
 
     /// The due day of a record that it has.
-    pub(crate) fn due_selected(self, tree: &Tree, record_no: RecordNo) -> Option<DueDay>
+    pub(crate) fn due_selected(&self, tree: &Tree, record_no: RecordNo) -> Option<DueDay>
         requires { IsTrue (has_record tree.now record_no) }
-        ensures { result ≡ due_selected self tree.now record_no }
+        ensures { result ≡ due_selected self.now tree.now record_no }
     {
         if tree.status(record_no) != Status::Here {
             return None;

@@ -2,7 +2,7 @@
 ghost use Rattle.std.specs.Prelude.{◌≡◌, IfOk, false};
 ghost use Rattle.clap.specs.Words.{app_of, new_app, rule_of, with_subcommand};
 ghost use Rattle.clap.specs.declared.builder.command.Command.TheViews.{out-Command as fields_of};
-ghost use Rattle.office_words.specs.Command.{office_app, operand, with_csv_commands, with_file_commands, with_operands, with_plain_commands, with_run_commands, with_service_command};
+ghost use Rattle.office_words.specs.Command.{office_app, operand, with_csv_commands, with_file_commands, with_operands, with_plain_commands, with_registers, with_run_commands, with_service_command};
 
 use clap::{Arg, Command};
 use std::alloc::{AllocError, Global};
@@ -163,31 +163,11 @@ fn with_run_commands<'a>(alloc: Global, command: Command<'a>) -> Result<Command<
     )
 }
 
-/// With the commands that take and give texts of CSV.
-#[tactic(auto, unfolding(crate::specs::Command::with_csv_commands))]
-fn with_csv_commands<'a>(alloc: Global, command: Command<'a>) -> Result<Command<'a>, AllocError>
-    ensures { IfOk result (λ c. app_of c ≡ with_csv_commands (app_of command.entry)) }
+/// With the commands that write registers as CSV.
+#[tactic(auto, unfolding(crate::specs::Command::with_registers))]
+fn with_registers<'a>(alloc: Global, command: Command<'a>) -> Result<Command<'a>, AllocError>
+    ensures { IfOk result (λ c. app_of c ≡ with_registers (app_of command.entry)) }
 {
-    let command = with_command(
-        alloc,
-        command,
-        "import",
-        "Adds the records of a CSV file, one after another",
-        &[
-            Operand {
-                name: "FILE",
-                help: "The office's file",
-            },
-            Operand {
-                name: "DAY",
-                help: "The day on which they are added, as 2017-06-30",
-            },
-            Operand {
-                name: "CSV",
-                help: "A file of ref, title, originated, aggregation, class, schedule, content",
-            },
-        ],
-    )?;
     let command = with_command(
         alloc,
         command,
@@ -224,6 +204,34 @@ fn with_csv_commands<'a>(alloc: Global, command: Command<'a>) -> Result<Command<
             },
         ],
     )
+}
+
+/// With the commands that take and give texts of CSV.
+#[tactic(auto, unfolding(crate::specs::Command::with_csv_commands))]
+fn with_csv_commands<'a>(alloc: Global, command: Command<'a>) -> Result<Command<'a>, AllocError>
+    ensures { IfOk result (λ c. app_of c ≡ with_csv_commands (app_of command.entry)) }
+{
+    let command = with_command(
+        alloc,
+        command,
+        "import",
+        "Adds the records of a CSV file, one after another",
+        &[
+            Operand {
+                name: "FILE",
+                help: "The office's file",
+            },
+            Operand {
+                name: "DAY",
+                help: "The day on which they are added, as 2017-06-30",
+            },
+            Operand {
+                name: "CSV",
+                help: "A file of ref, title, originated, aggregation, class, schedule, content",
+            },
+        ],
+    )?;
+    with_registers(alloc, command)
 }
 
 /// With the command that answers requests to that office.

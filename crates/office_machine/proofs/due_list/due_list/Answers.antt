@@ -13,5 +13,5 @@ returns c =
     ∙ ap (λ left. list ++ values_of left) (sym none)
     ∙ c.loop-record_no.invariant
     ∙ ap values_of (c.into_iter-record_no-iterator.ensures.into_iter_gives ∙ c.iter-record_no-items.ensures.rest) in
-    subst (IsSelectedList c.args.selection c.args.tree.now) (sym same)
-    (selected_numbers c.args.selection c.args.tree.now c.in_ok-pairs.pairs.keys c.in_ok-pairs.ensures c.iter-record_no-items.ensures.ordered)
+    subst (IsSelectedList c.args.selection.now c.args.tree.now) (sym same)
+    (selected_numbers c.args.selection.now c.args.tree.now c.in_ok-pairs.pairs.keys c.in_ok-pairs.ensures c.iter-record_no-items.ensures.ordered)

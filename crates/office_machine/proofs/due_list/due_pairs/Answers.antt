@@ -7,7 +7,7 @@ use Rattle.office_machine.proofs.due_list.due_pairs.Goals.{in-Some+in_ok-insert,
 
 pub loop-before-preserved : goal.loop-before-preserved
 loop-before-preserved c =
-    let here = due_selected c.args.selection c.args.tree.now in
+    let here = due_selected c.args.selection.now c.args.tree.now in
     let n = c.loop-before.before in
     let had = contains pair_cmp c.loop-before.pairs in
     elim c.match-due_selected.branch [
@@ -22,4 +22,4 @@ loop-before-preserved c =
 pub returns : goal.returns
 returns c =
     let all : c.loop-before.before ≡ length c.args.tree.now.records = omega (arith, c.loop-before-test.false, c.loop-before.auto.before-end, c.record_count-before-end.ensures.count) in
-    found_all c.args.selection c.args.tree.now c.loop-before.before c.loop-before.pairs all c.loop-before.invariant
+    found_all c.args.selection.now c.args.tree.now c.loop-before.before c.loop-before.pairs all c.loop-before.invariant
