@@ -30,7 +30,10 @@ VIEWS = {
     "holds": ("#holds?code=Q-2020-17", "/web/texts/en.json"),
     "fault": ("#fault", "/web/texts/en.json"),
 }
-WAIT = 6.0
+# so many seconds Firefox has to ask for that path, and then to draw what came
+MOST, WAIT = 90, 5.0
+# a picture without the view is of some 20,000 bytes
+LEAST = 50_000
 
 
 class Between(http.server.BaseHTTPRequestHandler):
@@ -38,11 +41,15 @@ class Between(http.server.BaseHTTPRequestHandler):
 
     proxy: Proxy
     seen: list[str] = []
+    wanted = ""
     lock = threading.Lock()
 
     def do_GET(self) -> None:
         Between.seen.append(self.path)
         if self.path.startswith("/late"):
+            until = time.time() + MOST
+            while Between.wanted not in Between.seen and time.time() < until:
+                time.sleep(0.2)
             time.sleep(WAIT)
             return self.give(404, {}, b"")
         with Between.lock:
@@ -107,6 +114,7 @@ def tell(proxy: Proxy, folder: pathlib.Path, place: pathlib.Path | None) -> None
     try:
         for name, (address, path) in VIEWS.items():
             Between.seen.clear()
+            Between.wanted = path
             picture = (place or folder) / f"firefox-{name}.png"
             shot(f"http://localhost:{server.server_port}/web/{address}", picture, 1280, 900)
             judge(f"Firefox: {name}: it asks for what it shows", path in Between.seen, str(Between.seen))
@@ -114,7 +122,7 @@ def tell(proxy: Proxy, folder: pathlib.Path, place: pathlib.Path | None) -> None
             if picture.exists():
                 judge(
                     f"Firefox: {name}: something is on it",
-                    picture.stat().st_size > 12000,
+                    picture.stat().st_size > LEAST,
                     str(picture.stat().st_size),
                 )
     finally:
