@@ -35,7 +35,10 @@ VIEWS = {
     "import": ("#import", "/web/texts/en.json"),
     "fault": ("#fault", "/web/texts/en.json"),
 }
-WAIT = 6.0
+# so many seconds Firefox has to ask for that path, and then to draw what came
+MOST, WAIT = 90, 5.0
+# a picture without the view is of some 20,000 bytes
+LEAST = 50_000
 
 
 class Between(http.server.BaseHTTPRequestHandler):
@@ -43,11 +46,15 @@ class Between(http.server.BaseHTTPRequestHandler):
 
     proxy: Proxy
     seen: list[str] = []
+    wanted = ""
     lock = threading.Lock()
 
     def do_GET(self) -> None:
         Between.seen.append(self.path)
         if self.path.startswith("/late"):
+            until = time.time() + MOST
+            while Between.wanted not in Between.seen and time.time() < until:
+                time.sleep(0.2)
             time.sleep(WAIT)
             return self.give(404, {}, b"")
         with Between.lock:
@@ -112,6 +119,7 @@ def tell(proxy: Proxy, folder: pathlib.Path) -> None:
     try:
         for name, (address, path) in VIEWS.items():
             Between.seen.clear()
+            Between.wanted = path
             picture = (shots.PLACE or folder) / f"firefox-{name}.png"
             shot(f"http://localhost:{server.server_port}/web/{address}", picture, 1280, 900)
             judge(f"Firefox: {name}: it asks for what it shows", path in Between.seen, str(Between.seen))
@@ -119,7 +127,7 @@ def tell(proxy: Proxy, folder: pathlib.Path) -> None:
             if picture.exists():
                 judge(
                     f"Firefox: {name}: something is on it",
-                    picture.stat().st_size > 12000,
+                    picture.stat().st_size > LEAST,
                     str(picture.stat().st_size),
                 )
     finally:
