@@ -38,7 +38,7 @@ VIEWS = {
 # so many seconds Firefox has to ask for that path, and then to draw what came
 MOST, WAIT = 90, 5.0
 # a picture without the view is of some 20,000 bytes
-LEAST = 50_000
+LEAST = 32_000
 
 
 class Between(http.server.BaseHTTPRequestHandler):
