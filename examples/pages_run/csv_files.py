@@ -1,4 +1,4 @@
-"""docs/CSV.md: an import, and both registers of the office that it went into."""
+"""docs/CSV.md: an import, and the registers of the office that it went into."""
 from collections.abc import Callable
 
 from pages_run.expected import Row, run_page
@@ -7,6 +7,7 @@ from pages_run.shell import Shell
 
 PAGE = "docs/CSV.md"
 DUE = "record,ref,class,schedule,action,due,held,confirmed"
+OVERDUE = "record,ref,class,schedule,action,due,deadline,held"
 ENTRIES = "run,record,ref,outcome,class,schedule,due,hold,confirmed_by,length,digest"
 
 
@@ -22,7 +23,7 @@ def has(name: str, columns: str, table: str) -> Callable[[Shell], None]:
     return look
 
 
-# each record of this office is due on that day
+# each record of this office is due on that day, and overdue once thirty days are over
 ROWS = [
     Row("./office apply letters.db examples/import/office.json"),
     Row("./office import letters.db 2024-01-02 examples/import/letters.csv"),
@@ -30,6 +31,8 @@ ROWS = [
     Row("./office import letters.db 2024-01-02 records.csv"),
     Row("./office export letters.db 2027-06-01 > due.csv", prints="", then=has("due.csv", DUE, "records")),
     Row("./office export letters.db entries > entries.csv", prints="", then=has("entries.csv", ENTRIES, "entries")),
+    Row("./office overdue letters.db 2027-07-02 30 > overdue.csv", prints="",
+        then=has("overdue.csv", OVERDUE, "records")),
 ]
 
 
