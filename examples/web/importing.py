@@ -39,10 +39,11 @@ import("/web/sheet/turning.js").then(({ turned }) => import("/web/cases/turned.j
   .then(({ outcomeOf }) => done(cases.map((it) => outcomeOf(turned, it))))).catch((why) => done(String(why)));
 """
 
-# each request waits for a second before it is sent
-SLOW = """
+# each request waits until it is let go
+HELD = """
 const there = window.fetch;
-window.fetch = async (...words) => { await new Promise((then) => setTimeout(then, 1000)); return there(...words); };
+const free = new Promise((then) => { window.letGo = then; });
+window.fetch = async (...words) => { await free; return there(...words); };
 """
 
 
@@ -253,13 +254,15 @@ def halted(view: View) -> None:
     lines = [f"H/{number},Letter,2021-06-05,1" for number in range(150)]
     view.choose("halted.csv", "\n".join(["ref,title,originated,aggregation", *lines]).encode())
     same("150 rows make two requests", view.totals()["requests"], 2)
-    it.driver.execute_script(SLOW)
+    it.driver.execute_script(HELD)
     before = view.story.posted()
     it.one("#import-submit").click()
     it.wait(it.one("#import-stop").is_displayed, "it cannot be stopped")
     held = "return ['drop', 'columns'].every((it) => document.getElementById(`import-${it}`).closest('[inert]'))"
     judge("while it is at work nothing else can be done", it.driver.execute_script(held))
-    it.press("#import-stop")
+    it.one("#import-stop").click()
+    it.driver.execute_script("window.letGo()")
+    it.settled()
     same("it stops after the request that is under way", view.story.posted() - before, 1)
     same("what was not sent is said", view.counts(), {"added": "100", "left": "50"})
     says("and that it can be sent", it.seen("#import-send-outcome"), FILING["retry"])
