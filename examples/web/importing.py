@@ -42,8 +42,9 @@ import("/web/sheet/turning.js").then(({ turned }) => import("/web/cases/turned.j
 
 # each request waits until it is let go
 HELD = """
-const there = window.fetch, held = new Promise((then) => { window.letGo = then; });
-window.fetch = async (...words) => { await held; return there(...words); };
+const there = window.fetch;
+const free = new Promise((then) => { window.letGo = then; });
+window.fetch = async (...words) => { await free; return there(...words); };
 """
 
 
@@ -258,10 +259,10 @@ def halted(view: View) -> None:
     before = view.story.posted()
     it.one("#import-submit").click()
     it.wait(it.one("#import-stop").is_displayed, "it cannot be stopped")
-    inert = "return ['drop', 'columns'].every((it) => document.getElementById(`import-${it}`).closest('[inert]'))"
-    judge("while it is at work nothing else can be done", it.driver.execute_script(inert))
+    held = "return ['drop', 'columns'].every((it) => document.getElementById(`import-${it}`).closest('[inert]'))"
+    judge("while it is at work nothing else can be done", it.driver.execute_script(held))
     it.one("#import-stop").click()
-    it.driver.execute_script("letGo()")
+    it.driver.execute_script("window.letGo()")
     it.settled()
     same("it stops after the request that is under way", view.story.posted() - before, 1)
     same("what was not sent is said", view.counts(), {"added": "100", "left": "50"})
