@@ -114,6 +114,9 @@ def judge_looks(trial: Trial) -> None:
     done = trial.run("clone/office due years", SAYS="rt: the sources do not compile\nrun=none proved=no\n", STATUS="2")
     judge("a look that does not end says so", done.status == 2 and "rt: the sources" in done.err
           and done.err.endswith("./office build makes the program\n"), f"{done}")
+    done = trial.run("clone/office package")
+    judge("package says to build first", done == (2, "", "office: there is no program yet: run ./office build first\n"),
+          f"{done}")
     judge("a look builds nothing", not list((trial.top / "crates").glob("*/out")))
 
 
