@@ -6,7 +6,7 @@ import subprocess
 from typing import NamedTuple
 
 # what an administrator's machine has, and the office needs: see the package's fields
-PACKAGES = "adduser,sqlite3,systemd,curl"
+PACKAGES = "adduser,sqlite3,systemd"
 # processes, network and mounts of its own
 SPACE = ["unshare", "--mount", "--net", "--pid", "--fork", "--kill-child", "--mount-proc"]
 SECONDS = 300
@@ -45,10 +45,9 @@ class Machine:
 
     def run(self, command: str) -> Done:
         """Runs a command of bash there as root, as if the machine had nothing but loopback."""
-        inside = "mount -t proc proc /proc; ip link set lo up 2>/dev/null; " + command
-        outside = f'chroot "{self.top}" /bin/bash -c "$1"'
-        return run([*SPACE, "bash", "-c", f"ip link set lo up; {outside}", "-", inside],
-                   PATH="/usr/sbin:/usr/bin:/sbin:/bin", HOME="/root", DEBIAN_FRONTEND="noninteractive")
+        env = "/usr/bin/env -i PATH=/usr/sbin:/usr/bin:/sbin:/bin HOME=/root LC_ALL=C DEBIAN_FRONTEND=noninteractive"
+        outside = f'ip link set lo up; exec chroot "{self.top}" {env} /bin/bash -c "$1"'
+        return run([*SPACE, "bash", "-c", outside, "-", f"mount -t proc proc /proc; {command}"])
 
     def put(self, file: pathlib.Path, to: str) -> None:
         (self.top / to.strip("/")).parent.mkdir(parents=True, exist_ok=True)

@@ -2,6 +2,7 @@
 import os
 import pathlib
 import re
+import shutil
 import subprocess
 
 from making import staging
@@ -11,11 +12,13 @@ from trying.machine import run
 
 PROGRAM = pathlib.Path(os.environ.get("OFFICE", TOP / "crates/office/out/office")).resolve()
 MAKE = TOP / "examples/package/make"
+# who makes it, in each trial
+BY = {"DEBFULLNAME": "Office of the trial", "DEBEMAIL": "office@trial.example"}
 
 
 def make(place: pathlib.Path, changelog: pathlib.Path | None = None) -> pathlib.Path:
     """Makes the package in a folder, and gives its file."""
-    done = run([MAKE, PROGRAM, "package", place], **({"CHANGELOG": str(changelog)} if changelog else {}))
+    done = run([MAKE, PROGRAM, "package", place], **BY, **({"CHANGELOG": str(changelog)} if changelog else {}))
     if done.status:
         raise SystemExit(f"no package was made:\n{done.err}")
     return pathlib.Path(done.out.strip())
@@ -85,13 +88,37 @@ def tree(top: pathlib.Path) -> dict[str, tuple[int, bytes]]:
     return {str(it.relative_to(top)): (it.stat().st_mode & 0o777, it.read_bytes()) for it in files}
 
 
-def judge_installed(top: pathlib.Path, place: pathlib.Path) -> None:
-    """`install` lays out the same files."""
-    to = place / "destination"
+def clone(place: pathlib.Path) -> pathlib.Path:
+    """The launcher of a clone in which the program was built. Its sources are one file alone."""
+    top = place / "clone"
+    out = top / "crates/office/out"
+    out.mkdir(parents=True)
+    for name in ("docs", "examples", "web"):
+        shutil.copytree(TOP / name, top / name, ignore=shutil.ignore_patterns("__pycache__"))
+    for name in ("office", "crates.txt", "README.md", "CHANGELOG.md"):
+        shutil.copy(TOP / name, top)
+    shutil.copy(PROGRAM, out / "office")
+    sums = subprocess.run(["cksum", "crates.txt"], cwd=top, check=True, stdout=subprocess.PIPE)
+    (out / "launcher.sources").write_bytes(sums.stdout)
+    return top / "office"
+
+
+def judge_launcher(file: pathlib.Path, top: pathlib.Path, place: pathlib.Path) -> None:
+    """`./office package` makes it, and `./office install` lays out the same files."""
+    launcher, here, to = clone(place), place / "here", place / "destination"
+    here.mkdir()
     to.mkdir()
-    done = run([MAKE, PROGRAM, "install"], DESTDIR=str(to))
-    same = tree(to) == tree(top)
-    judge("install puts the same files into the same places", done.status == 0 and same, done.err)
+    done = run([launcher, "package", here], **BY)
+    made = here / file.name
+    judge("./office package makes the same package", done == (0, f"{made}\n", "")
+          and made.read_bytes() == file.read_bytes(), done)
+    done = run([launcher, "install"], DESTDIR=str(to), **BY)
+    judge("./office install puts the same files into the same places", done.status == 0 and tree(to) == tree(top), done)
+    (launcher.parent / "crates.txt").write_text("changed\n")
+    done = run([launcher, "package", here])
+    judge("after a change of a source it says to build", done.status == 2
+          and done.err == "office: the sources changed since this program was built: run ./office build first\n", done)
+    judge("OPERATING.md names this file", f" ./{file.name}\n" in (TOP / "docs/OPERATING.md").read_text())
 
 
 def refused(name: str, words: list[object], says: str, **env: str) -> None:
@@ -125,5 +152,5 @@ def judge_made(file: pathlib.Path, place: pathlib.Path) -> None:
     judge_lintian(file)
     judge_manual(top)
     judge_completion(top)
-    judge_installed(top, place)
+    judge_launcher(file, top, place)
     judge_refusals(place)

@@ -10,6 +10,10 @@ from trying.machine import Machine
 CITY = "/var/lib/office/city/office.db"
 # as the unit runs it
 AS_OFFICE = "setpriv --reuid office --regid office --clear-groups --no-new-privs"
+# starts the service, and asks it: the body of an answer is its last line
+SERVICE = (f"{AS_OFFICE} office serve {CITY} 8081 100 >/tmp/line & "
+           "until grep -q listening /tmp/line; do sleep 0.1; done; ")
+ASKED = ("exec 3<>/dev/tcp/127.0.0.1/8081; printf 'GET /due/0001-01-01 HTTP/1.0\\r\\n\\r\\n' >&3; tail -n 1 <&3; ")
 UNIT = "/etc/systemd/system/multi-user.target.wants/office@city.service"
 
 
@@ -52,10 +56,7 @@ def judge_used(machine: Machine) -> None:
     story = "/usr/share/doc/office/examples/city_archive"
     done = machine.run(f"{AS_OFFICE} office apply {CITY} {story}/story.json")
     judge("the office of an example is made by the user office", done.out != "" and machine.path(CITY).exists(), done)
-    service = (f"{AS_OFFICE} office serve {CITY} 8081 100 >/tmp/line & "
-               "until grep -q listening /tmp/line; do sleep 0.1; done; ")
-    done = machine.run(service + "curl --silent http://127.0.0.1:8081/due/0001-01-01; "
-                       f"{AS_OFFICE} office-backup {CITY} /var/lib/office-backups/city.db && echo copied")
+    done = machine.run(f"{SERVICE}{ASKED}{AS_OFFICE} office-backup {CITY} /var/lib/office-backups/city.db && echo copied")
     judge("it serves, and is copied meanwhile", done.out == "[]copied\n", done)
     done = machine.run(f"office-restore {CITY} /var/lib/office-backups/city.db && office-compact {CITY} >/dev/null && "
                        f"stat -c '%U %a' {CITY} && sqlite3 {CITY} 'SELECT count(*) FROM records'")
@@ -67,9 +68,10 @@ def judge_used(machine: Machine) -> None:
 def judge_upgraded(machine: Machine, file: pathlib.Path) -> None:
     before = sums(machine)
     machine.put(file, "/root/office.deb")
-    done = machine.run("dpkg -i /root/office.deb")
+    done = machine.run(f"{SERVICE}dpkg -i /root/office.deb && {ASKED}")
     judge("it is upgraded, and says that services go on with the old program", done.status == 0
           and "systemctl restart 'office@*'" in done.out, done)
+    judge("a service that runs answers after it", done.out.endswith("[]"), done)
     says("dpkg has the new version", machine, "dpkg-query -W -f '${Version} ${db:Status-Status}' office",
          "1000.0.0 installed")
     judge("what was made stays as it was", sums(machine) == before and len(before) >= 3, sums(machine))
