@@ -55,7 +55,8 @@ def office(version: str, day: str, scripts: list[str]) -> str:
     lines = [
         f'.TH OFFICE 1 {day} "office {version}" "User Commands"',
         ".SH NAME", "office \\- records disposal office: due days, legal holds, certificates",
-        ".SH SYNOPSIS", *[line for word in words for it in word.calls for line in (call(it), ".br")][:-1],
+        ".SH SYNOPSIS",
+        *[line for word in words for it in word.calls for line in (call(it), ".br")][:-1],
         ".SH DESCRIPTION",
         "\\fBoffice\\fP destroys, reviews or transfers records on the day on which they are due, touches none that is",
         "under a legal hold, and leaves a certificate of what happened. An office is one SQLite file.",
@@ -66,8 +67,8 @@ def office(version: str, day: str, scripts: list[str]) -> str:
         ".SH EXAMPLES", ".EX", *map(plain, EXAMPLE.split("\n")), ".EE",
         ".SH SEE ALSO",
         *[f"\\fB{plain(it)}\\fP(1)," for it in scripts], "and the pages in",
-        "\\fI/usr/share/doc/office/\\fP: README.md, docs/MANAGER.md for a records manager, docs/OPERATING.md for whoever",
-        "runs it, docs/ERRORS.md for what each message means.",
+        "\\fI/usr/share/doc/office/\\fP: README.md, docs/MANAGER.md for a records manager, docs/OPERATING.md for",
+        "whoever runs it, docs/ERRORS.md for what each message means.",
     ]
     return "\n".join(lines) + "\n"
 

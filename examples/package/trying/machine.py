@@ -9,7 +9,8 @@ from typing import NamedTuple
 PACKAGES = "adduser,sqlite3,systemd"
 # processes, network and mounts of its own
 SPACE = ["unshare", "--mount", "--net", "--pid", "--fork", "--kill-child", "--mount-proc"]
-SECONDS = 300
+# a busy machine packs a program in minutes
+SECONDS = 1200
 
 
 class Done(NamedTuple):
@@ -29,8 +30,8 @@ def run(words: list[object], **env: str) -> Done:
 class Machine:
     """A Debian of its own, below a folder. ROOT names a tar that mmdebstrap made before, in place of a new one."""
 
-    def __init__(self, place: pathlib.Path) -> None:
-        self.top = place / "machine"
+    def __init__(self, top: pathlib.Path) -> None:
+        self.top = top
         made = os.environ.get("ROOT")
         if made:
             self.top.mkdir()

@@ -56,7 +56,8 @@ def judge_used(machine: Machine) -> None:
     story = "/usr/share/doc/office/examples/city_archive"
     done = machine.run(f"{AS_OFFICE} office apply {CITY} {story}/story.json")
     judge("the office of an example is made by the user office", done.out != "" and machine.path(CITY).exists(), done)
-    done = machine.run(f"{SERVICE}{ASKED}{AS_OFFICE} office-backup {CITY} /var/lib/office-backups/city.db && echo copied")
+    done = machine.run(f"{SERVICE}{ASKED}"
+                       f"{AS_OFFICE} office-backup {CITY} /var/lib/office-backups/city.db && echo copied")
     judge("it serves, and is copied meanwhile", done.out == "[]copied\n", done)
     done = machine.run(f"office-restore {CITY} /var/lib/office-backups/city.db && office-compact {CITY} >/dev/null && "
                        f"stat -c '%U %a' {CITY} && sqlite3 {CITY} 'SELECT count(*) FROM records'")
