@@ -1,9 +1,11 @@
 #!/usr/bin/env python3
-"""Both registers of an office's file, by Python's csv and sqlite3, of the records that `make` gives it.
+"""The registers of an office's file, by Python's csv and sqlite3, of the records that `make` gives it.
 
 export_registers.py make FOLDER COUNT  the acts after which an office of COUNT records, as save_records.py writes it, has all of them
-                                       confirmed and each tenth held, as far as one hold can have targets (held.json), and those that open a run (run.json)
+                                       confirmed and each tenth held, as far as one hold can have targets (held.json), those that leave each second record
+                                       without a confirmation (half.json), and those that open a run (run.json)
 export_registers.py due FILE DAY       what is due on DAY; each schedule begins with the day of addition and takes years
+export_registers.py overdue FILE DAY COUNT  what is overdue on DAY, so many days after the due day
 export_registers.py entries FILE       the entries of all runs
 """
 import csv
@@ -19,8 +21,9 @@ DAY = "2025-01-02"
 def make(folder, count):
     acts = [{"act": "place-hold", "day": DAY, "code": "H", "reason": "a suit", "by": "counsel"}]
     acts += [{"act": "hold-on", "day": DAY, "hold": "H", "target": f"record:{number}"} for number in range(10, count + 1, 10)][:1000]
-    acts += [{"act": "confirm", "day": DAY, "record": number, "action": "destroy", "by": "registrar"} for number in range(1, count + 1)]
-    for name, them in (("held", acts), ("run", [{"act": "open-run", "day": DAY, "by": "registrar"}])):
+    confirms = [{"act": "confirm", "day": DAY, "record": number, "action": "destroy", "by": "registrar"} for number in range(1, count + 1)]
+    run = [{"act": "open-run", "day": DAY, "by": "registrar"}]
+    for name, them in (("held", acts + confirms), ("half", acts + confirms[::2]), ("run", run)):
         with open(f"{folder}/{name}.json", "w", encoding="utf-8") as out:
             json.dump(them, out)
 
@@ -37,8 +40,8 @@ def named(day):
     return (EPOCH + datetime.timedelta(days=day)).isoformat()
 
 
-def due(conn, day):
-    until = (datetime.date.fromisoformat(day) - EPOCH).days
+def rows_here(conn):
+    """Of each record that is here: due day, number, ref, class, schedule, action, hold, and whether its confirmation counts."""
     rules = {code: (span, action) for code, span, action in conn.execute("SELECT code, span, disposal FROM schedules2")}
     plans = dict(conn.execute("SELECT code, schedule FROM classes"))
     homes = dict(conn.execute("SELECT num, class FROM aggregations"))
@@ -52,13 +55,28 @@ def due(conn, day):
         group = own or homes[home]
         plan = plan or plans[group]
         reached = years_later(added, rules[plan][0])
-        if reached <= until:
-            counts = action == rules[plan][1] and when == reached
-            rows.append((reached, number, ref, group, plan, rules[plan][1], held.get(number, ""), "yes" if counts else "no"))
+        counts = action == rules[plan][1] and when == reached
+        rows.append((reached, number, ref, group, plan, rules[plan][1], held.get(number, ""), counts))
     rows.sort()
+    return rows
+
+
+def due(conn, day):
+    until = (datetime.date.fromisoformat(day) - EPOCH).days
     out = csv.writer(sys.stdout, lineterminator="\n")
     out.writerow(["record", "ref", "class", "schedule", "action", "due", "held", "confirmed"])
-    out.writerows((number, ref, group, plan, action, named(reached), hold, counts) for reached, number, ref, group, plan, action, hold, counts in rows)
+    for reached, number, ref, group, plan, action, hold, counts in rows_here(conn):
+        if reached <= until:
+            out.writerow((number, ref, group, plan, action, named(reached), hold, "yes" if counts else "no"))
+
+
+def overdue(conn, day, days):
+    before = (datetime.date.fromisoformat(day) - EPOCH).days
+    out = csv.writer(sys.stdout, lineterminator="\n")
+    out.writerow(["record", "ref", "class", "schedule", "action", "due", "deadline", "held"])
+    for reached, number, ref, group, plan, action, hold, counts in rows_here(conn):
+        if reached + days < before and not counts:
+            out.writerow((number, ref, group, plan, action, named(reached), named(reached + days), hold))
 
 
 def entries(conn):
@@ -75,5 +93,7 @@ if __name__ == "__main__":
         make(sys.argv[2], int(sys.argv[3]))
     elif sys.argv[1] == "due":
         due(sqlite3.connect(sys.argv[2]), sys.argv[3])
+    elif sys.argv[1] == "overdue":
+        overdue(sqlite3.connect(sys.argv[2]), sys.argv[3], int(sys.argv[4]))
     else:
         entries(sqlite3.connect(sys.argv[2]))

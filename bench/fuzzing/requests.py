@@ -15,7 +15,7 @@ WORDS = "keep review transfer destroy origin added closed last-addition event da
 OFTEN = {"lift-hold": 0.15, "close-aggregation": 0.2, "confirm": 3, "receipt": 2, "event": 2, "hold-on": 2, "open-run": 0.7}
 METHODS = [b"GET", b"POST", b"HEAD", b"PUT", b"DELETE", b"OPTIONS", b"PATCH", b"TRACE", b"CONNECT", b"get", b"Post", b"M-SEARCH", b"X" * 300, b"!"]
 STRANGE_PATHS = [b"/", b"*", b"/act", b"/acts/", b"//acts", b"/acts/1", b"/run", b"/run/resume/", b"/records", b"/records/", b"/records//content",
-                 b"/records/1/", b"/records/1/contents", b"/due/", b"/due", b"/certificates/", b"http://localhost/acts", b"localhost:80",
+                 b"/records/1/", b"/records/1/contents", b"/due/", b"/due", b"/overdue", b"/overdue/2024-02-29", b"/overdue/2024-02-29/30/", b"/certificates/", b"http://localhost/acts", b"localhost:80",
                  b"/RECORDS/1", b"/records/1/content/x", b"/%61cts", b"/./acts", b"/records/../acts"]
 SEGMENTS = [b"0", b"01", b"-1", b"+1", b"1.0", b"1e0", b"4294967295", b"4294967296", b"99999999999999999999", b"%31", b"\xc3\xa9", b"\xff", b"1?",
             b"1?x=1", b"1#x", b"content", b"2024-02-29", b"2023-02-29", b"0000-01-01", b"0001-01-01", b"2999-12-31", b"3000-01-01", b"2024-1-1",
@@ -167,6 +167,9 @@ class Maker:
         count = self.pick([1, 1, 1, 1, 2, 3, self.random.randint(0, 12)])
         return [self.act(it) for it in self.random.choices(list(ACTS), [OFTEN.get(it, 1) for it in ACTS], k=count)]
 
+    def count_text(self):
+        return self.pick([b"0", b"1", b"30", b"030", b"365", b"3650", b"3651", b"%d" % self.random.randint(0, 4_000)])
+
     def seed(self):
         office, kind = self.office, self.random.random()
         if kind < 0.55:
@@ -177,7 +180,8 @@ class Maker:
             return Draft(self.pick(METHODS), self.pick(STRANGE_PATHS + [b"/acts", b"/run/resume", b"/records/1"]))
         segment, form = self.pick([
             (b"%d" % self.number(office.records), b"/records/%s"), (b"%d" % self.number(office.records), b"/records/%s/content"),
-            (self.day().encode(), b"/due/%s"), (b"%d" % self.number(office.runs), b"/certificates/%s")])
+            (self.day().encode(), b"/due/%s"), (b"%d" % self.number(office.runs), b"/certificates/%s"),
+            (self.day().encode(), b"/overdue/%%s/%s" % self.count_text()), (self.count_text(), b"/overdue/%s/%%s" % self.day().encode())])
         return Draft(b"GET", form % (self.pick(SEGMENTS) if self.random.random() < 0.2 else segment))
 
     # ---- changes of the parts

@@ -132,6 +132,21 @@ class Office(Runs):
         rows = sorted(((self.due_of(it), it["number"]) for it in self.records if it["status"] == "here" and self.is_due(it, day)))
         return [self.due_row(self.records[number - 1], due) for due, number in rows]
 
+    def overdue_rows(self, day, days):
+        """What is here, was to be confirmed so many days after its due day, before the day, and is not."""
+        rows = []
+        for it in self.records:
+            due = self.due_of(it) if it["status"] == "here" and not self.counts(it) else None
+            if due is not None:
+                late = (datetime.date.fromisoformat(due) + datetime.timedelta(days=days)).isoformat()
+                rows += [(late, it["number"], due)] if late < day else []
+        return [self.overdue_row(self.records[number - 1], due, late) for late, number, due in sorted(rows)]
+
+    def overdue_row(self, record, due, late):
+        row = {**self.due_row(record, due), "deadline": late}
+        del row["confirmed"]
+        return row
+
     def due_row(self, record, due):
         return {
             "action": self.action_of(record), "class": self.class_of(record), "confirmed": self.counts(record), "due": due,

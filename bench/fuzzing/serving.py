@@ -12,7 +12,7 @@ from fuzzing.wire import Asked
 ROUND = 10_000
 # at one `serve`, which takes 1,000,000 connections at most
 AT_ONCE = 500_000
-SAMPLE = 71
+SAMPLE = 74
 
 
 class Diverged(Exception):
@@ -68,6 +68,7 @@ def sample(random, office):
     numbers = [1, last, last + 1, *(random.randint(1, last) for _ in range(30))]
     found = [path % it for it in numbers for path in ("/records/%d", "/records/%d/content")]
     found += [f"/certificates/{it}" for it in (1, runs, runs + 1)] + [f"/due/{it}" for it in (LAST, "2999-12-31")]
+    found += [f"/overdue/{it}" for it in (f"{LAST}/0", f"{LAST}/30", "2999-12-31/3650")]
     return [f"GET {path} HTTP/1.1\r\nHost: x\r\n\r\n".encode() for path in found]
 
 

@@ -15,7 +15,8 @@ FIELD = rb"%s:[\t\x20-\x7e\x80-\xff]*\r?\n" % TOKEN
 HEAD = re.compile(rb"(?:\r?\n)*(%s) ([^\x00-\x20\x7f]+) HTTP/1\.([01])\r?\n((?:%s)*)\r?\n" % (TOKEN, FIELD))
 PATHS = [(re.compile(form), method, name) for form, method, name in (
     (rb"/acts", b"POST", "acts"), (rb"/run/resume", b"POST", "resume"), (rb"/records/([^/]+)", b"GET", "record"),
-    (rb"/records/([^/]+)/content", b"GET", "content"), (rb"/due/([^/]+)", b"GET", "due"), (rb"/certificates/([^/]+)", b"GET", "certificate"))]
+    (rb"/records/([^/]+)/content", b"GET", "content"), (rb"/due/([^/]+)", b"GET", "due"),
+    (rb"/overdue/([^/]+/[^/]+)", b"GET", "overdue"), (rb"/certificates/([^/]+)", b"GET", "certificate"))]
 
 
 class Refused(Exception):
@@ -347,6 +348,14 @@ class Asked:
     def due_answered(self, office):
         day = self.request.segment.decode()
         return answer(200, compact(office.due_told(day))) if is_day(day) else answer(400, compact({"error": "day"}))
+
+    def overdue_answered(self, office):
+        day, count = self.request.segment.split(b"/")
+        if not is_day(day.decode()):
+            return answer(400, compact({"error": "day"}))
+        if not re.fullmatch(rb"[0-9]+", count) or int(count) > 3_650:
+            return answer(400, compact({"error": "count"}))
+        return answer(200, compact(office.overdue_rows(day.decode(), int(count))))
 
     def certificate_answered(self, office):
         text = office.certificates.get(number_of(self.request.segment))

@@ -127,7 +127,8 @@ fn perform(rt: &HostRuntime, order: &Order<'_>) -> u8 {
         Order::Init { file }
         | Order::Resume { file }
         | Order::Certificate { file, .. }
-        | Order::Export { file, .. } => run_in(rt, file, order, &[]),
+        | Order::Export { file, .. }
+        | Order::Overdue { file, .. } => run_in(rt, file, order, &[]),
         Order::Serve { file, port, count } => ended(rt, serve_in(rt, file, *port, *count)),
         Order::Nothing => ended(rt, Ending::BadWords),
     }

@@ -1,9 +1,9 @@
-//! Due days, day texts and their numbers.
+//! Due days, deadlines, day texts and their numbers.
 use crate::answering::push_refused;
 use crate::rows::word;
 use crate::streams::Narrow;
 use crate::written::push;
-use office_days::{Day, Refusal};
+use office_days::{Day, Deadline, DueDay, Refusal, deadline, read_confirm_days};
 use office_plan::{Io, due_to};
 use std::io::Write;
 
@@ -55,6 +55,19 @@ pub(crate) const ROWS: &str = r"
     day 1970-01-01 = 0
     day 2024-02-29 = 19782
     day 2999-12-31 = 376199
+
+    # deadlines, so many days after the due day of that number; the last that there is; counts that are none
+    deadline 20090 0 = 2025-01-02
+    deadline 20090 30 = 2025-02-01
+    deadline 20090 0003650 = 2034-12-31
+    deadline 559155 3650 = 3510-11-29
+    deadline 20090 3651 = refused 3
+    deadline 20090 99999999999999999999999 = refused 3
+    deadline 20090 -1 = refused 2
+    deadline 20090| = refused 2
+    # its own day is in time, the next is not
+    late 20090 30 2025-02-01 = no
+    late 20090 30 2025-02-02 = yes
 ";
 
 /// Writes the due day that words ask for, or gives its refusal.
@@ -105,6 +118,30 @@ fn tell_day(text: &str, out: &mut Vec<u8>) -> Option<()> {
     }
 }
 
+/// The deadline that a number of a due day and a count ask for.
+fn deadline_asked(ask: &str) -> Option<Result<Deadline, Refusal>> {
+    let due = DueDay::of_number(word(ask, 0).parse().ok()?)?;
+    Some(match read_confirm_days(word(ask, 1)) {
+        Ok(days) => Ok(deadline(due, days)),
+        Err(refusal) => Err(refusal),
+    })
+}
+
+/// The deadline, or the refusal of its count.
+fn tell_deadline(ask: &str, out: &mut Vec<u8>) -> Option<()> {
+    match deadline_asked(ask)? {
+        Ok(deadline) => out.extend_from_slice(&deadline.text()).ok(),
+        Err(refusal) => push_refused(out, refusal),
+    }
+}
+
+/// Whether a deadline is over on a day.
+fn tell_late(ask: &str, out: &mut Vec<u8>) -> Option<()> {
+    let deadline = deadline_asked(ask)?.ok()?;
+    let is_late = deadline.passed(Day::read(word(ask, 2))?);
+    push(out, if is_late { "yes" } else { "no" })
+}
+
 pub(crate) fn tell(word: &str, asked: &[u8], out: &mut Vec<u8>) -> Option<()> {
     let text = str::from_utf8(asked).ok()?;
     match word {
@@ -112,6 +149,8 @@ pub(crate) fn tell(word: &str, asked: &[u8], out: &mut Vec<u8>) -> Option<()> {
         "no-room" => tell_no_room(text, out),
         "writer" => tell_writer(text, out),
         "day" => tell_day(text, out),
+        "deadline" => tell_deadline(text, out),
+        "late" => tell_late(text, out),
         _ => None,
     }
 }

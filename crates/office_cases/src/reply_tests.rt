@@ -33,6 +33,7 @@ pub(crate) const ROWS: &str = r#"
     failure content = 404 in 116 bytes: HTTP/1.1 404 Not Found\r\nContent-Type: application/json\r\nContent-Length: 19\r\nConnection: close\r\n\r\n{"error":"content"}
     failure certificate = 404 in 120 bytes: HTTP/1.1 404 Not Found\r\nContent-Type: application/json\r\nContent-Length: 23\r\nConnection: close\r\n\r\n{"error":"certificate"}
     failure day = 400 in 114 bytes: HTTP/1.1 400 Bad Request\r\nContent-Type: application/json\r\nContent-Length: 15\r\nConnection: close\r\n\r\n{"error":"day"}
+    failure count = 400 in 116 bytes: HTTP/1.1 400 Bad Request\r\nContent-Type: application/json\r\nContent-Length: 17\r\nConnection: close\r\n\r\n{"error":"count"}
 
     # a body of each other kind
     text RUN 1\n = 200 in 104 bytes: HTTP/1.1 200 OK\r\nContent-Type: text/plain; charset=utf-8\r\nContent-Length: 6\r\nConnection: close\r\n\r\nRUN 1\n
@@ -89,6 +90,7 @@ fn failure_of(word: &str) -> Option<Failure> {
         "content" => Some(Failure::Content),
         "certificate" => Some(Failure::Certificate),
         "day" => Some(Failure::Day),
+        "count" => Some(Failure::Count),
         _ => None,
     }
 }

@@ -27,6 +27,11 @@ pub(crate) const HEADS: &str = r"
     plan GET /records/ HTTP/1.1\r\nHost: h\r\n\r\n = Refuse(Path)
     plan GET /records//content HTTP/1.1\r\nHost: h\r\n\r\n = Refuse(Path)
     plan GET /records/1/ HTTP/1.1\r\nHost: h\r\n\r\n = Refuse(Path)
+    plan GET /overdue/2025-02-02 HTTP/1.1\r\nHost: h\r\n\r\n = Refuse(Path)
+    plan GET /overdue/2025-02-02/ HTTP/1.1\r\nHost: h\r\n\r\n = Refuse(Path)
+    plan GET /overdue//30 HTTP/1.1\r\nHost: h\r\n\r\n = Refuse(Path)
+    plan GET /overdue/2025-02-02/30/ HTTP/1.1\r\nHost: h\r\n\r\n = Refuse(Path)
+    plan GET /overdue/2025-02-02/30/1 HTTP/1.1\r\nHost: h\r\n\r\n = Refuse(Path)
     plan GET /records/1/content/ HTTP/1.1\r\nHost: h\r\n\r\n = Refuse(Path)
     plan GET /Records/1 HTTP/1.1\r\nHost: h\r\n\r\n = Refuse(Path)
 
@@ -36,6 +41,8 @@ pub(crate) const HEADS: &str = r"
     plan post /acts HTTP/1.1\r\nHost: h\r\n\r\n = Refuse(NotPost)
     plan POST /records/01 HTTP/1.1\r\nHost: h\r\n\r\n = Refuse(NotGet)
     plan HEAD /due/never HTTP/1.1\r\nHost: h\r\n\r\n = Refuse(NotGet)
+    plan HEAD /overdue/never/many HTTP/1.1\r\nHost: h\r\n\r\n = Refuse(NotGet)
+    plan POST /overdue/2025-02-02/30 HTTP/1.1\r\nHost: h\r\nContent-Length: 2\r\n\r\n = Refuse(NotGet)
 
     # bodies that are not read
     plan POST /acts HTTP/1.1\r\nHost: h\r\nTransfer-Encoding: chunked\r\nContent-Length: 5\r\n\r\n = Refuse(TransferCoding)
@@ -65,6 +72,18 @@ pub(crate) const HEADS: &str = r"
     plan GET /due/2024-02-29 HTTP/1.1\r\nHost: h\r\n\r\n = Serve(Due(Some(Day { number: 19782 })))
     plan GET /due/2023-02-29 HTTP/1.1\r\nHost: h\r\n\r\n = Serve(Due(None))
     plan GET /due/%32024-02-29 HTTP/1.1\r\nHost: h\r\n\r\n = Serve(Due(None))
+
+    # days of paths, and the days to confirm
+    plan GET /overdue/2024-02-29/30 HTTP/1.1\r\nHost: h\r\n\r\n = Serve(Overdue(Some(Day { number: 19782 }), Some(ConfirmDays { count: 30 })))
+    plan GET /overdue/2024-02-29/030 HTTP/1.1\r\nHost: h\r\n\r\n = Serve(Overdue(Some(Day { number: 19782 }), Some(ConfirmDays { count: 30 })))
+    plan GET /overdue/2024-02-29/0 HTTP/1.1\r\nHost: h\r\n\r\n = Serve(Overdue(Some(Day { number: 19782 }), Some(ConfirmDays { count: 0 })))
+    plan GET /overdue/2024-02-29/3650 HTTP/1.1\r\nHost: h\r\n\r\n = Serve(Overdue(Some(Day { number: 19782 }), Some(ConfirmDays { count: 3650 })))
+    plan GET /overdue/2024-02-29/3651 HTTP/1.1\r\nHost: h\r\n\r\n = Serve(Overdue(Some(Day { number: 19782 }), None))
+    plan GET /overdue/2024-02-29/99999999999999999999999 HTTP/1.1\r\nHost: h\r\n\r\n = Serve(Overdue(Some(Day { number: 19782 }), None))
+    plan GET /overdue/2024-02-29/+30 HTTP/1.1\r\nHost: h\r\n\r\n = Serve(Overdue(Some(Day { number: 19782 }), None))
+    plan GET /overdue/2024-02-29/%330 HTTP/1.1\r\nHost: h\r\n\r\n = Serve(Overdue(Some(Day { number: 19782 }), None))
+    plan GET /overdue/2023-02-29/30 HTTP/1.1\r\nHost: h\r\n\r\n = Serve(Overdue(None, Some(ConfirmDays { count: 30 })))
+    plan GET /overdue/30/2024-02-29 HTTP/1.1\r\nHost: h\r\n\r\n = Serve(Overdue(None, None))
 
     # fields that do not matter
     plan POST /run/resume HTTP/1.1\r\nHost: h\r\nTransfer-Encoding: chunked\r\n\r\n = Serve(Resume)

@@ -23,6 +23,9 @@ pub(crate) const ROWS: &str = "
     words office import office.db 2024-01-02 letters.csv = import 2024-01-02 office.db letters.csv
     words office export office.db entries = export entries office.db
     words office export office.db 2025-01-02 = export 2025-01-02 office.db
+    words office overdue office.db 2025-02-02 30 = overdue 2025-02-02 30 office.db
+    words office overdue office.db 0001-01-01 0 = overdue 0001-01-01 0 office.db
+    words office overdue office.db 2999-12-31 03650 = overdue 2999-12-31 3650 office.db
     words office serve office.db 65535 1000000 = serve 65535 1000000 office.db
 
     # words that are no command
@@ -44,6 +47,20 @@ pub(crate) const ROWS: &str = "
     words office|export|office.db| = refused 2
     words office export office.db entries 2025-01-02 = UnknownArgument
     words office export office.db = MissingRequiredArgument
+
+    # days of no confirmation
+    words office overdue office.db 2025-2-2 30 = refused 2
+    words office|overdue|office.db||30 = refused 2
+    words office overdue office.db 3000-01-01 30 = refused 2
+    words office overdue office.db 2025-02-02 many = refused 2
+    words office overdue office.db 2025-02-02 +30 = refused 2
+    words office|overdue|office.db|2025-02-02| = refused 2
+    words office overdue office.db 30 2025-02-02 = refused 2
+    words office overdue office.db 2025-1-1 4000 = refused 2
+    words office overdue office.db 2025-02-02 3651 = refused 3
+    words office overdue office.db 2025-02-02 99999999999999999999999 = refused 3
+    words office overdue office.db 2025-02-02 = MissingRequiredArgument
+    words office overdue office.db 2025-02-02 30 31 = UnknownArgument
 
     # numbers of no run
     words office|certificate|office.db| = refused 2
@@ -82,6 +99,10 @@ fn tell_register(register: &Register, out: &mut Vec<u8>) -> Option<()> {
     match register {
         Register::Entries => push(out, "entries"),
         Register::Due(day) => push_day(out, *day),
+        Register::Overdue(day, days) => {
+            push_day(out, *day)?;
+            write!(out, " {}", days.count()).ok()
+        }
     }
 }
 
@@ -108,6 +129,9 @@ fn tell_order(order: &Order<'_>, out: &mut Vec<u8>) -> Option<()> {
             .and(push_all(out, &["", file, csv])),
         Order::Export { file, register } => push(out, "export ")
             .and(tell_register(register, out))
+            .and(push_all(out, &["", file])),
+        Order::Overdue { file, day, days } => push(out, "overdue ")
+            .and(tell_register(&Register::Overdue(*day, *days), out))
             .and(push_all(out, &["", file])),
         Order::Serve { file, port, count } => {
             write!(out, "serve {port} {count}")

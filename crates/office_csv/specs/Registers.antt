@@ -1,4 +1,4 @@
--- The registers as CSV: what is due on a day, and the entries of all runs. Source: RFC 4180, its fields and their quoting; that a
+-- The registers as CSV: what is due on a day, what is overdue on it, and the entries of all runs. Source: RFC 4180, its fields and their quoting; that a
 -- line ends with a line feed alone, and the columns, are own.
 use Rattle.std.specs.Prelude.{ℕ, ℤ, Bool, true, false, List, [], ◌∷◌, ◌++◌, codes}
 use Rattle.std.specs.Fmt.{decimal}
@@ -7,6 +7,7 @@ use Rattle.std.specs.Option.{unwrap_or}
 use Rattle.csv.specs.Writing.{default_writer, row_text}
 use Rattle.hex.specs.Hex.{encode_lower}
 use Rattle.office_days.specs.Calendar.{civil}
+use Rattle.office_days.specs.Due.{deadline_from}
 use Rattle.office_days.specs.Texts.{day_text}
 use Rattle.office_tree.specs.Words.{action_word}
 use Rattle.office_proof.specs.Outcomes.{outcome_word}
@@ -44,6 +45,26 @@ due_lines rows = flat_map due_line rows
 -- the due register: its columns, and then a line for each row
 abbrev pub due_register : List DueTold → List ℕ
 due_register rows = row_of due_columns ++ due_lines rows
+
+-- ---- what is overdue
+
+abbrev pub overdue_columns : List (List ℕ)
+overdue_columns = codes "record" ∷ codes "ref" ∷ codes "class" ∷ codes "schedule" ∷ codes "action" ∷ codes "due" ∷ codes "deadline" ∷ codes "held" ∷ []
+
+-- a record that is overdue: its deadline, so many days after its due day, and the least hold that covers it, or nothing
+abbrev pub overdue_fields : ℕ → DueTold → List (List ℕ)
+overdue_fields n r =
+    decimal r.number ∷ r.ref_text ∷ r.class ∷ r.schedule ∷ action_word r.action ∷ day_field r.due ∷ day_field (deadline_from r.due n) ∷ unwrap_or r.held [] ∷ []
+
+unfoldable pub overdue_line : ℕ → DueTold → List ℕ
+overdue_line n r = row_of (overdue_fields n r)
+
+abbrev pub overdue_lines : ℕ → List DueTold → List ℕ
+overdue_lines n rows = flat_map (overdue_line n) rows
+
+-- the overdue register: its columns, and then a line for each row
+abbrev pub overdue_register : ℕ → List DueTold → List ℕ
+overdue_register n rows = row_of overdue_columns ++ overdue_lines n rows
 
 -- ---- the entries
 

@@ -23,7 +23,7 @@ fn counts_word<'a>(told: &'a DueRow<'a>) -> &'a str
 }
 
 /// The word for the action.
-fn action_of<'a>(told: &'a DueRow<'a>) -> &'a str
+pub(crate) fn action_of<'a>(told: &'a DueRow<'a>) -> &'a str
     ensures { result.now ≡ action_word told.now.action }
 {
     told.action.text()

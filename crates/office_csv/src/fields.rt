@@ -8,7 +8,7 @@ ghost use Rattle.office_csv.specs.Registers.{day_field, row_of};
 
 use crate::RegisterStop;
 use csv::WriterBuilder;
-use office_days::DueDay;
+use office_days::{Deadline, DueDay};
 use office_tree::{Code, Memory};
 use std::alloc::Global;
 use std::io::Write;
@@ -26,6 +26,14 @@ pub(crate) fn due_field(alloc: Global, due: DueDay) -> Result<Vec<u8>, Memory>
     ensures { IfOk result (λ field. field.items ≡ day_field due) }
 {
     Ok(Vec::from_slice(alloc, &due.text())?)
+}
+
+/// A deadline as `2024-02-29`.
+#[tactic(auto, using(office_proof::proofs::DateBytes::date_is_text))]
+pub(crate) fn deadline_field(alloc: Global, deadline: Deadline) -> Result<Vec<u8>, Memory>
+    ensures { IfOk result (λ field. field.items ≡ day_field deadline) }
+{
+    Ok(Vec::from_slice(alloc, &deadline.text())?)
 }
 
 /// A code, or nothing.

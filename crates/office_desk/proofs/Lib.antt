@@ -6,6 +6,7 @@ pub mod Fronts
 pub mod LeftFates
 pub mod LeftOffices
 pub mod OneFates
+pub mod OneLog
 pub mod Opened
 pub mod RunSteps
 pub mod StepFates

@@ -9,7 +9,7 @@ use Rattle.matchit.specs.Route.{Scan, parse_route}
 use Rattle.matchit.specs.Seek.{first}
 use Rattle.matchit.specs.declared.error.InsertError.{InsertError}
 use Rattle.office_http.specs.declared.paths.Resource.{Resource}
-use Rattle.office_http.specs.declared.paths.Resource.TheVariants.{Acts, OpenRun, Record, Content, Due, Certificate}
+use Rattle.office_http.specs.declared.paths.Resource.TheVariants.{Acts, OpenRun, Record, Content, Due, Overdue, Certificate}
 
 abbrev pub Routes : Type 0
 Routes = RowsOf (RouteOf Resource)
@@ -22,15 +22,16 @@ with_scanned (Err e) resource routes = routes
 abbrev pub with_route : List ℕ → Resource → Routes → Routes
 with_route text resource routes = with_scanned (parse_route text) resource routes
 
--- the paths that there are; `{n}` and `{day}` are one segment of at least one byte
+-- the paths that there are; `{n}`, `{day}` and `{count}` are one segment of at least one byte
 unfoldable pub office_routes : Routes
 office_routes =
     with_route (codes "/certificates/{n}") Certificate
+    (with_route (codes "/overdue/{day}/{count}") Overdue
     (with_route (codes "/due/{day}") Due
     (with_route (codes "/records/{n}/content") Content
     (with_route (codes "/records/{n}") Record
     (with_route (codes "/run/resume") OpenRun
-    (with_route (codes "/acts") Acts [])))))
+    (with_route (codes "/acts") Acts []))))))
 
 -- a target may be a path: it has no query, and is UTF-8
 abbrev pub is_path : List ℕ → Bool
@@ -40,6 +41,7 @@ is_path target = not (list_any (λ byte. byte == 63) target) && is_utf8 target
 abbrev pub resource_at : List ℕ → Option Resource
 resource_at path = option_map (λ route. route.value) (first office_routes path)
 
--- the segment of a path that tells which record, day or certificate is meant: the second, after `/records/`, `/due/` or `/certificates/`
-abbrev pub named_segment : List ℕ → List ℕ
-named_segment path = unwrap_or (slice_get (slice_split (λ byte. byte == 47) path) 2) []
+-- the segment of a path at that place, where 1 is its first word, as `records` of `/records/8`: the second tells which record, day or
+-- certificate is meant, and the third of `/overdue/{day}/{count}` how many days
+abbrev pub path_segment : ℕ → List ℕ → List ℕ
+path_segment place path = unwrap_or (slice_get (slice_split (λ byte. byte == 47) path) place) []

@@ -1,13 +1,15 @@
 -- What is done for a head: the first check that fails, or else what is asked for. Source: own; methods, fields and targets are those of RFC 9110.
 use Rattle.std.specs.Prelude.{ℕ, ◌≤◌, List, codes, map, take, Bool, true, false, ◌==◌, nat_lt, if◌then◌else◌, bytes_eq, Option, Some, None}
+use Rattle.std.specs.Result.{result_ok}
 use Rattle.httparse.specs.Grammar.{RequestHead}
 use Rattle.httparse.specs.Spans.{name_and_value, span_bytes, header_bytes}
 use Rattle.httparse.specs.declared.spans.HeaderSpan.{HeaderSpan}
 use Rattle.httparse.specs.declared.spans.RequestSpans.{RequestSpans}
+use Rattle.office_days.specs.ConfirmCounts.{confirm_days_named}
 use Rattle.office_days.specs.Texts.{day_named}
 use Rattle.office_http.specs.Fields.{Values, missing, one, many, found_named}
 use Rattle.office_http.specs.Numbers.{content_length, segment_number}
-use Rattle.office_http.specs.Paths.{is_path, named_segment, resource_at}
+use Rattle.office_http.specs.Paths.{is_path, path_segment, resource_at}
 use Rattle.office_http.specs.declared.check.Check.TheVariants as checks
 use Rattle.office_http.specs.declared.paths.Resource.{Resource}
 use Rattle.office_http.specs.declared.paths.Resource.TheVariants as resources
@@ -47,10 +49,11 @@ post_plan method plan = if bytes_eq method (codes "POST") then plan else Refuse 
 abbrev pub resource_plan : Resource → List ℕ → List ℕ → List (List ℕ × List ℕ) → Plan
 resource_plan resources.Acts path method fields = post_plan method (acts_plan fields)
 resource_plan resources.OpenRun path method fields = post_plan method (Serve wants.Resume)
-resource_plan resources.Record path method fields = get_plan method (Serve (wants.Record (segment_number (named_segment path))))
-resource_plan resources.Content path method fields = get_plan method (Serve (wants.Content (segment_number (named_segment path))))
-resource_plan resources.Due path method fields = get_plan method (Serve (wants.Due (day_named (named_segment path))))
-resource_plan resources.Certificate path method fields = get_plan method (Serve (wants.Certificate (segment_number (named_segment path))))
+resource_plan resources.Record path method fields = get_plan method (Serve (wants.Record (segment_number (path_segment 2 path))))
+resource_plan resources.Content path method fields = get_plan method (Serve (wants.Content (segment_number (path_segment 2 path))))
+resource_plan resources.Due path method fields = get_plan method (Serve (wants.Due (day_named (path_segment 2 path))))
+resource_plan resources.Overdue path method fields = get_plan method (Serve (wants.Overdue (day_named (path_segment 2 path)) (result_ok (confirm_days_named (path_segment 3 path)))))
+resource_plan resources.Certificate path method fields = get_plan method (Serve (wants.Certificate (segment_number (path_segment 2 path))))
 
 -- the path names something
 abbrev pub path_plan : Option Resource → List ℕ → List ℕ → List (List ℕ × List ℕ) → Plan
@@ -95,4 +98,5 @@ IsSized (Serve wants.Resume) = Unit {0}
 IsSized (Serve (wants.Record n)) = Unit {0}
 IsSized (Serve (wants.Content n)) = Unit {0}
 IsSized (Serve (wants.Due day)) = Unit {0}
+IsSized (Serve (wants.Overdue day days)) = Unit {0}
 IsSized (Serve (wants.Certificate n)) = Unit {0}

@@ -132,3 +132,4 @@ failure_response failures.Record = error_response statuses.NotFound allows.Any (
 failure_response failures.Content = error_response statuses.NotFound allows.Any (codes "content")
 failure_response failures.Certificate = error_response statuses.NotFound allows.Any (codes "certificate")
 failure_response failures.Day = error_response statuses.BadRequest allows.Any (codes "day")
+failure_response failures.Count = error_response statuses.BadRequest allows.Any (codes "count")

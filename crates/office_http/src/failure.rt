@@ -15,6 +15,8 @@ pub enum Failure {
     Content,
     /// There is no such certificate.
     Certificate,
-    /// The path's last segment is no day.
+    /// The path's segment for a day is no day.
     Day,
+    /// The path's last segment is no count of days, or one over 3,650.
+    Count,
 }

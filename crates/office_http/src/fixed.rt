@@ -74,5 +74,6 @@ pub fn failure_reply(failure: Failure) -> Reply
         Failure::Content => fixed(Status::NotFound, Allow::Any, b"{\"error\":\"content\"}"),
         Failure::Certificate => fixed(Status::NotFound, Allow::Any, b"{\"error\":\"certificate\"}"),
         Failure::Day => fixed(Status::BadRequest, Allow::Any, b"{\"error\":\"day\"}"),
+        Failure::Count => fixed(Status::BadRequest, Allow::Any, b"{\"error\":\"count\"}"),
     }
 }

@@ -1,7 +1,7 @@
 ghost use Rattle.std.specs.Prelude.{◌≡◌, ◌==◌, IfOk, true, false, MatchOption, None, Some};
 ghost use Rattle.std.specs.List.{list_any};
 ghost use Rattle.matchit.specs.Seek.{first};
-ghost use Rattle.office_http.specs.Paths.{is_path, named_segment, office_routes, resource_at, with_route};
+ghost use Rattle.office_http.specs.Paths.{is_path, office_routes, path_segment, resource_at, with_route};
 
 use matchit::Router;
 use std::alloc::{AllocError, Global};
@@ -19,6 +19,8 @@ pub(crate) enum Resource {
     Content,
     /// The records that are due on a day.
     Due,
+    /// The records that are overdue on a day, by a count of days to confirm.
+    Overdue,
     /// The certificate of a run.
     Certificate,
 }
@@ -48,6 +50,7 @@ fn office_router(alloc: Global) -> Result<Router<Resource>, AllocError>
     let router = with_route(router, "/records/{n}", Resource::Record)?;
     let router = with_route(router, "/records/{n}/content", Resource::Content)?;
     let router = with_route(router, "/due/{day}", Resource::Due)?;
+    let router = with_route(router, "/overdue/{day}/{count}", Resource::Overdue)?;
     with_route(router, "/certificates/{n}", Resource::Certificate)
 }
 
@@ -87,9 +90,10 @@ pub(crate) fn path_of(target: &[u8]) -> Option<&str>
     }
 }
 
-/// The segment of a path that tells which record, day or certificate is meant.
-pub(crate) fn named_segment(path: &str) -> &str
-    ensures { result.now ≡ named_segment path.now }
+/// The segment of a path at that place: the second tells which record, day or certificate is meant,
+/// and the third of `/overdue/{day}/{count}` how many days.
+pub(crate) fn path_segment(path: &str, place: usize) -> &str
+    ensures { result.now ≡ path_segment place path.now }
 {
-    path.split('/').nth(2).unwrap_or("")
+    path.split('/').nth(place).unwrap_or("")
 }

@@ -9,11 +9,11 @@ use crate::check::Check;
 use crate::fields::{Found, find_named};
 use crate::method::is_method;
 use crate::numbers::{content_length, segment_number};
-use crate::paths::{Resource, named_segment, path_of, resource_at};
+use crate::paths::{Resource, path_of, path_segment, resource_at};
 use crate::want::Want;
 use http::Method;
 use httparse::spans::{HeaderSpan, RequestSpans};
-use office_days::Day;
+use office_days::{Day, read_confirm_days};
 use std::alloc::{AllocError, Global};
 
 /// What is done for the head of a request.
@@ -85,7 +85,7 @@ fn resource_plan(
     ensures plan { result ≡ resource_plan resource path.now method.now (map (header_bytes buf.now) headers.now) }
     ensures sized { IsSized result }
 {
-    let segment = named_segment(path);
+    let segment = path_segment(path, 2);
     match resource {
         Resource::Acts if is_method(method, &Method::POST) => acts_plan(buf, headers),
         Resource::OpenRun if is_method(method, &Method::POST) => Plan::Serve(Want::Resume),
@@ -93,6 +93,10 @@ fn resource_plan(
         Resource::Record => get_plan(method, Want::Record(segment_number(segment))),
         Resource::Content => get_plan(method, Want::Content(segment_number(segment))),
         Resource::Due => get_plan(method, Want::Due(Day::read(segment))),
+        Resource::Overdue => {
+            let days = read_confirm_days(path_segment(path, 3)).ok();
+            get_plan(method, Want::Overdue(Day::read(segment), days))
+        }
         Resource::Certificate => get_plan(method, Want::Certificate(segment_number(segment))),
     }
 }

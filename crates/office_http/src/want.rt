@@ -1,7 +1,7 @@
-use office_days::Day;
+use office_days::{ConfirmDays, Day};
 
-/// What the head of a request asks for. A number or a day that its path does not write is `None`:
-/// a number is 1 to 4,294,967,295, without leading zeros.
+/// What the head of a request asks for. What its path does not write is `None`: a number is 1 to
+/// 4,294,967,295, without leading zeros; a count of days is 3,650 at most, leading zeros allowed.
 #[derive(Clone, Copy, PartialEq, Eq, Debug)]
 pub enum Want {
     /// Perform the acts in a body of that many bytes.
@@ -14,6 +14,8 @@ pub enum Want {
     Content(Option<u32>),
     /// The records that are due on that day.
     Due(Option<Day>),
+    /// The records that were to be confirmed so many days after their due day, and were not by that day.
+    Overdue(Option<Day>, Option<ConfirmDays>),
     /// The certificate of the run with that number.
     Certificate(Option<u32>),
 }

@@ -15,6 +15,7 @@ use Rattle.office_rules.specs.Registers.{DueTold}
 use Rattle.office_rules.specs.declared.record_view.RecordView.{RecordView}
 use Rattle.office_json.specs.Answers.{answer_data}
 use Rattle.office_json.specs.DueJson.{due_row_data}
+use Rattle.office_json.specs.OverdueJson.{overdue_row_data}
 use Rattle.office_json.specs.RecordJson.{confirmed_data, day_data, ended_data, or_null, record_data}
 use Rattle.office_json.specs.Replies.{stopped_data}
 
@@ -56,6 +57,13 @@ due_row_has_none r = rw (code_has_none r.held) refl
 
 pub due_has_none : (values : Vec Value Global) (rows : List DueTold) → map view values.items ≡ map due_row_data rows → has_float (view (Array values)) ≡ false
 due_has_none values rows told = rw (view-Array values, told) (array_has_none due_row_data due_row_has_none rows)
+
+pub overdue_row_has_none : (n : ℕ) (r : DueTold) → has_float (overdue_row_data n r) ≡ false
+unfolding overdue_row_data
+overdue_row_has_none n r = rw (code_has_none r.held) refl
+
+pub overdue_has_none : (n : ℕ) (values : Vec Value Global) (rows : List DueTold) → map view values.items ≡ map (overdue_row_data n) rows → has_float (view (Array values)) ≡ false
+overdue_has_none n values rows given = rw (view-Array values, given) (array_has_none (overdue_row_data n) (overdue_row_has_none n) rows)
 
 pub answer_has_none : (answer : Answer) → has_float (answer_data answer) ≡ false
 answer_has_none Done = refl

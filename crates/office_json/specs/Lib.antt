@@ -4,6 +4,7 @@ pub mod Contents
 pub mod DueJson
 pub mod Lists
 pub mod Members
+pub mod OverdueJson
 pub mod Parts
 pub mod RecordJson
 pub mod Replies

@@ -5,7 +5,7 @@ use Rattle.serde_json.specs.Data.{Data, Members, null, boolean, number, unsigned
 use Rattle.hex.specs.Hex.{encode_lower}
 use Rattle.office_json.specs.RecordJson.{day_data}
 use Rattle.office_json.specs.declared.told.Told.{Told}
-use Rattle.office_json.specs.declared.told.Told.TheVariants.{Nothing, Flag, Number, Text, Day, Due, Digest}
+use Rattle.office_json.specs.declared.told.Told.TheVariants.{Nothing, Flag, Number, Text, Day, Due, Deadline, Digest}
 
 -- what is told, in JSON
 abbrev pub told_data : Told → Data
@@ -15,6 +15,7 @@ told_data (Number n) = number (unsigned n)
 told_data (Text text) = string text.now
 told_data (Day day) = day_data day
 told_data (Due day) = day_data day
+told_data (Deadline day) = day_data day
 told_data (Digest digest) = string (encode_lower digest.now)
 
 -- with these members, put one after another

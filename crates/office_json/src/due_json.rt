@@ -34,7 +34,7 @@ fn put_plan(
 
 /// Puts the members from `held` on.
 #[tactic(auto, unfolding(crate::specs::DueJson::put_rest))]
-fn put_rest(
+pub(crate) fn put_rest(
     map: &mut Map<String, Value>,
     alloc: Global,
     told: &DueRow<'_>,

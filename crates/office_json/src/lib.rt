@@ -6,8 +6,8 @@
 //! told: first a text or a shape that is not of its form, then a number out of its range. [`read_acts`]
 //! reads an array of them. Answers go out by [`answer_value`], and one a line by [`write_answers`].
 //!
-//! What the office tells of a record goes out by [`record_value`], and what is due on a day by
-//! [`due_value`]. [`answers_value`], [`stopped_value`], [`fault_value`] and [`bad_act_value`] are the
+//! What the office tells of a record goes out by [`record_value`], what is due on a day by
+//! [`due_value`], and what is overdue by [`overdue_value`]. [`answers_value`], [`stopped_value`], [`fault_value`] and [`bad_act_value`] are the
 //! replies to a list of acts. Each is a value of JSON without a float, so [`text_of`] gives its text.
 #![tactic(auto)]
 
@@ -19,6 +19,7 @@ mod digits;
 mod due_json;
 mod lists;
 mod members;
+mod overdue_json;
 mod parts;
 mod read_fault;
 mod record_json;
@@ -34,6 +35,7 @@ pub use content::{Content, law_of_contents, read_content};
 pub use due_json::{due_row_value, due_value};
 pub use lists::{ListFault, read_acts};
 pub use office_plan::Io;
+pub use overdue_json::{overdue_row_value, overdue_value};
 pub use parts::{both, read_code, read_words};
 pub use read_fault::ReadFault;
 pub use record_json::record_value;

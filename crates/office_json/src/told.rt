@@ -6,8 +6,8 @@ ghost use Rattle.office_json.specs.RecordJson.{day_data, or_null};
 ghost use Rattle.office_json.specs.Told.{told_data, with_told};
 
 use crate::digits::digest_value;
-use crate::told_parts::{day_value, due_day_value};
-use office_days::{Day, DueDay};
+use crate::told_parts::{day_value, deadline_value, due_day_value};
+use office_days::{Day, Deadline, DueDay};
 use office_tree::Code;
 use serde_json::{Map, Value};
 use std::alloc::{AllocError, Global};
@@ -21,6 +21,7 @@ pub(crate) enum Told<'a> {
     Text(&'a str),
     Day(Day),
     Due(DueDay),
+    Deadline(Deadline),
     Digest(&'a [u8; 32]),
 }
 
@@ -65,6 +66,7 @@ fn value_of(alloc: Global, told: &Told<'_>) -> Result<Value, AllocError>
         Told::Text(text) => Value::try_from_str(alloc, text),
         Told::Day(day) => day_value(alloc, *day),
         Told::Due(day) => due_day_value(alloc, *day),
+        Told::Deadline(day) => deadline_value(alloc, *day),
         Told::Digest(digest) => digest_value(alloc, digest),
     }
 }

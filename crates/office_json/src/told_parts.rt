@@ -5,7 +5,7 @@ ghost use Rattle.serde_json.specs.Data.{string};
 ghost use Rattle.serde_json.specs.View.{view};
 ghost use Rattle.office_json.specs.RecordJson.{day_data};
 
-use office_days::{Day, DueDay};
+use office_days::{Day, Deadline, DueDay};
 use serde_json::Value;
 use std::alloc::{AllocError, Global};
 
@@ -34,4 +34,12 @@ pub(crate) fn due_day_value(alloc: Global, due: DueDay) -> Result<Value, AllocEr
     ensures { IfOk result (λ value. view value ≡ day_data due) }
 {
     text_value(alloc, &due.text())
+}
+
+/// A deadline, as `2024-02-29`.
+#[tactic(auto, using(office_proof::proofs::DateBytes::date_is_text))]
+pub(crate) fn deadline_value(alloc: Global, deadline: Deadline) -> Result<Value, AllocError>
+    ensures { IfOk result (λ value. view value ≡ day_data deadline) }
+{
+    text_value(alloc, &deadline.text())
 }

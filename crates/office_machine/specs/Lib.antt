@@ -4,3 +4,4 @@ pub mod EntryPlaces
 pub mod Lesser
 pub mod Marks
 pub mod RunWrites
+pub mod Selections

@@ -1,49 +1,41 @@
-ghost use Rattle.std.specs.Prelude.{◌≡◌, IfOk, IsTrue};
-ghost use Rattle.office_tree.specs.Tree.{has_record};
-ghost use Rattle.office_rules.specs.Readings.{AreDuePairs, IsDueList, due_here};
+//! The walk over all records that lists what is due, or what is overdue.
+ghost use Rattle.std.specs.Prelude.{IfOk};
+ghost use Rattle.office_machine.specs.Selections.{AreSelectedPairs, IsSelectedList};
 
-use office_days::{Day, DueDay};
-use office_tree::{Memory, RecordNo, Status, Tree};
+use crate::selection::Selection;
+use office_days::DueDay;
+use office_tree::{Memory, RecordNo, Tree};
 use std::alloc::Global;
 use std::collections::BTreeSet;
 
-/// The due day of a record that is here and due on that day or before it.
-fn due_here(tree: &Tree, record_no: RecordNo, day: Day) -> Option<DueDay>
-    requires { IsTrue (has_record tree.now record_no) }
-    ensures { result ≡ due_here tree.now day record_no }
-{
-    if tree.status(record_no) != Status::Here {
-        return None;
-    }
-    match tree.due_of(record_no) {
-        Some(due) if due.reached(day) => Some(due),
-        _ => None,
-    }
-}
-
-/// The records that are here and due on that day or before it, each by its due day and number.
+/// The records that are selected, each by its due day and number. A deadline is as many days after each due day,
+/// so the order is that of deadlines too.
 pub(crate) fn due_pairs(
     alloc: Global,
     tree: &Tree,
-    day: Day,
+    selection: &Selection,
 ) -> Result<BTreeSet<(DueDay, RecordNo)>, Memory>
-    ensures { IfOk result (λ pairs. AreDuePairs tree.now day pairs.keys) }
+    ensures { IfOk result (λ pairs. AreSelectedPairs selection.now tree.now pairs.keys) }
 {
     let mut pairs = BTreeSet::new(alloc);
     for before in 0..tree.record_count() {
         let record_no = before + 1;
-        if let Some(due) = due_here(tree, record_no, day) {
+        if let Some(due) = selection.due_selected(tree, record_no) {
             pairs.insert((due, record_no))?;
         }
     }
     Ok(pairs)
 }
 
-/// The records that are here and due on that day or before it, by due day, then number.
-pub(crate) fn due_list(alloc: Global, tree: &Tree, day: Day) -> Result<Vec<RecordNo>, Memory>
-    ensures { IfOk result (λ list. IsDueList tree.now day list.items) }
+/// The records that are selected, in the order of their list.
+pub(crate) fn due_list(
+    alloc: Global,
+    tree: &Tree,
+    selection: &Selection,
+) -> Result<Vec<RecordNo>, Memory>
+    ensures { IfOk result (λ list. IsSelectedList selection.now tree.now list.items) }
 {
-    let pairs = due_pairs(alloc, tree, day)?;
+    let pairs = due_pairs(alloc, tree, selection)?;
     let mut list = Vec::with_capacity(alloc, pairs.len())?;
     for (_, record_no) in pairs.iter() {
         list.push(*record_no)?;

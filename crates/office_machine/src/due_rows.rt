@@ -1,23 +1,25 @@
-//! What is due, row by row.
+//! What is due or overdue, row by row.
 ghost use Rattle.std.specs.Prelude.{◌≡◌, ◌∷◌, ◌&&◌, [], IfOk, IfSome, IsNone, IsTrue, Some};
 ghost use Rattle.std.specs.Option.{option_copied};
 ghost use Rattle.std.specs.Ordering.{int_eq};
 ghost use Rattle.office_tree.specs.Disposal.{same_action};
 ghost use Rattle.office_tree.specs.Lists.{holds_of};
 ghost use Rattle.office_tree.specs.Tree.{due_of, has_record};
-ghost use Rattle.office_rules.specs.Registers.{AreDueRows, due_row, due_told};
+ghost use Rattle.office_rules.specs.Registers.{due_row, due_told};
+ghost use Rattle.office_machine.specs.Selections.{AreSelectedRows};
 
 use crate::due_list::due_pairs;
 use crate::parts::Parts;
-use office_days::{Day, DueDay};
+use crate::selection::Selection;
+use office_days::DueDay;
 use office_rules::DueRow;
 use office_tree::{Action, Confirmation, Memory, RecordNo};
 use std::alloc::Global;
 use std::collections::btree_set;
 use std::marker::Model;
 
-/// The records that are due on a day, one row after another, by due day, then number. Contracts see the rows that
-/// are left.
+/// The records that are due by a day, or overdue on it, one row after another, by due day (and so by deadline), then
+/// number. Contracts see the rows that are left.
 #[derive(Drop)]
 pub struct DueRows<'a> {
     parts: &'a Parts,
@@ -48,7 +50,7 @@ fn counts(confirmation: Option<&Confirmation>, action: Action, due: DueDay) -> b
 }
 
 impl Parts {
-    /// What is told of a record that is due on that day.
+    /// The row of a record with that due day.
     fn due_row(&self, record_no: RecordNo, due: DueDay) -> DueRow<'_>
         requires there { IsTrue (has_record self.now.tree record_no) }
         requires due { due_of self.now.tree record_no ≡ Some due }
@@ -69,11 +71,15 @@ impl Parts {
         }
     }
 
-    /// The records that are due on the day, each as it is told.
-    pub(crate) fn due_rows(&self, alloc: Global, day: Day) -> Result<DueRows<'_>, Memory>
-        ensures { IfOk result (λ rows. AreDueRows self.now day rows) }
+    /// The rows of the records that are selected.
+    pub(crate) fn due_rows(
+        &self,
+        alloc: Global,
+        selection: &Selection,
+    ) -> Result<DueRows<'_>, Memory>
+        ensures { IfOk result (λ rows. AreSelectedRows selection.now self.now rows) }
     {
-        let pairs = due_pairs(alloc, &self.tree, day)?;
+        let pairs = due_pairs(alloc, &self.tree, selection)?;
         Ok(DueRows {
             parts: self,
             pairs: pairs.into_iter(),

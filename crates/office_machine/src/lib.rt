@@ -25,6 +25,7 @@ mod parts;
 mod reading;
 mod reclassifying;
 mod running;
+mod selection;
 mod storing;
 mod taking;
 

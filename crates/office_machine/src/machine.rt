@@ -3,8 +3,8 @@ ghost use Rattle.std.specs.FinMap.{get};
 ghost use Rattle.std.specs.Option.{option_map};
 ghost use Rattle.std.specs.String.{string_bytes};
 ghost use Rattle.office_rules.specs.Acts.{CanBeMade, IsDecidedFor, IsFeasible, KeepsHeld, may_release};
-ghost use Rattle.office_rules.specs.Readings.{IsDueList, all_entries_of, ending_entry, record_view};
-ghost use Rattle.office_rules.specs.Registers.{AreDueRows, entry_rows};
+ghost use Rattle.office_rules.specs.Readings.{IsDueList, IsOverdueList, all_entries_of, ending_entry, record_view};
+ghost use Rattle.office_rules.specs.Registers.{AreDueRows, AreOverdueRows, entry_rows};
 ghost use Rattle.office_rules.specs.Runs.{looked_at, next_in_run};
 ghost use Rattle.office_rules.specs.Sound.{IsSoundOffice};
 ghost use Rattle.office_rules.specs.State.{empty_office};
@@ -14,8 +14,9 @@ use crate::due_list::due_list;
 use crate::due_rows::DueRows;
 use crate::entry_rows::EntryRows;
 use crate::parts::Parts;
+use crate::selection::Selection;
 use crate::{Act, Change, Decision, RecordView};
-use office_days::Day;
+use office_days::{ConfirmDays, Day};
 use office_holds::Holds;
 use office_proof::{Entry, RunNo};
 use office_tree::{Memory, RecordNo, Tree};
@@ -130,14 +131,39 @@ impl Machine {
     pub fn due_list(&self, alloc: Global, day: Day) -> Result<Vec<RecordNo>, Memory>
         ensures { IfOk result (λ list. IsDueList self.now.tree day list.items) }
     {
-        due_list(alloc, &self.parts.tree, day)
+        due_list(alloc, &self.parts.tree, &Selection::Due(day))
     }
 
     /// What is told of the records that are due on the day, row by row, in the order of the due list.
     pub fn due_rows(&self, alloc: Global, day: Day) -> Result<DueRows<'_>, Memory>
         ensures { IfOk result (λ rows. AreDueRows self.now day rows) }
     {
-        self.parts.due_rows(alloc, day)
+        self.parts.due_rows(alloc, &Selection::Due(day))
+    }
+
+    /// What is overdue on the day: the records that are here whose deadline, so many days after the due day, is
+    /// before it, and of which no confirmation counts; by deadline, then number.
+    pub fn overdue_list(
+        &self,
+        alloc: Global,
+        day: Day,
+        days: ConfirmDays,
+    ) -> Result<Vec<RecordNo>, Memory>
+        ensures { IfOk result (λ list. IsOverdueList self.now.tree day days list.items) }
+    {
+        due_list(alloc, &self.parts.tree, &Selection::Overdue(day, days))
+    }
+
+    /// The rows of what is overdue on the day, in the order of that list.
+    pub fn overdue_rows(
+        &self,
+        alloc: Global,
+        day: Day,
+        days: ConfirmDays,
+    ) -> Result<DueRows<'_>, Memory>
+        ensures { IfOk result (λ rows. AreOverdueRows self.now day days rows) }
+    {
+        self.parts.due_rows(alloc, &Selection::Overdue(day, days))
     }
 
     /// What is told of all entries, row by row, by run, then record.

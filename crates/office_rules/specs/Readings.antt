@@ -64,14 +64,6 @@ record_view s r = view_by s r (numbered s.tree.records r) (status_of s.tree r)
 abbrev pub is_due_here : TreeState → ℤ → ℕ → Bool
 is_due_here tree day r = holds_of (status_of tree r) is_here && holds_of (due_of tree r) (λ due. int_le due day)
 
--- its due day, where that is so
-abbrev pub due_here : TreeState → ℤ → ℕ → Option ℤ
-due_here tree day r = if is_due_here tree day r then due_of tree r else None
-
--- the pairs are of the records that are here and due on that day or before it: the due day and the number
-abbrev pub AreDuePairs : TreeState → ℤ → List (ℤ × ℕ) → Type 0
-AreDuePairs tree day pairs = (due : ℤ) (r : ℕ) → (Contains pairs (due, r) ↔ (due_here tree day r ≡ Some due))
-
 -- by due day, then number
 abbrev pub due_cmp : TreeState → ℕ → ℕ → Ordering
 due_cmp tree r q = ordering_then (int_cmp (unwrap_or (due_of tree r) (pos 0)) (unwrap_or (due_of tree q) (pos 0))) (nat_cmp r q)

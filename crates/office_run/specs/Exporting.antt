@@ -1,11 +1,11 @@
--- How `export` ends. Source: own.
+-- How `export` and `overdue` end. Source: own.
 use Rattle.std.specs.Prelude.{◌≡◌, ◌⊎◌, ℕ, List, Option, ⊤}
 use Rattle.std.specs.Io.KnownBytes.{Appends}
 use Rattle.sqlite.specs.State.{State as FileState}
-use Rattle.office_rules.specs.Registers.{AreDueRows, DueTold, entry_rows}
+use Rattle.office_rules.specs.Registers.{AreDueRows, AreOverdueRows, DueTold, entry_rows}
 use Rattle.office_rules.specs.State.{Office, State}
 use Rattle.office_store.specs.declared.fault.Fault.TheVariants as fault
-use Rattle.office_csv.specs.Registers.{due_register, entry_register}
+use Rattle.office_csv.specs.Registers.{due_register, entry_register, overdue_register}
 use Rattle.office_words.specs.declared.register.Register.{Register}
 use Rattle.office_words.specs.declared.register.Register.TheVariants as register
 use Rattle.office_run.specs.declared.ending.Ending.{Ending}
@@ -16,6 +16,7 @@ use Rattle.office_run.specs.Opening.{IsNotOpened, IsOfOpened, IsOpened}
 abbrev pub IsRegister : Register → Option (List ℕ) → Option (List ℕ) → Office → Type 0
 IsRegister register.Entries written after s = Appends written after (entry_register (entry_rows s))
 IsRegister (register.Due day) written after s = (rows : List DueTold) × AreDueRows s day rows × Appends written after (due_register rows)
+IsRegister (register.Overdue day n) written after s = (rows : List DueTold) × AreOverdueRows s day n rows × Appends written after (overdue_register n rows)
 
 -- the writing of a register at an open desk, by its ending; where it was not written to its end, some of it may have gone out. Of tells of which states it is so
 abbrev pub Exports : ((State → Type 0) → Type 0) → Register → Option (List ℕ) → Option (List ℕ) → Ending → Type 0
@@ -33,6 +34,6 @@ Exports Of it written after how.SomeFailed = ⊥
 Exports Of it written after how.File = ⊤
 Exports Of it written after (how.Fault f) = f ≡ fault.Memory
 
--- `export FILE entries` or `export FILE DAY`, by its ending; an office of version 2 that was opened stays as it was
+-- `export FILE entries`, `export FILE DAY` or `overdue FILE DAY COUNT`, by its ending; an office of version 2 that was opened stays as it was
 abbrev pub ExportEnds : Register → FileState → FileState → Option (List ℕ) → Option (List ℕ) → Ending → Type 0
 ExportEnds it old new written after ending = IsNotOpened old new written after ending ⊎ IsOpened old new × Exports (IsOfOpened old new) it written after ending

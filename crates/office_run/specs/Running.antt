@@ -5,7 +5,8 @@ use Rattle.std.specs.Io.KnownBytes.{Appends}
 use Rattle.sqlite.specs.Held.{Held, state}
 use Rattle.sqlite_trees.specs.declared.store.Store.{Ghosts}
 use Rattle.sqlite.specs.State.{State as FileState}
-use Rattle.office_words.specs.Orders.{Ordered, application_ordered, certificate_ordered, due_day_ordered, exportation_ordered, importation_ordered, init_file_ordered, nothing_ordered, plan_file_ordered, resumption_ordered, service_ordered}
+use Rattle.office_words.specs.Orders.{Ordered, application_ordered, certificate_ordered, due_day_ordered, exportation_ordered, importation_ordered, init_file_ordered, nothing_ordered, overdue_ordered, plan_file_ordered, resumption_ordered, service_ordered}
+use Rattle.office_words.specs.declared.register.Register.TheVariants as register
 use Rattle.office_run.specs.declared.ending.Ending.{Ending}
 use Rattle.office_run.specs.declared.ending.Ending.TheVariants as how
 use Rattle.office_run.specs.Applying.{ApplyEnds}
@@ -52,6 +53,7 @@ RunEnds g (service_ordered file port count) text old new written after ending = 
 RunEnds g (init_file_ordered file) text old new written after ending = InitEnds (state g old) (state g new) written after ending
 RunEnds g (application_ordered file acts) text old new written after ending = IfSome text (λ it. ApplyEnds g it old new written after ending)
 RunEnds g (importation_ordered file day csv) text old new written after ending = ImportEnds day text (state g old) (state g new) written after ending
+RunEnds g (overdue_ordered file day n) text old new written after ending = ExportEnds (register.Overdue day n) (state g old) (state g new) written after ending
 RunEnds g (exportation_ordered file it) text old new written after ending = ExportEnds it (state g old) (state g new) written after ending
 RunEnds g (resumption_ordered file) text old new written after ending = ResumeEnds (state g old) (state g new) written after ending
 RunEnds g (certificate_ordered file run) text old new written after ending = CertificateEnds run (state g old) (state g new) written after ending

@@ -8,7 +8,7 @@ ghost use Rattle.office_run.specs.Exporting.{ExportEnds, Exports, IsRegister};
 use crate::ending::Ending;
 use office_desk::Desk;
 use office_store::Fault;
-use office_wire::{ExportStop, export_due, export_entries};
+use office_wire::{ExportStop, export_due, export_entries, export_overdue};
 use office_words::Register;
 use sqlite::{Alter, Connection};
 use std::alloc::Global;
@@ -28,6 +28,7 @@ fn write_register<W: Write, S: Alter>(
     match register {
         Register::Entries => export_entries(alloc, desk, out),
         Register::Due(day) => export_due(alloc, desk, day, out),
+        Register::Overdue(day, days) => export_overdue(alloc, desk, day, days, out),
     }
 }
 
@@ -46,7 +47,7 @@ fn export_at<W: Write, S: Alter>(
     Ending::of_export(write_register(alloc, desk, register, out))
 }
 
-/// `export FILE entries` or `export FILE DAY` over a connection to the file.
+/// `export FILE entries`, `export FILE DAY` or `overdue FILE DAY COUNT` over a connection to the file.
 pub fn export_on<W: Write, S: Alter>(
     alloc: Global,
     conn: Connection<S>,

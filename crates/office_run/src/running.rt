@@ -17,7 +17,7 @@ use crate::importing::import_on;
 use crate::resuming::resume_on;
 use office_desk::Desk;
 use office_plan::{Io, write_out};
-use office_words::Order;
+use office_words::{Order, Register};
 use sqlite::{Alter, Connection};
 use std::alloc::Global;
 use std::io::{Read, Write};
@@ -82,6 +82,9 @@ fn carry_out<R: Read, W: Write, S: Alter>(
         Order::Apply { .. } => apply_on(alloc, conn, input, out),
         Order::Import { day, .. } => import_on(alloc, conn, *day, input, out),
         Order::Export { register, .. } => export_on(alloc, conn, *register, out),
+        Order::Overdue { day, days, .. } => {
+            export_on(alloc, conn, Register::Overdue(*day, *days), out)
+        }
         Order::Resume { .. } => resume_on(alloc, conn, out),
         Order::Certificate { run, .. } => certificate_on(alloc, conn, *run, out),
         Order::Due { .. } | Order::Plan { .. } | Order::Serve { .. } | Order::Nothing => {

@@ -31,7 +31,7 @@
 //!
 //! What is read is told by `is` (the whole text), `has` (a part of it) or `bytes` (its length): `record 1 has
 //! "held":"H-2"`, `content 1 is "abc"`, `content 1 is none`, `certificate 1 bytes 501`, `due-list 2025-01-02
-//! is [3, 1, 2]`, `entries is run 1 record 1 destroyed;`.
+//! is [3, 1, 2]`, `overdue-list 2025-02-02 30 is [2, 3]`, `entries is run 1 record 1 destroyed;`.
 //!
 //! A request is `GET /records/1`, or with its length and body `POST /acts 20 [{"act":"run-step"}]`; one that
 //! begins with `bytes` is sent as it is, and of `first 12 of` another its first bytes alone. An answer is its
@@ -85,6 +85,8 @@ mod office;
 mod old_file_stories;
 #[cfg(test)]
 mod old_office;
+#[cfg(test)]
+mod overdue_stories;
 #[cfg(test)]
 mod pages;
 #[cfg(test)]

@@ -2,7 +2,7 @@
 use crate::failures::failure;
 use crate::peer::{Paper, Pieces};
 use crate::repeating::{number, unescaped};
-use office_days::Day;
+use office_days::{Day, read_confirm_days};
 use office_run::run_on;
 use office_words::{Order, Register};
 use sqlite::{Alter, Connection};
@@ -47,6 +47,19 @@ fn export_of(register: &str) -> Order<'static> {
     }
 }
 
+/// The order of the register of what is overdue on that day, after so many days.
+fn overdue_of(rest: &str) -> Order<'static> {
+    let (day, count) = rest.split_once(' ').unwrap_or((rest, ""));
+    match (Day::read(day), read_confirm_days(count)) {
+        (Some(day), Ok(days)) => Order::Overdue {
+            file: FILE,
+            day,
+            days,
+        },
+        _ => Order::Nothing,
+    }
+}
+
 /// The order of those words, and the text that it reads.
 fn order_of(words: &str) -> (Order<'static>, &str) {
     match words.split_once(' ') {
@@ -56,6 +69,7 @@ fn order_of(words: &str) -> (Order<'static>, &str) {
         }
         Some(("import", rest)) => import_of(rest),
         Some(("export", register)) => (export_of(register), ""),
+        Some(("overdue", rest)) => (overdue_of(rest), ""),
         Some(("apply", text)) => {
             let acts = "acts.json";
             (Order::Apply { file: FILE, acts }, text)

@@ -1,7 +1,7 @@
 //! What is read at a desk, as text.
 use crate::failures::{failure, must};
 use crate::repeating::{number, unescaped};
-use office_days::Day;
+use office_days::{ConfirmDays, Day, read_confirm_days};
 use office_desk::Desk;
 use office_json::{record_value, text_of};
 use office_proof::Entry;
@@ -68,6 +68,23 @@ fn due_text<S: Alter>(alloc: Global, desk: &Desk<S>, day: Day) -> Result<String,
     format!(in alloc; "{list:?}").or(Err(Fault::Memory))
 }
 
+/// The records that are overdue on a day, so many days after their due days.
+fn overdue_text<S: Alter>(
+    alloc: Global,
+    desk: &Desk<S>,
+    day: Day,
+    days: ConfirmDays,
+) -> Result<String, Fault> {
+    let list = desk.overdue_list(day, days)?;
+    format!(in alloc; "{list:?}").or(Err(Fault::Memory))
+}
+
+/// The day and the days to confirm that words tell.
+fn overdue_words(words: &str) -> Option<(Day, ConfirmDays)> {
+    let (day, count) = words.split_once(' ')?;
+    Some((Day::read(day)?, read_confirm_days(count).ok()?))
+}
+
 /// Tells the run, the record and the outcome of an entry.
 fn push_entry(text: &mut String, entry: &Entry) -> Result<(), Fault> {
     let outcome = entry.outcome.text();
@@ -100,6 +117,10 @@ fn read<S: Alter>(
         Some(("content", record_no)) => Ok(content_text(alloc, desk, number(record_no)?)),
         Some(("certificate", run)) => Ok(certificate_text(alloc, desk, number(run)?)),
         Some(("due-list", on)) => Ok(due_text(alloc, desk, Day::read(on).ok_or("no day")?)),
+        Some(("overdue-list", words)) => {
+            let (day, days) = overdue_words(words).ok_or("no day, or no count of days")?;
+            Ok(overdue_text(alloc, desk, day, days))
+        }
         _ if reading == "entries" => Ok(entries_text(alloc, desk)),
         _ => Err(failure("no such reading", reading)),
     }

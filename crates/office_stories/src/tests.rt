@@ -10,6 +10,7 @@ use crate::hostile_stories::{ELSEWHERE, HOSTILE};
 use crate::limit_stories::LIMITS;
 use crate::lost_stories::{LOST, UNHEARD};
 use crate::old_file_stories::OLD_FILE;
+use crate::overdue_stories::{LOST_OVERDUE, OVERDUE};
 use crate::program_stories::{LOST_LINES, PROGRAM};
 use crate::request_stories::REQUESTS;
 use crate::run_stories::RUNS;
@@ -25,7 +26,7 @@ use std::test::Fail;
 
 #[test]
 fn an_office_is_as_its_stories_tell(rt: HostRuntime) -> Result<(), Fail> {
-    for stories in [FILING, HOLDS, RUNS, CONTENTS, TABLES, EVENTS] {
+    for stories in [FILING, HOLDS, RUNS, CONTENTS, TABLES, EVENTS, OVERDUE] {
         tell(rt.alloc(), stories)?;
     }
     Ok(())
@@ -71,7 +72,8 @@ fn the_program_tells_what_it_did(rt: HostRuntime) -> Result<(), Fail> {
 
 #[test]
 fn lines_to_the_program_are_lost(rt: HostRuntime) -> Result<(), Fail> {
-    tell(rt.alloc(), LOST_LINES)
+    tell(rt.alloc(), LOST_LINES)?;
+    tell(rt.alloc(), LOST_OVERDUE)
 }
 
 #[test]

@@ -7,8 +7,8 @@ use Rattle.office_desk.specs.Desk.{DeskState}
 use Rattle.office_json.specs.Acts.{Asked}
 use Rattle.office_json.specs.Lists.{NoActs, not_json, bad_act}
 use Rattle.office_http.specs.Replies.{Response}
-use Rattle.office_wire.specs.Answering.{ArePerformed, PerformsAsked, Resumes, Serves, Starves, TellsCertificate, TellsContent, TellsDue, TellsRecord}
-use Rattle.office_wire.specs.Receiving.{Wanted, refused, cut, acts, resumption, record_told, content_told, due_told, certificate_told}
+use Rattle.office_wire.specs.Answering.{ArePerformed, PerformsAsked, Resumes, Serves, Starves, TellsCertificate, TellsContent, TellsDue, TellsOverdue, TellsRecord}
+use Rattle.office_wire.specs.Receiving.{Wanted, refused, cut, acts, resumption, record_told, content_told, due_told, overdue_told, certificate_told}
 use Rattle.office_wire.specs.Serving.{IsServed}
 
 -- any answer
@@ -81,6 +81,11 @@ due_any : {S : Type 0} (Told : Response → Type 0) (g : Ghosts S) (t : State) (
 due_any Told g t None desk it = (tt, it.1)
 due_any Told g t (Some day) desk it = (inr tt, it.1)
 
+overdue_any : {S : Type 0} (Told : Response → Type 0) (g : Ghosts S) (t : State) (day : Option ℤ) (count : Option ℕ) (desk : DeskState S) → TellsOverdue Told g t day count desk → TellsOverdue any g t day count desk
+overdue_any Told g t None count desk it = (tt, it.1)
+overdue_any Told g t (Some day) None desk it = (tt, it.1)
+overdue_any Told g t (Some day) (Some n) desk it = (inr tt, it.1)
+
 certificate_any : {S : Type 0} (Told : Response → Type 0) (g : Ghosts S) (t : State) (run : Option ℕ) (desk : DeskState S) → TellsCertificate Told g t run desk → TellsCertificate any g t run desk
 certificate_any Told g t None desk it = (tt, it.1)
 certificate_any Told g t (Some run) desk it = (inl tt, it.1)
@@ -93,6 +98,7 @@ serves_any Told g t resumption desk served = resumed_any Told g t desk served
 serves_any Told g t (record_told r) desk served = record_any Told g t r desk served
 serves_any Told g t (content_told r) desk served = content_any Told g t r desk served
 serves_any Told g t (due_told day) desk served = due_any Told g t day desk served
+serves_any Told g t (overdue_told day count) desk served = overdue_any Told g t day count desk served
 serves_any Told g t (certificate_told run) desk served = certificate_any Told g t run desk served
 
 -- what is served leaves the desk as serving it may

@@ -6,7 +6,7 @@ use Rattle.sqlite_trees.specs.declared.store.Store.{Ghosts}
 use Rattle.office_days.specs.declared.refusal.Refusal.TheVariants as refusal
 use Rattle.office_rules.specs.Acts.{after, answers}
 use Rattle.office_rules.specs.Readings.{ending_entry, record_view}
-use Rattle.office_rules.specs.Registers.{AreDueRows, DueTold}
+use Rattle.office_rules.specs.Registers.{AreDueRows, AreOverdueRows, DueTold}
 use Rattle.office_rules.specs.Runs.{IsMidway, after_steps, open_run, whole}
 use Rattle.office_rules.specs.State.{Office, State}
 use Rattle.office_rules.specs.declared.act.Act.{Act}
@@ -24,8 +24,8 @@ use Rattle.office_http.specs.declared.failure.Failure.{Failure}
 use Rattle.office_http.specs.declared.failure.Failure.TheVariants as failure
 use Rattle.office_http.specs.declared.status.Status.TheVariants as status
 use Rattle.office_wire.specs.declared.answering.Told.{Told}
-use Rattle.office_wire.specs.Receiving.{Wanted, refused, cut, acts, resumption, record_told, content_told, due_told, certificate_told}
-use Rattle.office_wire.specs.Replies.{acts_response, answer_response, bad_act_response, certificate_response, content_response, due_response, fault_response, record_response, stopped_response}
+use Rattle.office_wire.specs.Receiving.{Wanted, refused, cut, acts, resumption, record_told, content_told, due_told, overdue_told, certificate_told}
+use Rattle.office_wire.specs.Replies.{acts_response, answer_response, bad_act_response, certificate_response, content_response, due_response, fault_response, overdue_response, record_response, stopped_response}
 
 -- ---- acts; Told tells which answer is given
 
@@ -115,6 +115,12 @@ abbrev pub TellsDue : {S : Type 0} → (Response → Type 0) → Ghosts S → St
 TellsDue Told g t None desk = TellsNone Told g t (failure_response failure.Day) desk
 TellsDue Told g t (Some day) desk = (((rows : List DueTold) × AreDueRows t.office day rows × Told (due_response rows)) ⊎ Told (fault_response fault.Memory)) × StandsAt g t desk
 
+-- what is overdue on a day, so many days after the due day; of a bad day and a bad count the day is told
+abbrev pub TellsOverdue : {S : Type 0} → (Response → Type 0) → Ghosts S → State → Option ℤ → Option ℕ → DeskState S → Type 0
+TellsOverdue Told g t None count desk = TellsNone Told g t (failure_response failure.Day) desk
+TellsOverdue Told g t (Some day) None desk = TellsNone Told g t (failure_response failure.Count) desk
+TellsOverdue Told g t (Some day) (Some n) desk = (((rows : List DueTold) × AreOverdueRows t.office day n rows × Told (overdue_response n rows)) ⊎ Told (fault_response fault.Memory)) × StandsAt g t desk
+
 abbrev pub TellsCertificate : {S : Type 0} → (Response → Type 0) → Ghosts S → State → Option ℕ → DeskState S → Type 0
 TellsCertificate Told g t None desk = TellsNone Told g t (failure_response failure.Certificate) desk
 TellsCertificate Told g t (Some run) desk = Tells Told g t (certificate_response (get t.office.certificates run)) desk
@@ -137,6 +143,7 @@ Serves Told g t resumption desk = Resumes Told g t desk
 Serves Told g t (record_told r) desk = TellsRecord Told g t r desk
 Serves Told g t (content_told r) desk = TellsContent Told g t r desk
 Serves Told g t (due_told day) desk = TellsDue Told g t day desk
+Serves Told g t (overdue_told day n) desk = TellsOverdue Told g t day n desk
 Serves Told g t (certificate_told run) desk = TellsCertificate Told g t run desk
 
 -- it was served with this answer
@@ -156,6 +163,10 @@ abbrev pub gone_reading : {A : Type 0} → Failure → Option A → Response
 gone_reading why None = failure_response why
 gone_reading why (Some it) = fault_response fault.Reopen
 
+abbrev pub gone_overdue : Option ℤ → Option ℕ → Response
+gone_overdue None count = failure_response failure.Day
+gone_overdue (Some day) count = gone_reading failure.Count count
+
 -- the answer of a desk that was given up: fault 32 in place of all that it would do or tell
 abbrev pub gone_response : Wanted → Response
 gone_response (refused check) = check_response check
@@ -165,6 +176,7 @@ gone_response resumption = fault_response fault.Reopen
 gone_response (record_told r) = gone_reading failure.Record r
 gone_response (content_told r) = gone_reading failure.Content r
 gone_response (due_told day) = gone_reading failure.Day day
+gone_response (overdue_told day count) = gone_overdue day count
 gone_response (certificate_told run) = gone_reading failure.Certificate run
 
 -- an answer that tells a fault, or want of memory

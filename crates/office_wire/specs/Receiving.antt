@@ -16,7 +16,7 @@ use Rattle.office_wire.specs.declared.receiving.Received.TheVariants as received
 use Rattle.office_wire.specs.declared.receiving.ReceiveStop.{ReceiveStop}
 use Rattle.office_wire.specs.declared.receiving.ReceiveStop.TheVariants as stop
 
--- what is asked of the office: nothing, since a check of the head fails or the body is cut; or one of six things
+-- what is asked of the office: nothing, since a check of the head fails or the body is cut; or one of seven things
 pub data Wanted : Type 0 where
   refused : Check → Wanted
   cut : Wanted
@@ -25,6 +25,7 @@ pub data Wanted : Type 0 where
   record_told : Option ℕ → Wanted
   content_told : Option ℕ → Wanted
   due_told : Option ℤ → Wanted
+  overdue_told : Option ℤ → Option ℕ → Wanted
   certificate_told : Option ℕ → Wanted
 
 -- the body of acts, where so many bytes are there; those after it do not matter
@@ -37,6 +38,7 @@ want_wanted wants.Resume rest = resumption
 want_wanted (wants.Record n) rest = record_told n
 want_wanted (wants.Content n) rest = content_told n
 want_wanted (wants.Due day) rest = due_told day
+want_wanted (wants.Overdue day n) rest = overdue_told day n
 want_wanted (wants.Certificate n) rest = certificate_told n
 
 abbrev pub plan_wanted : Plan → List ℕ → Wanted
@@ -58,6 +60,7 @@ asked_for asking.Resumption = resumption
 asked_for (asking.Record n) = record_told n
 asked_for (asking.Content n) = content_told n
 asked_for (asking.Due day) = due_told day
+asked_for (asking.Overdue day n) = overdue_told day n
 asked_for (asking.Certificate n) = certificate_told n
 
 -- of a head and the bytes after it: what they ask for, and whether the head of the answer alone is written

@@ -13,6 +13,7 @@ use Rattle.office_store.specs.Faults.{fault_number}
 use Rattle.office_store.specs.declared.fault.Fault.{Fault}
 use Rattle.office_json.specs.Answers.{answer_data}
 use Rattle.office_json.specs.DueJson.{due_data}
+use Rattle.office_json.specs.OverdueJson.{overdue_data}
 use Rattle.office_json.specs.RecordJson.{record_data}
 use Rattle.office_json.specs.Replies.{answers_data, bad_act_data, fault_data, stopped_data}
 use Rattle.office_http.specs.Replies.{Response, failure_response}
@@ -63,6 +64,10 @@ record_response (Some told) ending = json_response status.Fine (record_data told
 -- what is due
 abbrev pub due_response : List DueTold → Response
 due_response rows = json_response status.Fine (due_data rows)
+
+-- what is overdue, so many days after the due day
+abbrev pub overdue_response : ℕ → List DueTold → Response
+overdue_response n rows = json_response status.Fine (overdue_data n rows)
 
 -- a content; 404 where there is none
 abbrev pub content_response : Option (List ℕ) → Response

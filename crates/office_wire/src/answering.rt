@@ -8,16 +8,16 @@ ghost use Rattle.office_rules.specs.State.{State};
 ghost use Rattle.office_desk.specs.Leaving.{StandsAt};
 ghost use Rattle.office_json.specs.Lists.{acts_in};
 ghost use Rattle.office_http.specs.Replies.{response};
-ghost use Rattle.office_wire.specs.Answering.{Answers, ArePerformed, IsToldOf, IsUnavailable, PerformsAsked, Resumes, Starves, TellsCertificate, TellsContent, TellsDue, TellsRecord, gone_acts, gone_reading, gone_response};
+ghost use Rattle.office_wire.specs.Answering.{Answers, ArePerformed, IsToldOf, IsUnavailable, PerformsAsked, Resumes, Starves, TellsCertificate, TellsContent, TellsDue, TellsOverdue, TellsRecord, gone_acts, gone_overdue, gone_reading, gone_response};
 ghost use Rattle.office_wire.specs.Replies.{fault_response, stopped_response};
 ghost use Rattle.office_wire.specs.Receiving.{asked_for};
 
 use crate::receiving::Asking;
 use crate::replies::{
     acts_reply, answer_reply, bad_act_reply, certificate_reply, content_reply, due_reply,
-    fault_reply, record_reply, stopped_reply,
+    fault_reply, overdue_reply, record_reply, stopped_reply,
 };
-use office_days::Day;
+use office_days::{ConfirmDays, Day};
 use office_desk::Desk;
 use office_http::{Failure, Reply, check_reply, failure_reply};
 use office_json::{ListFault, read_acts};
@@ -151,6 +151,28 @@ fn tell_due<S: Alter>(alloc: Global, desk: &Desk<S>, day: Option<Day>) -> Result
     }
 }
 
+/// Tells what is overdue on a day, so many days after the due day. Of a bad day and a bad count the day is told.
+fn tell_overdue<S: Alter>(
+    alloc: Global,
+    desk: &Desk<S>,
+    day: Option<Day>,
+    days: Option<ConfirmDays>,
+) -> Result<Reply, Memory>
+    ensures ok { IfOk result (λ reply. (t : State) → StandsAt S.Store t desk.now → TellsOverdue (λ told. response reply ≡ told) S.Store t day days desk.now) }
+    ensures gone { IsTrue desk.now.is_given_up → IfOk result (λ reply. response reply ≡ gone_overdue day days) }
+{
+    let Some(day) = day else {
+        return Ok(failure_reply(Failure::Day));
+    };
+    let Some(days) = days else {
+        return Ok(failure_reply(Failure::Count));
+    };
+    match desk.overdue_rows(day, days) {
+        Ok(rows) => overdue_reply(alloc, rows, days),
+        Err(fault) => fault_reply(alloc, fault),
+    }
+}
+
 /// Tells the certificate of a run.
 fn tell_certificate<S: Alter>(
     alloc: Global,
@@ -186,6 +208,7 @@ pub fn answer<S: Alter>(alloc: Global, desk: &mut Desk<S>, asking: &Asking) -> R
         Asking::Record(number) => tell_record(alloc, desk, *number),
         Asking::Content(number) => tell_content(alloc, desk, *number),
         Asking::Due(day) => tell_due(alloc, desk, *day),
+        Asking::Overdue(day, days) => tell_overdue(alloc, desk, *day, *days),
         Asking::Certificate(number) => tell_certificate(alloc, desk, *number),
     }
 }

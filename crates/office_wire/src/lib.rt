@@ -25,5 +25,5 @@ pub use deadline::LONGEST;
 pub use importing::{ImportStop, import_records};
 pub use office_json::{Io, ReadFault, answer_value, read_act};
 pub use receiving::{Asked, Asking, ReceiveStop, Received, receive};
-pub use registers::{ExportStop, export_due, export_entries};
+pub use registers::{ExportStop, export_due, export_entries, export_overdue};
 pub use serving::{Sending, answer_next, send, serve_one};

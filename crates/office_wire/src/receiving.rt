@@ -8,7 +8,7 @@ ghost use Rattle.office_wire.specs.Receiving.{IsAskedBy, IsReceived, IsStarved, 
 
 use crate::body::ActsBody;
 use httparse::spans::{HeaderSpan, RequestSpans};
-use office_days::Day;
+use office_days::{ConfirmDays, Day};
 use office_http::{
     Check, Head, LONGEST_HEAD, MOST_FIELDS, Plan, ReadStop, Want, is_head_in, plan_in, read_body,
     read_head,
@@ -35,6 +35,8 @@ pub enum Asking {
     Content(Option<u32>),
     /// The records that are due on that day.
     Due(Option<Day>),
+    /// The records that are overdue on that day, so many days after their due days.
+    Overdue(Option<Day>, Option<ConfirmDays>),
     /// The certificate of the run with that number.
     Certificate(Option<u32>),
 }
@@ -108,6 +110,7 @@ fn receive_wanted<R: Read>(
         Want::Record(number) => Ok(Asking::Record(number)),
         Want::Content(number) => Ok(Asking::Content(number)),
         Want::Due(day) => Ok(Asking::Due(day)),
+        Want::Overdue(day, days) => Ok(Asking::Overdue(day, days)),
         Want::Certificate(number) => Ok(Asking::Certificate(number)),
     }
 }

@@ -1,13 +1,14 @@
 //! The registers of the office, written as CSV.
 ghost use Rattle.std.specs.Prelude.{◌≡◌, ◌⊎◌, Err, IfErr, IsTrue, List, [], OnOk};
 ghost use Rattle.std.specs.Io.KnownBytes.{Appends};
-ghost use Rattle.office_rules.specs.Registers.{AreDueRows, DueTold, entry_rows};
-ghost use Rattle.office_csv.specs.Registers.{due_lines, due_register, entry_lines, entry_register};
+ghost use Rattle.office_rules.specs.Registers.{AreDueRows, AreOverdueRows, DueTold, entry_rows};
+ghost use Rattle.office_csv.specs.Registers.{due_lines, due_register, entry_lines, entry_register, overdue_lines, overdue_register};
 
 use office_csv::{
     RegisterStop, write_due_header, write_due_line, write_entry_header, write_entry_line,
+    write_overdue_header, write_overdue_line,
 };
-use office_days::Day;
+use office_days::{ConfirmDays, Day};
 use office_desk::{Desk, DueRows, EntryRows};
 use office_store::Fault;
 use sqlite::Alter;
@@ -71,6 +72,36 @@ fn write_due_register<W: Write>(
     write_due_lines(alloc, rows, out)
 }
 
+/// Writes a line for each row that is left, with its deadline.
+#[tactic(auto, using(office_json::proofs::Appending::appends_both, office_json::proofs::Appending::appends_none))]
+fn write_overdue_lines<W: Write>(
+    alloc: Global,
+    mut rows: DueRows<'_>,
+    days: ConfirmDays,
+    out: &mut W,
+) -> Result<(), RegisterStop>
+    ensures { OnOk result (Appends (W.contents out.old) (W.contents out.new) (overdue_lines days rows.entry)) }
+{
+    while let Some(row) = rows.next_row() {
+        write_overdue_line(alloc, &row, days, out)?;
+    }
+    flush(out)
+}
+
+/// Writes the overdue register.
+#[tactic(auto, using(office_json::proofs::Appending::appends_both))]
+fn write_overdue_register<W: Write>(
+    alloc: Global,
+    rows: DueRows<'_>,
+    days: ConfirmDays,
+    out: &mut W,
+) -> Result<(), RegisterStop>
+    ensures { OnOk result (Appends (W.contents out.old) (W.contents out.new) (overdue_register days rows.entry)) }
+{
+    write_overdue_header(alloc, out)?;
+    write_overdue_lines(alloc, rows, days, out)
+}
+
 /// Writes a line for each row that is left.
 #[tactic(auto, using(office_json::proofs::Appending::appends_both, office_json::proofs::Appending::appends_none))]
 fn write_entry_lines<W: Write>(
@@ -117,6 +148,30 @@ pub fn export_due<S: Alter, W: Write>(
 {
     match desk.due_rows(day) {
         Ok(rows) => match write_due_register(alloc, rows, out) {
+            Ok(()) => Ok(()),
+            Err(stop) => Err(stopped(stop)),
+        },
+        Err(fault) => Err(ExportStop::Fault(fault)),
+    }
+}
+
+/// Writes the overdue register of a day as CSV: its columns `record,ref,class,schedule,action,due,deadline,held`, and a
+/// line for each record that is here, whose deadline, so many days after its due day, is before that day, and of which
+/// no confirmation counts; by deadline, then number. Otherwise as `export_due`.
+pub fn export_overdue<S: Alter, W: Write>(
+    alloc: Global,
+    desk: &mut Desk<S>,
+    day: Day,
+    days: ConfirmDays,
+    out: &mut W,
+) -> Result<(), ExportStop>
+    ensures ok { OnOk result ((rows : List DueTold) × AreOverdueRows desk.old.office day days rows × Appends (W.contents out.old) (W.contents out.new) (overdue_register days rows)) }
+    ensures err { IfErr result (λ stop. (stop ≡ ExportStop.Io) ⊎ ((stop ≡ ExportStop.Fault Fault.Memory) ⊎ (stop ≡ ExportStop.Fault Fault.Reopen) × IsTrue desk.old.is_given_up)) }
+    ensures kept { desk.new ≡ desk.old }
+    ensures gone { IsTrue desk.old.is_given_up → (result ≡ Err (ExportStop.Fault Fault.Reopen)) × (out.new ≡ out.old) }
+{
+    match desk.overdue_rows(day, days) {
+        Ok(rows) => match write_overdue_register(alloc, rows, days, out) {
             Ok(()) => Ok(()),
             Err(stop) => Err(stopped(stop)),
         },

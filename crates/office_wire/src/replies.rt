@@ -5,15 +5,16 @@ ghost use Rattle.std.specs.Option.{option_copied};
 ghost use Rattle.serde_json.specs.View.{view};
 ghost use Rattle.serde_json.specs.Written.{has_float};
 ghost use Rattle.office_json.specs.DueJson.{due_row_data};
+ghost use Rattle.office_json.specs.OverdueJson.{overdue_row_data};
 ghost use Rattle.office_http.specs.Replies.{response};
-ghost use Rattle.office_wire.specs.Replies.{acts_response, answer_response, answers_status, bad_act_response, certificate_response, content_response, due_response, fault_response, is_refusal, json_response, record_response, stopped_response};
+ghost use Rattle.office_wire.specs.Replies.{acts_response, answer_response, answers_status, bad_act_response, certificate_response, content_response, due_response, fault_response, is_refusal, json_response, overdue_response, record_response, stopped_response};
 
-use office_days::Refusal;
+use office_days::{ConfirmDays, Refusal};
 use office_desk::DueRows;
 use office_http::{Allow, Body, Failure, Kind, Reply, Status, failure_reply};
 use office_json::{
     answer_value, answers_value, bad_act_value, due_row_value, due_value, fault_value,
-    record_value, stopped_value, text_of,
+    overdue_row_value, overdue_value, record_value, stopped_value, text_of,
 };
 use office_proof::Entry;
 use office_rules::{Answer, RecordView};
@@ -146,6 +147,34 @@ pub(crate) fn due_reply(alloc: Global, rows: DueRows<'_>) -> Result<Reply, Memor
 {
     let values = row_values(alloc, rows)?;
     let value = due_value(values);
+    json_reply(alloc, Status::Fine, &value)
+}
+
+/// The rows of what is overdue, in JSON.
+fn overdue_values(
+    alloc: Global,
+    mut rows: DueRows<'_>,
+    days: ConfirmDays,
+) -> Result<Vec<Value>, Memory>
+    ensures { IfOk result (λ values. map view values.items ≡ map (overdue_row_data days) rows.entry) }
+{
+    let mut values = Vec::new(alloc);
+    while let Some(row) = rows.next_row() {
+        values.push(overdue_row_value(alloc, &row, days)?)?;
+    }
+    Ok(values)
+}
+
+/// What is overdue, so many days after the due day.
+pub(crate) fn overdue_reply(
+    alloc: Global,
+    rows: DueRows<'_>,
+    days: ConfirmDays,
+) -> Result<Reply, Memory>
+    ensures { IfOk result (λ reply. response reply ≡ overdue_response days rows.entry) }
+{
+    let values = overdue_values(alloc, rows, days)?;
+    let value = overdue_value(values);
     json_reply(alloc, Status::Fine, &value)
 }
 

@@ -4,7 +4,7 @@ use Rattle.std.specs.Str.{bytes_eq}
 use Rattle.clap.specs.Words.{App, Row, Rule, Text, first_of, new_app, new_rule, with_rule, with_subcommand}
 use Rattle.office_words.specs.declared.command.Operand.{Operand}
 use Rattle.office_words.specs.declared.words.Words.{Words}
-use Rattle.office_words.specs.declared.words.Words.TheVariants.{Apply, Certificate, Due, Export, Import, Init, Nothing, Plan, Resume, Serve}
+use Rattle.office_words.specs.declared.words.Words.TheVariants.{Apply, Certificate, Due, Export, Import, Init, Nothing, Overdue, Plan, Resume, Serve}
 
 -- an operand that must be there
 abbrev pub operand : Text → Rule
@@ -51,6 +51,12 @@ import_app =
 abbrev pub export_app : App
 export_app = with_rule (with_rule (new_app (codes "export")) (operand (codes "FILE"))) (operand (codes "REGISTER"))
 
+-- `overdue FILE DAY COUNT`
+abbrev pub overdue_app : App
+overdue_app =
+    with_rule (with_rule (with_rule (new_app (codes "overdue"))
+    (operand (codes "FILE"))) (operand (codes "DAY"))) (operand (codes "COUNT"))
+
 -- `serve FILE PORT COUNT`
 abbrev pub serve_app : App
 serve_app =
@@ -73,9 +79,13 @@ with_file_commands app = with_subcommand (with_subcommand app init_app.top) appl
 unfoldable pub with_run_commands : App → App
 with_run_commands app = with_subcommand (with_subcommand app resume_app.top) certificate_app.top
 
+-- with the commands that write registers as CSV
+unfoldable pub with_registers : App → App
+with_registers app = with_subcommand (with_subcommand app export_app.top) overdue_app.top
+
 -- with the commands that take and give texts of CSV
 unfoldable pub with_csv_commands : App → App
-with_csv_commands app = with_subcommand (with_subcommand app import_app.top) export_app.top
+with_csv_commands app = with_registers (with_subcommand app import_app.top)
 
 -- with the command that answers requests to that office
 unfoldable pub with_service_command : App → App
@@ -101,6 +111,7 @@ pub data Asked : Type 0 where
   certificate_asked : Text → Text → Asked
   importation_asked : Text → Text → Text → Asked
   exportation_asked : Text → Text → Asked
+  overdue_list_asked : Text → Text → Text → Asked
   service_asked : Text → Text → Text → Asked
 
 abbrev pub asked : Words → Asked
@@ -112,6 +123,7 @@ asked (Resume file) = resumption_asked file.now
 asked (Certificate file number) = certificate_asked file.now number.now
 asked (Import file day csv) = importation_asked file.now day.now csv.now
 asked (Export file register) = exportation_asked file.now register.now
+asked (Overdue file day count) = overdue_list_asked file.now day.now count.now
 asked (Serve file port count) = service_asked file.now port.now count.now
 asked Nothing = nothing_asked
 
@@ -139,6 +151,9 @@ import_asked rows = importation_asked (text_of (codes "FILE") rows) (text_of (co
 abbrev pub export_asked : List Row → Asked
 export_asked rows = exportation_asked (text_of (codes "FILE") rows) (text_of (codes "REGISTER") rows)
 
+abbrev pub overdue_asked : List Row → Asked
+overdue_asked rows = overdue_list_asked (text_of (codes "FILE") rows) (text_of (codes "DAY") rows) (text_of (codes "COUNT") rows)
+
 abbrev pub serve_asked : List Row → Asked
 serve_asked rows = service_asked (text_of (codes "FILE") rows) (text_of (codes "PORT") rows) (text_of (codes "COUNT") rows)
 
@@ -154,4 +169,5 @@ asked_in (Some p) =
     else (if bytes_eq p.0 (codes "certificate") then number_asked p.1
     else (if bytes_eq p.0 (codes "import") then import_asked p.1
     else (if bytes_eq p.0 (codes "export") then export_asked p.1
-    else (if bytes_eq p.0 (codes "serve") then serve_asked p.1 else nothing_asked))))))))
+    else (if bytes_eq p.0 (codes "overdue") then overdue_asked p.1
+    else (if bytes_eq p.0 (codes "serve") then serve_asked p.1 else nothing_asked)))))))))

@@ -2,7 +2,7 @@
 ghost use Rattle.std.specs.Prelude.{◌≡◌, IfOk, false};
 ghost use Rattle.clap.specs.Words.{app_of, new_app, rule_of, with_subcommand};
 ghost use Rattle.clap.specs.declared.builder.command.Command.TheViews.{out-Command as fields_of};
-ghost use Rattle.office_words.specs.Command.{office_app, operand, with_csv_commands, with_file_commands, with_operands, with_plain_commands, with_run_commands, with_service_command};
+ghost use Rattle.office_words.specs.Command.{office_app, operand, with_csv_commands, with_file_commands, with_operands, with_plain_commands, with_registers, with_run_commands, with_service_command};
 
 use clap::{Arg, Command};
 use std::alloc::{AllocError, Global};
@@ -163,6 +163,49 @@ fn with_run_commands<'a>(alloc: Global, command: Command<'a>) -> Result<Command<
     )
 }
 
+/// With the commands that write registers as CSV.
+#[tactic(auto, unfolding(crate::specs::Command::with_registers))]
+fn with_registers<'a>(alloc: Global, command: Command<'a>) -> Result<Command<'a>, AllocError>
+    ensures { IfOk result (λ c. app_of c ≡ with_registers (app_of command.entry)) }
+{
+    let command = with_command(
+        alloc,
+        command,
+        "export",
+        "Writes a register of the office as CSV",
+        &[
+            Operand {
+                name: "FILE",
+                help: "The office's file",
+            },
+            Operand {
+                name: "REGISTER",
+                help: "entries, or the day of what is due, as 2017-06-30",
+            },
+        ],
+    )?;
+    with_command(
+        alloc,
+        command,
+        "overdue",
+        "Writes the register of what is overdue as CSV",
+        &[
+            Operand {
+                name: "FILE",
+                help: "The office's file",
+            },
+            Operand {
+                name: "DAY",
+                help: "The day on which it is overdue, as 2017-06-30",
+            },
+            Operand {
+                name: "COUNT",
+                help: "Days after its due day within which a record is to be confirmed, 3650 at most",
+            },
+        ],
+    )
+}
+
 /// With the commands that take and give texts of CSV.
 #[tactic(auto, unfolding(crate::specs::Command::with_csv_commands))]
 fn with_csv_commands<'a>(alloc: Global, command: Command<'a>) -> Result<Command<'a>, AllocError>
@@ -188,22 +231,7 @@ fn with_csv_commands<'a>(alloc: Global, command: Command<'a>) -> Result<Command<
             },
         ],
     )?;
-    with_command(
-        alloc,
-        command,
-        "export",
-        "Writes a register of the office as CSV",
-        &[
-            Operand {
-                name: "FILE",
-                help: "The office's file",
-            },
-            Operand {
-                name: "REGISTER",
-                help: "entries, or the day of what is due, as 2017-06-30",
-            },
-        ],
-    )
+    with_registers(alloc, command)
 }
 
 /// With the command that answers requests to that office.

@@ -5,7 +5,7 @@ ghost use Rattle.office_words.specs.Orders.{order_asked, ordered};
 use crate::register::{Register, read_register};
 use crate::service::read_service;
 use crate::words::Words;
-use office_days::{Day, Refusal, read_thing_number};
+use office_days::{ConfirmDays, Day, Refusal, read_confirm_days, read_thing_number};
 
 /// What the program is to do: its words, with the operands of those that name an office's file read.
 /// `due` and `plan`, which open no office, read theirs where they are done.
@@ -49,6 +49,13 @@ pub enum Order<'a> {
         file: &'a str,
         register: Register,
     },
+    /// Writes the register of what is overdue on that day at the office in the file, where a record is to be
+    /// confirmed within so many days after its due day.
+    Overdue {
+        file: &'a str,
+        day: Day,
+        days: ConfirmDays,
+    },
     /// Answers requests to the office in the file, at that port, until so many connections were served.
     Serve {
         file: &'a str,
@@ -62,7 +69,9 @@ pub enum Order<'a> {
 /// What the words order, or why an operand is refused; no file is looked at. The number of a run is one or
 /// more ASCII digits, from 1 to 4,294,967,295, leading zeros allowed; so are the port of a service, from 1
 /// to 65,535, and its count of connections, from 1 to 1,000,000. The day of an import is written as 2017-06-30;
-/// the register of an export is `entries`, or such a day.
+/// the register of an export is `entries`, or such a day. The day of what is overdue is written so too, and its
+/// count of days, 3,650 at most, as the numbers above; what is no day or no digits is told before a count that is
+/// over.
 pub fn order_of<'a>(words: Words<'a>) -> Result<Order<'a>, Refusal>
     ensures ok { IfOk result (λ order. order_asked (asked words.entry) ≡ Ok (ordered order)) }
     ensures err { IfErr result (λ refusal. order_asked (asked words.entry) ≡ Err refusal) }
@@ -94,6 +103,11 @@ pub fn order_of<'a>(words: Words<'a>) -> Result<Order<'a>, Refusal>
         Words::Export { file, register } => match read_register(register) {
             Some(register) => Ok(Order::Export { file, register }),
             None => Err(Refusal::BadText),
+        },
+        Words::Overdue { file, day, count } => match (Day::read(day), read_confirm_days(count)) {
+            (Some(day), Ok(days)) => Ok(Order::Overdue { file, day, days }),
+            (Some(_), Err(refusal)) => Err(refusal),
+            (None, _) => Err(Refusal::BadText),
         },
         Words::Serve { file, port, count } => match read_service(port, count) {
             Ok((port, count)) => Ok(Order::Serve { file, port, count }),

@@ -1,7 +1,7 @@
 ghost use Rattle.std.specs.Prelude.{◌≡◌};
 ghost use Rattle.office_words.specs.Orders.{register_named};
 
-use office_days::Day;
+use office_days::{ConfirmDays, Day};
 
 /// A register of the office, which is written as CSV.
 #[derive(Clone, Copy)]
@@ -10,6 +10,8 @@ pub enum Register {
     Entries,
     /// What is due on a day.
     Due(Day),
+    /// What is overdue on a day, so many days after the due day.
+    Overdue(Day, ConfirmDays),
 }
 
 /// The register that an operand names: `entries`, or the day of the due register, as 2017-06-30.

@@ -1,6 +1,6 @@
 ghost use Rattle.std.specs.Prelude.{◌≡◌, IfOk, IfErr, true, map};
 ghost use Rattle.clap.specs.Words.{found_of, kind_of, rows_of, subcommand_of, subcommand_rows_of, takes};
-ghost use Rattle.office_words.specs.Command.{apply_asked, asked, asked_in, due_asked, export_asked, import_asked, init_asked, number_asked, office_app, plan_asked, resume_asked, serve_asked, text_of};
+ghost use Rattle.office_words.specs.Command.{apply_asked, asked, asked_in, due_asked, export_asked, import_asked, init_asked, number_asked, office_app, overdue_asked, plan_asked, resume_asked, serve_asked, text_of};
 
 use crate::command::office_command;
 use clap::error::ErrorKind;
@@ -41,6 +41,11 @@ pub enum Words<'a> {
     Export {
         file: &'a str,
         register: &'a str,
+    },
+    Overdue {
+        file: &'a str,
+        day: &'a str,
+        count: &'a str,
     },
     Serve {
         file: &'a str,
@@ -130,6 +135,16 @@ fn export_words<'a>(matches: &ArgMatches<'a>) -> Words<'a>
     }
 }
 
+fn overdue_words<'a>(matches: &ArgMatches<'a>) -> Words<'a>
+    ensures { asked result ≡ overdue_asked (rows_of (found_of matches.now)) }
+{
+    Words::Overdue {
+        file: operand(matches, "FILE"),
+        day: operand(matches, "DAY"),
+        count: operand(matches, "COUNT"),
+    }
+}
+
 fn serve_words<'a>(matches: &ArgMatches<'a>) -> Words<'a>
     ensures { asked result ≡ serve_asked (rows_of (found_of matches.now)) }
 {
@@ -152,6 +167,7 @@ fn words_of<'a>(matches: &ArgMatches<'a>) -> Words<'a>
         Some(("certificate", inner)) => certificate_words(inner),
         Some(("import", inner)) => import_words(inner),
         Some(("export", inner)) => export_words(inner),
+        Some(("overdue", inner)) => overdue_words(inner),
         Some(("serve", inner)) => serve_words(inner),
         _ => Words::Nothing,
     }
