@@ -16,8 +16,9 @@ OUT = TOP / "crates/office/out"
 GB = 1_000_000_000
 # the free memory that is needed: the largest check of a build takes 5.9 GB, a look 4.3 GB
 MEMORY = {"look": 5 * GB, "build": 6 * GB}
-# the free disk that is needed: of a build from nothing, and of one that goes on
-DISK = {"look": GB, "build": 5 * GB, "more": 2 * GB}
+# the free disk that is needed: a build from nothing leaves 9.5 GB, and one that goes on needs what is not there yet
+DISK = {"look": GB, "build": 10 * GB}
+LEAST = 2 * GB
 
 
 def number_in(file: str) -> int | None:
@@ -47,6 +48,17 @@ def room(folder: pathlib.Path) -> int:
     return shutil.disk_usage(folder).free
 
 
+def there() -> int:
+    """The bytes that earlier builds left, a file with several names once."""
+    found = {}
+    for out in (TOP / "crates").glob("*/out"):
+        for folder, _, names in os.walk(out):
+            for name in names:
+                it = os.lstat(os.path.join(folder, name))
+                found[it.st_ino] = it.st_size
+    return sum(found.values())
+
+
 def can_write() -> bool:
     """Whether the folders that a build writes into can be made and written."""
     places = [OUT, *(TOP / "crates").glob("*/out"), TOP / "crates/office"]
@@ -65,7 +77,7 @@ def missing(what: str) -> str | None:
         return (f"a {what} needs {needed / GB:.0f} GB of free memory, and {free / GB:.1f} GB are free: "
                 "end other programs, add swap, or take a larger machine")
     place = pathlib.Path(tempfile.gettempdir()) if what == "look" else OUT
-    needed = DISK["more" if what == "build" and (OUT / "build.json").exists() else what]
+    needed = DISK[what] if what == "look" else max(DISK[what] - there(), LEAST)
     if room(place) < needed:
         remedy = "set TMPDIR to a folder with room" if what == "look" else "clone elsewhere"
         return (f"a {what} needs {needed / GB:.0f} GB of free disk in {place}, and {room(place) / GB:.1f} GB are free: "

@@ -203,7 +203,7 @@ def judge_lacks(trial: Trial) -> None:
     out = trial.top / "crates/office/out"
     out.mkdir()
     with_mount(["-t", "tmpfs", "-o", "size=100m", "tmpfs"], out, lambda: lacks(
-        trial, "little disk", f"needs 5 GB of free disk in {out}, and 0.1 GB are free"))
+        trial, "little disk", f"needs 10 GB of free disk in {out}, and 0.1 GB are free"))
     with_mount(["--bind", "-o", "ro", trial.top], trial.top, lambda: lacks(
         trial, "no right to write", "cannot be written by you"))
 
