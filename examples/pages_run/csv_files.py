@@ -7,6 +7,7 @@ from pages_run.shell import Shell
 
 PAGE = "docs/CSV.md"
 DUE = "record,ref,class,schedule,action,due,held,confirmed"
+OVERDUE = "record,ref,class,schedule,action,due,deadline,held"
 ENTRIES = "run,record,ref,outcome,class,schedule,due,hold,confirmed_by,length,digest"
 
 
@@ -29,6 +30,8 @@ ROWS = [
     Row("examples/import/from_spreadsheet examples/import/sheets/unicode_text.txt -o records.csv"),
     Row("./office import letters.db 2024-01-02 records.csv"),
     Row("./office export letters.db 2027-06-01 > due.csv", prints="", then=has("due.csv", DUE, "records")),
+    Row("./office overdue letters.db 2027-07-02 30 > overdue.csv", prints="",
+        then=has("overdue.csv", OVERDUE, "records")),
     Row("./office export letters.db entries > entries.csv", prints="", then=has("entries.csv", ENTRIES, "entries")),
 ]
 
