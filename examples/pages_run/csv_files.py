@@ -30,6 +30,8 @@ ROWS = [
     Row("examples/import/convert examples/import/sheets/unicode_text.txt -o records.csv"),
     Row("./office import letters.db 2024-01-02 records.csv"),
     Row("./office export letters.db 2027-06-01 > due.csv", prints="", then=has("due.csv", DUE, "records")),
+    Row("./office overdue letters.db 2027-07-02 30 > overdue.csv", prints="",
+        then=has("overdue.csv", OVERDUE, "records")),
     Row("./office export letters.db entries > entries.csv", prints="", then=has("entries.csv", ENTRIES, "entries")),
     Row("./office overdue letters.db 2027-07-02 30 > overdue.csv", prints="",
         then=has("overdue.csv", OVERDUE, "records")),

@@ -47,6 +47,14 @@ def is_sorted(shell: Shell) -> None:
     judge("it is sorted by due day and number, up to the day", holds, f"{due}")
 
 
+def is_overdue(shell: Shell) -> None:
+    """Each row's deadline is before the day; rows come by deadline and number."""
+    rows = json.loads(shell.run("curl --silent $http/overdue/2025-02-01/30").out)
+    late = [(row["deadline"], row["record"]) for row in rows]
+    judge("it is sorted by deadline and number, before the day", late == sorted(late) and late[-1][0] < "2025-02-01",
+          f"{late}")
+
+
 ROWS = [
     Row("./office serve alderquay.db 8080 1000000", serves=True, prints="listening 127.0.0.1:8080\n"),
     Row("curl --data-binary @examples/city_archive/6-letter.json $http/acts", prints='[{"done":true},{"number":34}]'),
@@ -54,6 +62,7 @@ ROWS = [
     Row("curl $http/records/8", prints=joined('{"added"')),
     Row("curl -o permit.txt $http/records/20/content", then=is_content),
     Row("curl $http/due/2025-01-01", like=r"\[\{.*\}\]", then=is_sorted),
+    Row("curl $http/overdue/2025-02-01/30", like=r"\[\{.*\}\]", then=is_overdue),
     Row("curl $http/certificates/1", prints=output("certificate-1.txt")),
 ]
 

@@ -11,6 +11,7 @@ from pages_run.expected import Row, run_page
 from pages_run.files import FIRST, alone, judge_alone
 from pages_run.judging import judge
 from pages_run.shell import Shell
+from pages_run.watching import ROWS as WATCHING
 
 PAGE = "docs/OPERATING.md"
 CITY = "/var/lib/office/city/office.db"
@@ -153,7 +154,9 @@ def killed(shell: Shell) -> None:
 
 # one line a command, in the order of the page; the longest beginning of two comes first
 ROWS = [
+    *WATCHING,
     Row("./office build"),
+    Row("./office package", skip="examples/package/run makes it"),
     Row("./office install /usr/local/bin"),
     Row("office init archive.db", prints="version 2\n", then=alone("init", "archive.db", {"office": 1})),
     Row("office resume archive.db", status=1, prints=""),
@@ -171,6 +174,7 @@ ROWS = [
     Row("systemd-analyze verify /etc/systemd/system/office@.service", then=city_serves),
     Row("systemctl restart nginx", skip="without systemd", then=nginx_starts),
     Row("systemctl", skip="without systemd"),
+    Row("apt-get install ./office_", skip="examples/package/run installs it"),
     Row("apt-get", skip="the packages are there"),
     Row("mkdir -p /etc/nginx/office"),
     Row("cp -r web /usr/local/share/office/"),

@@ -43,7 +43,8 @@ class Shell:
         launcher(folder)
         for name in ("copies", "second", "DIR"):
             (folder / name).mkdir()
-        self.env = {**os.environ, "http": "http://127.0.0.1:8080", "PASSWORD": "a long one", "LC_ALL": "C"}
+        self.env = {**os.environ, "http": "http://127.0.0.1:8080", "PASSWORD": "a long one",
+                    "MONITOR": "another long one", "LC_ALL": "C"}
         self.servers: list[subprocess.Popen[bytes]] = []
         # what is taken off the mode of a new file; -1: as this script's
         self.umask = -1

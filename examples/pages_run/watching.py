@@ -1,0 +1,90 @@
+"""docs/OPERATING.md, "Watch it": the health check, the probe of a monitor, and what to alert on."""
+import os
+import re
+import shutil
+import time
+
+from pages_run.expected import Row
+from pages_run.judging import judge
+from pages_run.shell import Shell
+
+EXPORTER = "prometheus-blackbox-exporter"
+MISSING = "" if shutil.which(EXPORTER) else f"without {EXPORTER}"
+BACKUPS = "/var/lib/office-backups"
+PROBE = "curl --silent 'http://127.0.0.1:9115/probe?module=office&target=https://localhost/city/due/0001-01-01'"
+RUN = '[{"act":"open-run","day":"2025-11-20","by":"monitor"}]'
+OPEN = "\"SELECT num FROM runs WHERE closed = 0\""
+
+
+def exporter_starts(shell: Shell) -> None:
+    """In place of systemd: the exporter as Debian's unit starts it, at loopback alone."""
+    if MISSING:
+        return
+    shell.run(f"{EXPORTER} --config.file /etc/prometheus/blackbox.yml --web.listen-address 127.0.0.1:9115"
+              " >exporter.log 2>&1 & echo $! >exporter.pid")
+    for _ in range(100):
+        if shell.run("curl --silent --fail http://127.0.0.1:9115/-/healthy").status == 0:
+            break
+        time.sleep(0.1)
+    judge("the exporter takes the probe", "error" not in shell.path("exporter.log").read_text(),
+          shell.path("exporter.log").read_text())
+
+
+def value(shell: Shell, name: str) -> str:
+    found = re.search(rf"^{name} (\S+)$", shell.run(PROBE).out, re.M)
+    return found[1] if found else ""
+
+
+def is_probed(shell: Shell) -> None:
+    """The probe fails where the name may not read, and where no office answers; the exporter is ended then."""
+    if MISSING:
+        return
+    print(f"the probe took {value(shell, 'probe_duration_seconds')} s here, with others at work")
+    shell.run("cp /etc/prometheus/office.password right && echo wrong >/etc/prometheus/office.password")
+    judge("with a wrong password the probe fails", value(shell, "probe_success") == "0")
+    shell.run("cp right /etc/prometheus/office.password")
+    judge("with the right one it succeeds again", value(shell, "probe_success") == "1")
+    done = shell.run(PROBE.replace("city", "court"))
+    judge("where no office answers the probe fails", "\nprobe_success 0\n" in done.out, done.out)
+    done = shell.run(PROBE.replace("0001-01-01", "2025-01-01"))
+    judge("another body than [] fails too", "\nprobe_success 0\n" in done.out, done.out)
+    shell.run("kill $(cat exporter.pid)")
+
+
+def cannot_act(shell: Shell) -> None:
+    done = shell.run("curl --silent --output /dev/null --write-out %{http_code} --cacert /etc/nginx/office/office.crt "
+                     '--user "monitor:$MONITOR" --header "Origin: https://localhost" --data-binary "[]" '
+                     "https://localhost/city/acts")
+    judge("the name monitor may only read", done.out == "403", done.out)
+
+
+def has_backup(shell: Shell) -> None:
+    """In place of the timer: a copy of tonight, and one that is too old."""
+    os.makedirs(BACKUPS, exist_ok=True)
+    shell.run(f"cp city.db {BACKUPS}/city-20250102T023000Z.db && touch -d '2 days ago' {BACKUPS}/*.db")
+    done = shell.run(f"find {BACKUPS} -name 'city-*.db' -mmin -1560 | grep .")
+    judge("an old copy alone is no backup of today", done.status == 1 and done.out == "", f"{done}")
+    shell.run(f"cp city.db {BACKUPS}/city-20250103T023000Z.db")
+
+
+def run_is_seen(shell: Shell) -> None:
+    """A copy with an open run."""
+    shell.path("run.json").write_text(RUN)
+    shell.run("cp city.db open.db && office apply open.db run.json")
+    done = shell.run(f"sqlite3 'file:open.db?immutable=1' {OPEN}")
+    judge("a run that is open is seen", done.out == "3\n", f"{done}")
+
+
+ROWS = [
+    Row("curl --fail --silent --show-error --max-time 60", prints="[]"),
+    Row("htpasswd -iB -C 10 /etc/nginx/office/office.htpasswd monitor", then=cannot_act),
+    Row("install -m 640 -g prometheus", skip=MISSING),
+    Row("printf %s \"$MONITOR\"", skip=MISSING),
+    Row("cp examples/monitor/blackbox.yml", skip=MISSING),
+    Row("systemctl restart prometheus-blackbox-exporter", skip="without systemd", then=exporter_starts),
+    Row("curl --silent 'http://127.0.0.1:9115/probe", skip=MISSING, prints="probe_success 1\n", then=is_probed),
+    Row("systemctl is-active", skip="without systemd", then=has_backup),
+    Row("find /var/lib/office-backups -name 'city-*.db' -mmin", like=r"\S+/city-20250103T023000Z\.db\n"),
+    Row("sqlite3 \"file:$(ls -t /var/lib/office-backups", prints="", then=run_is_seen),
+    Row("df --output=avail", like=r" *\d+\n"),
+]
