@@ -1,4 +1,4 @@
-"""docs/CSV.md: an import, and the registers of the office that it went into."""
+"""docs/CSV.md: an import, and both registers of the office that it went into."""
 from collections.abc import Callable
 
 from pages_run.expected import Row, run_page
@@ -23,7 +23,7 @@ def has(name: str, columns: str, table: str) -> Callable[[Shell], None]:
     return look
 
 
-# each record of this office is due on that day, and overdue once thirty days are over
+# each record of this office is due on that day
 ROWS = [
     Row("./office apply letters.db examples/import/office.json"),
     Row("./office import letters.db 2024-01-02 examples/import/letters.csv"),
@@ -33,8 +33,6 @@ ROWS = [
     Row("./office overdue letters.db 2027-07-02 30 > overdue.csv", prints="",
         then=has("overdue.csv", OVERDUE, "records")),
     Row("./office export letters.db entries > entries.csv", prints="", then=has("entries.csv", ENTRIES, "entries")),
-    Row("./office overdue letters.db 2027-07-02 30 > overdue.csv", prints="",
-        then=has("overdue.csv", OVERDUE, "records")),
 ]
 
 
