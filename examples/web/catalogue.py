@@ -282,13 +282,14 @@ def pictures(
     more: str = "",
     sizes: Collection[str] = tuple(SIZES),
     schemes: Collection[str] = tuple(SCHEMES),
+    question: str = "bau goethe 17",
 ) -> None:
-    """Each part; `more` follows its name."""
+    """Each part; `more` follows its name. Records are those that the question finds."""
     def prepare(part: str) -> None:
         if part == "aggregations":
             it.driver.execute_script("document.querySelector('#catalogue-part details').open = true")
         if part == "records":
-            it.write(catalogue_text="bau goethe 17")
+            it.write(catalogue_text=question)
 
     for part, words in VIEWS.items():
         address = f"{proxy.page}#catalogue{words}"

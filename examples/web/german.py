@@ -97,7 +97,7 @@ def listed(it: Browser, proxy: Proxy) -> None:
         shown["COR-3"],
         ["mit der letzten Ablage in der Akte", "3 Jahre", "ab dem nächsten Quartalsersten", "vernichten"],
     )
-    catalogue.pictures(it, proxy, *GERMAN_PICTURES)
+    catalogue.pictures(it, proxy, *GERMAN_PICTURES, "park")
 
 
 def tell(proxy: Proxy, folder: pathlib.Path, open_browser: Callable[..., Iterator[Browser]]) -> None:
