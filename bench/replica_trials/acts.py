@@ -134,7 +134,7 @@ class Maker:
     def disposal(self, source: random.Random, due: list[dict[str, Any]]) -> list[Act]:
         """What a registrar does about a due list: reviews, confirmations, a run, receipts."""
         with self.lock:
-            rows = source.sample(due, min(len(due), source.randint(1, 20)))
+            rows = source.sample(due, min(len(due), source.randint(1, 5)))
             day, made = self.today(source), []
             for row in rows:
                 if row["action"] == "review":
@@ -143,7 +143,7 @@ class Maker:
                 else:
                     made.append({"act": "confirm", "day": day, "record": row["record"],
                                  "action": row["action"], "by": "registrar"})
-            made += [self.act("receipt", source) for _ in range(min(3, len(self.sent)))]
+            made += [self.act("receipt", source) for _ in range(min(2, len(self.sent)))]
             made.append({"act": "open-run", "day": day, "by": "registrar"})
             return made + [{"act": "run-step"}] * source.randint(0, len(rows))
 

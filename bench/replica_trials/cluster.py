@@ -15,8 +15,8 @@ from typing import Any, NamedTuple
 from replica_trials.space import socket_in
 
 TOP = pathlib.Path(__file__).resolve().parent.parent.parent
-OFFICE = os.environ.get("OFFICE") or str(TOP / "office")
-LONGEST_WAIT = 90
+OFFICE = str(pathlib.Path(os.environ.get("OFFICE", TOP / "crates/office/out/office")).resolve())
+LONGEST_WAIT = 240
 FAULTS = (OSError, http.client.HTTPException, ValueError)
 
 
@@ -119,7 +119,8 @@ class Cluster:
         prefix = [] if network is None else ["nsenter", f"--net=/run/netns/{network}", "--"]
         with open(self.folder / f"{name}.log", "ab") as log:
             self.processes[name] = subprocess.Popen(
-                [*prefix, *words], stdin=subprocess.DEVNULL, stdout=log, stderr=subprocess.STDOUT)
+                [*prefix, *words], stdin=subprocess.DEVNULL, stdout=log, stderr=subprocess.STDOUT,
+                start_new_session=True)
 
     def start_etcd(self, machine: int) -> None:
         peers = ",".join(f"e{it}={self.peer_address(it)}" for it in range(self.count))
@@ -233,7 +234,8 @@ class Cluster:
     def state(self, machine: int) -> dict[str, Any] | None:
         """What /replica tells, or None."""
         try:
-            told: dict[str, Any] = json.loads(ask(self.place(machine), "GET", "/replica", timeout=2).body)
+            reply = ask(self.place(machine), "GET", "/replica", timeout=5)
+            told: dict[str, Any] = json.loads(reply.body)
             return told
         except FAULTS:
             return None

@@ -54,16 +54,17 @@ def kill_once(cluster: Cluster, what: str, machine: int, source: random.Random) 
 
 def run(folder: pathlib.Path, kills: int, seed: int = 1) -> None:
     source = random.Random(seed)
-    cluster = Cluster(folder / "kills", 21000, keys_kept=2000)
+    cluster = Cluster(folder / "kills", 21000, keys_kept=2000, snapshot_every=200)
     cluster.start_all()
     log, traffic = Archivist(cluster), Traffic(cluster, seed)
     log.start()
     traffic.send_acts(source, BEGIN)
     traffic.start()
-    time.sleep(1)
+    time.sleep(3)
     done: collections.Counter[str] = collections.Counter()
     seconds: dict[str, list[float]] = collections.defaultdict(list)
-    began, ended = time.time(), []
+    began = time.time()
+    ended: list[str] = []
     while sum(done.values()) < kills and not traffic.faults and not ended:
         what = source.choices(list(WHAT), list(WHAT.values()))[0]
         machine = source.randrange(3)

@@ -56,7 +56,7 @@ def make() -> None:
 
 
 def make_networks(names: list[str], address: str) -> None:
-    """A network for each machine, joined by a bridge: `address` with % for the machine's number."""
+    """A network for each machine, joined by a bridge; `address` is the begin of an address."""
     subprocess.run(["ip", "link", "add", "bridge", "type", "bridge"], check=True)
     subprocess.run(["ip", "link", "set", "bridge", "up"], check=True)
     for number, name in enumerate(names):
@@ -64,7 +64,7 @@ def make_networks(names: list[str], address: str) -> None:
                 f"ip netns add {name}",
                 f"ip link add {name} type veth peer name eth0 netns {name}",
                 f"ip link set {name} master bridge up",
-                f"ip -n {name} addr add {address % number}/24 dev eth0",
+                f"ip -n {name} addr add {address}{number + 1}/24 dev eth0",
                 f"ip -n {name} link set eth0 up",
                 f"ip -n {name} link set lo up"):
             subprocess.run(words.split(), check=True)

@@ -10,7 +10,7 @@ import uuid
 from dataclasses import dataclass
 
 from replica_trials.acts import NOT_ACTS, Act, Maker, as_body
-from replica_trials.cluster import FAULTS, Cluster, Reply, ask
+from replica_trials.cluster import FAULTS, Cluster, Place, Reply, ask
 
 RETRY_SECONDS = 0.05
 
@@ -45,7 +45,7 @@ class Read:
 class Traffic:
     """All clients of a trial. With a key a client tries until it is answered; without, once."""
 
-    def __init__(self, cluster: Cluster, seed: int, posters: int = 6, readers: int = 3) -> None:
+    def __init__(self, cluster: Cluster, seed: int, posters: int = 4, readers: int = 1) -> None:
         self.cluster, self.maker, self.seed = cluster, Maker(), seed
         self.posts: list[Post] = []
         self.lost: list[bytes] = []
@@ -69,7 +69,7 @@ class Traffic:
         """Afterwards each request with a key has its answer."""
         self.stopping.set()
         for thread in self.threads:
-            thread.join(120)
+            thread.join(240)
             if thread.is_alive():
                 self.faults.append("a client hangs")
 
@@ -89,7 +89,7 @@ class Traffic:
             elif chance < 0.36:
                 self.send_once(source)
             else:
-                count = source.randint(1, 8 if chance < 0.95 else 40)
+                count = source.randint(1, 3 if chance < 0.97 else 12)
                 self.send_acts(source, self.maker.acts(source, count))
 
     def due(self, source: random.Random) -> list[dict[str, object]]:
@@ -102,7 +102,7 @@ class Traffic:
         except FAULTS:
             return []
 
-    def member(self, source: random.Random):  # type: ignore[no-untyped-def]
+    def member(self, source: random.Random) -> Place:
         return self.cluster.place(source.randrange(3))
 
     def send_acts(self, source: random.Random, acts: list[Act]) -> None:
@@ -145,7 +145,7 @@ class Traffic:
 
     def send_once(self, source: random.Random) -> None:
         """Without a key, once: it is in the log at most once, and once where it is answered."""
-        acts = [self.maker.marked(source), *self.maker.acts(source, source.randint(0, 3))]
+        acts = [self.maker.marked(source), *self.maker.acts(source, source.randint(0, 1))]
         body, began = as_body(acts), time.time()
         with self.lock:
             self.keyless += 1
@@ -184,10 +184,11 @@ class Traffic:
                 f"/records/{source.randint(1, 300)}", f"/records/{source.randint(1, 300)}/content",
                 f"/certificates/{source.randint(1, 60)}", f"/due/{self.maker.day}", "/nothing"])
             mode, least = source.choice(["plain", "newest", "after"]), self.known
-            lines = {"newest": {"Office-Read": "newest"}, "after": {"Office-After": str(least)},
-                     "plain": {}}[mode]
+            asked: dict[str, dict[str, str]] = {
+                "newest": {"Office-Read": "newest"}, "after": {"Office-After": str(least)},
+                "plain": {}}
             try:
-                reply = ask(self.member(source), "GET", path, None, lines)
+                reply = ask(self.member(source), "GET", path, None, asked[mode])
             except FAULTS:
                 self.count("GET: no answer")
                 continue
@@ -196,11 +197,11 @@ class Traffic:
             else:
                 self.reads.append(Read(path, reply.status, reply.body, reply.position, mode,
                                        0 if mode == "plain" else least))
-            time.sleep(0.03)
+            time.sleep(0.1)
 
     # ---- one at a time
 
-    def entry_at(self, machine: int, began: float, seconds: float = 90) -> float:
+    def entry_at(self, machine: int, began: float, seconds: float = 240) -> float:
         """Posts to one member until it answers; the seconds since `began`."""
         key, tries = uuid.uuid4().hex, 0
         while time.time() - began < seconds:
