@@ -1,4 +1,8 @@
-"""The trial by kills: SIGKILL of etcd, offices and members at random moments, under traffic."""
+"""The trial by kills: SIGKILL of etcd, offices and members at random moments, under traffic.
+
+Each machine has a killer of its own, which waits until its machine has taken an entry again. So two
+machines, or all, are often down at once. Now and then all machines lose their power at one moment.
+"""
 from __future__ import annotations
 
 import collections
@@ -7,6 +11,7 @@ import pathlib
 import random
 import signal
 import statistics
+import threading
 import time
 
 from replica_trials.acts import BEGIN
@@ -16,79 +21,139 @@ from replica_trials.judging import judge
 from replica_trials.traffic import Traffic
 from replica_trials.verdict import whole
 
-# what is killed, and how often: a machine is its etcd and its member; power is all machines
-WHAT = {"etcd": 25, "member": 25, "office": 25, "machine": 15, "two machines": 4, "power": 4,
-        "member again and again": 2}
+# what a killer kills, and how often; a machine is its etcd and its member at one moment
+WHAT = {"etcd": 30, "member": 28, "office": 28, "machine": 11, "member, again while it recovers": 3}
+POWER = "power: all etcd and members"
+POWER_EVERY = 25
+NAMES = {"etcd": ["etcd"], "member": ["member"], "machine": ["member", "etcd"]}
 
 
-def parts(what: str, machine: int) -> list[str]:
-    """The processes that are killed at once, and started again."""
-    others = [it for it in range(3) if it != machine]
-    machines = {"two machines": others, "power": [0, 1, 2]}.get(what, [machine])
-    kinds = {"etcd": ["etcd"], "member": ["member"]}.get(what, ["member", "etcd"])
-    return [f"{kind}{it}" for kind in kinds for it in machines]
+class Killers:
+    """The killers of three machines, and what they did."""
 
+    def __init__(self, cluster: Cluster, traffic: Traffic, kills: int, seed: int) -> None:
+        self.cluster, self.traffic, self.wanted, self.seed = cluster, traffic, kills, seed
+        self.lock = threading.Lock()
+        self.machines = [threading.Lock() for _ in range(3)]
+        self.done: collections.Counter[str] = collections.Counter()
+        self.seconds: dict[str, list[float]] = collections.defaultdict(list)
+        self.ended: list[str] = []
 
-def kill_once(cluster: Cluster, what: str, machine: int, source: random.Random) -> bool:
-    """One kill, and a new start after a moment. False where there was nothing to kill."""
-    if what == "office":
-        process = cluster.office_process(machine)
-        if process is None:
+    def run(self) -> None:
+        """Until there were so many kills, or something is wrong."""
+        threads = [threading.Thread(target=self.killer, args=(it,)) for it in range(3)]
+        for thread in threads:
+            thread.start()
+        for thread in threads:
+            thread.join()
+
+    def total(self) -> int:
+        return sum(self.done.values())
+
+    def take(self, what: str, count: int = 1) -> bool:
+        """Whether there may be so many kills more; they are counted then."""
+        with self.lock:
+            if self.total() + count > self.wanted or self.traffic.faults or self.ended:
+                return False
+            self.done[what] += count
+            return True
+
+    def killer(self, machine: int) -> None:
+        source = random.Random(self.seed * 10 + machine)
+        while not self.traffic.faults and not self.ended and self.total() < self.wanted:
+            time.sleep(source.uniform(0, 0.6))
+            if machine == 0 and self.total() >= POWER_EVERY * (1 + self.done[POWER]):
+                what, did = POWER, self.power()
+            else:
+                what = source.choices(list(WHAT), list(WHAT.values()))[0]
+                with self.machines[machine]:
+                    did = self.kill(what, machine, source)
+            if not did:
+                continue
+            took = self.traffic.entry_at(machine, time.time())
+            with self.lock:
+                self.seconds[what].append(took)
+                self.ended += [name for name, it in list(self.cluster.processes.items())
+                               if it.poll() is not None]
+                if self.total() % 50 < 2:
+                    print(f"{self.total()} kills, {len(self.traffic.posts):,} answers", flush=True)
+
+    def kill(self, what: str, machine: int, source: random.Random) -> bool:
+        """One kill, or several of one member, and a new start after a moment."""
+        if what == "office":
+            process = self.cluster.office_process(machine)
+            if process is None or not self.take(what):
+                return False
+            os.kill(process, signal.SIGKILL)
+            return True
+        if what not in NAMES:
+            if not self.take(what, 3):
+                return False
+            for _ in range(3):
+                self.cluster.kill(f"member{machine}")
+                self.cluster.start_member(machine)
+                time.sleep(source.uniform(0, 3))
+            return True
+        if not self.take(what):
             return False
-        os.kill(process, signal.SIGKILL)
+        names = [f"{kind}{machine}" for kind in NAMES[what]]
+        self.cluster.kill(*names)
+        time.sleep(source.choice([0.02, 0.1, 0.3, 0.8]))
+        self.start(names)
         return True
-    if what == "member again and again":
-        for _ in range(4):
-            cluster.kill(f"member{machine}")
-            cluster.start_member(machine)
-            time.sleep(source.uniform(0, 0.9))
+
+    def power(self) -> bool:
+        """All machines at one moment."""
+        if not self.take(POWER):
+            return False
+        names = [f"{kind}{it}" for kind in ("member", "etcd") for it in range(3)]
+        for lock in self.machines:
+            lock.acquire()
+        try:
+            self.cluster.kill(*names)
+            self.start(names)
+        finally:
+            for lock in self.machines:
+                lock.release()
         return True
-    named = parts(what, machine)
-    cluster.kill(*named)
-    time.sleep(source.choice([0.02, 0.1, 0.3, 0.8]))
-    for name in sorted(named):
-        start = cluster.start_etcd if name.startswith("etcd") else cluster.start_member
-        start(int(name[-1]))
-    return True
+
+    def start(self, names: list[str]) -> None:
+        for name in sorted(names):
+            is_etcd = name.startswith("etcd")
+            (self.cluster.start_etcd if is_etcd else self.cluster.start_member)(int(name[-1]))
+
+    def table(self) -> str:
+        lines = ["| Killed | Kills | Seconds until an entry is answered there: median | Worst |",
+                 "|---|---|---|---|"]
+        for what, times in self.seconds.items():
+            lines.append(f"| {what} | {self.done[what]} | {statistics.median(times):.1f} | "
+                         f"{max(times):.1f} |")
+        return "\n".join(lines)
 
 
 def run(folder: pathlib.Path, kills: int, seed: int = 1) -> None:
-    source = random.Random(seed)
     cluster = Cluster(folder / "kills", 21000, keys_kept=2000, snapshot_every=200)
-    cluster.start_all()
-    log, traffic = Archivist(cluster), Traffic(cluster, seed)
-    log.start()
-    traffic.send_acts(source, BEGIN)
-    traffic.start()
-    time.sleep(3)
-    done: collections.Counter[str] = collections.Counter()
-    seconds: dict[str, list[float]] = collections.defaultdict(list)
-    began = time.time()
-    ended: list[str] = []
-    while sum(done.values()) < kills and not traffic.faults and not ended:
-        what = source.choices(list(WHAT), list(WHAT.values()))[0]
-        machine = source.randrange(3)
-        if not kill_once(cluster, what, machine, source):
-            continue
-        done[what] += 4 if what == "member again and again" else 1
-        at = time.time()
-        time.sleep(0.02)
-        seconds[what].append(traffic.entry_at(machine, at))
-        time.sleep(source.uniform(0, 0.5))
-        ended = [name for name, it in cluster.processes.items() if it.poll() is not None]
-    judge(f"{sum(done.values())} kills, and no part ended by itself", not ended,
-          [(it, cluster.processes[it].poll(), cluster.journal(it)[-500:]) for it in ended])
-    traffic.stop()
-    worked = time.time() - began
-    first, tail, kept = log.number("first"), log.number("tail"), log.count("log/")
-    judge("the log was dropped meanwhile, and has what it should", kept == tail - first + 1,
-          f"{kept} of {tail} kept")
-    whole(cluster, traffic, log, f"{sum(done.values())} kills")
-    restores = sum(cluster.journal(f"member{it}").count("from a snapshot") for it in range(3))
-    as_it_was = sum(cluster.journal(f"member{it}").count("as it was") for it in range(3))
-    print(f"{worked:.0f} seconds; FILE opened from a snapshot {restores} times, as it was "
-          f"{as_it_was} times")
-    print("| Killed | Kills | Seconds until an entry is answered there: median | Worst |\n"
-          "|---|---|---|---|")
-    for what, times in seconds.items():
-        print(f"| {what} | {done[what]} | {statistics.median(times):.2f} | {max(times):.2f} |")
+    try:
+        cluster.start_all()
+        log, traffic = Archivist(cluster), Traffic(cluster, seed)
+        log.start()
+        traffic.send_acts(random.Random(seed), BEGIN)
+        traffic.start()
+        time.sleep(3)
+        began, killers = time.time(), Killers(cluster, traffic, kills, seed)
+        killers.run()
+        judge(f"{killers.total()} kills, and no part ended by itself", not killers.ended,
+              [(it, cluster.journal(it)[-500:]) for it in killers.ended])
+        traffic.stop()
+        worked = time.time() - began
+        first, tail, kept = log.number("first"), log.number("tail"), log.count("log/")
+        judge("the log has what it should, from its first position to its last",
+              kept == tail - first + 1, f"{kept} kept, {first} to {tail}")
+        whole(cluster, traffic, log, f"{killers.total()} kills", all_kinds=kills >= 40)
+        restores, as_it_was = (sum(cluster.journal(f"member{it}").count(text) for it in range(3))
+                               for text in ("from a snapshot", "as it was"))
+        print(f"{killers.total()} kills in {worked:.0f} seconds; the log was kept from {first} on; "
+              f"FILE was opened from a snapshot {restores} times, as it was {as_it_was} times")
+        print(killers.table(), flush=True)
+    finally:
+        cluster.stop_all()

@@ -9,6 +9,7 @@ import http.server
 import json
 import re
 import socket
+import socketserver
 import uuid
 from typing import Any
 
@@ -154,6 +155,11 @@ class Server(http.server.ThreadingHTTPServer):
     def __init__(self, port: int, service: Service) -> None:
         self.service = service
         super().__init__(("127.0.0.1", port), Handler)
+
+    def server_bind(self) -> None:
+        """Without asking for a name of the address."""
+        socketserver.TCPServer.server_bind(self)
+        self.server_name, self.server_port = "localhost", self.server_address[1]
 
     def handle_error(self, request: Any, client_address: Any) -> None:
         """A client that went away is no fault of the member."""
