@@ -61,7 +61,7 @@ class Killers:
     def killer(self, machine: int) -> None:
         source = random.Random(self.seed * 10 + machine)
         while not self.traffic.faults and not self.ended and self.total() < self.wanted:
-            time.sleep(source.uniform(0, 0.6))
+            time.sleep(source.uniform(0, 2.5))
             if machine == 0 and self.total() >= POWER_EVERY * (1 + self.done[POWER]):
                 what, did = POWER, self.power()
             else:
