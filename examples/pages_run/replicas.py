@@ -25,7 +25,7 @@ def etcd_starts(shell: Shell) -> None:
 
 
 def members_start(shell: Shell) -> None:
-    """In place of systemd: the member of archive1 as its unit calls it; the others begin with copies of its snapshot."""
+    """In place of systemd: the member of archive1 as its unit calls it; the others begin with its snapshot."""
     copied = shell.path("second/snapshots/0000000000000000/sums").exists()
     judge(f"{PAGE}: the second machine has the snapshot", copied)
     shutil.copytree(shell.path("second"), shell.path("third"))
@@ -33,7 +33,7 @@ def members_start(shell: Shell) -> None:
         HERE.start_member(number)
     judge(f"{PAGE}: all three members answer", all(HERE.answers(number) for number in (1, 2, 3)),
           shell.path("member1.log").read_text())
-    told = act(HERE.port(2), shell.path("examples/first/acts.json").read_bytes())
+    told = act(2, shell.path("examples/first/acts.json").read_bytes())
     judge(f"{PAGE}: an act at the second machine is done", told.status == 200, f"{told}")
 
 
@@ -78,7 +78,7 @@ def third_burns(shell: Shell) -> None:
     HERE.kill(3)
     shutil.rmtree(shell.path("third"))
     shutil.rmtree(shell.path("etcd3"))
-    told = act(HERE.port(2), b"[]")
+    told = act(2, b"[]")
     judge(f"{PAGE}: the two others go on", told.status == 200, f"{told}")
 
 
@@ -97,7 +97,7 @@ def third_joins(shell: Shell) -> None:
     os.rename(shell.path(f"second/coming/{name}"), shell.path(f"third/snapshots/{name}"))
     HERE.start_member(3)
     judge(f"{PAGE}: the new member answers", HERE.answers(3), shell.path("member3.log").read_text())
-    told = act(HERE.port(3), b'[{"act":"run-step"}]')
+    told = act(3, b'[{"act":"run-step"}]')
     judge(f"{PAGE}: and takes acts", told.status in (200, 409), f"{told}")
 
 
@@ -105,8 +105,8 @@ def two_burn(_: Shell) -> None:
     """archive2 and archive3 go for good; POST is 503 then, and GETs go on."""
     HERE.kill(2)
     HERE.kill(3)
-    wait_until(lambda: b"quorum" in act(HERE.port(1), b"[]").body)
-    told = act(HERE.port(1), b"[]")
+    wait_until(lambda: b"quorum" in act(1, b"[]").body)
+    told = act(1, b"[]")
     judge(f"{PAGE}: a POST at the third is 503 quorum", told == (503, b'{"error":"quorum"}'), f"{told}")
     judge(f"{PAGE}: and GETs go on", HERE.get(1, "/records/1") == 200)
     HERE.kill(1)
@@ -122,7 +122,7 @@ def etcd_restarts(_: Shell) -> None:
 def one_goes_on(shell: Shell) -> None:
     HERE.start_member(1)
     judge(f"{PAGE}: the one that is left answers", HERE.answers(1), shell.path("member1.log").read_text())
-    told = act(HERE.port(1), b'[{"act":"run-step"}]')
+    told = act(1, b'[{"act":"run-step"}]')
     judge(f"{PAGE}: and takes acts", told.status in (200, 409), f"{told}")
 
 
@@ -130,7 +130,7 @@ def snapshot_now(_: Shell) -> None:
     """In place of systemd: what ExecReload= of the unit does."""
     folder = "/var/lib/office-member/city/snapshots"
     before = sorted(os.listdir(folder))[-1]
-    act(HERE.port(1), b"[]")
+    act(1, b"[]")
     HERE.signal(1, signal.SIGHUP)
     judge(f"{PAGE}: SIGHUP makes a snapshot", wait_until(lambda: max(
         it for it in os.listdir(folder) if it.isdigit()) > before), f"{os.listdir(folder)}")

@@ -15,6 +15,7 @@ PACKAGES = {
     "mount": "mount",
     "nft": "nftables",
     "nginx": "nginx",
+    "nsenter": "util-linux",
     "openssl": "openssl",
     "rsync": "rsync",
     "setpriv": "util-linux",

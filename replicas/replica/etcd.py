@@ -70,7 +70,11 @@ def rows_of(response: Part) -> list[Row]:
 
 def is_open(link: http.client.HTTPConnection) -> bool:
     """Whether the other side has not closed a connection on which nothing is awaited."""
-    return link.sock is not None and not select.select([link.sock], [], [], 0)[0]
+    if link.sock is None:
+        return False
+    poll = select.poll()
+    poll.register(link.sock, select.POLLIN)
+    return not poll.poll(0)
 
 
 class Etcd:

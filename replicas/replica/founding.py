@@ -8,6 +8,7 @@ log of this name, or snapshots, already, 2 for wrong settings, 3 where a step fa
 """
 from __future__ import annotations
 
+import os
 import pathlib
 import shutil
 import subprocess
@@ -53,5 +54,6 @@ def main() -> None:
     if len(sys.argv) not in (2, 3):
         print(__doc__, file=sys.stderr)
         raise SystemExit(2)
+    os.umask(0o077)
     file = pathlib.Path(sys.argv[2]) if sys.argv[2:] else None
     raise SystemExit(found(read_settings(sys.argv[1]), file))

@@ -75,6 +75,7 @@ def main() -> None:
     if len(sys.argv) != 2:
         print(__doc__, file=sys.stderr)
         raise SystemExit(2)
+    os.umask(0o077)
     status = start(read_settings(sys.argv[1]))
     sys.stderr.flush()
     # threads of clients may wait for what does not come any more

@@ -97,6 +97,7 @@ class Snapshots:
                 shutil.rmtree(self.place(old))
         except (OSError, subprocess.CalledProcessError) as error:
             say(f"no snapshot at {position}: {error}")
+            shutil.rmtree(new, ignore_errors=True)
 
     def make_first(self, file: pathlib.Path | None, epoch: str) -> None:
         """Snapshot 0: of FILE, which nobody has open, or of a new office."""
