@@ -70,6 +70,8 @@ class Cluster:
         self.networks, self.settings = networks, settings
         self.office, self.quota = OFFICE, 4 * 1024**3
         self.tls: pathlib.Path | None = None
+        self.units: dict[str, pathlib.Path] = {}
+        """of `etcd` and `member`: the unit whose system calls it may use"""
         self.processes: dict[str, subprocess.Popen[bytes]] = {}
         shutil.rmtree(folder, ignore_errors=True)
         folder.mkdir(parents=True)
@@ -117,10 +119,17 @@ class Cluster:
     def start(self, name: str, machine: int, words: list[str]) -> None:
         network = self.network(machine)
         prefix = [] if network is None else ["nsenter", f"--net=/run/netns/{network}", "--"]
+        unit = self.units.get(name.rstrip("0123456789"))
+        if unit is not None:
+            prefix += [sys.executable, str(TOP / "bench/unit_filter.py"), str(unit)]
         with open(self.folder / f"{name}.log", "ab") as log:
             self.processes[name] = subprocess.Popen(
                 [*prefix, *words], stdin=subprocess.DEVNULL, stdout=log, stderr=subprocess.STDOUT,
                 start_new_session=True)
+        if "TRIAL_NICE" in os.environ:
+            # beside the work of others: each process has a scheduling group of its own
+            path = pathlib.Path(f"/proc/{self.processes[name].pid}/autogroup")
+            path.write_text(os.environ["TRIAL_NICE"])
 
     def start_etcd(self, machine: int) -> None:
         peers = ",".join(f"e{it}={self.peer_address(it)}" for it in range(self.count))

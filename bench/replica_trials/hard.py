@@ -14,10 +14,13 @@ import uuid
 
 from replica_trials import requests
 from replica_trials.checks import Archivist
-from replica_trials.cluster import OFFICE, Cluster, ask
+from replica_trials.cluster import OFFICE, TOP, Cluster
 from replica_trials.judging import judge
 from replica_trials.posting import begun, get, halts, post, posted, record
 from replica_trials.verdict import same_rows
+
+
+EXAMPLES = TOP / "examples/replicas"
 
 
 def no_quorum(cluster: Cluster) -> None:
@@ -257,9 +260,8 @@ def wrong_file(cluster: Cluster) -> None:
 
 def secured(cluster: Cluster) -> None:
     """etcd asks for certificates of the script of examples/replicas."""
-    script = pathlib.Path(__file__).resolve().parents[2] / "examples/replicas/certificates"
     cluster.tls = cluster.folder / "certificates"
-    subprocess.run([script, cluster.tls, *(f"m{it}=127.0.0.1" for it in range(3))], check=True,
+    subprocess.run([EXAMPLES / "certificates", cluster.tls, *(f"m{it}=127.0.0.1" for it in range(3))], check=True,
                    stdout=subprocess.DEVNULL, stderr=subprocess.DEVNULL)
     begun(cluster)
     judge("certificates: members work with them",
@@ -278,9 +280,25 @@ def secured(cluster: Cluster) -> None:
           len({cluster.position(it) for it in range(3)}) == 1)
 
 
+def units(cluster: Cluster) -> None:
+    """Etcd and members with the system calls that their units allow, and no others."""
+    cluster.units = {"etcd": EXAMPLES / "office-etcd.service",
+                     "member": EXAMPLES / "office-member@.service"}
+    begun(cluster)
+    snapshot(cluster, 1)
+    cluster.kill("member1", "etcd1")
+    posted(cluster, 0, [record(10)])
+    cluster.start_etcd(1)
+    cluster.start_member(1)
+    cluster.wait_for(1, cluster.position(0))
+    judge("units: what they start works with the system calls that they allow",
+          posted(cluster, 1, [record(11)]).status == 200)
+    same_rows(cluster, "units")
+
+
 TRIALS = {"no_quorum": no_quorum, "same_answers": same_answers, "full_disk": full_disk,
           "flipped_byte": flipped_byte, "away": away, "upgrade": upgrade,
-          "wrong_file": wrong_file, "secured": secured}
+          "wrong_file": wrong_file, "secured": secured, "units": units}
 
 
 def run(folder: pathlib.Path, kills: int) -> None:

@@ -38,6 +38,7 @@ class Killers:
         self.done: collections.Counter[str] = collections.Counter()
         self.seconds: dict[str, list[float]] = collections.defaultdict(list)
         self.ended: list[str] = []
+        self.until = time.monotonic() + float(os.environ.get("TRIAL_SECONDS", "inf"))
 
     def run(self) -> None:
         """Until there were so many kills, or something is wrong."""
@@ -50,17 +51,21 @@ class Killers:
     def total(self) -> int:
         return sum(self.done.values())
 
+    def is_over(self) -> bool:
+        """Whether something is wrong, or there is no time for more."""
+        return bool(self.traffic.faults or self.ended or time.monotonic() > self.until)
+
     def take(self, what: str, count: int = 1) -> bool:
         """Whether there may be so many kills more; they are counted then."""
         with self.lock:
-            if self.total() + count > self.wanted or self.traffic.faults or self.ended:
+            if self.total() + count > self.wanted or self.is_over():
                 return False
             self.done[what] += count
             return True
 
     def killer(self, machine: int) -> None:
         source = random.Random(self.seed * 10 + machine)
-        while not self.traffic.faults and not self.ended and self.total() < self.wanted:
+        while not self.is_over() and self.total() < self.wanted:
             time.sleep(source.uniform(0, 2.5))
             if machine == 0 and self.total() >= POWER_EVERY * (1 + self.done[POWER]):
                 what, did = POWER, self.power()

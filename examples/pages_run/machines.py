@@ -134,8 +134,8 @@ class Machines:
         name = "machine" if number == 1 else f"archive{number}"
         files = "/etc/office/etcd" if number == 1 else "certificates"
         return self.shell.run(
-            f"ETCDCTL_API=3 {' '.join(prefix(number))} etcdctl --endpoints https://127.0.0.1:2379 --cacert {files}/ca.crt "
-            f"--cert {files}/{name}.crt --key {files}/{name}.key endpoint health").status == 0
+            f"ETCDCTL_API=3 {' '.join(prefix(number))} etcdctl --endpoints https://127.0.0.1:2379 "
+            f"--cacert {files}/ca.crt --cert {files}/{name}.crt --key {files}/{name}.key endpoint health").status == 0
 
     def signal(self, number: int, what: int) -> None:
         self.running[f"member{number}"].send_signal(what)
