@@ -28,6 +28,8 @@ BEGIN: list[Act] = [
     {"act": "add-class", "day": "2024-01-02", "code": "FIN", "title": "Finance",
      "schedule": "Z-destroy"},
     {"act": "add-aggregation", "day": "2024-01-02", "ref": "A", "title": "A", "class": "FIN"}]
+FEW, FRESH = 40, 0.15
+"""records that are new each time at first, and the chance of a new one afterwards"""
 NOT_ACTS = [b"", b"{}", b"[", b"nothing", b'[{"act":"nope"}]', b"\xff\xfe[]", b"[]x", b'"[]"',
             b'[{"act":"run-step"},{"act":"run-step","x":1}]', b'[{"act":"event","day":"x"}]']
 
@@ -43,6 +45,7 @@ class Maker:
         self.digests: dict[int, str] = {}
         self.sent: list[int] = []
         self.targets: list[tuple[str, str]] = []
+        self.asked: list[Act] = []
         self.count = 0
 
     def today(self, source: random.Random) -> str:
@@ -50,6 +53,12 @@ class Maker:
         if source.random() < 0.002:
             self.day += datetime.timedelta(days=source.choice([1, 1, 1, 7, 30]))
         return self.day.isoformat()
+
+    def again(self, source: random.Random) -> Act | None:
+        """Most often a record that was asked for before, so that the office does not grow fast."""
+        if not self.asked or len(self.asked) < FEW or source.random() < FRESH:
+            return None
+        return {**source.choice(self.asked), "day": self.today(source)}
 
     def unique(self) -> int:
         self.count += 1
@@ -66,9 +75,12 @@ class Maker:
 
     def record(self, source: random.Random) -> Act:
         """A new record, most often due at once under its own schedule."""
+        again = self.again(source)
+        if again is not None:
+            return again
         content = source.randbytes(source.choice([0, 3, 40, 700, 700, 5000]))
         number = self.unique()
-        return {"act": "add-record", "day": self.today(source), "ref": f"R/{number}",
+        made = {"act": "add-record", "day": self.today(source), "ref": f"R/{number}",
                 "title": source.choice(["Letter", "Gebühren", "a \"text\" \\"]),
                 "originated": (self.day - datetime.timedelta(days=source.randint(0, 900))).isoformat(),
                 "aggregation": source.choice(self.aggregations[-30:]),
@@ -76,20 +88,22 @@ class Maker:
                 "schedule": source.choice([None, "Z-destroy", "Z-transfer", "Z-review",
                                            source.choice(self.schedules)]),
                 "content": base64.b64encode(content).decode()}
+        self.asked.append(made)
+        return made
 
     def act(self, kind: str, source: random.Random) -> Act:
         """One act of a kind; the office may refuse it."""
         day, number = self.today(source), self.some_record(source)
         by = source.choice(["registrar", "Ö. Lindqvist"])
         members: dict[str, Act] = {
-            "add-schedule": {"code": f"S{source.randint(1, 200)}", "trigger": source.choice(TRIGGERS),
+            "add-schedule": {"code": f"S{source.randint(1, 25)}", "trigger": source.choice(TRIGGERS),
                              "unit": source.choice(UNITS), "count": source.randint(0, 2),
                              "offset": source.choice(OFFSETS), "action": source.choice(ACTIONS)},
-            "add-class": {"code": f"C{source.randint(1, 200)}", "title": "Class",
+            "add-class": {"code": f"C{source.randint(1, 25)}", "title": "Class",
                           "schedule": source.choice(self.schedules)},
             "set-class-schedule": {"class": source.choice(self.classes),
                                    "schedule": source.choice(self.schedules)},
-            "add-aggregation": {"ref": f"A/{self.unique()}", "title": "Aggregation",
+            "add-aggregation": {"ref": f"A/{source.randint(1, 60)}", "title": "Aggregation",
                                 "parent": source.choice([None, source.choice(self.aggregations)]),
                                 "class": source.choice([None, *self.classes])},
             "close-aggregation": {"aggregation": source.choice(self.aggregations)},
@@ -98,7 +112,7 @@ class Maker:
             "reclassify": {"target": source.choice([f"record:{number}",
                                                     f"aggregation:{source.choice(self.aggregations)}"]),
                            "class": source.choice([None, *self.classes])},
-            "place-hold": {"code": f"H{source.randint(1, 60)}", "reason": "a lawsuit", "by": by},
+            "place-hold": {"code": f"H{source.randint(1, 25)}", "reason": "a lawsuit", "by": by},
             "hold-on": {"hold": source.choice(self.holds), "target": self.some_target(source)},
             "lift-hold": {"hold": source.choice(self.holds)},
             "confirm": {"record": number, "action": source.choice(ACTIONS[1:]), "by": by},
@@ -127,9 +141,9 @@ class Maker:
             return [self.act(kind, source) for kind in kinds]
 
     def marked(self, source: random.Random) -> Act:
-        """An act that no other list has: a record with a ref of its own."""
+        """An act that no other list has: an event with a name of its own."""
         with self.lock:
-            return self.record(source)
+            return {**self.act("event", source), "by": f"client {self.unique()}"}
 
     def disposal(self, source: random.Random, due: list[dict[str, Any]]) -> list[Act]:
         """What a registrar does about a due list: reviews, confirmations, a run, receipts."""

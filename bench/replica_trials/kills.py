@@ -66,7 +66,7 @@ class Killers:
     def killer(self, machine: int) -> None:
         source = random.Random(self.seed * 10 + machine)
         while not self.is_over() and self.total() < self.wanted:
-            time.sleep(source.uniform(0, 2.5))
+            time.sleep(source.uniform(0, 1.5))
             if machine == 0 and self.total() >= POWER_EVERY * (1 + self.done[POWER]):
                 what, did = POWER, self.power()
             else:
@@ -137,7 +137,7 @@ class Killers:
 
 
 def run(folder: pathlib.Path, kills: int, seed: int = 1) -> None:
-    cluster = Cluster(folder / "kills", 21000, keys_kept=2000, snapshot_every=200)
+    cluster = Cluster(folder / "kills", 21000, keys_kept=2000, snapshot_every=120)
     try:
         cluster.start_all()
         log, traffic = Archivist(cluster), Traffic(cluster, seed)
