@@ -205,5 +205,5 @@ def run(folder: pathlib.Path, kills: int) -> None:
     leader_dies(folder, 10 if kills >= 100 else 4)
     print("| Records | Bytes of FILE | Opened | Times | Seconds until it answers: median | Worst |"
           "\n|---|---|---|---|---|---|")
-    for records in (1_000, 20_000, 200_000):
-        recovery(folder, records, 3)
+    for records in os.environ.get("TRIAL_RECORDS", "1000,20000,200000").split(","):
+        recovery(folder, int(records), 3)
