@@ -68,6 +68,7 @@ def same_answers(cluster: Cluster) -> None:
     begun(cluster)
     requests.compared(cluster)
     requests.keys(cluster)
+    requests.wrong_settings(cluster)
     same_rows(cluster, "requests")
 
 

@@ -2,11 +2,15 @@
 from __future__ import annotations
 
 import json
+import pathlib
 import random
+import subprocess
+import sys
+from typing import Any
 
 from replica_trials.acts import BEGIN, NOT_ACTS
 from replica_trials.checks import Bare
-from replica_trials.cluster import Cluster, Reply, ask
+from replica_trials.cluster import TOP, Cluster, Reply, ask
 from replica_trials.judging import judge
 from replica_trials.posting import post, record
 
@@ -85,3 +89,42 @@ def keys(cluster: Cluster) -> None:
     judge("keys: without a key each request is an entry of its own",
           len({it.position for it in replies}) == 3 and "same" not in bodies[0]
           and all(it.get("same") for it in bodies[1:]), replies)
+
+
+# what is changed in good settings, and what has to be said of it; None takes a member away
+WRONG: list[tuple[dict[str, Any], str]] = [
+    ({"name": None}, "name is missing"), ({"listen": "8081"}, "listen is no whole number"),
+    ({"listen": True}, "listen is no whole number"), ({"folder": ""}, "folder is no text"),
+    ({"lissten": 1}, "lissten is none of name, log, folder"), ({"log": "a/b"}, "log has other characters"),
+    ({"snapshot_every": 0}, "snapshot_every is 0"), ({"ca": "x"}, "go together")]
+
+
+def run_member(word: str, path: pathlib.Path) -> tuple[int, str]:
+    """The status of `member` or `found` with these settings, and what it said."""
+    done = subprocess.run([sys.executable, TOP / "replicas" / word, path], capture_output=True,
+                          text=True, timeout=120, check=False)
+    return done.returncode, done.stderr
+
+
+def wrong_settings(cluster: Cluster) -> None:
+    """Settings that are wrong are said to be, with status 2; a folder that is taken with 3."""
+    good = cluster.home(0) / "settings.json"
+    path = cluster.folder / "wrong.json"
+    said = []
+    for change, wanted in WRONG:
+        told = {**json.loads(good.read_text()), **change}
+        path.write_text(json.dumps({it: value for it, value in told.items() if value is not None}))
+        status, text = run_member("member", path)
+        if status != 2 or wanted not in text or "Traceback" in text:
+            said.append((change, status, text))
+    for raw in (b"", b"{", b"[]", b"\xff"):
+        path.write_bytes(raw)
+        status, text = run_member("member", path)
+        if status != 2 or "Traceback" in text:
+            said.append(({"the file": raw}, status, text))
+    judge("settings: what is wrong in them is said, with status 2", not said, said)
+    status, text = run_member("member", good)
+    judge("settings: a second member in the same folder ends with status 3",
+          status == 3 and "Traceback" not in text, text)
+    status, text = run_member("found", good)
+    judge("settings: a log is not founded over snapshots", status == 1 and "already" in text, text)
