@@ -1,7 +1,8 @@
 """The trial by kills: SIGKILL of etcd, offices and members at random moments, under traffic.
 
-Each machine has a killer of its own, which waits until its machine has taken an entry again. So two
-machines, or all, are often down at once. Now and then all machines lose their power at one moment.
+Each machine has two killers of its own, one of its etcd, one of the rest. Each waits until its machine
+has taken an entry again. So two machines, or all, are often down at once, and what recovers is killed
+too. Now and then all machines lose their power at one moment.
 """
 from __future__ import annotations
 
@@ -21,10 +22,12 @@ from replica_trials.judging import judge
 from replica_trials.traffic import Traffic
 from replica_trials.verdict import whole
 
-# what a killer kills, and how often; a machine is its etcd and its member at one moment
-WHAT = {"etcd": 30, "member": 28, "office": 28, "machine": 11, "member, again while it recovers": 3}
+# what the two killers of a machine kill, how often, and the longest pause before; a machine is its etcd and its member
+# at one moment
+KINDS = [({"etcd": 1}, 12.0),
+         ({"member": 42, "office": 42, "machine": 13, "member, again while it recovers": 3}, 1.5)]
 POWER = "power: all etcd and members"
-POWER_EVERY = 25
+POWER_EVERY = 40
 NAMES = {"etcd": ["etcd"], "member": ["member"], "machine": ["member", "etcd"]}
 
 
@@ -42,7 +45,8 @@ class Killers:
 
     def run(self) -> None:
         """Until there were so many kills, or something is wrong."""
-        threads = [threading.Thread(target=self.killer, args=(it,)) for it in range(3)]
+        threads = [threading.Thread(target=self.killer, args=(machine, kind))
+                   for machine in range(3) for kind in range(len(KINDS))]
         for thread in threads:
             thread.start()
         for thread in threads:
@@ -63,14 +67,14 @@ class Killers:
             self.done[what] += count
             return True
 
-    def killer(self, machine: int) -> None:
-        source = random.Random(self.seed * 10 + machine)
+    def killer(self, machine: int, kind: int) -> None:
+        source, (chances, longest) = random.Random(self.seed * 10 + machine + 3 * kind), KINDS[kind]
         while not self.is_over() and self.total() < self.wanted:
-            time.sleep(source.uniform(0, 1.5))
-            if machine == 0 and self.total() >= POWER_EVERY * (1 + self.done[POWER]):
+            time.sleep(source.uniform(0, longest))
+            if machine == kind == 0 and self.total() >= POWER_EVERY * (1 + self.done[POWER]):
                 what, did = POWER, self.power()
             else:
-                what = source.choices(list(WHAT), list(WHAT.values()))[0]
+                what = source.choices(list(chances), list(chances.values()))[0]
                 with self.machines[machine]:
                     did = self.kill(what, machine, source)
             if not did:

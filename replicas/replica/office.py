@@ -5,11 +5,13 @@
 from __future__ import annotations
 
 import hashlib
+import os
 import pathlib
 import re
 import shutil
 import socket
 import subprocess
+import sys
 import threading
 
 from replica.errors import Fault
@@ -17,6 +19,7 @@ from replica.errors import Fault
 ANSWER_SECONDS = 600
 """without a byte from the office: then it hangs"""
 CONNECTIONS = "1000000"
+CHILD = str(pathlib.Path(__file__).with_name("child.py"))
 
 
 def status_of(answer: bytes, is_bodiless: bool = False) -> int | None:
@@ -61,7 +64,7 @@ class Office:
         """Opens FILE, by a new process that ends with this thread. Fault where it does not."""
         self.stop()
         self.process = subprocess.Popen(
-            ["setpriv", "--pdeathsig", "KILL", "--", *self.words],
+            [sys.executable, "-I", "-S", CHILD, str(os.getpid()), *self.words],
             stdout=subprocess.PIPE, stdin=subprocess.DEVNULL)
         assert self.process.stdout is not None
         if not self.process.stdout.readline().startswith(b"listening"):
