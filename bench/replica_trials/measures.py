@@ -21,6 +21,7 @@ from replica_trials.judging import judge
 from replica_trials.posting import posted, record
 from replica_trials.verdict import same_rows
 
+PARTS = ["acts", "leader", "recovery"]
 ROUNDS = 5
 SECONDS = 3.0
 # clients, acts a request, bytes of each content
@@ -201,9 +202,13 @@ def run(folder: pathlib.Path, kills: int) -> None:
     """All measures, beside whatever else this machine does."""
     load = pathlib.Path("/proc/loadavg").read_text().split()[0]
     print(f"load of this machine as they begin: {load}, on {os.cpu_count()} processors")
-    acts_a_second(folder)
-    leader_dies(folder, 10 if kills >= 100 else 4)
-    print("| Records | Bytes of FILE | Opened | Times | Seconds until it answers: median | Worst |"
-          "\n|---|---|---|---|---|---|")
-    for records in os.environ.get("TRIAL_RECORDS", "1000,20000,200000").split(","):
-        recovery(folder, int(records), 3)
+    named = [it for it in os.environ.get("TRIALS", "").split(",") if it] or PARTS
+    if "acts" in named:
+        acts_a_second(folder)
+    if "leader" in named:
+        leader_dies(folder, 10 if kills >= 100 else 4)
+    if "recovery" in named:
+        print("| Records | Bytes of FILE | Opened | Times | Seconds until it answers: median | "
+              "Worst |\n|---|---|---|---|---|---|")
+        for records in os.environ.get("TRIAL_RECORDS", "1000,20000,200000").split(","):
+            recovery(folder, int(records), 3)
