@@ -16,7 +16,7 @@ from replica_trials.space import socket_in
 
 TOP = pathlib.Path(__file__).resolve().parent.parent.parent
 OFFICE = str(pathlib.Path(os.environ.get("OFFICE", TOP / "crates/office/out/office")).resolve())
-LONGEST_WAIT = 240
+LONGEST_WAIT = 900
 FAULTS = (OSError, http.client.HTTPException, ValueError)
 
 

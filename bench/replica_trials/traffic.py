@@ -69,7 +69,7 @@ class Traffic:
         """Afterwards each request with a key has its answer."""
         self.stopping.set()
         for thread in self.threads:
-            thread.join(240)
+            thread.join(600)
             if thread.is_alive():
                 self.faults.append("a client hangs")
 
@@ -201,7 +201,7 @@ class Traffic:
 
     # ---- one at a time
 
-    def entry_at(self, machine: int, began: float, seconds: float = 240) -> float:
+    def entry_at(self, machine: int, began: float, seconds: float = 1200) -> float:
         """Posts to one member until it answers; the seconds since `began`."""
         key, tries = uuid.uuid4().hex, 0
         while time.time() - began < seconds:

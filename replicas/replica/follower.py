@@ -117,7 +117,7 @@ class Follower:
         memo = self.open()
         comparison = Comparison(self.log, self.settings.compare_every)
         goal: int | None = None
-        last, size = time.monotonic(), 0
+        last, size, is_due = time.monotonic(), 0, False
         while not self.stopping.is_set():
             if self.halting is not None:
                 raise Halt(self.halting)
@@ -126,16 +126,16 @@ class Follower:
             if goal is None:
                 goal = self.end_of_log(memo)
             entries = self.next_entries()
-            is_due = self.wants_snapshot
             for entry in entries:
                 self.do(memo, entry)
                 comparison.note(entry.position, memo.chain)
                 last, size = time.monotonic(), size + len(entry.body)
                 is_due = is_due or size > SNAPSHOT_BYTES or self.is_snapshot_at(entry.position)
-                if is_due or self.stopping.is_set():
+                if is_due and self.is_answering or self.stopping.is_set():
                     break
-            if is_due:
-                self.wants_snapshot, size = False, 0
+            # a member that recovers answers first, and copies then
+            if self.is_answering and (is_due or self.wants_snapshot):
+                self.wants_snapshot, size, is_due = False, 0, False
                 self.snapshots.take(self.position, self.at_rest(memo))
             self.report(memo, comparison)
             self.decide(goal, comparison.is_split)
