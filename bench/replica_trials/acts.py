@@ -18,7 +18,7 @@ OFFSETS = ["none", "month", "quarter", *(f"from-month-{it}" for it in range(1, 1
 ACTIONS = ["keep", "review", "transfer", "destroy"]
 # how often an act is of a kind, beside the acts of a due list
 KINDS = {"add-schedule": 2, "add-class": 3, "set-class-schedule": 2, "add-aggregation": 6,
-         "close-aggregation": 0.7, "add-record": 30, "set-record-schedule": 4, "reclassify": 3,
+         "close-aggregation": 1, "add-record": 30, "set-record-schedule": 4, "reclassify": 3,
          "place-hold": 1, "hold-on": 3, "hold-off": 2, "lift-hold": 0.5, "confirm": 5, "review": 2,
          "receipt": 1, "event": 4, "open-run": 1, "run-step": 3}
 # what a new office is given first, so that all that follows has something to begin with
@@ -160,6 +160,45 @@ class Maker:
             made += [self.act("receipt", source) for _ in range(min(2, len(self.sent)))]
             made.append({"act": "open-run", "day": day, "by": "registrar"})
             return made + [{"act": "run-step"}] * source.randint(0, len(rows))
+
+    def things(self, source: random.Random) -> list[Act]:
+        """The begin of a round of all kinds: a hold and what it is placed on, two records."""
+        with self.lock:
+            number, day = self.unique(), self.day.isoformat()
+            made = [{"act": "add-schedule", "day": day, "code": f"D{number}", "trigger": "event",
+                     "unit": "days", "count": 0, "offset": "none", "action": "destroy"},
+                    {"act": "add-class", "day": day, "code": f"K{number}", "title": "A class",
+                     "schedule": f"D{number}"},
+                    {"act": "add-aggregation", "day": day, "ref": f"K/{number}", "title": "A year",
+                     "class": "FIN"},
+                    {"act": "place-hold", "day": day, "code": f"L{number}", "reason": "a lawsuit",
+                     "by": "counsel"}]
+            for schedule in ("Z-transfer", "Z-review"):
+                made.append({**self.record(source), "ref": f"K/{number}/{schedule}", "day": day,
+                             "aggregation": 1, "schedule": schedule})
+            return made
+
+    def uses(self, made: list[Act], numbers: list[int]) -> list[Act]:
+        """What follows on these, whose answers had these numbers: every other kind but a receipt."""
+        schedule, kind, _, hold = (act.get("code", "") for act in made[:4])
+        aggregation, sent, reviewed = numbers
+        with self.lock:
+            day, target = self.day.isoformat(), f"record:{reviewed}"
+            acts: list[Act] = [
+                {"act": "set-class-schedule", "class": kind, "schedule": "Z-destroy"},
+                {"act": "close-aggregation", "aggregation": aggregation},
+                {"act": "hold-on", "hold": hold, "target": target},
+                {"act": "hold-off", "hold": hold, "target": target},
+                {"act": "lift-hold", "hold": hold},
+                {"act": "event", "record": reviewed, "occurred": day, "by": "lessee"},
+                {"act": "review", "record": reviewed, "schedule": schedule, "by": "registrar"},
+                {"act": "set-record-schedule", "record": reviewed, "schedule": schedule},
+                {"act": "reclassify", "target": target, "class": kind},
+                {"act": "confirm", "record": sent, "action": "transfer", "by": "registrar"},
+                {"act": "open-run", "by": "registrar"}]
+            for act in acts:
+                act["day"] = day
+            return acts + [{"act": "run-step"}, {"act": "run-step"}]
 
     def learn(self, acts: list[Act], answers: list[dict[str, Any]]) -> None:
         """What was answered, for the acts that follow."""

@@ -147,6 +147,7 @@ def run(folder: pathlib.Path, kills: int, seed: int = 1) -> None:
         log, traffic = Archivist(cluster), Traffic(cluster, seed)
         log.start()
         traffic.send_acts(random.Random(seed), BEGIN)
+        traffic.round(random.Random(seed))
         traffic.start()
         time.sleep(3)
         began, killers = time.time(), Killers(cluster, traffic, kills, seed)
@@ -158,7 +159,7 @@ def run(folder: pathlib.Path, kills: int, seed: int = 1) -> None:
         first, tail, kept = log.number("first"), log.number("tail"), log.count("log/")
         judge("the log has what it should, from its first position to its last",
               kept == tail - first + 1, f"{kept} kept, {first} to {tail}")
-        whole(cluster, traffic, log, f"{killers.total()} kills", all_kinds=kills >= 40)
+        whole(cluster, traffic, log, f"{killers.total()} kills")
         restores, as_it_was = (sum(cluster.journal(f"member{it}").count(text) for it in range(3))
                                for text in ("from a snapshot", "as it was"))
         print(f"{killers.total()} kills in {worked:.0f} seconds; the log was kept from {first} on; "

@@ -86,11 +86,26 @@ class Traffic:
             elif chance < 0.16:
                 due = self.due(source)
                 self.send_acts(source, self.maker.disposal(source, due) if due else [])
-            elif chance < 0.36:
+            elif chance < 0.18:
+                self.round(source)
+            elif chance < 0.38:
                 self.send_once(source)
             else:
                 count = source.randint(1, 3 if chance < 0.97 else 12)
                 self.send_acts(source, self.maker.acts(source, count))
+
+    def round(self, source: random.Random) -> None:
+        """Acts of all eighteen kinds, one on another; alone at the office, all of them are accepted."""
+        made = self.maker.things(source)
+        reply = self.send_acts(source, made)
+        answers = json.loads(reply.body)
+        numbers = [it.get("number", 1) for act, it in zip(made, answers)
+                   if act["act"] in ("add-aggregation", "add-record")]
+        if len(numbers) == 3:
+            self.send_acts(source, self.maker.uses(made, numbers))
+            self.send_acts(source, [{"act": "receipt", "day": self.maker.day.isoformat(),
+                                     "record": numbers[1], "by": "the archive",
+                                     "digest": self.maker.digests.get(numbers[1], "0" * 64)}])
 
     def due(self, source: random.Random) -> list[dict[str, object]]:
         """The due list of a member, or nothing where it does not tell it."""
@@ -105,10 +120,11 @@ class Traffic:
     def member(self, source: random.Random) -> Place:
         return self.cluster.place(source.randrange(3))
 
-    def send_acts(self, source: random.Random, acts: list[Act]) -> None:
+    def send_acts(self, source: random.Random, acts: list[Act]) -> Reply:
         reply = self.send(source, "acts", as_body(acts))
         if reply.status in (200, 409):
             self.maker.learn(acts, json.loads(reply.body))
+        return reply
 
     def send(self, source: random.Random, kind: str, body: bytes) -> Reply:
         """With a key: at one member after another, until it is answered."""
