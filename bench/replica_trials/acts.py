@@ -198,7 +198,8 @@ class Maker:
                 {"act": "open-run", "by": "registrar"}]
             for act in acts:
                 act["day"] = day
-            return acts + [{"act": "run-step"}, {"act": "run-step"}]
+            acts += [{"act": "run-step"}, {"act": "run-step"}]
+            return acts
 
     def learn(self, acts: list[Act], answers: list[dict[str, Any]]) -> None:
         """What was answered, for the acts that follow."""
