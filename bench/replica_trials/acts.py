@@ -165,14 +165,15 @@ class Maker:
         """The begin of a round of all kinds: a hold and what it is placed on, two records."""
         with self.lock:
             number, day = self.unique(), self.day.isoformat()
-            made = [{"act": "add-schedule", "day": day, "code": f"D{number}", "trigger": "event",
-                     "unit": "days", "count": 0, "offset": "none", "action": "destroy"},
-                    {"act": "add-class", "day": day, "code": f"K{number}", "title": "A class",
-                     "schedule": f"D{number}"},
-                    {"act": "add-aggregation", "day": day, "ref": f"K/{number}", "title": "A year",
-                     "class": "FIN"},
-                    {"act": "place-hold", "day": day, "code": f"L{number}", "reason": "a lawsuit",
-                     "by": "counsel"}]
+            made: list[Act] = [
+                {"act": "add-schedule", "day": day, "code": f"D{number}", "trigger": "event",
+                 "unit": "days", "count": 0, "offset": "none", "action": "destroy"},
+                {"act": "add-class", "day": day, "code": f"K{number}", "title": "A class",
+                 "schedule": f"D{number}"},
+                {"act": "add-aggregation", "day": day, "ref": f"K/{number}", "title": "A year",
+                 "class": "FIN"},
+                {"act": "place-hold", "day": day, "code": f"L{number}", "reason": "a lawsuit",
+                 "by": "counsel"}]
             for schedule in ("Z-transfer", "Z-review"):
                 made.append({**self.record(source), "ref": f"K/{number}/{schedule}", "day": day,
                              "aggregation": 1, "schedule": schedule})
