@@ -76,12 +76,12 @@ def full_disk(cluster: Cluster) -> None:
     """A small file system under member 2: it stops answering, the others go on."""
     home = cluster.home(2)
     home.mkdir()
-    subprocess.run(["mount", "-t", "tmpfs", "-o", "size=3m", "tmpfs", home], check=True)
+    subprocess.run(["mount", "-t", "tmpfs", "-o", "size=1600k", "tmpfs", home], check=True)
     try:
         begun(cluster)
         source, hit = random.Random(5), 0
         for number in range(1, 60):
-            contents = [record(10 + 2 * number + it, source.randbytes(100_000)) for it in (0, 1)]
+            contents = [record(10 + 2 * number + it, source.randbytes(40_000)) for it in (0, 1)]
             posted(cluster, 0, contents)
             state = cluster.state(2)
             if state is not None and not state["answers"]:
@@ -90,7 +90,7 @@ def full_disk(cluster: Cluster) -> None:
         time.sleep(1)
         judge("full disk: the member stops answering, GETs too",
               hit > 0 and get(cluster, 2, "/records/1").status == 503,
-              f"at entry {hit} of 200,000 bytes", always=True)
+              f"at entry {hit} of 80,000 bytes", always=True)
         for number in range(5):
             posted(cluster, number % 2, [record(5000 + number)])
         judge("full disk: the others go on", cluster.position(0) > cluster.position(2))
