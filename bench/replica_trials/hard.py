@@ -138,6 +138,17 @@ def snapshot(cluster: Cluster, machine: int) -> None:
         time.sleep(0.05)
 
 
+def give_snapshot(cluster: Cluster, machine: int) -> None:
+    """Copies the newest snapshot of member 0, unless it was dropped meanwhile, or is there."""
+    newest, folder = cluster.snapshots(0)[-1], cluster.home(machine) / "snapshots"
+    shutil.rmtree(folder / "coming", ignore_errors=True)
+    try:
+        shutil.copytree(newest, folder / "coming")
+        (folder / "coming").rename(folder / newest.name)
+    except OSError:
+        pass
+
+
 def away(cluster: Cluster) -> None:
     """Member 2 is away for longer than the log; a fourth member joins under load."""
     cluster.settings.update(snapshot_every=20)
@@ -155,9 +166,13 @@ def away(cluster: Cluster) -> None:
         thread.start()
     cluster.wait_for(0, 25)
     cluster.write_settings(3, etcd=0)
-    newest = cluster.snapshots(0)[-1]
-    shutil.copytree(newest, cluster.home(3) / "snapshots" / newest.name)
+    (cluster.home(3) / "snapshots").mkdir()
+    began = time.monotonic()
+    give_snapshot(cluster, 3)
     cluster.start_member(3)
+    while not (cluster.state(3) or {}).get("answers") and time.monotonic() - began < 600:
+        time.sleep(5)
+        give_snapshot(cluster, 3)
     took = cluster.wait_for(3, cluster.position(0))
     judge("joining: a fourth member joins from a snapshot under load", True,
           f"{took:.1f} s, at {cluster.position(3)}", always=True)
@@ -179,10 +194,7 @@ def away(cluster: Cluster) -> None:
     state = cluster.state(2) or {}
     judge("away: the member finds the gap, says so, and does not answer",
           state.get("answers") is False and "copy a snapshot" in str(state.get("why")), state)
-    newest = cluster.snapshots(0)[-1]
-    folder = cluster.home(2) / "snapshots"
-    shutil.copytree(newest, folder / "coming")
-    (folder / "coming").rename(folder / newest.name)
+    give_snapshot(cluster, 2)
     took = cluster.wait_for(2, cluster.position(0))
     judge("away: with a newer snapshot in its folder it goes on by itself", True, f"{took:.1f} s",
           always=True)
