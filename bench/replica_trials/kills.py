@@ -90,6 +90,7 @@ class Killers:
     def kill(self, what: str, machine: int, source: random.Random) -> bool:
         """One kill, or several of one member, and a new start after a moment."""
         if what == "office":
+            self.long_list(source)
             process = self.cluster.office_process(machine)
             if process is None or not self.take(what):
                 return False
@@ -105,11 +106,22 @@ class Killers:
             return True
         if not self.take(what):
             return False
+        if what != "etcd":
+            self.long_list(source)
         names = [f"{kind}{machine}" for kind in NAMES[what]]
         self.cluster.kill(*names)
         time.sleep(source.choice([0.02, 0.1, 0.3, 0.8]))
         self.start(names)
         return True
+
+    def long_list(self, source: random.Random) -> None:
+        """A long list of acts is on its way at the kill, so that many a kill is in the middle of an entry."""
+        acts = self.traffic.maker.acts(source, 40)
+        thread = threading.Thread(target=self.traffic.send_acts, daemon=True,
+                                  args=(random.Random(source.random()), acts))
+        self.traffic.threads.append(thread)
+        thread.start()
+        time.sleep(source.uniform(0, 0.4))
 
     def power(self) -> bool:
         """All machines at one moment."""
