@@ -34,7 +34,7 @@ def blocks(page: str) -> list[list[str]]:
 
 def is_program(word: str) -> bool:
     """Whether a block whose first word is this has commands."""
-    return word in PROGRAMS or re.fullmatch(r"(\./)?(examples/\S+|office(-[a-z]+)?)", word) is not None
+    return word in PROGRAMS or re.fullmatch(r"(\./)?(examples/\S+|replicas/\S+|office(-[a-z]+)?)", word) is not None
 
 
 def commands(page: str) -> list[Command]:

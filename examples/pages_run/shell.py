@@ -38,6 +38,7 @@ class Shell:
         folder.mkdir()
         shutil.copytree(TOP / "examples", folder / "examples")
         shutil.copytree(TOP / "web", folder / "web")
+        shutil.copytree(TOP / "replicas", folder / "replicas")
         # the model that examples/acts/check reads
         shutil.copytree(TOP / "bench/fuzzing", folder / "bench/fuzzing")
         launcher(folder)

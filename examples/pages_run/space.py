@@ -10,7 +10,7 @@ import time
 
 # in these the pages write: a run has copies, or folders with links to what was there
 COPIED = ["/etc"]
-LINKED = ["/usr/local/bin", "/usr/local/share", "/var/lib"]
+LINKED = ["/usr/local/bin", "/usr/local/lib", "/usr/local/share", "/var/lib"]
 EMPTY = ["/var/log", "/run"]
 # nginx finds these
 MADE = ["/var/lib/nginx", "/var/log/nginx"]

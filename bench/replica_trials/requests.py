@@ -1,0 +1,139 @@
+"""Requests that are no entry, bodies that are no acts, and keys: each member answers alike."""
+from __future__ import annotations
+
+import json
+import pathlib
+import random
+import subprocess
+import sys
+from typing import Any
+
+from replica_trials.acts import BEGIN, NOT_ACTS
+from replica_trials.checks import Bare
+from replica_trials.cluster import TOP, Cluster, Reply, ask
+from replica_trials.judging import judge
+from replica_trials.posting import post, record
+
+Case = tuple[str, str, bytes | None, dict[str, str]]
+
+CASES: list[Case] = [
+    ("GET", "/records/1", None, {}), ("GET", "/records/01", None, {}),
+    ("GET", "/records/1/content", None, {}), ("GET", "/acts", None, {}),
+    ("PUT", "/acts", None, {}), ("DELETE", "/records/1", None, {}),
+    ("POST", "/records/1", None, {}), ("POST", "/acts/", None, {}), ("POST", "//acts", None, {}),
+    ("POST", "/acts?x", None, {}), ("GET", "/due/2026-01-01", None, {}),
+    ("GET", "/due/x", None, {}), ("POST", "/acts", None, {}),
+    ("POST", "/acts", None, {"Content-Length": "12x"}),
+    ("POST", "/acts", None, {"Content-Length": "1048577"}),
+    ("POST", "/acts", None, {"Transfer-Encoding": "chunked"}),
+    ("POST", "/run/resume", None, {}), ("GET", "/certificates/1", None, {}),
+    ("GET", "/run/resume", None, {}), ("OPTIONS", "/acts", None, {}), ("PATCH", "/acts", None, {}),
+    ("HEAD", "/records/1", None, {}), ("FETCH", "/acts", None, {}), ("POST", "/acts", b"[]", {})]
+CASES += [("POST", "/acts", body, {}) for body in NOT_ACTS]
+
+
+def plain(reply: Reply) -> tuple[int, dict[str, str], bytes]:
+    """An answer without the two lines that a member adds."""
+    added = ("office-position", "idempotency-key")
+    return (reply.status, {it: value for it, value in reply.lines.items() if it not in added},
+            reply.body)
+
+
+def compared(cluster: Cluster) -> None:
+    """Each case at each member and at a bare office with the same acts."""
+    bare = Bare(cluster.folder / "bare.db", cluster.base + 98)
+    try:
+        bare.post("acts", json.dumps(BEGIN).encode())
+        bare.post("acts", json.dumps([record(1)]).encode())
+        differences = []
+        for method, path, body, lines in CASES:
+            wanted = plain(ask(bare.place, method, path, body, lines))
+            for machine in range(3):
+                found = plain(ask(cluster.place(machine), method, path, body, lines))
+                if found != wanted:
+                    differences.append((machine, method, path, body, lines, found, wanted))
+        judge(f"requests: {len(CASES)} are answered by each member as by the bare office",
+              not differences, differences)
+        statuses = {post_raw(cluster, it, body).status for it in range(3) for body in NOT_ACTS}
+        judge("requests: a body that is no acts is 400 at each member", statuses == {400}, statuses)
+    finally:
+        bare.end()
+
+
+def post_raw(cluster: Cluster, machine: int, body: bytes) -> Reply:
+    return ask(cluster.place(machine), "POST", "/acts", body)
+
+
+def until_answered(cluster: Cluster, machine: int, body: bytes) -> Reply:
+    """With a key, as a client that tries again: a list that takes a slow office long is `unknown` first."""
+    while True:
+        reply = ask(cluster.place(machine), "POST", "/acts", body, {"Idempotency-Key": "greatest"}, 90)
+        if reply.status != 503:
+            return reply
+
+
+def keys(cluster: Cluster) -> None:
+    """The greatest body; keys that are none, that are used again, and that are used wrongly."""
+    source = random.Random(3)
+    acts = [record(100 + it, source.randbytes(size)) for it, size in enumerate(
+        (262_144, 262_144, 240_000))]
+    body = json.dumps(acts).encode()
+    body += b" " * (1_048_576 - len(body))
+    reply = until_answered(cluster, 0, body)
+    judge("requests: a body of 1,048,576 bytes is one entry", reply.status == 200, reply)
+    reply = ask(cluster.place(0), "POST", "/acts", b"[]", {"Idempotency-Key": "a b"})
+    judge("keys: one that is none is 400 header",
+          (reply.status, reply.body) == (400, b'{"error":"header"}'), reply)
+    reply = ask(cluster.place(0), "GET", "/records/1", None, {"Office-After": "x"})
+    judge("keys: an Office-After that is no number is 400 header", reply.status == 400, reply)
+    replies = [post(cluster, it, [record(200)], "k-1") for it in (0, 1, 2, 1)]
+    judge("keys: the same request with the same key is answered the same by each member",
+          len({(it.status, it.body, it.position) for it in replies}) == 1
+          and replies[0].status == 200, replies)
+    reply = post(cluster, 1, [record(201)], "k-1")
+    judge("keys: another body with that key is 422, and not done",
+          (reply.status, reply.body) == (422, b'{"error":"key"}'), reply)
+    replies = [post(cluster, it, [record(300)]) for it in range(3)]
+    bodies = [json.loads(it.body)[0] for it in replies]
+    judge("keys: without a key each request is an entry of its own",
+          len({it.position for it in replies}) == 3 and "same" not in bodies[0]
+          and all(it.get("same") for it in bodies[1:]), replies)
+
+
+# what is changed in good settings, and what has to be said of it; None takes a member away
+WRONG: list[tuple[dict[str, Any], str]] = [
+    ({"name": None}, "name is missing"), ({"listen": "8081"}, "listen is no whole number"),
+    ({"listen": True}, "listen is no whole number"), ({"folder": ""}, "folder is no text"),
+    ({"lissten": 1}, "lissten is none of name, log, folder"), ({"log": "a/b"}, "log has other characters"),
+    ({"snapshot_every": 0}, "snapshot_every is 0"), ({"ca": "x"}, "go together")]
+
+
+def run_member(word: str, path: pathlib.Path) -> tuple[int, str]:
+    """The status of `member` or `found` with these settings, and what it said."""
+    done = subprocess.run([sys.executable, TOP / "replicas" / word, path], capture_output=True,
+                          text=True, timeout=120, check=False)
+    return done.returncode, done.stderr
+
+
+def wrong_settings(cluster: Cluster) -> None:
+    """Settings that are wrong are said to be, with status 2; a folder that is taken with 3."""
+    good = cluster.home(0) / "settings.json"
+    path = cluster.folder / "wrong.json"
+    said = []
+    for change, wanted in WRONG:
+        told = {**json.loads(good.read_text()), **change}
+        path.write_text(json.dumps({it: value for it, value in told.items() if value is not None}))
+        status, text = run_member("member", path)
+        if status != 2 or wanted not in text or "Traceback" in text:
+            said.append((change, status, text))
+    for raw in (b"", b"{", b"[]", b"\xff"):
+        path.write_bytes(raw)
+        status, text = run_member("member", path)
+        if status != 2 or "Traceback" in text:
+            said.append(({"the file": raw}, status, text))
+    judge("settings: what is wrong in them is said, with status 2", not said, said)
+    status, text = run_member("member", good)
+    judge("settings: a second member in the same folder ends with status 3",
+          status == 3 and "Traceback" not in text, text)
+    status, text = run_member("found", good)
+    judge("settings: a log is not founded over snapshots", status == 1 and "already" in text, text)

@@ -1,0 +1,227 @@
+"""docs/REPLICAS.md: a row for each of its commands, and in between what systemd and the other two machines would do."""
+import os
+import shutil
+import signal
+import subprocess
+import time
+
+from pages_run.expected import Row, run_page
+from pages_run.judging import judge
+from pages_run.machines import Machines, act, wait_until
+from pages_run.shell import Shell
+
+PAGE = "docs/REPLICAS.md"
+FIRST_ANSWERS = r'\[\{"done":true\},\{"done":true\},\{"number":1\},\{"number":1\},\{"done":true\},\{"number":1\}\]'
+STEP = "curl --silent --retry 20 --header 'Idempotency-Key: 7f0c' --data '[{\"act\":\"run-step\"}]'"
+HERE = Machines()
+
+
+def etcd_starts(shell: Shell) -> None:
+    """In place of systemd: etcd of archive1 with the file of the page, and those of the two other machines."""
+    HERE.begin(shell)
+    for number in (1, 2, 3):
+        HERE.start_etcd(number)
+    healthy = wait_until(lambda: shell.run("office-etcdctl endpoint health").status == 0)
+    judge(f"{PAGE}: etcd of the page's file and unit starts", healthy, shell.path("etcd1.log").read_text()[-500:])
+
+
+def members_start(shell: Shell) -> None:
+    """In place of systemd: the member of archive1 as its unit calls it; the others begin with its snapshot."""
+    copied = shell.path("second/snapshots/0000000000000000/sums").exists()
+    judge(f"{PAGE}: the second machine has the snapshot", copied)
+    shutil.copytree(shell.path("second"), shell.path("third"))
+    for number in (1, 2, 3):
+        HERE.start_member(number)
+    judge(f"{PAGE}: all three members answer", all(HERE.answers(number) for number in (1, 2, 3)),
+          shell.path("member1.log").read_text())
+    told = act(2, shell.path("examples/first/acts.json").read_bytes())
+    judge(f"{PAGE}: an act at the second machine is done", told.status == 200, f"{told}")
+
+
+def nginx_passes_keys(shell: Shell) -> None:
+    """In place of systemd: the site, with the lines of the page; the key of a client comes to the member and back."""
+    done = shell.run("nginx")
+    call = ("curl --silent --include --cacert /etc/nginx/office/office.crt --user 'registrar:a long one' "
+            "--header 'Origin: https://localhost'")
+    for words, wanted in (("--header 'Idempotency-Key: n-1' --data-binary '[]' https://localhost/acts", "200"),
+                          ("--header 'Idempotency-Key: n-2' --request POST https://localhost/run/resume", "200"),
+                          ("--header 'Office-Read: newest' https://localhost/records/1", "200"),
+                          ("--header 'Office-After: x' https://localhost/records/1", "400")):
+        done = shell.run(f"{call} {words}")
+        passed_on = words.split("'")[1].lower() in done.out.lower() or "Idempotency" not in words
+        judge(f"{PAGE}: nginx passes on: {words}", f" {wanted} " in done.out[:20] and passed_on, done.out + done.err)
+    shell.run("nginx -s quit")
+
+
+def prepare_nginx(shell: Shell) -> None:
+    """What docs/OPERATING.md does for one office, at the port of the member."""
+    for command in (
+            "mkdir -p /etc/nginx/office /var/log/office /etc/nginx/sites-available",
+            "cp examples/nginx/http.conf examples/nginx/server.conf examples/nginx/actors.conf /etc/nginx/office/",
+            "sed 's/8080/8081/' examples/nginx/office.conf > /etc/nginx/sites-available/office",
+            "ln -sf ../sites-available/office /etc/nginx/sites-enabled/office",
+            "rm -f /etc/nginx/sites-enabled/default",
+            "openssl req -x509 -newkey ec -pkeyopt ec_paramgen_curve:P-256 -nodes -days 9 -subj /CN=localhost "
+            "-addext subjectAltName=DNS:localhost -keyout /etc/nginx/office/office.key "
+            "-out /etc/nginx/office/office.crt",
+            "htpasswd -ciB -C 10 /etc/nginx/office/office.htpasswd registrar <<< 'a long one'",
+            "chgrp www-data /etc/nginx/office/office.htpasswd", "chmod 640 /etc/nginx/office/office.htpasswd"):
+        done = shell.run(command)
+        if done.status != 0:
+            judge(f"{PAGE}: {command}", False, done.err)
+
+
+def rules_load(shell: Shell) -> None:
+    done = shell.run("nft --check --file /etc/office-member.nft")
+    judge(f"{PAGE}: nft takes the rules", done.status == 0, done.err)
+
+
+def third_burns(shell: Shell) -> None:
+    """The machine archive3 goes for good, with its folders."""
+    HERE.kill(3)
+    shutil.rmtree(shell.path("third"))
+    shutil.rmtree(shell.path("etcd3"))
+    told = act(2, b"[]")
+    judge(f"{PAGE}: the two others go on", told.status == 200, f"{told}")
+
+
+def third_is_new(shell: Shell) -> None:
+    """The new machine archive3, with the line of the page in its file."""
+    said = "ETCD_INITIAL_CLUSTER_STATE=existing" in open("/etc/office/etcd.conf").read().splitlines()
+    HERE.start_etcd(3, "existing")
+    judge(f"{PAGE}: the new machine's etcd joins", said and wait_until(lambda: HERE.is_healthy(3)),
+          shell.path("etcd3.log").read_text()[-500:])
+
+
+def third_joins(shell: Shell) -> None:
+    """On the new machine: the folder that was copied goes to its place."""
+    os.makedirs(shell.path("third/snapshots"))
+    (name,) = os.listdir(shell.path("second/coming"))
+    os.rename(shell.path(f"second/coming/{name}"), shell.path(f"third/snapshots/{name}"))
+    HERE.start_member(3)
+    judge(f"{PAGE}: the new member answers", HERE.answers(3), shell.path("member3.log").read_text())
+    told = act(3, b'[{"act":"run-step"}]')
+    judge(f"{PAGE}: and takes acts", told.status in (200, 409), f"{told}")
+
+
+def two_burn(_: Shell) -> None:
+    """archive2 and archive3 go for good; POST is 503 then, and GETs go on."""
+    HERE.kill(2)
+    HERE.kill(3)
+    wait_until(lambda: b"quorum" in act(1, b"[]").body)
+    told = act(1, b"[]")
+    judge(f"{PAGE}: a POST at the third is 503 quorum", told == (503, b'{"error":"quorum"}'), f"{told}")
+    judge(f"{PAGE}: and GETs go on", HERE.get(1, "/records/1") == 200)
+    HERE.kill(1)
+
+
+def etcd_restarts(_: Shell) -> None:
+    """In place of systemd: the one etcd that is left starts anew with the page's file."""
+    HERE.kill(1)
+    HERE.start_etcd(1)
+    wait_until(lambda: HERE.is_healthy(1))
+
+
+def one_goes_on(shell: Shell) -> None:
+    HERE.start_member(1)
+    judge(f"{PAGE}: the one that is left answers", HERE.answers(1), shell.path("member1.log").read_text())
+    told = act(1, b'[{"act":"run-step"}]')
+    judge(f"{PAGE}: and takes acts", told.status in (200, 409), f"{told}")
+
+
+def snapshot_now(_: Shell) -> None:
+    """In place of systemd: what ExecReload= of the unit does."""
+    folder = "/var/lib/office-member/city/snapshots"
+    before = sorted(os.listdir(folder))[-1]
+    act(1, b"[]")
+    HERE.signal(1, signal.SIGHUP)
+    judge(f"{PAGE}: SIGHUP makes a snapshot", wait_until(lambda: max(
+        it for it in os.listdir(folder) if it.isdigit()) > before), f"{os.listdir(folder)}")
+    # until the copy is told apart from the folder that is being made
+    time.sleep(0.5)
+
+
+def is_copy(shell: Shell) -> None:
+    done = shell.run("office init copies/city.db && office certificate copies/city.db 1 | head -1")
+    judge(f"{PAGE}: the copy is an office, with its certificate", done.out == "version 2\nCERTIFICATE 1\n", f"{done}")
+
+
+def is_step_once(shell: Shell) -> None:
+    """The first look: the last answer is the one that another machine gave."""
+    judge(f"{PAGE}: the step was done once",
+          shell.run("curl --silent http://127.0.0.1:8091/certificates/1").out == '{"error":"certificate"}')
+
+
+ROWS = [
+    Row("examples/replicas/three make three"),
+    Row("examples/replicas/three etcd three"),
+    Row("replicas/found three/m1/settings.json", prints="founded city\n"),
+    Row("cp -r three/m1/snapshots three/m2/"),
+    Row("cp -r three/m1/snapshots three/m3/"),
+    Row("examples/replicas/three start three 1", prints=""),
+    Row("examples/replicas/three start three", prints=""),
+    Row("curl --silent --data-binary @examples/first/acts.json", like=FIRST_ANSWERS),
+    Row("examples/replicas/three kill three 1"),
+    Row("curl --silent --retry 20 --header 'Office-Read: newest'", like=r'\{"added":"2022-01-03",.*\}'),
+    Row(f"{STEP} http://127.0.0.1:8093", prints='[{"outcome":"destroyed","record":1}]'),
+    Row(f"{STEP} http://127.0.0.1:8091", prints='[{"outcome":"destroyed","record":1}]', then=is_step_once),
+    Row("examples/replicas/three stop three"),
+    Row("apt-get", skip="the packages are there"),
+    Row("systemctl disable", skip="without systemd"),
+    Row("./office install /usr/local/bin"),
+    Row("adduser"),
+    Row("mkdir -p /etc/office/etcd"),
+    Row("cp -r replicas/member"),
+    Row("cp examples/replicas/office-etcd.service"),
+    Row("cp examples/replicas/etcd.conf"),
+    Row("install -m 755 examples/replicas/office-etcdctl"),
+    Row("install -d -o office -g office -m 700"),
+    Row("systemd-analyze verify"),
+    Row("examples/replicas/certificates certificates", prints="archive1: made\narchive2: made\narchive3: made\n"),
+    Row("install -m 644 certificates/ca.crt"),
+    Row("install -m 644 certificates/archive1.crt"),
+    Row("install -m 640 -g office-etcd certificates/archive1.key"),
+    Row("systemctl daemon-reload", skip="without systemd"),
+    Row("systemctl enable --now office-etcd", skip="without systemd", then=etcd_starts),
+    Row("office-etcdctl endpoint health"),
+    Row("runuser -u office --", prints="founded city\n"),
+    Row("rsync --archive /var/lib/office-member/city/snapshots second/"),
+    Row("systemctl enable --now office-member@city", skip="without systemd", then=members_start),
+    Row("curl --silent http://127.0.0.1:8081/replica", like=r'\{"answers":true,.*\}', then=prepare_nginx),
+    Row("cp examples/replicas/nginx.conf"),
+    Row("sed -i '$a include"),
+    Row("sed -i 's|proxy_pass_request_body"),
+    Row("nginx -t", then=nginx_passes_keys),
+    Row("cp examples/replicas/office-member.nft", then=rules_load),
+    Row("nft -f /etc/office-member.nft", skip="these rules would close the port that is asked next"),
+    Row("echo 'include \"/etc/office-member.nft\"' >> /etc/nftables.conf"),
+    Row("office-etcdctl alarm list", prints=""),
+    Row("office-etcdctl get --prefix /office/city/members", like=r"(/office/city/members/archive\d\n0\n){3}"),
+    Row("office-etcdctl get /office/city/tail", like=r"\d+\n"),
+    Row("journalctl", skip="without systemd"),
+    Row("office-etcdctl del /office/city/members/archive3", prints="1\n", then=third_burns),
+    Row("office-etcdctl member remove", like=r"Member \w+ removed from cluster \w+\n"),
+    Row("office-etcdctl member add archive3"),
+    Row("sed -i 's/^ETCD_INITIAL_CLUSTER_STATE=new/", then=third_is_new),
+    Row("rsync --archive $(ls -d", then=third_joins),
+    Row("systemctl stop office-member@city", skip="without systemd", then=two_burn),
+    Row("echo ETCD_FORCE_NEW_CLUSTER=true"),
+    Row("systemctl restart office-etcd", skip="without systemd", then=etcd_restarts),
+    Row("sed -i /ETCD_FORCE_NEW_CLUSTER/d"),
+    Row("systemctl start office-member@city", skip="without systemd", then=one_goes_on),
+    Row("systemctl reload office-member@city", skip="without systemd", then=snapshot_now),
+    Row("cp $(ls -d /var/lib/office-member", then=is_copy),
+    Row("office-etcdctl defrag"),
+    Row("office-etcdctl alarm disarm"),
+]
+
+
+def run(shell: Shell) -> None:
+    os.environ.pop("OFFICE", None)
+    shell.env.pop("OFFICE", None)
+    shell.run("./office install /usr/local/bin")
+    try:
+        run_page(shell, PAGE, ROWS)
+    finally:
+        HERE.end()
+        subprocess.run(["examples/replicas/three", "stop", "three"], cwd=shell.folder, check=False)

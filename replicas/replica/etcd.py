@@ -1,0 +1,163 @@
+"""etcd's JSON gateway: transactions, the watch of one key, and how full etcd is.
+
+A transaction is done by all machines or by none. Where no answer comes it may be done later.
+"""
+from __future__ import annotations
+
+import base64
+import http.client
+import json
+import select
+import ssl
+import threading
+import time
+from typing import Any, Sequence
+
+from replica.errors import NotTaken, Unclear
+
+CALL_SECONDS = 3
+# what etcd says where it has not begun, and the error that a client gets then
+NOT_BEGUN = {"no leader": "quorum", "too many requests": "quorum", "space exceeded": "full",
+             "too large": "full"}
+
+Part = dict[str, Any]
+Row = tuple[str, bytes]
+
+
+def encoded(value: str | bytes) -> str:
+    """As the gateway writes keys and values."""
+    raw = value.encode() if isinstance(value, str) else value
+    return base64.b64encode(raw).decode()
+
+
+def put(key: str, value: str | bytes) -> Part:
+    """The operation that gives a key a value."""
+    return {"request_put": {"key": encoded(key), "value": encoded(value)}}
+
+
+def get(key: str, end: str | None = None, local: bool = False, limit: int = 0) -> Part:
+    """The operation that reads a key, or the keys from it to before `end`."""
+    what: Part = {"key": encoded(key), "limit": limit, "serializable": local}
+    if end is not None:
+        what["range_end"] = encoded(end)
+    return {"request_range": what}
+
+
+def drop(key: str, end: str | None = None) -> Part:
+    """The operation that takes a key away, or the keys from it to before `end`."""
+    what = {"key": encoded(key)}
+    if end is not None:
+        what["range_end"] = encoded(end)
+    return {"request_delete_range": what}
+
+
+def has(key: str, value: str) -> Part:
+    """The condition that a key has this value."""
+    return {"key": encoded(key), "target": "VALUE", "value": encoded(value)}
+
+
+def absent(key: str) -> Part:
+    """The condition that there is no such key."""
+    return {"key": encoded(key), "target": "VERSION", "version": 0}
+
+
+def rows_of(response: Part) -> list[Row]:
+    """The keys and values that one operation has read."""
+    found = response.get("response_range", {}).get("kvs", ())
+    return [(base64.b64decode(row["key"]).decode(), base64.b64decode(row.get("value", "")))
+            for row in found]
+
+
+def is_open(link: http.client.HTTPConnection) -> bool:
+    """Whether the other side has not closed a connection on which nothing is awaited."""
+    if link.sock is None:
+        return False
+    poll = select.poll()
+    poll.register(link.sock, select.POLLIN)
+    return not poll.poll(0)
+
+
+class Etcd:
+    """The gateway of one etcd, for any number of threads."""
+
+    def __init__(self, place: str, tls: ssl.SSLContext | None) -> None:
+        self.place, self.tls = place, tls
+        self.idle: list[http.client.HTTPConnection] = []
+
+    def connected(self, seconds: float) -> http.client.HTTPConnection:
+        """A new connection; NotTaken where there is none."""
+        if self.tls is None:
+            link = http.client.HTTPConnection(self.place, timeout=seconds)
+        else:
+            link = http.client.HTTPSConnection(self.place, timeout=seconds, context=self.tls)
+        try:
+            link.connect()
+        except OSError as error:
+            raise NotTaken(f"etcd: {error}") from error
+        return link
+
+    def free_link(self) -> http.client.HTTPConnection:
+        """A connection that nobody else uses now."""
+        while self.idle:
+            try:
+                link = self.idle.pop()
+            except IndexError:
+                break
+            if is_open(link):
+                return link
+            link.close()
+        return self.connected(CALL_SECONDS)
+
+    def call(self, path: str, what: Part, local: bool) -> Part:
+        """What etcd answers. NotTaken: it has not begun. Unclear: nobody knows whether it has.
+
+        Without `local` etcd begins only where it knows a leader.
+        """
+        link = self.free_link()
+        try:
+            head = {} if local else {"Grpc-Metadata-hasleader": "true"}
+            link.request("POST", path, json.dumps(what), head)
+            response = link.getresponse()
+            answer: Part = json.loads(response.read())
+        except (OSError, http.client.HTTPException, ValueError) as error:
+            link.close()
+            raise Unclear(f"etcd: {error!r}") from error
+        self.idle.append(link)
+        if response.status != 200:
+            message = str(answer.get("message", answer))
+            for text, name in NOT_BEGUN.items():
+                if text in message:
+                    raise NotTaken(message, name)
+            raise Unclear(message)
+        return answer
+
+    def transact(self, conditions: Sequence[Part], done: Sequence[Part],
+                 otherwise: Sequence[Part] = (),
+                 local: bool = False) -> tuple[bool, list[list[Row]]]:
+        """Whether all conditions held, and what each operation of that case has read.
+
+        `local` is for readings alone: what this machine's etcd has, which may be late.
+        """
+        what = {"compare": conditions, "success": done, "failure": otherwise}
+        answer = self.call("/v3/kv/txn", what, local)
+        return (answer.get("succeeded", False),
+                [rows_of(response) for response in answer.get("responses", ())])
+
+    def size_in_use(self) -> int:
+        """The bytes of this etcd's database that are in use."""
+        answer = self.call("/v3/maintenance/status", {}, True)
+        return int(answer.get("dbSizeInUse", answer.get("dbSize", 0)))
+
+    def watch(self, key: str, changed: threading.Event) -> None:
+        """Sets the event whenever the key has changed, and now and then besides. Never returns."""
+        while True:
+            try:
+                link = self.connected(60)
+                what = {"create_request": {"key": encoded(key)}}
+                link.request("POST", "/v3/watch", json.dumps(what))
+                response = link.getresponse()
+                while response.readline():
+                    changed.set()
+            except (NotTaken, OSError, http.client.HTTPException):
+                pass
+            time.sleep(0.2)

@@ -1,0 +1,294 @@
+"""Following the log: every entry goes to the own office, in order, once.
+
+Three rules hold at every moment.
+
+1. Nothing that may change the office reaches it but entries of the log, in order, each once.
+2. An answer is given only of an entry that is in the log and was done here.
+3. Where it is not known for sure which state FILE is at, FILE is thrown away: the last snapshot,
+   then the log after it.
+"""
+from __future__ import annotations
+
+import contextlib
+import hashlib
+import pathlib
+import sqlite3
+import subprocess
+import threading
+import time
+from typing import Iterator
+
+from replica.comparison import Comparison
+from replica.errors import Fault, Halt, NotTaken, Unclear, say
+from replica.log import Entry, Log
+from replica.memo import Memo
+from replica.office import Office, follows_from_log
+from replica.settings import Settings
+from replica.snapshots import Snapshots
+
+IDLE_SECONDS = 1
+"""without entries, until the disk is told that FILE is settled"""
+LOOK_SECONDS = 0.5
+"""between two looks at the log where nothing wakes this thread"""
+ROOM_SECONDS = 5
+"""between two looks at how full etcd is"""
+SNAPSHOT_BYTES = 256 * 1024**2
+"""of entries, after which a snapshot is due however few they are"""
+LONGEST_PAUSE = 30
+RECOVERED = (Fault, NotTaken, Unclear, OSError, sqlite3.Error, subprocess.CalledProcessError)
+
+
+class Follower:
+    """One member's place in the log. `run` is for one thread; all else for any."""
+
+    def __init__(self, settings: Settings, log: Log, office: Office, snapshots: Snapshots) -> None:
+        self.settings, self.log = settings, log
+        self.office, self.snapshots = office, snapshots
+        self.memo: Memo | None = None
+        self.moved = threading.Condition()
+        """notified whenever one of the next three changes"""
+        self.is_answering = False
+        self.position = 0
+        self.why = "it has not started yet"
+        self.highest = 0
+        self.reported: int | None = None
+        self.changed, self.stopping = threading.Event(), threading.Event()
+        self.wants_snapshot = False
+        self.halting: str | None = None
+        self.pause = 0.2
+        self.looked = 0.0
+
+    # ---- from the start to the end
+
+    def run(self) -> None:
+        """Follows the log until it is asked to stop; each fault leads back to a snapshot.
+
+        Ends with Halt where going on may be wrong. No office runs afterwards.
+        """
+        while not self.stopping.is_set():
+            try:
+                self.follow()
+            except RECOVERED as error:
+                say(f"back to a snapshot: {error}")
+                self.why = f"back to a snapshot: {error}"
+            finally:
+                self.close()
+            self.stopping.wait(self.pause)
+            self.pause = min(LONGEST_PAUSE, 2 * self.pause)
+
+    def ask_to_stop(self) -> None:
+        self.stopping.set()
+        self.changed.set()
+
+    def ask_for_snapshot(self) -> None:
+        self.wants_snapshot = True
+        self.changed.set()
+
+    def close(self) -> None:
+        """Nobody is answered any more, and no office runs."""
+        with self.office.lock:
+            self.set_answering(False)
+            self.office.stop()
+        if self.memo is not None:
+            self.memo.close()
+            self.memo = None
+
+    def open(self) -> Memo:
+        """Opens FILE at the position that is known for sure: as it was, or from a snapshot."""
+        try:
+            memo = Memo(self.snapshots.work / "memo.db")
+        except sqlite3.Error:
+            memo = None
+        was_settled = memo is not None and memo.settled
+        if memo is None or not was_settled:
+            if memo is not None:
+                memo.close()
+            self.snapshots.restore()
+            memo = Memo(self.snapshots.work / "memo.db")
+        self.memo, self.position, self.reported = memo, memo.position, None
+        self.office.start()
+        say(f"opened at {self.position} {'as it was' if was_settled else 'from a snapshot'}")
+        return memo
+
+    # ---- following
+
+    def follow(self) -> None:
+        """Does entries as they come. Returns once it is asked to stop, FILE settled."""
+        memo = self.open()
+        comparison = Comparison(self.log, self.settings.compare_every)
+        goal: int | None = None
+        last, size, is_due = time.monotonic(), 0, False
+        while not self.stopping.is_set():
+            if self.halting is not None:
+                raise Halt(self.halting)
+            with self.office.lock:
+                self.office.restart_if_ended()
+            if goal is None:
+                goal = self.end_of_log(memo)
+            entries = self.next_entries()
+            for entry in entries:
+                self.do(memo, entry)
+                comparison.note(entry.position, memo.chain)
+                last, size = time.monotonic(), size + len(entry.body)
+                is_due = is_due or size > SNAPSHOT_BYTES or self.is_snapshot_at(entry.position)
+                if is_due and self.is_answering or self.stopping.is_set():
+                    break
+            # a member that recovers answers first, and copies then
+            if self.is_answering and (is_due or self.wants_snapshot):
+                self.wants_snapshot, size, is_due = False, 0, False
+                self.snapshots.take(self.position, self.at_rest(memo))
+            self.report(memo, comparison)
+            self.decide(goal, comparison.is_split)
+            if not entries:
+                if time.monotonic() - last > IDLE_SECONDS:
+                    memo.settle(True)
+                self.changed.wait(LOOK_SECONDS)
+                self.changed.clear()
+        memo.settle(True)
+
+    def end_of_log(self, memo: Memo) -> int | None:
+        """Where the log ends now; None where this machine does not know yet.
+
+        Halt where it is not the log that FILE was made by.
+        """
+        try:
+            end = self.log.end()
+        except (NotTaken, Unclear):
+            return None
+        if end.epoch != memo.epoch or end.is_sure and end.tail < self.position:
+            raise Halt("the log in etcd is not the one that is followed here")
+        return end.tail
+
+    def next_entries(self) -> list[Entry]:
+        """The entries after the position; none where etcd does not answer.
+
+        Fault where they are not there any more.
+        """
+        try:
+            entries, tail = self.log.after(self.position)
+        except (NotTaken, Unclear):
+            return []
+        if entries[0].position != self.position + 1 if entries else tail > self.position:
+            raise Fault(f"the log does not have {self.position + 1} any more: copy a snapshot of "
+                        f"another member into {self.snapshots.folder}")
+        return entries
+
+    def do(self, memo: Memo, entry: Entry) -> None:
+        """Gives an entry to the office, and remembers its answer.
+
+        Where the answer is not the one that each office gives, nobody is answered any more before
+        anybody else can ask the office: FILE may have half of the entry.
+        """
+        if entry.program != self.log.program:
+            raise Halt(f"entry {entry.position} is for another program: {entry.program}")
+        if entry.kind not in ("acts", "resume"):
+            raise Halt(f"entry {entry.position} is of an unknown kind: {entry.kind}")
+        memo.settle(False)
+        with self.office.lock:
+            try:
+                answer = self.ask(entry)
+                if not follows_from_log(answer):
+                    raise Fault(f"entry {entry.position}: {answer[-100:]!r}")
+                chain = hashlib.sha256(memo.chain.encode() + answer).hexdigest()
+                memo.advance(entry.position, entry.key, answer, chain)
+            except BaseException:
+                self.set_answering(False)
+                raise
+            with self.moved:
+                self.position = entry.position
+                self.highest = max(self.highest, self.position)
+                self.moved.notify_all()
+
+    def ask(self, entry: Entry) -> bytes:
+        """What the office answers to an entry. An office that ended before is started first."""
+        if entry.kind == "acts":
+            words: tuple[str, str, bytes | None] = ("POST", "/acts", entry.body)
+        else:
+            words = ("POST", "/run/resume", None)
+        try:
+            return self.office.ask(*words)
+        except ConnectionRefusedError:
+            # nothing was sent, and FILE has all entries to the position
+            self.office.start()
+            return self.office.ask(*words)
+
+    # ---- snapshots and reports
+
+    def is_snapshot_at(self, position: int) -> bool:
+        return (position - self.settings.snapshot_at) % self.settings.snapshot_every == 0
+
+    @contextlib.contextmanager
+    def at_rest(self, memo: Memo) -> Iterator[None]:
+        """Within it nobody changes the files of `work`."""
+        with self.office.lock, memo.at_rest():
+            yield
+
+    def report(self, memo: Memo, comparison: Comparison) -> None:
+        """Reports answers and snapshots to the others, as far as etcd takes it now."""
+        try:
+            comparison.look()
+            oldest = self.snapshots.positions()[-1]
+            if oldest != self.reported:
+                self.forget(memo, self.log.report_snapshot(oldest) - self.settings.keys_kept)
+                self.reported = oldest
+            if time.monotonic() - self.looked > ROOM_SECONDS:
+                self.looked = time.monotonic()
+                self.log.look_for_room()
+        except (NotTaken, Unclear):
+            pass
+
+    def forget(self, memo: Memo, until: int) -> None:
+        """Drops keys and answers of old entries, here and in etcd."""
+        while found := memo.oldest(until, 100):
+            self.log.drop_keys([key for _, key in found])
+            memo.forget(found[-1][0])
+
+    # ---- answering
+
+    def decide(self, goal: int | None, is_split: bool) -> None:
+        """A member answers where it has done all that was in the log as it opened FILE, and all
+        that it ever answered, and its answers are not in question."""
+        is_there = goal is not None and self.position >= max(goal, self.highest)
+        if self.is_answering != (is_there and not is_split):
+            if is_there and not is_split:
+                self.pause, self.why = 0.2, ""
+            else:
+                self.why = "the members' answers differ" if is_split else "it follows the log"
+            self.set_answering(not self.is_answering)
+
+    def set_answering(self, is_answering: bool) -> None:
+        with self.moved:
+            if self.is_answering != is_answering:
+                self.is_answering = is_answering
+                say(f"{'answers from' if is_answering else 'stops answering at'} {self.position}")
+            self.moved.notify_all()
+
+    def reaches(self, position: int, seconds: float) -> bool:
+        """Waits until this member answers and has done the entry at a position."""
+        with self.moved:
+            return self.moved.wait_for(
+                lambda: self.is_answering and self.position >= position, seconds)
+
+    def answer(self, position: int, key: str) -> bytes | None:
+        """What the entry was answered here, if that is remembered."""
+        memo = self.memo
+        try:
+            return None if memo is None else memo.answer(position, key)
+        except sqlite3.Error:
+            return None
+
+    def read(self, method: str, path: str) -> tuple[int, bytes] | None:
+        """The office's answer to what changes nothing, and the position of that; None where this
+        member does not answer."""
+        with self.office.lock:
+            if not self.is_answering:
+                return None
+            try:
+                return self.position, self.office.ask(method, path)
+            except OSError:
+                return None
+
+
+def work_file(folder: pathlib.Path) -> pathlib.Path:
+    """FILE of the member in a folder."""
+    return folder / "work" / "office.db"

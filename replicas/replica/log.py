@@ -1,0 +1,214 @@
+"""The log in etcd: one sequence of entries that all members read in the same order.
+
+Below /office/LOG/ etcd has
+
+    epoch               which log this is: a random text, written once by `found`
+    tail                the position of the last entry, 0 at first
+    first               the first position that is still there
+    log/POSITION        an entry: a line of JSON with its head, then the body of the request
+    keys/KEY            the position of the entry with this key, and what it asked for
+    members/NAME        the older snapshot of each member
+    chain/POSITION/NAME a hash over all answers of a member up to there
+"""
+from __future__ import annotations
+
+import hashlib
+import json
+import threading
+import time
+from typing import NamedTuple, Sequence
+
+from replica.errors import Halt, NotTaken, Unclear, say
+from replica.etcd import CALL_SECONDS, Etcd, absent, drop, get, has, put
+from replica.settings import Settings
+
+READ_AT_ONCE = 32
+
+
+class Entry(NamedTuple):
+    """A request at its place in the log."""
+
+    position: int
+    key: str
+    kind: str
+    """`acts` or `resume`"""
+    program: str
+    """the digest of the office's program at the member that appended it"""
+    body: bytes
+
+
+class Appended(NamedTuple):
+    """What became of a request: its position, or the error that its client gets."""
+
+    position: int | None
+    error: str | None = None
+    is_new: bool = False
+
+
+class End(NamedTuple):
+    """Where a log ends: surely, or as far as this machine knows."""
+
+    is_sure: bool
+    epoch: str
+    tail: int
+
+
+def entry_at(key: str, value: bytes) -> Entry:
+    """The entry that a key of etcd has. Halt where it is none."""
+    head, _, body = value.partition(b"\n")
+    try:
+        told = json.loads(head)
+        return Entry(int(key[-16:]), told["key"], told["kind"], told["program"], body)
+    except (ValueError, KeyError, TypeError) as error:
+        raise Halt(f"{key} is no entry: {error!r}") from error
+
+
+class Log:
+    """The log of one office, as one member uses it."""
+
+    def __init__(self, settings: Settings, etcd: Etcd, program: str) -> None:
+        self.etcd, self.member, self.program = etcd, settings.name, program
+        self.top = f"/office/{settings.log}/"
+        self.quota = settings.etcd_quota
+        self.appending, self.last, self.is_full = threading.Lock(), 0, False
+
+    def entry_key(self, position: int) -> str:
+        return f"{self.top}log/{position:016d}"
+
+    def chain_key(self, position: int) -> str:
+        return f"{self.top}chain/{position:016d}"
+
+    # ---- what a request needs
+
+    def append(self, key: str, kind: str, body: bytes) -> Appended:
+        """Puts a request at the end, once for its key, however often it is called.
+
+        An error of the name `unknown` says that it may be in the log, each other that this call
+        put nothing there. One thread of a member appends at a time.
+        """
+        head = {"key": key, "kind": kind, "member": self.member, "program": self.program}
+        value = json.dumps(head).encode() + b"\n" + body
+        digest = hashlib.sha256(kind.encode() + b"\n" + body).hexdigest()
+        is_clear, until = True, time.monotonic() + 2 * CALL_SECONDS
+        while True:
+            if self.is_full and is_clear:
+                return Appended(None, "full")
+            try:
+                done, found = self.try_append(key, value, digest)
+            except (NotTaken, Unclear) as error:
+                is_clear = is_clear and isinstance(error, NotTaken)
+                if is_clear or time.monotonic() > until:
+                    say(f"{'not' if is_clear else 'perhaps'} appended: {error}")
+                    name = getattr(error, "name", "quorum") if is_clear else "unknown"
+                    return Appended(None, name)
+                time.sleep(0.1)
+                continue
+            if done:
+                return Appended(self.last, is_new=True)
+            if found:
+                position, first_digest = found.split()
+                if first_digest != digest:
+                    return Appended(None, "key")
+                return Appended(int(position))
+
+    def try_append(self, key: str, value: bytes, digest: str) -> tuple[bool, str]:
+        """One transaction: whether the request has the next position, else what its key has."""
+        position, tail, mine = self.last + 1, self.top + "tail", self.top + "keys/" + key
+        done, rows = self.etcd.transact(
+            [has(tail, str(position - 1)), absent(mine)],
+            [put(tail, str(position)), put(self.entry_key(position), value),
+             put(mine, f"{position} {digest}")],
+            [get(tail), get(mine)])
+        if done:
+            self.last = position
+            return True, ""
+        if not rows[0]:
+            raise NotTaken(f"there is no log {self.top} in etcd")
+        self.last = int(rows[0][0][1])
+        return False, rows[1][0][1].decode() if rows[1] else ""
+
+    def tail(self) -> int:
+        """The last position at this moment, through the quorum."""
+        _, rows = self.etcd.transact([], [get(self.top + "tail")])
+        if not rows[0]:
+            raise NotTaken(f"there is no log {self.top} in etcd")
+        return int(rows[0][0][1])
+
+    # ---- what following the log needs
+
+    def end(self) -> End:
+        """Where the log ends; without a quorum, where it ends on this machine."""
+        keys = [self.top + "epoch", self.top + "tail"]
+        try:
+            _, rows = self.etcd.transact([], [get(key) for key in keys])
+            is_sure = True
+        except (NotTaken, Unclear):
+            _, rows = self.etcd.transact([], [get(key, local=True) for key in keys], local=True)
+            is_sure = False
+        if rows[0] and rows[1]:
+            return End(is_sure, rows[0][0][1].decode(), int(rows[1][0][1]))
+        if is_sure:
+            raise Halt(f"there is no log {self.top} in etcd")
+        raise Unclear("this machine's etcd has no log yet")
+
+    def after(self, position: int) -> tuple[list[Entry], int]:
+        """The next entries that this machine's etcd has, and where the log ends there."""
+        _, (rows, tail) = self.etcd.transact(
+            [], [get(self.entry_key(position + 1), self.top + "log0", True, READ_AT_ONCE),
+                 get(self.top + "tail", local=True)], local=True)
+        return [entry_at(*row) for row in rows], int(tail[0][1]) if tail else 0
+
+    def watch(self, changed: threading.Event) -> None:
+        """Sets the event whenever there may be a new entry. Never returns."""
+        self.etcd.watch(self.top + "tail", changed)
+
+    def look_for_room(self) -> None:
+        """Takes no entry while three quarters of etcd are in use.
+
+        So there is always room to report snapshots, by which the log is dropped.
+        """
+        was = self.is_full
+        self.is_full = self.etcd.size_in_use() > self.quota * 3 // 4
+        if was != self.is_full:
+            say("etcd is nearly full: no entry is taken" if self.is_full else "etcd has room again")
+
+    # ---- what members report to each other
+
+    def found(self, epoch: str) -> bool:
+        """Begins the log, unless there is one of this name."""
+        top = self.top
+        done, _ = self.etcd.transact(
+            [absent(top + "epoch")],
+            [put(top + "epoch", epoch), put(top + "tail", "0"), put(top + "first", "1")])
+        return done
+
+    def report_snapshot(self, position: int) -> int:
+        """Reports the own older snapshot, and drops what every member has in its older one.
+
+        Gives the least position of all members' older snapshots.
+        """
+        top = self.top
+        _, rows = self.etcd.transact(
+            [], [put(top + "members/" + self.member, str(position)),
+                 get(top + "members/", top + "members0"), get(top + "first")])
+        least, first = min(int(value) for _, value in rows[1]), int(rows[2][0][1])
+        if least >= first:
+            self.etcd.transact(
+                [has(top + "first", str(first))],
+                [put(top + "first", str(least + 1)),
+                 drop(self.entry_key(0), self.entry_key(least + 1)),
+                 drop(top + "chain/", self.chain_key(least))])
+        return least
+
+    def drop_keys(self, keys: Sequence[str]) -> None:
+        """From now on a request with one of these keys is a new request."""
+        self.etcd.transact([], [drop(self.top + "keys/" + key) for key in keys])
+
+    def report_chain(self, position: int, chain: str) -> tuple[list[str], int]:
+        """Reports the hash over the own answers; gives those of all members there, and how many
+        members there are."""
+        here = self.chain_key(position)
+        _, rows = self.etcd.transact(
+            [], [put(f"{here}/{self.member}", chain), get(here + "/", here + "0"),
+                 get(self.top + "members/", self.top + "members0")])
+        return [value.decode() for _, value in rows[1]], len(rows[2])

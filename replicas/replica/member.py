@@ -1,0 +1,82 @@
+"""One member: its log, its office, its snapshots and its clients, joined.
+
+    member CONFIG
+
+CONFIG is a file of settings (settings.py). It runs until SIGTERM; SIGHUP makes a snapshot now.
+Status 0 after SIGTERM, 2 for wrong settings, 3 where another program has the folder or the port,
+5 where it halted: then the file `halted` says why, and it does not start until that file is gone.
+"""
+from __future__ import annotations
+
+import fcntl
+import os
+import signal
+import sys
+import threading
+
+from replica.clients import Server
+from replica.errors import Halt, say
+from replica.etcd import Etcd
+from replica.follower import Follower, work_file
+from replica.log import Log
+from replica.office import Office, digest_of_program
+from replica.service import Service
+from replica.settings import Settings, read_settings
+from replica.snapshots import Snapshots
+
+HALTED = 5
+
+
+def made(settings: Settings) -> tuple[Log, Follower]:
+    """The parts of a member, none of them started."""
+    log = Log(settings, Etcd(settings.etcd, settings.tls()), digest_of_program(settings.office))
+    office = Office(settings.office, work_file(settings.folder), settings.office_port)
+    snapshots = Snapshots(settings.folder, settings.office)
+    return log, Follower(settings, log, office, snapshots)
+
+
+def locked(settings: Settings) -> object:
+    """The lock of the folder, held as long as this value lives."""
+    file = open(settings.folder / "lock", "w", encoding="utf-8")
+    fcntl.flock(file, fcntl.LOCK_EX | fcntl.LOCK_NB)
+    return file
+
+
+def start(settings: Settings) -> int:
+    """Runs the member, and gives its exit status. Its office has ended then."""
+    halted = settings.folder / "halted"
+    if halted.exists():
+        say(f"it was halted: see {halted}, and remove that file when all is well")
+        return HALTED
+    log, follower = made(settings)
+    signal.signal(signal.SIGTERM, lambda *_: follower.ask_to_stop())
+    signal.signal(signal.SIGINT, lambda *_: follower.ask_to_stop())
+    signal.signal(signal.SIGHUP, lambda *_: follower.ask_for_snapshot())
+    try:
+        lock = locked(settings)
+        server = Server(settings.listen, Service(log, follower))
+    except OSError as error:
+        say(f"the folder {settings.folder} or the port {settings.listen} is taken: {error}")
+        return 3
+    threading.Thread(target=server.serve_forever, daemon=True).start()
+    threading.Thread(target=log.watch, args=(follower.changed,), daemon=True).start()
+    try:
+        follower.run()
+    except Halt as error:
+        say(f"halted: {error}")
+        halted.write_text(f"{error}\n", encoding="utf-8")
+        return HALTED
+    finally:
+        del lock
+    return 0
+
+
+def main() -> None:
+    if len(sys.argv) != 2:
+        print(__doc__, file=sys.stderr)
+        raise SystemExit(2)
+    os.umask(0o077)
+    status = start(read_settings(sys.argv[1]))
+    sys.stderr.flush()
+    # threads of clients may wait for what does not come any more
+    os._exit(status)
