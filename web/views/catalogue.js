@@ -19,7 +19,17 @@ const asked = { part: "records", text: "", status: "", aggregation: "", most: FI
 let turn = 0;
 
 const select = (name) => byId(`catalogue-${name}`);
-const keepAddress = () => history.replaceState(null, "", addressOf(asked));
+/** So many milliseconds after the last key the address has what is asked: a browser slows a page down that changes it at each key. */
+const STILL = 250;
+let later = 0;
+
+function keepAddress() {
+  clearTimeout(later);
+  later = setTimeout(() => {
+    // another view may have been opened meanwhile
+    if (location.hash.startsWith("#catalogue")) history.replaceState(null, "", addressOf(asked));
+  }, STILL);
+}
 
 // ---- what is said of the catalogue
 
