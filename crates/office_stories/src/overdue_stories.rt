@@ -34,8 +34,8 @@ GET /overdue/2025-02-02 = 404 Not Found, application/json, 16: {"error":"path"}
 GET /overdue/2025-02-02/ = 404 Not Found, application/json, 16: {"error":"path"}
 GET /overdue/2025-02-02/30/ = 404 Not Found, application/json, 16: {"error":"path"}
 GET /overdue//30 = 404 Not Found, application/json, 16: {"error":"path"}
-HEAD /overdue/2025-02-02/30 = 405 Method Not Allowed, application/json, 18:
-POST /overdue/2025-02-02/30 = 405 Method Not Allowed, application/json, 18: {"error":"method"}
+HEAD /overdue/2025-02-02/30 = bytes HTTP/1.1 405 Method Not Allowed\r\nContent-Type: application/json\r\nContent-Length: 18\r\nAllow: GET\r\nConnection: close\r\n\r\n, in all 118
+POST /overdue/2025-02-02/30 = bytes HTTP/1.1 405 Method Not Allowed\r\nContent-Type: application/json\r\nContent-Length: 18\r\nAllow: GET\r\nConnection: close\r\n\r\n{"error":"method"}, in all 136
 ## at the desk
 2025-01-02 place-hold H = done
 2025-01-02 hold-on H record 2 = done
