@@ -26,14 +26,15 @@ use Rattle.office_sql.specs.Schema.{at, office, office_schema, schedules}
 use Rattle.office_sql.specs.Shown.{office_row}
 use Rattle.office_sql.specs.Texts.{clear_schedules, raise_version, raised_terms, selects}
 use Rattle.office_sql.proofs.MoveLemmas.{all_found, still_shaped}
-use Rattle.office_sql.proofs.MoveTexts.{clear_schedules_is, raise_version_is}
+use Rattle.office_sql.proofs.MoveTexts.{raise_version_is}
+use Rattle.office_sql.proofs.RemoveTexts.{clear_schedules_is}
 use Rattle.office_sql.proofs.PutLemmas.{cast_int, cast_null}
 use Rattle.office_sql.proofs.RemoveLemmas.{removes, Takes}
 use Rattle.office_sql.proofs.Replace.{went, same_value}
 
 -- each row goes
-pub clears : Takes clear_schedules (at 1 schedules) ([] ∷ []) [] []
-clears = removes 1 (at 1 schedules) refl (λ olds news. refl) refl clear_schedules [] clear_schedules_is ([] ∷ []) [] [] (λ r. refl)
+pub clears : Takes clear_schedules schedules ([] ∷ []) [] []
+clears = removes schedules clear_schedules [] clear_schedules_is ([] ∷ []) [] [] (λ r. refl)
 
 -- a table with one row shows one
 one_shown : (rows : List Row) (day : ℤ) → map (shown (at 0 office)) rows ≡ office_row (pos 1) (pos 1) day ∷ [] → (r : Row) × (rows ≡ r ∷ []) × (shown (at 0 office) r ≡ office_row (pos 1) (pos 1) day)

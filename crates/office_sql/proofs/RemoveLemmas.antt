@@ -1,5 +1,5 @@
--- DELETE by a key.
-use Rattle.std.proofs.Common.{◌≡◌, ◌≢◌, ◌⊎◌, inl, inr, ℕ, ℤ, List, [], ◌∷◌, ◌++◌, map, filter, slice_get, nat_le, ◌^◌, Bool, true, false, not, ◌||◌, cond, Option, None, Some, Ok, refl, sym, ap, subst, ◌∙◌, IsTrue, is_eq, IsPermutation, All}
+-- DELETE by a key, wherever the table stands.
+use Rattle.std.proofs.Common.{◌≡◌, ◌≢◌, ◌⊎◌, inl, inr, ℕ, ℤ, List, [], ◌∷◌, ◌++◌, map, filter, nat_le, ◌^◌, Bool, true, false, not, ◌||◌, cond, Option, None, Some, Ok, refl, sym, ap, subst, ◌∙◌, IsTrue, is_eq, IsPermutation, All}
 use Rattle.std.specs.List.{AllByRecursion, list_all, flat_map}
 use Rattle.std.proofs.lemmas.Cmp.{tied_itself}
 use Rattle.std.proofs.lemmas.List.Sorted.{IsPermutation-map, IsPermutation-sym, All-permutation}
@@ -19,25 +19,26 @@ use Rattle.sqlite_rules.specs.Edit.{id_in, without_all}
 use Rattle.sqlite_rules.proofs.ListLemmas.{all_has, all_from, some_has, some_from, has_filtered}
 use Rattle.sqlite_rules.proofs.TableLemmas.{int_is}
 use Rattle.sqlite_rules.proofs.PlaceLemmas.{tied_same}
-use Rattle.sqlite_keyed.proofs.ListLemmas.{map-map, filter-map, all_both}
+use Rattle.sqlite_keyed.proofs.ListLemmas.{map-map, filter-map}
 use Rattle.std.proofs.lemmas.Bool.Decides.{eqb_tells}
 use Rattle.sqlite_trees.proofs.TreeLemmas.{IsShaped-filter}
 use Rattle.sqlite_schema.specs.declared.schema.Table.{Table}
 use Rattle.sqlite_schema.specs.declared.schema.Keys.TheVariants.{Enforced}
 use Rattle.sqlite_schema.specs.declared.command.Command.TheVariants.{Delete}
-use Rattle.sqlite_rules.specs.Action.{works}
-use Rattle.sqlite_rules.specs.Edit.{edit_of, taken_by}
+use Rattle.sqlite_rules.specs.Edit.{edit_of, taken_by, IsNoIndex}
 use Rattle.sqlite_rules.specs.declared.error.Rowids.TheVariants.{Given}
 use Rattle.sqlite.specs.Effect.{Database}
 use Rattle.sqlite.specs.Rows.{Written}
-use Rattle.sqlite.specs.Does.{Tally, Does, OnRows, AtPlace}
+use Rattle.sqlite.specs.Does.{Tally, OnRows, AtPlace}
 use Rattle.sqlite.specs.Listing.{understood}
 use Rattle.sqlite.specs.State.{State, mode_of, Executes}
 use Rattle.sqlite.proofs.Callers.{IsPlain, command_of, statement_of, runs_as, one_step}
-use Rattle.sqlite_keyed.proofs.ListLemmas.{all-slice_get}
-use Rattle.office_sql.specs.Bags.{shown, rows_of, share}
-use Rattle.office_sql.specs.Office.{IsOffice, Removed}
-use Rattle.office_sql.specs.Schema.{office_schema}
+use Rattle.sqlite_schema.specs.declared.schema.Schema.{Schema}
+use Rattle.office_sql.specs.Bags.{shown, share}
+use Rattle.office_sql.specs.Beside.{IsOffice, Removed, SparesOthers, tree_of}
+use Rattle.office_sql.proofs.Kept.{as_listed, finds_in, kept_office, stands_in}
+use Rattle.office_sql.proofs.TableThere.{idle, low}
+use Rattle.office_sql.proofs.Understood.{MeansRemoval}
 use Rattle.office_sql.proofs.Replace.{went, same_value}
 use Rattle.sqlite_value.specs.Keys.{first_key, later}
 use Rattle.office_sql.specs.Schema.{contents, targets, at}
@@ -114,55 +115,48 @@ module _ (tree : ℕ) (filters : List Term) (low : nat_le (2 ^ 31) tree ≡ fals
 pub same_or_not : (a b : ℕ) → (a ≡ b) ⊎ (a ≢ b)
 same_or_not a b = elim (eqb_tells a b) [ inl same ↦ inl same.1 | inr apart ↦ inr apart.1 ]
 
--- some rows of one table are left out
-module _ (table : Table) (db next : Trees) (p : Row → Bool) (left : next table.tree ≡ filter (λ r. not (p r)) (db table.tree))
-    (tables : AllByRecursion (λ t. t.tree ≢ table.tree → next t.tree ≡ db t.tree) office_schema.tables) where
-  fewer_shaped : IsShaped shape.Table (db table.tree) → AllByRecursion (λ t. IsShaped shape.Table (db t.tree)) office_schema.tables → AllByRecursion (λ t. IsShaped shape.Table (next t.tree)) office_schema.tables
-  fewer_shaped here all =
-      let now : IsShaped shape.Table (next table.tree) = subst (IsShaped shape.Table) (sym left) (IsShaped-filter shape.Table _ _ here) in
-      all_both (λ t. IsShaped shape.Table (db t.tree)) (λ t. t.tree ≢ table.tree → next t.tree ≡ db t.tree) (λ t. IsShaped shape.Table (next t.tree)) (λ t was same. elim (same_or_not t.tree table.tree) [
-        | inl is ↦ subst (λ n. IsShaped shape.Table (next n)) (sym is) now
-        | inr apart ↦ subst (IsShaped shape.Table) (sym (same apart)) was
-      ]) office_schema.tables all tables
-
-  fewer_rows : (keys : List (List ℕ)) (key : Row) → ((r : Row) → p r ≡ share keys (shown table r) key) → rows_of table next ≡ filter (λ r. not (share keys r key)) (rows_of table db)
-  fewer_rows keys key tests =
-      ap (map (shown table)) (left ∙ filter_same_on _ _ (db table.tree) (λ r h. ap not (tests r))) ∙ sym (filter-map (λ s. not (share keys s key)) (shown table) (db table.tree))
-
--- what a text does that takes the rows that share a key with this one out of a table of the office, on these parameters
+-- what a text does that takes the rows that share a key with this one out of a table of an office, on these parameters
 abbrev pub Takes : List ℕ → Table → List (List ℕ) → Row → Row → Type 1
-Takes sql table keys params row = (old new : State) (count : ℕ) → IsOffice old.now → Executes sql params old new (Ok count) → Removed table keys row old.now new.now
+Takes sql t keys params key = (version : List Table) → Has version t → (old new : State) (count : ℕ) → IsOffice version old.now → Executes sql params old new (Ok count) → Removed version t keys key old.now new.now
 
--- a statement that removes the rows of the office that have a key
-module _ (place : ℕ) (table : Table) (found_at : slice_get office_schema.tables place ≡ Some table)
-    (idle : (olds news : List Row) → works office_schema Enforced 0 table.tree olds news ≡ []) (low : nat_le (2 ^ 31) table.tree ≡ false)
-    (sql : List ℕ) (filters : List Term) (known : (command_of (understood office_schema sql) ≡ Delete place (record { lets = []; body = ids_where table.tree filters })) × IsPlain (understood office_schema sql)) where
-  pub removes : (keys : List (List ℕ)) (params key : Row) → ((r : Row) → list_all (holds (params ∷ r ∷ [])) filters ≡ share keys (shown table r) key) → Takes sql table keys params key
-  removes keys params key tests old after count office h =
-      let command = Delete place (record { lets = []; body = ids_where table.tree filters }) in
-      let w = runs_as sql params old after office_schema office.schema command known.0 known.1 count h in
-      let text = statement_of sql (understood office_schema sql) in
-      let does = subst (λ s. Does old.step_limit (mode_of old) params (record old.now { schema = s }) text None command (Ok (w.tally, after.now))) office.schema w.changed in
+-- a statement that removes the rows that have a key, wherever the table stands
+module _ (t : Table) (sql : List ℕ) (filters : List Term) (known : MeansRemoval sql t filters) where
+  pub removes : (keys : List (List ℕ)) (params key : Row) → ((r : Row) → list_all (holds (params ∷ r ∷ [])) filters ≡ share keys (shown t r) key) → Takes sql t keys params key
+  removes keys params key tests version mine old after count is h =
+      let s = old.now.schema in
       let trees = old.now.trees in
-      let on = subst (λ (o : Option Table). AtPlace (λ t. OnRows (record { limit = old.step_limit; keys = Enforced; schema = office_schema; table = t; params = params }) (mode_of old) None command trees) o (Ok (w.tally, after.now))) found_at does in
+      let it = stands_in version t mine old.now is in
+      let n = tree_of s t.name in
+      let small = low s t is.apart it trees is.database in
+      let means = known s it.place n (finds_in version t mine old.now is) in
+      let command = Delete it.place (record { lets = []; body = ids_where n filters }) in
+      let w = runs_as sql params old after s refl command means.0 means.1 count h in
+      let text = statement_of sql (understood s sql) in
+      let on = subst (λ (o : Option Table). AtPlace (λ t. OnRows (record { limit = old.step_limit; keys = Enforced; schema = s; table = t; params = params }) (mode_of old) None command trees) o (Ok (w.tally, after.now))) it.found w.changed in
       let wrote = went on in
       let tested = went wrote.2 in
       let shows = went tested.2 in
-      let after_is : after.now ≡ record { schema = office_schema; trees = wrote.0.trees } = ap (λ (p : Tally × Database). p.1) (same_value shows.2) in
+      let after_is : after.now ≡ record { schema = s; trees = wrote.0.trees } = ap (λ (p : Tally × Database). p.1) (same_value shows.2) in
       let read = went wrote.1 in
       let step = went read.2 in
-      let edit = edit_of trees table (ids_of read.0) Given 0 [] in
-      let did = one_step office_schema Enforced trees step.0 edit (idle (taken_by trees edit) []) step.1 in
-      let next : wrote.0.trees ≡ step.0 = ap (λ (it : Written). it.trees) (same_value step.2) in
-      let here = all-slice_get (λ t. IsShaped shape.Table (trees t.tree)) office_schema.tables place table found_at office.shaped in
-      let left : step.0 table.tree ≡ filter (λ r. not (passes table.tree filters low params trees read.0 (read.1.answer Null) r)) (trees table.tree) =
-      did.rows ∙ left_is table.tree filters low params trees read.0 (read.1.answer Null) here in
-      let p = passes table.tree filters low params trees read.0 (read.1.answer Null) in
-      let to : step.0 ≡ after.now.trees = sym next ∙ ap (λ (d : Database). d.trees) (sym after_is) in
+      let edit = edit_of trees (at n t) (ids_of read.0) Given 0 [] in
+      let did = one_step s Enforced trees step.0 edit (idle s t is.apart it (taken_by trees edit) []) step.1 in
+      let next : step.0 ≡ after.now.trees = sym (ap (λ (it : Written). it.trees) (same_value step.2)) ∙ ap (λ (d : Database). d.trees) (sym after_is) in
+      let here = all_has _ version t is.shaped mine in
+      let left : step.0 n ≡ filter (λ r. not (list_all (holds (params ∷ r ∷ [])) filters)) (trees n) = did.rows ∙ left_is n filters small params trees read.0 (read.1.answer Null) here in
+      let left_now : after.now.trees n ≡ filter (λ r. not (list_all (holds (params ∷ r ∷ [])) filters)) (trees n) = ap (λ (d : Trees). d n) (sym next) ∙ left in
+      let schema : after.now.schema ≡ s = ap (λ (d : Database). d.schema) after_is in
+      let spares : SparesOthers t old.now after.now = record {
+        schema = schema;
+        tables = subst (λ (d : Trees). AllByRecursion (λ (u : Table). u.tree ≢ n → d u.tree ≡ trees u.tree) s.tables) next did.tables;
+        others = subst (λ (d : Trees). (tree : ℕ) → tree ≢ n → IsNoIndex s tree → d tree ≡ trees tree) next did.others;
+      } in
+      let now = kept_office version t old.now after.now is w.sound spares (subst (IsShaped shape.Table) (sym left_now) (IsShaped-filter shape.Table _ _ here)) in
       record {
-        office = record { database = w.sound; schema = ap (λ (d : Database). d.schema) after_is; shaped = subst (λ d. AllByRecursion (λ t. IsShaped shape.Table (d t.tree)) office_schema.tables) to (fewer_shaped table trees step.0 p left did.tables here office.shaped) };
-        removed = subst (λ d. rows_of table d ≡ filter (λ r. not (share keys r key)) (rows_of table trees)) to (fewer_rows table trees step.0 p left did.tables keys key tests);
-        others = subst (λ d. AllByRecursion (λ t. t.tree ≢ table.tree → d t.tree ≡ trees t.tree) office_schema.tables) to did.tables;
+        office = now;
+        removed = as_listed version t mine old.now after.now is now schema (λ a b. b ≡ filter (λ r. not (share keys r key)) a)
+            (ap (map (shown t)) (left_now ∙ filter_same_on _ _ (trees n) (λ r h. ap not (tests r))) ∙ sym (filter-map (λ r. not (share keys r key)) (shown t) (trees n)));
+        spares = spares;
       }
 
 pub or_false : (b : Bool) → b ≡ (b || false)
@@ -170,11 +164,11 @@ or_false true = refl
 or_false false = refl
 
 -- the content of that number, whatever its bytes
-pub removes_content : (num : ℤ) → Takes remove_contents (at 9 contents) ((0 ∷ []) ∷ []) (Int num ∷ []) (content_row num [])
+pub removes_content : (num : ℤ) → Takes remove_contents contents ((0 ∷ []) ∷ []) (Int num ∷ []) (content_row num [])
 unfolding first_key
-removes_content num = removes 5 (at 9 contents) refl (λ olds news. refl) refl remove_contents (is_param 0 0 ∷ []) remove_contents_is ((0 ∷ []) ∷ []) (Int num ∷ []) (content_row num []) (λ r. or_false _)
+removes_content num = removes contents remove_contents (is_param 0 0 ∷ []) remove_contents_is ((0 ∷ []) ∷ []) (Int num ∷ []) (content_row num []) (λ r. or_false _)
 
-pub removes_target : (hold kind target : List ℕ) → Takes remove_targets (at 12 targets) ((0 ∷ 1 ∷ 2 ∷ []) ∷ []) (target_row hold kind target) (target_row hold kind target)
+pub removes_target : (hold kind target : List ℕ) → Takes remove_targets targets ((0 ∷ 1 ∷ 2 ∷ []) ∷ []) (target_row hold kind target) (target_row hold kind target)
 unfolding first_key
 removes_target hold kind target =
-    removes 7 (at 12 targets) refl (λ olds news. refl) refl remove_targets (is_param 1 0 ∷ is_param 2 1 ∷ is_param 3 2 ∷ []) remove_targets_is ((0 ∷ 1 ∷ 2 ∷ []) ∷ []) (target_row hold kind target) (target_row hold kind target) (λ r. or_false _)
+    removes targets remove_targets (is_param 1 0 ∷ is_param 2 1 ∷ is_param 3 2 ∷ []) remove_targets_is ((0 ∷ 1 ∷ 2 ∷ []) ∷ []) (target_row hold kind target) (target_row hold kind target) (λ r. or_false _)

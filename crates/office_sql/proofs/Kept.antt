@@ -1,0 +1,85 @@
+-- What one statement leaves of an office: all but one table is as it was, and that is in order.
+use Rattle.std.proofs.Common.{◌≡◌, ◌≢◌, inl, inr, ℕ, ◌<◌, ◌^◌, List, map, refl, sym, ap, subst, ◌∙◌, arith}
+use Rattle.std.specs.List.{AllByRecursion}
+use Rattle.std.proofs.lemmas.Bool.Decides.{eqb_tells}
+use Rattle.sqlite_value.specs.Order.{Row}
+use Rattle.sqlite_trees.specs.Objects.{catalog_tree}
+use Rattle.sqlite_trees.specs.Tree.{Trees, IsAscending}
+use Rattle.sqlite_trees.specs.View.{IsShaped}
+use Rattle.sqlite_trees.specs.declared.store.Shape.TheVariants as shape
+use Rattle.sqlite_schema.specs.declared.schema.Schema.{Schema}
+use Rattle.sqlite_schema.specs.declared.schema.Table.{Table}
+use Rattle.sqlite_rules.specs.Edit.{IsNoIndex}
+use Rattle.sqlite_rules.specs.Lists.{Has}
+use Rattle.sqlite_rules.proofs.ListLemmas.{all_from, all_has}
+use Rattle.sqlite_rules.proofs.RuleLemmas.{same_table}
+use Rattle.sqlite_catalog.specs.Listing.{IsIndexRow, IsTableRow}
+use Rattle.sqlite_catalog.proofs.LayoutLemmas.{zipped_left}
+use Rattle.sqlite.specs.Effect.{Database, IsDatabase}
+use Rattle.office_sql.specs.Bags.{shown}
+use Rattle.office_sql.specs.Beside.{IsOffice, SparesOthers, rows_in, tree_in, tree_of}
+use Rattle.office_sql.specs.Schema.{at}
+use Rattle.office_sql.proofs.TableThere.{Standing, finds_it, itself, standing}
+use Rattle.office_sql.proofs.Understood.{Finds}
+use Rattle.office_sql.proofs.TreeFound.{tree_is}
+
+-- a table of the office stands somewhere
+pub stands_in : (version : List Table) (t : Table) → Has version t → (db : Database) → IsOffice version db → Standing db.schema t
+stands_in version t mine db is = standing db.schema t (all_has _ version t is.tables mine)
+
+pub finds_in : (version : List Table) (t : Table) (mine : Has version t) (db : Database) (is : IsOffice version db) → Finds db.schema t (stands_in version t mine db is).place (tree_of db.schema t.name)
+finds_in version t mine db is = finds_it db.schema t is.apart (stands_in version t mine db is) db.trees is.database
+
+-- and the trees themselves list it so
+pub found_in : (version : List Table) (t : Table) → Has version t → (db : Database) → IsOffice version db → tree_in db.trees t.name ≡ tree_of db.schema t.name
+found_in version t mine db is = tree_is db.schema db.trees t is.database (stands_in version t mine db is)
+
+pub kept_office : (version : List Table) (t : Table) (old new : Database) → IsOffice version old → IsDatabase new → SparesOthers t old new
+    → IsShaped shape.Table (new.trees (tree_of old.schema t.name)) → IsOffice version new
+kept_office version t old new was sound spares here = record {
+  database = sound;
+  apart = subst (λ (s : Schema). IsAscending (λ (a b : Table). a.tree ≡ b.tree → ⊥) s.tables) (sym spares.schema) was.apart;
+  tables = subst (λ s. AllByRecursion (Rattle.office_sql.specs.Beside.HasTable s) version) (sym spares.schema) was.tables;
+  shaped = subst (λ s. AllByRecursion (λ u. IsShaped shape.Table (new.trees (tree_of s u.name))) version) (sym spares.schema) (all_from _ version shaped_now);
+}
+  where
+    shaped_now : (u : Table) → Has version u → IsShaped shape.Table (new.trees (tree_of old.schema u.name))
+    shaped_now u listed = elim (eqb_tells (tree_of old.schema u.name) (tree_of old.schema t.name)) [
+      | inl same ↦ subst (λ n. IsShaped shape.Table (new.trees n)) (sym same.1) here
+      | inr other ↦
+          let there = itself old.schema u was.apart (stands_in version u listed old was) in
+          subst (IsShaped shape.Table) (sym (all_has _ old.schema.tables (at (tree_of old.schema u.name) u) spares.tables there other.1)) (all_has _ version u was.shaped listed)
+    ]
+
+module _ (version : List Table) (t : Table) (mine : Has version t) (old new : Database) (was : IsOffice version old) (now : IsOffice version new) (spares : SparesOthers t old new) where
+  low_tree : tree_of old.schema t.name < 65536
+  low_tree =
+      let has = stands_in version t mine old was in
+      (zipped_left IsTableRow _ old.schema.tables (at (tree_of old.schema t.name) t) was.database.lists.listed.tables (itself old.schema t was.apart has)).2.described.low
+
+  no_index : IsNoIndex old.schema catalog_tree
+  no_index = all_from _ old.schema.indexes (λ i h same. let low = (zipped_left (IsIndexRow old.schema.tables) _ old.schema.indexes i was.database.lists.listed.indexes h).2.described.low in omega (arith, low, same))
+
+  -- the list of objects is as it was
+  pub same_list : new.trees catalog_tree ≡ old.trees catalog_tree
+  same_list = spares.others catalog_tree (λ same. let low = low_tree in omega (arith, low, same)) no_index
+
+  -- and so are the rows of each other table
+  pub other_rows : (u : Table) → Has version u → (u.name ≡ t.name → ⊥) → rows_in u new.trees ≡ rows_in u old.trees
+  other_rows u listed apart =
+      let s = old.schema in
+      let has = stands_in version u listed old was in
+      let its = stands_in version t mine old was in
+      let here = found_in version u listed old was in
+      let there : tree_in new.trees u.name ≡ tree_of s u.name = found_in version u listed new now ∙ ap (λ x. tree_of x u.name) spares.schema in
+      let differs : tree_of s u.name ≢ tree_of s t.name = λ same.
+      apart (ap (λ (x : Table). x.name) (same_table s.tables (at (tree_of s u.name) u) (at (tree_of s t.name) t) was.apart (itself s u was.apart has) (itself s t was.apart its) same)) in
+      let rows : new.trees (tree_of s u.name) ≡ old.trees (tree_of s u.name) = all_has _ s.tables (at (tree_of s u.name) u) spares.tables (itself s u was.apart has) differs in
+      ap (map (shown u)) (ap new.trees there ∙ rows ∙ sym (ap old.trees here))
+
+-- what is known of the rows of the table in its tree is known of them as the trees list it
+pub as_listed : (version : List Table) (t : Table) → Has version t → (old new : Database) → IsOffice version old → IsOffice version new → new.schema ≡ old.schema → (P : List Row → List Row → Type 0)
+    → P (map (shown t) (old.trees (tree_of old.schema t.name))) (map (shown t) (new.trees (tree_of old.schema t.name))) → P (rows_in t old.trees) (rows_in t new.trees)
+as_listed version t mine old new was now same P h =
+    let there : tree_in new.trees t.name ≡ tree_of old.schema t.name = found_in version t mine new now ∙ ap (λ x. tree_of x t.name) same in
+    subst (λ n. P (rows_in t old.trees) (map (shown t) (new.trees n))) (sym there) (subst (λ n. P (map (shown t) (old.trees n)) (map (shown t) (new.trees (tree_of old.schema t.name)))) (sym (found_in version t mine old was)) h)
