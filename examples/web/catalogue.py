@@ -124,6 +124,7 @@ def lists(it: Browser, proxy: Proxy, copy: pathlib.Path) -> None:
     it.one("#catalogue-text").clear()
     it.choose("#catalogue-status", "ended")
     same("records: by status", it.table("#catalogue-part .records"), [row for row in records if row[4] == "ended"])
+    it.wait(lambda: "status=ended" in it.driver.current_url, "the address has no status")
     address, kept = it.driver.current_url, it.table("#catalogue-part .records")
     it.open(address)
     same("records: the address brings the same rows again", it.table("#catalogue-part .records"), kept)
