@@ -9,7 +9,8 @@ use Rattle.sqlite_store.specs.declared.store.FileStore.{FileStore}
 use Rattle.sqlite_trees.specs.Objects.{catalog_tree}
 use Rattle.sqlite_trees.specs.Props.{Trees-set}
 use Rattle.sqlite_trees.specs.Sound.{is_sound_list}
-use Rattle.sqlite_trees.specs.Tree.{Trees}
+use Rattle.sqlite_schema.specs.declared.schema.Table.{Table}
+use Rattle.sqlite_trees.specs.Tree.{IsAscending, Trees}
 use Rattle.sqlite_wal.specs.Recovery.{Image}
 use Rattle.sqlite.specs.Effect.{Database}
 use Rattle.sqlite.specs.Files.{IsEmpty, IsOpened, file_state}
@@ -17,10 +18,20 @@ use Rattle.sqlite.specs.Held.{Held}
 use Rattle.sqlite.specs.Start.{FindsIn}
 use Rattle.sqlite.specs.State.{State, HasCleanDisk, IsLive, Opens}
 use Rattle.office_sql.specs.declared.editions.Edition.{Edition}
-use Rattle.office_sql.specs.Editions.{schema_of}
-use Rattle.office_sql.specs.Office.{IsAtRestOver, IsBlank, IsOfficeOf, office_over}
-use Rattle.office_sql.specs.Schema.{no_schema}
+use Rattle.office_sql.specs.Editions.{version_2}
+use Rattle.office_sql.specs.Office.{HasRoom, IsAtRestOver, IsBlank, IsOfficeIn, IsOfficeOf}
 use Rattle.office_run.specs.Files.{IsOpenedFrom}
+
+-- where there is no object there is room for each table
+abbrev no_schema : Schema
+no_schema = record { tables = []; indexes = []; views = [] }
+
+all_free : HasRoom version_2 no_schema
+all_free = record {
+  free = (refl, (refl, (refl, (refl, (refl, (refl, (refl, (refl, (refl, (refl, (refl, (refl, (refl, tt)))))))))))));
+  unreferred = (tt, (tt, (tt, (tt, (tt, (tt, (tt, (tt, (tt, (tt, (tt, (tt, (tt, tt)))))))))))));
+  uncounted = refl;
+}
 
 -- no object is listed where no table is there
 none_listed : Lists [] no_schema
@@ -38,24 +49,29 @@ module _ (s : State) (opened : Opens s) (live : IsLive s) (only : (db : Trees) �
   left_at_all = subst s.may_leave (sym same_trees) stays
 
   -- over the trees of an office
-  rests : (ed : Edition) (trees : Trees) → s.committed.trees ≡ trees → IsOfficeOf ed (office_over ed trees) → IsAtRestOver ed s × (s.now.trees ≡ trees)
+  rests : (ed : Edition) (trees : Trees) → s.committed.trees ≡ trees → IsOfficeIn ed trees → IsAtRestOver ed s × (s.now.trees ≡ trees)
   rests ed trees held office =
       let same : s.now.trees ≡ trees = same_trees ∙ held in
-      let schema : s.now.schema ≡ schema_of ed =
-      lists_once (trees catalog_tree) s.now.schema (schema_of ed) (subst (λ (t : Trees). Lists (t catalog_tree) s.now.schema) same (live opened.is_open).0.lists) office.database.lists in
-      let over : s.now ≡ office_over ed trees = ap₂ (λ (a : Schema) (b : Trees). let d : Database = record { schema = a; trees = b } in d) schema same in
-      (record { is_open = opened.is_open; autocommit = opened.autocommit; settled = opened.clean; office = subst (IsOfficeOf ed) (sym over) office; only = left_alone; stays = left_at_all }, same)
+      let schema : s.now.schema ≡ office.0 =
+      lists_once (trees catalog_tree) s.now.schema office.0 (subst (λ (t : Trees). Lists (t catalog_tree) s.now.schema) same (live opened.is_open).0.lists) office.1.has.database.lists in
+      let over : s.now ≡ record { schema = office.0; trees = trees } = ap₂ (λ (a : Schema) (b : Trees). let d : Database = record { schema = a; trees = b } in d) schema same in
+      (record { is_open = opened.is_open; autocommit = opened.autocommit; settled = opened.clean; office = subst (IsOfficeOf ed) (sym over) office.1; only = left_alone; stays = left_at_all }, same)
 
   -- over empty trees
   blanks : IsEmpty s.now.trees → IsBlank s
-  blanks empty = record {
-    is_open = opened.is_open;
-    autocommit = opened.autocommit;
-    settled = opened.clean;
-    schema = lists_once [] s.now.schema no_schema (subst (λ rows. Lists rows s.now.schema) empty.1 (live opened.is_open).0.lists) none_listed;
-    only = left_alone;
-    stays = left_at_all;
-  }
+  blanks empty =
+      let schema : s.now.schema ≡ no_schema = lists_once [] s.now.schema no_schema (subst (λ rows. Lists rows s.now.schema) empty.1 (live opened.is_open).0.lists) none_listed in
+      record {
+        is_open = opened.is_open;
+        autocommit = opened.autocommit;
+        settled = opened.clean;
+        bare = record {
+          has = record { database = (live opened.is_open).0; apart = subst (λ (x : Schema). IsAscending (λ (a b : Table). a.tree ≡ b.tree → ⊥) x.tables) (sym schema) tt; tables = tt; shaped = tt };
+          room = subst (HasRoom version_2) (sym schema) all_free;
+        };
+        only = left_alone;
+        stays = left_at_all;
+      }
 
 -- what an opening promises of a connection, in the words of the program
 pub opened_from :

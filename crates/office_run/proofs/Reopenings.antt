@@ -14,12 +14,11 @@ use Rattle.sqlite.specs.Files.{HoldsDatabase, file_state, image_of}
 use Rattle.sqlite.specs.Held.{AreDatabases, Held}
 use Rattle.sqlite.proofs.Theorems.{opens_again}
 use Rattle.office_sql.specs.declared.editions.Edition.{Edition}
-use Rattle.office_sql.specs.Editions.{schema_of}
-use Rattle.office_sql.specs.Office.{IsOfficeOf, office_over}
+use Rattle.office_sql.specs.Office.{IsOfficeIn}
 use Rattle.office_run.specs.Files.{HeldOffice, LeavesAnOffice}
 
 module _ {D : Type 0} {g : Ghosts D} (last : Held (FileStore D g)) where
-  module _ (it : Files D) (ed : Edition) (copied : AreClean g it.log it.db → IsCopied last it) (clean : AreClean g it.log it.db) (office : IsOfficeOf ed (office_over ed (file_state last).committed.trees)) where
+  module _ (it : Files D) (ed : Edition) (copied : AreClean g it.log it.db → IsCopied last it) (clean : AreClean g it.log it.db) (office : IsOfficeIn ed (file_state last).committed.trees) where
     pub held_closed : HeldOffice ed (image_of g it) (file_state last).committed.trees
     held_closed = record { held = (copied clean).seen.both; office = office }
 
@@ -28,7 +27,7 @@ module _ {D : Type 0} {g : Ghosts D} (last : Held (FileStore D g)) where
 
   -- each database that a crash may leave is sound
   are_databases : LeavesAnOffice (file_state last) → AreDatabases (recovers last.store)
-  are_databases leaves db may = let is = leaves db may in (schema_of is.0, is.1.database)
+  are_databases leaves db may = let is = leaves db may in (is.1.0, is.1.1.has.database)
 
   pub held_crashed : IsTrue (view last.store).is_numbered → LeavesAnOffice (file_state last) → (left : Image) → (state last.store).may_leave left
       → ∥ ((trees : Trees) × (ed : Edition) × (file_state last).may_leave trees × HeldOffice ed left trees) ∥₁

@@ -10,7 +10,7 @@ use Rattle.sqlite.specs.Files.{AreFoundIn, HoldsDatabase, IsClosed, IsEmpty, fil
 use Rattle.sqlite.specs.Held.{Held}
 use Rattle.sqlite.specs.State.{State as FileState, HasCleanDisk}
 use Rattle.office_sql.specs.declared.editions.Edition.{Edition}
-use Rattle.office_sql.specs.Office.{IsAtRestOver, IsBlank, IsOfficeOf, office_over}
+use Rattle.office_sql.specs.Office.{IsAtRestOver, IsBlank, IsOfficeIn}
 use Rattle.office_store.specs.declared.fault.Fault.TheVariants as fault
 use Rattle.office_words.specs.Orders.{Ordered}
 use Rattle.office_run.specs.Running.{RunEnds}
@@ -20,16 +20,16 @@ use Rattle.office_run.specs.declared.ending.Ending.TheVariants as how
 use Rattle.office_run.specs.declared.opening.FilesLeft.{FilesLeft}
 use Rattle.office_run.specs.declared.opening.FilesLeft.TheVariants as files
 
--- the two files held this database, which has the office's tables of that version and nothing else
+-- the two files held this database, which has the office's tables of that version, beside whatever else
 pub record HeldOffice (ed : Edition) (image : Image) (trees : Trees) : Type 0 where
   pub held : ∥ HoldsDatabase image trees ∥₁
-  pub office : IsOfficeOf ed (office_over ed trees)
+  pub office : IsOfficeIn ed trees
 
 -- whatever tables a crash leaves, they are an office's, of one version or the other
 abbrev pub LeavesAnOffice : FileState → Type 0
-LeavesAnOffice s = (db : Trees) → s.may_leave db → (ed : Edition) × IsOfficeOf ed (office_over ed db)
+LeavesAnOffice s = (db : Trees) → s.may_leave db → (ed : Edition) × IsOfficeIn ed db
 
--- files that held this were opened as that connection, as far as a later one is clean: it is at rest over the office that they held, or has no table yet where it found nothing
+-- files that held this were opened as that connection, as far as a later one is clean: it is at rest over the office that they held, or has room for one where it found nothing
 pub record IsOpenedFrom {D : Type 0} {g : Ghosts D} (image : Image) (was last : Held (FileStore D g)) : Type 0 where
   pub found : HasCleanDisk (file_state last) → AreFoundIn image (file_state was).now.trees
   pub rest : HasCleanDisk (file_state last) → (ed : Edition) (trees : Trees) → HeldOffice ed image trees → IsAtRestOver ed (file_state was) × ((file_state was).now.trees ≡ trees)

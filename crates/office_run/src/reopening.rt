@@ -10,7 +10,7 @@ ghost use Rattle.sqlite_wal.specs.Recovery.{Image};
 ghost use Rattle.sqlite.specs.Files.{file_state, image_of};
 ghost use Rattle.sqlite.specs.Held.{Held};
 ghost use Rattle.office_sql.specs.declared.editions.Edition.{Edition};
-ghost use Rattle.office_sql.specs.Office.{IsOfficeOf, office_over};
+ghost use Rattle.office_sql.specs.Office.{IsOfficeIn};
 ghost use Rattle.office_run.specs.Files.{HeldOffice, IsLeftOf, LeavesAnOffice};
 ghost use Rattle.office_run.specs.declared.opening.FilesLeft.TheVariants as files;
 
@@ -25,9 +25,9 @@ use sqlite_disk::Disk;
 /// of a store that is given back, and has no public clause that says it of one behind a connection.
 pub fn law_of_the_next_word<D: Disk + Drop>()
     ensures closed { (last : Held (FileStore D D.Disk)) (it : Files D) (ed : Edition) → IsLeftOf last (files.Closed it) → AreClean D.Disk it.log it.db
-        → IsOfficeOf ed (office_over ed (file_state last).committed.trees) → HeldOffice ed (image_of D.Disk it) (file_state last).committed.trees }
+        → IsOfficeIn ed (file_state last).committed.trees → HeldOffice ed (image_of D.Disk it) (file_state last).committed.trees }
     ensures after_closing { (last : Held (FileStore D D.Disk)) (it : Files D) (ed : Edition) → IsLeftOf last (files.Closed it) → AreClean D.Disk it.log it.db
-        → IsOfficeOf ed (office_over ed (file_state last).committed.trees) → (image : Image) → outcomes D.Disk it.log it.db image → HeldOffice ed image (file_state last).committed.trees }
+        → IsOfficeIn ed (file_state last).committed.trees → (image : Image) → outcomes D.Disk it.log it.db image → HeldOffice ed image (file_state last).committed.trees }
     ensures crashed { (last : Held (FileStore D D.Disk)) → IsTrue (view last.store).is_numbered → LeavesAnOffice (file_state last) → (left : Image) → (store_state last.store).may_leave left
         → ∥ ((trees : Trees) × (ed : Edition) × (file_state last).may_leave trees × HeldOffice ed left trees) ∥₁ }
 {}

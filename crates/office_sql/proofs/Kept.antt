@@ -1,7 +1,8 @@
 -- What one statement leaves of an office: all but one table is as it was, and that is in order.
-use Rattle.std.proofs.Common.{◌≡◌, ◌≢◌, inl, inr, ℕ, ◌<◌, ◌^◌, List, map, refl, sym, ap, subst, ◌∙◌, arith}
+use Rattle.std.proofs.Common.{◌≡◌, ◌≢◌, inl, inr, ℕ, ◌<◌, ◌^◌, List, map, bytes_eq, true, false, true≢false, refl, sym, ap, subst, ◌∙◌, arith}
 use Rattle.std.specs.List.{AllByRecursion}
 use Rattle.std.proofs.lemmas.Bool.Decides.{eqb_tells}
+use Rattle.std.proofs.lemmas.Slice.Eq.{bytes_eq-Decides}
 use Rattle.sqlite_value.specs.Order.{Row}
 use Rattle.sqlite_trees.specs.Objects.{catalog_tree}
 use Rattle.sqlite_trees.specs.Tree.{Trees, IsAscending}
@@ -16,30 +17,35 @@ use Rattle.sqlite_rules.proofs.RuleLemmas.{same_table}
 use Rattle.sqlite_catalog.specs.Listing.{IsIndexRow, IsTableRow}
 use Rattle.sqlite_catalog.proofs.LayoutLemmas.{zipped_left}
 use Rattle.sqlite.specs.Effect.{Database, IsDatabase}
-use Rattle.office_sql.specs.Bags.{shown}
-use Rattle.office_sql.specs.Beside.{IsOffice, SparesOthers, rows_in, tree_in, tree_of}
+use Rattle.office_sql.specs.Bags.{rows_of, shown, tree_in}
+use Rattle.office_sql.specs.Editions.{version_2}
+use Rattle.office_sql.specs.Office.{HasTable, HasTables, IsOffice, KeepsOthers, SparesOthers, tree_of}
 use Rattle.office_sql.specs.Schema.{at}
 use Rattle.office_sql.proofs.TableThere.{Standing, finds_it, itself, standing}
 use Rattle.office_sql.proofs.Understood.{Finds}
 use Rattle.office_sql.proofs.TreeFound.{tree_is}
 
 -- a table of the office stands somewhere
-pub stands_in : (version : List Table) (t : Table) → Has version t → (db : Database) → IsOffice version db → Standing db.schema t
+pub stands_in : (version : List Table) (t : Table) → Has version t → (db : Database) → HasTables version db → Standing db.schema t
 stands_in version t mine db is = standing db.schema t (all_has _ version t is.tables mine)
 
-pub finds_in : (version : List Table) (t : Table) (mine : Has version t) (db : Database) (is : IsOffice version db) → Finds db.schema t (stands_in version t mine db is).place (tree_of db.schema t.name)
+pub finds_in : (version : List Table) (t : Table) (mine : Has version t) (db : Database) (is : HasTables version db) → Finds db.schema t (stands_in version t mine db is).place (tree_of db.schema t.name)
 finds_in version t mine db is = finds_it db.schema t is.apart (stands_in version t mine db is) db.trees is.database
 
 -- and the trees themselves list it so
-pub found_in : (version : List Table) (t : Table) → Has version t → (db : Database) → IsOffice version db → tree_in db.trees t.name ≡ tree_of db.schema t.name
+pub found_in : (version : List Table) (t : Table) → Has version t → (db : Database) → HasTables version db → tree_in db.trees t.name ≡ tree_of db.schema t.name
 found_in version t mine db is = tree_is db.schema db.trees t is.database (stands_in version t mine db is)
 
-pub kept_office : (version : List Table) (t : Table) (old new : Database) → IsOffice version old → IsDatabase new → SparesOthers t old new
-    → IsShaped shape.Table (new.trees (tree_of old.schema t.name)) → IsOffice version new
+-- the rowids of its rows rise
+pub shape_in : (version : List Table) (t : Table) → Has version t → (db : Database) → HasTables version db → IsShaped shape.Table (db.trees (tree_of db.schema t.name))
+shape_in version t mine db is = all_has _ version t is.shaped mine
+
+pub kept_office : (version : List Table) (t : Table) (old new : Database) → HasTables version old → IsDatabase new → SparesOthers t old new
+    → IsShaped shape.Table (new.trees (tree_of old.schema t.name)) → HasTables version new
 kept_office version t old new was sound spares here = record {
   database = sound;
   apart = subst (λ (s : Schema). IsAscending (λ (a b : Table). a.tree ≡ b.tree → ⊥) s.tables) (sym spares.schema) was.apart;
-  tables = subst (λ s. AllByRecursion (Rattle.office_sql.specs.Beside.HasTable s) version) (sym spares.schema) was.tables;
+  tables = subst (λ s. AllByRecursion (HasTable s) version) (sym spares.schema) was.tables;
   shaped = subst (λ s. AllByRecursion (λ u. IsShaped shape.Table (new.trees (tree_of s u.name))) version) (sym spares.schema) (all_from _ version shaped_now);
 }
   where
@@ -51,7 +57,10 @@ kept_office version t old new was sound spares here = record {
           subst (IsShaped shape.Table) (sym (all_has _ old.schema.tables (at (tree_of old.schema u.name) u) spares.tables there other.1)) (all_has _ version u was.shaped listed)
     ]
 
-module _ (version : List Table) (t : Table) (mine : Has version t) (old new : Database) (was : IsOffice version old) (now : IsOffice version new) (spares : SparesOthers t old new) where
+bytes_same : (a b : List ℕ) → a ≡ b → bytes_eq a b ≡ true
+bytes_same a b same = (bytes_eq-Decides a b).1 same
+
+module _ (version : List Table) (t : Table) (mine : Has version t) (old new : Database) (was : HasTables version old) (now : HasTables version new) (spares : SparesOthers t old new) where
   low_tree : tree_of old.schema t.name < 65536
   low_tree =
       let has = stands_in version t mine old was in
@@ -65,7 +74,7 @@ module _ (version : List Table) (t : Table) (mine : Has version t) (old new : Da
   same_list = spares.others catalog_tree (λ same. let low = low_tree in omega (arith, low, same)) no_index
 
   -- and so are the rows of each other table
-  pub other_rows : (u : Table) → Has version u → (u.name ≡ t.name → ⊥) → rows_in u new.trees ≡ rows_in u old.trees
+  pub other_rows : (u : Table) → Has version u → (u.name ≡ t.name → ⊥) → rows_of u new.trees ≡ rows_of u old.trees
   other_rows u listed apart =
       let s = old.schema in
       let has = stands_in version u listed old was in
@@ -77,9 +86,17 @@ module _ (version : List Table) (t : Table) (mine : Has version t) (old new : Da
       let rows : new.trees (tree_of s u.name) ≡ old.trees (tree_of s u.name) = all_has _ s.tables (at (tree_of s u.name) u) spares.tables (itself s u was.apart has) differs in
       ap (map (shown u)) (ap new.trees there ∙ rows ∙ sym (ap old.trees here))
 
+-- a write of one table leaves an office, and the rows of its other tables
+module _ (t : Table) (mine : Has version_2 t) (old new : Database) (was : IsOffice old) (sound : IsDatabase new) (spares : SparesOthers t old new) (here : IsShaped shape.Table (new.trees (tree_of old.schema t.name))) where
+  pub left_office : IsOffice new
+  left_office = record { has = kept_office version_2 t old new was.has sound spares here; room = tt }
+
+  pub left_others : KeepsOthers t old new
+  left_others = all_from (λ (u : Table). bytes_eq u.name t.name ≡ false → rows_of u new.trees ≡ rows_of u old.trees) version_2 (λ u listed differs. other_rows version_2 t mine old new was.has left_office.has spares u listed (λ same. absurd (true≢false (sym (bytes_same u.name t.name same) ∙ differs))))
+
 -- what is known of the rows of the table in its tree is known of them as the trees list it
-pub as_listed : (version : List Table) (t : Table) → Has version t → (old new : Database) → IsOffice version old → IsOffice version new → new.schema ≡ old.schema → (P : List Row → List Row → Type 0)
-    → P (map (shown t) (old.trees (tree_of old.schema t.name))) (map (shown t) (new.trees (tree_of old.schema t.name))) → P (rows_in t old.trees) (rows_in t new.trees)
+pub as_listed : (version : List Table) (t : Table) → Has version t → (old new : Database) → HasTables version old → HasTables version new → new.schema ≡ old.schema → (P : List Row → List Row → Type 0)
+    → P (map (shown t) (old.trees (tree_of old.schema t.name))) (map (shown t) (new.trees (tree_of old.schema t.name))) → P (rows_of t old.trees) (rows_of t new.trees)
 as_listed version t mine old new was now same P h =
     let there : tree_in new.trees t.name ≡ tree_of old.schema t.name = found_in version t mine new now ∙ ap (λ x. tree_of x t.name) same in
-    subst (λ n. P (rows_in t old.trees) (map (shown t) (new.trees n))) (sym there) (subst (λ n. P (map (shown t) (old.trees n)) (map (shown t) (new.trees (tree_of old.schema t.name)))) (sym (found_in version t mine old was)) h)
+    subst (λ n. P (rows_of t old.trees) (map (shown t) (new.trees n))) (sym there) (subst (λ n. P (map (shown t) (old.trees n)) (map (shown t) (new.trees (tree_of old.schema t.name)))) (sym (found_in version t mine old was)) h)

@@ -1,22 +1,29 @@
 -- The statements of a migration, one after another.
-use Rattle.std.proofs.Common.{◌≡◌, ◌≢◌, ℕ, ℤ, List, [], ◌∷◌, map, filter, not, Ok, Err, Result, refl, sym, ap, subst, ◌∙◌, IsPermutation}
+use Rattle.std.proofs.Common.{◌≡◌, ◌≢◌, inl, inr, ℕ, ℤ, List, [], ◌∷◌, map, filter, not, bytes_eq, false, Ok, Err, Result, refl, sym, ap, subst, ◌∙◌, IsPermutation}
 use Rattle.std.specs.List.{AllByRecursion}
 use Rattle.sqlite_value.specs.Order.{Row}
-use Rattle.sqlite_trees.specs.Tree.{Trees}
-use Rattle.sqlite_trees.specs.View.{IsShaped}
-use Rattle.sqlite_trees.specs.declared.store.Shape.TheVariants as shape
+use Rattle.sqlite_catalog.proofs.StepLemmas.{unnamed}
+use Rattle.sqlite_schema.specs.declared.schema.Schema.{Schema}
 use Rattle.sqlite_schema.specs.declared.schema.Table.{Table}
+use Rattle.sqlite_rules.specs.Lists.{Has}
+use Rattle.sqlite_rules.proofs.ListLemmas.{all_from, all_has, has_left}
+use Rattle.sqlite_rules.proofs.RuleLemmas.{same_table}
 use Rattle.sqlite_keyed.proofs.ListLemmas.{all_both}
+use Rattle.sqlite.specs.Change.{is_used}
 use Rattle.sqlite.specs.Effect.{Database}
 use Rattle.sqlite.specs.State.{State, Survives}
 use Rattle.sqlite.specs.declared.error.Error.{Error}
-use Rattle.office_sql.specs.Bags.{shown, rows_of, share}
-use Rattle.office_sql.specs.Made.{AreLaterMade, MakesInside}
-use Rattle.office_sql.specs.Migrated.{IsMigrated, IsReadyToMove, Moved, MovedOver, Raised}
+use Rattle.office_sql.specs.Bags.{rows_of, share}
+use Rattle.office_sql.specs.Editions.{later_tables, version_1, version_2}
+use Rattle.office_sql.specs.Made.{GrowsTo, IsMadeUpTo, MakesInside}
+use Rattle.office_sql.specs.Migrated.{IsMigrated, IsNoneOfThree, IsReadyToMove, KeepsRest, Moved, MovedOver, Raised}
 use Rattle.office_sql.specs.declared.editions.Edition.TheVariants as edition
-use Rattle.office_sql.specs.Office.{GoesInside, IsOffice, IsOfficeOf, Removed}
-use Rattle.office_sql.specs.Schema.{at, office, office_schema, old_schema, schedules, schedules2, with_certificates}
+use Rattle.office_sql.specs.Office.{GoesInside, HasRoom, IsOffice, IsOfficeOf, KeepsOthers, Removed, SparesOthers, tree_of}
+use Rattle.office_sql.specs.Schema.{at, events, office, schedules, schedules2}
 use Rattle.office_sql.proofs.Inside.{early, quiet_then}
+use Rattle.office_sql.proofs.Kept.{stands_in}
+use Rattle.office_sql.proofs.OfTwo.{has_events, has_office, has_schedules, has_schedules2}
+use Rattle.office_sql.proofs.TableThere.{itself}
 
 module _ (a b c : State) {X Y : Type 0} (P Q R : Database → Database → Type 0) where
   -- one step, and another that rests on what the first did
@@ -38,140 +45,108 @@ module _ (a b c : State) {X Y : Type 0} (P Q R : Database → Database → Type 
     survives = quiet_then a b c first.survives quiet;
   }
 
--- a step that failed, whatever it was to do
-pub goes_failed : (a b : State) {X Y : Type 0} (P R : Database → Database → Type 0) (e f : Error) (r : Result Y Error) → r ≡ Err f → GoesInside {X = X} P a b (Err e) → GoesInside R a b r
-goes_failed a b P R e f r is step = rw is (record { ok = λ _ _. tt; err = step.err; survives = step.survives })
-
-same_rows : (table : Table) (old new : Trees) → new table.tree ≡ old table.tree → rows_of table new ≡ rows_of table old
-same_rows table old new same = ap (map (shown table)) same
-
 none_kept : (rows : List Row) → filter (λ r. not (share ([] ∷ []) r [])) rows ≡ []
 none_kept [] = refl
 none_kept (r ∷ rows) = none_kept rows
 
+-- the rows of one table among those that are kept
+same_rows : (t u : Table) → Has version_2 u → (old new : Database) → KeepsOthers t old new → bytes_eq u.name t.name ≡ false → rows_of u new.trees ≡ rows_of u old.trees
+same_rows t u listed old new others differs = all_has (λ (u : Table). bytes_eq u.name t.name ≡ false → rows_of u new.trees ≡ rows_of u old.trees) version_2 u others listed differs
+
 -- moved, and then emptied
 pub record Emptied (old new : Database) : Type 0 where
   pub is_office : IsOffice new
-  pub moved : IsPermutation (rows_of (at 1 schedules) old.trees) (rows_of (at 18 schedules2) new.trees)
-  pub emptied : rows_of (at 1 schedules) new.trees ≡ []
-  pub others : AllByRecursion (λ t. t.tree ≢ 1 → t.tree ≢ 18 → new.trees t.tree ≡ old.trees t.tree) office_schema.tables
+  pub moved : IsPermutation (rows_of schedules old.trees) (rows_of schedules2 new.trees)
+  pub emptied : rows_of schedules new.trees ≡ []
+  pub others : AllByRecursion (λ t. bytes_eq t.name schedules.name ≡ false → bytes_eq t.name schedules2.name ≡ false → rows_of t new.trees ≡ rows_of t old.trees) version_2
+  pub schema : new.schema ≡ old.schema
+  pub rest : KeepsRest (schedules ∷ schedules2 ∷ []) old new
 
-pub empties : (a b c : Database) → Moved a b → Removed (at 1 schedules) ([] ∷ []) [] b c → Emptied a c
+-- what one statement after another spares
+spares_first : (t : Table) (more : List Table) (a b c : Database) → SparesOthers t b c → b.schema ≡ a.schema → KeepsRest more a b → KeepsRest (t ∷ more) a c
+spares_first t more a b c spares same kept u here apart =
+    all_has _ b.schema.tables u spares.tables (subst (λ (s : Schema). Has s.tables u) (sym same) here) (subst (λ s. u.tree ≢ tree_of s t.name) (sym same) apart.0) ∙ kept u here apart.1
+
+pub empties : (a b c : Database) → Moved a b → Removed schedules ([] ∷ []) [] b c → Emptied a c
 empties a b c moved gone = record {
   is_office = gone.office;
-  moved = subst (λ rows. IsPermutation (rows_of (at 1 schedules) a.trees) rows) (sym (same_rows (at 18 schedules2) b.trees c.trees (gone.others.1.1.1.1.1.1.1.1.1.1.1.0 (λ e. cc)))) moved.rows;
-  emptied = gone.removed ∙ none_kept (rows_of (at 1 schedules) b.trees);
-  others = all_both (λ (t : Table). t.tree ≢ 18 → b.trees t.tree ≡ a.trees t.tree) (λ t. t.tree ≢ 1 → c.trees t.tree ≡ b.trees t.tree) (λ t. t.tree ≢ 1 → t.tree ≢ 18 → c.trees t.tree ≡ a.trees t.tree)
-      (λ t was same apart other. same apart ∙ was other) office_schema.tables moved.others gone.others;
+  moved = subst (λ rows. IsPermutation (rows_of schedules a.trees) rows) (sym (same_rows schedules schedules2 has_schedules2 b c gone.others refl)) moved.rows;
+  emptied = gone.removed ∙ none_kept (rows_of schedules b.trees);
+  others = all_both (λ (t : Table). bytes_eq t.name schedules2.name ≡ false → rows_of t b.trees ≡ rows_of t a.trees) (λ t. bytes_eq t.name schedules.name ≡ false → rows_of t c.trees ≡ rows_of t b.trees)
+      (λ t. bytes_eq t.name schedules.name ≡ false → bytes_eq t.name schedules2.name ≡ false → rows_of t c.trees ≡ rows_of t a.trees) (λ t was same apart other. same apart ∙ was other) version_2 moved.others gone.others;
+  schema = gone.spares.schema ∙ moved.spares.schema;
+  rest = spares_first schedules (schedules2 ∷ []) a b c gone.spares moved.spares.schema (λ u here apart. all_has _ a.schema.tables u moved.spares.tables here apart.0);
 }
 
 pub tells : (day : ℤ) (a b c : Database) → Emptied a b → Raised day b c → MovedOver day a c
 tells day a b c left told = record {
   is_office = told.is_office;
   row = told.row;
-  moved = subst (λ rows. IsPermutation (rows_of (at 1 schedules) a.trees) rows) (sym (same_rows (at 18 schedules2) b.trees c.trees (told.others.1.1.1.1.1.1.1.1.1.1.1.0 (λ e. cc)))) left.moved;
-  emptied = same_rows (at 1 schedules) b.trees c.trees (told.others.1.0 (λ e. cc)) ∙ left.emptied;
-  others = all_both (λ (t : Table). t.tree ≢ 1 → t.tree ≢ 18 → b.trees t.tree ≡ a.trees t.tree) (λ t. t.tree ≢ 0 → c.trees t.tree ≡ b.trees t.tree) (λ t. t.tree ≢ 0 → t.tree ≢ 1 → t.tree ≢ 18 → c.trees t.tree ≡ a.trees t.tree)
-      (λ t was same none one other. same none ∙ was one other) office_schema.tables left.others told.others;
+  moved = subst (λ rows. IsPermutation (rows_of schedules a.trees) rows) (sym (same_rows office schedules2 has_schedules2 b c told.others refl)) left.moved;
+  emptied = same_rows office schedules has_schedules b c told.others refl ∙ left.emptied;
+  others = all_both (λ (t : Table). bytes_eq t.name schedules.name ≡ false → bytes_eq t.name schedules2.name ≡ false → rows_of t b.trees ≡ rows_of t a.trees) (λ t. bytes_eq t.name office.name ≡ false → rows_of t c.trees ≡ rows_of t b.trees)
+      (λ t. IsNoneOfThree t → rows_of t c.trees ≡ rows_of t a.trees) (λ t was same apart. same apart.0 ∙ was apart.1 apart.2) version_2 left.others told.others;
+  schema = told.spares.schema ∙ left.schema;
+  rest = spares_first office (schedules ∷ schedules2 ∷ []) a b c told.spares left.schema left.rest;
 }
 
 -- the one row of `office` stands until it is told anew
-pub still_one : (day : ℤ) (a b : Database) → IsReadyToMove day a.trees → Emptied a b → rows_of (at 0 office) b.trees ≡ rows_of (at 0 office) a.trees
-still_one day a b ready left = same_rows (at 0 office) a.trees b.trees (left.others.0 (λ e. cc) (λ e. cc))
+pub still_one : (day : ℤ) (a b : Database) → IsReadyToMove day a.trees → Emptied a b → rows_of office b.trees ≡ rows_of office a.trees
+still_one day a b ready left = left.others.0 refl refl
 
 -- the later tables are made over those of version 1
-pub later_office : (old new : Database) → IsOfficeOf edition.One old → AreLaterMade old new → IsOffice new
-later_office old new was made =
-    let shaped : AllByRecursion (λ t. IsShaped shape.Table (new.trees t.tree)) old_schema.tables =
-    all_both (λ (t : Table). IsShaped shape.Table (old.trees t.tree)) (λ t. new.trees t.tree ≡ old.trees t.tree) (λ t. IsShaped shape.Table (new.trees t.tree)) (λ t had same. subst (IsShaped shape.Table) (sym same) had) old_schema.tables was.shaped made.others in
-    let none = λ (n : ℕ) (e : new.trees n ≡ []). subst (IsShaped shape.Table) (sym e) (tt, tt) in
-    record {
-      database = made.sound;
-      schema = made.schema;
-      shaped = (shaped.0, (shaped.1.0, (shaped.1.1.0, (shaped.1.1.1.0, (shaped.1.1.1.1.0, (shaped.1.1.1.1.1.0, (shaped.1.1.1.1.1.1.0, (shaped.1.1.1.1.1.1.1.0, (shaped.1.1.1.1.1.1.1.1.0, (shaped.1.1.1.1.1.1.1.1.1.0, (shaped.1.1.1.1.1.1.1.1.1.1.0, (none 18 made.schedules2, (none 20 made.events, tt)))))))))))));
-    }
+pub later_office : (old new : Database) → GrowsTo 11 13 old new → IsOffice new
+later_office old new made = record { has = made.has; room = tt }
 
-pub still_ready : (day : ℤ) (old new : Database) → AreLaterMade old new → IsReadyToMove day old.trees → IsReadyToMove day new.trees
+pub still_ready : (day : ℤ) (old new : Database) → GrowsTo 11 13 old new → IsReadyToMove day old.trees → IsReadyToMove day new.trees
 still_ready day old new made ready = record {
-  rows = subst (AllByRecursion _) (sym (same_rows (at 1 schedules) old.trees new.trees made.others.1.0)) ready.rows;
-  office = same_rows (at 0 office) old.trees new.trees made.others.0 ∙ ready.office;
+  rows = subst (AllByRecursion _) (sym made.kept.1.0) ready.rows;
+  office = made.kept.0 ∙ ready.office;
 }
 
-apart_0_18 : ◌≢◌ {A = ℕ} 0 18
-apart_0_18 e = cc
+-- a table that was there before stands in no tree of a later one
+later_tree : (a b : Database) → HasRoom later_tables a.schema → GrowsTo 11 13 a b → (t : Table) → Has later_tables t → Has version_2 t → (u : Table) → Has a.schema.tables u → u.tree ≢ tree_of b.schema t.name
+later_tree a b room made t later listed u here same =
+    let its = stands_in version_2 t listed b made.has in
+    let one : u ≡ at (tree_of b.schema t.name) t = same_table b.schema.tables u (at (tree_of b.schema t.name) t) made.has.apart (made.tables u here) (itself b.schema t made.has.apart its) same in
+    all_has _ a.schema.tables u (unnamed a.schema t.name (all_has (λ (x : Table). is_used a.schema x.name ≡ false) later_tables t room.free later)).tables here (ap (λ (x : Table). x.name) one)
 
-apart_1_18 : ◌≢◌ {A = ℕ} 1 18
-apart_1_18 e = cc
+-- no table of version 1 has the name of the new one
+not_later : AllByRecursion (λ (t : Table). bytes_eq t.name schedules2.name ≡ false) version_1
+not_later = (refl, (refl, (refl, (refl, (refl, (refl, (refl, (refl, (refl, (refl, (refl, tt)))))))))))
 
-apart_3_18 : ◌≢◌ {A = ℕ} 3 18
-apart_3_18 e = cc
-
-apart_5_18 : ◌≢◌ {A = ℕ} 5 18
-apart_5_18 e = cc
-
-apart_7_18 : ◌≢◌ {A = ℕ} 7 18
-apart_7_18 e = cc
-
-apart_9_18 : ◌≢◌ {A = ℕ} 9 18
-apart_9_18 e = cc
-
-apart_10_18 : ◌≢◌ {A = ℕ} 10 18
-apart_10_18 e = cc
-
-apart_12_18 : ◌≢◌ {A = ℕ} 12 18
-apart_12_18 e = cc
-
-apart_14_18 : ◌≢◌ {A = ℕ} 14 18
-apart_14_18 e = cc
-
-apart_15_18 : ◌≢◌ {A = ℕ} 15 18
-apart_15_18 e = cc
-
-apart_17_18 : ◌≢◌ {A = ℕ} 17 18
-apart_17_18 e = cc
-
-apart_20_0 : ◌≢◌ {A = ℕ} 20 0
-apart_20_0 e = cc
-
-apart_20_1 : ◌≢◌ {A = ℕ} 20 1
-apart_20_1 e = cc
-
-apart_20_18 : ◌≢◌ {A = ℕ} 20 18
-apart_20_18 e = cc
-
-pub migrated : (day : ℤ) (a b c : Database) → AreLaterMade a b → MovedOver day b c → IsMigrated day a c
-migrated day a b c made over = record {
+pub migrated : (day : ℤ) (a b c : Database) → IsOfficeOf edition.One a → GrowsTo 11 13 a b → MovedOver day b c → IsMigrated day a c
+migrated day a b c was made over = record {
   is_office = over.is_office;
   row = over.row;
-  moved = subst (λ rows. IsPermutation rows (rows_of (at 18 schedules2) c.trees)) (same_rows (at 1 schedules) a.trees b.trees made.others.1.0) over.moved;
+  moved = subst (λ rows. IsPermutation rows (rows_of schedules2 c.trees)) made.kept.1.0 over.moved;
   emptied = over.emptied;
-  no_event = over.others.1.1.1.1.1.1.1.1.1.1.1.1.0 apart_20_0 apart_20_1 apart_20_18 ∙ made.events;
-  others =
-      let o = over.others in
-      all_both (λ (t : Table). b.trees t.tree ≡ a.trees t.tree) (λ t. t.tree ≢ 0 → t.tree ≢ 1 → c.trees t.tree ≡ b.trees t.tree) (λ t. t.tree ≢ 0 → t.tree ≢ 1 → c.trees t.tree ≡ a.trees t.tree)
-      (λ t was same none one. same none one ∙ was) old_schema.tables made.others
-      ((λ none one. o.0 none one apart_0_18), ((λ none one. o.1.0 none one apart_1_18), ((λ none one. o.1.1.0 none one apart_3_18), ((λ none one. o.1.1.1.0 none one apart_5_18), ((λ none one. o.1.1.1.1.0 none one apart_7_18), ((λ none one. o.1.1.1.1.1.0 none one apart_9_18), ((λ none one. o.1.1.1.1.1.1.0 none one apart_10_18), ((λ none one. o.1.1.1.1.1.1.1.0 none one apart_12_18), ((λ none one. o.1.1.1.1.1.1.1.1.0 none one apart_14_18), ((λ none one. o.1.1.1.1.1.1.1.1.1.0 none one apart_15_18), ((λ none one. o.1.1.1.1.1.1.1.1.1.1.0 none one apart_17_18), tt)))))))))));
+  no_event = over.others.1.1.1.1.1.1.1.1.1.1.1.1.0 (refl, refl, refl) ∙ made.fresh.1.0;
+  others = all_from (λ (t : Table). bytes_eq t.name office.name ≡ false → bytes_eq t.name schedules.name ≡ false → rows_of t c.trees ≡ rows_of t a.trees) version_1 (λ t h none one.
+      all_has (λ (t : Table). IsNoneOfThree t → rows_of t c.trees ≡ rows_of t b.trees) version_2 t over.others (has_left version_1 later_tables t h) (none, one, all_has (λ (t : Table). bytes_eq t.name schedules2.name ≡ false) version_1 t not_later h)
+      ∙ all_has (λ (t : Table). rows_of t b.trees ≡ rows_of t a.trees) version_1 t made.kept h);
+  rest = λ u here apart.
+      over.rest u (made.tables u here)
+      (subst (λ k. u.tree ≢ k) (sym made.placed.0) apart.0, (subst (λ k. u.tree ≢ k) (sym made.placed.1.0) apart.1.0, (later_tree a b was.room made schedules2 (inl refl) has_schedules2 u here, tt)))
+      ∙ all_has _ a.schema.tables u made.others here;
 }
 
 -- the later tables are made, and the schedules moved over
-pub migrates_then : (day : ℤ) (a b c : State) {X Y : Type 0} {x : X} (r : Result Y Error) → IsOfficeOf edition.One a.now → IsReadyToMove day a.now.trees → MakesInside AreLaterMade with_certificates a b (Ok x) → Survives b c (λ _. ⊥)
-    → (b.now.trees 18 ≡ [] → IsReadyToMove day b.now.trees → GoesInside (MovedOver day) b c r) → MakesInside (IsMigrated day) old_schema a c r
-migrates_then day a b c (Ok y) was ready made quiet over = record {
-  ok = λ clean was_open inside has.
-      let m = made.ok (early b c quiet clean) was_open inside has in
-      let o = (over m.0.schedules2 (still_ready day a.now b.now m.0 ready)).ok clean (record { is_open = m.1; inside = m.2; office = later_office a.now b.now was m.0 }) in
-      (migrated day a.now b.now c.now m.0 o.0, o.1.is_open, o.1.inside, o.2 ∙ m.3);
+pub migrates_then : (day : ℤ) (a b c : State) {X Y : Type 0} {x : X} (r : Result Y Error) → IsReadyToMove day a.now.trees → MakesInside (IsMadeUpTo 11) (GrowsTo 11 13) a b (Ok x) → Survives b c (λ _. ⊥)
+    → (rows_of schedules2 b.now.trees ≡ [] → IsReadyToMove day b.now.trees → GoesInside (MovedOver day) b c r) → MakesInside (IsOfficeOf edition.One) (IsMigrated day) a c r
+migrates_then day a b c (Ok y) ready made quiet over = record {
+  ok = λ clean was_open inside was.
+      let m = made.ok (early b c quiet clean) was_open inside (record { has = was.has; room = was.room }) in
+      let o = (over m.0.fresh.0 (still_ready day a.now b.now m.0 ready)).ok clean (record { is_open = m.1; inside = m.2; office = later_office a.now b.now m.0 }) in
+      (migrated day a.now b.now c.now was m.0 o.0, o.1.is_open, o.1.inside, o.2 ∙ m.3);
   err = λ _ _ _ _. tt;
   survives = quiet_then a b c made.survives quiet;
 }
-migrates_then day a b c (Err e) was ready made quiet over = record {
+migrates_then day a b c (Err e) ready made quiet over = record {
   ok = λ _ _ _ _. tt;
-  err = λ clean was_open inside has.
-      let m = made.ok (early b c quiet clean) was_open inside has in
-      let kept = (over m.0.schedules2 (still_ready day a.now b.now m.0 ready)).err clean (record { is_open = m.1; inside = m.2; office = later_office a.now b.now was m.0 }) in
+  err = λ clean was_open inside was.
+      let m = made.ok (early b c quiet clean) was_open inside (record { has = was.has; room = was.room }) in
+      let kept = (over m.0.fresh.0 (still_ready day a.now b.now m.0 ready)).err clean (record { is_open = m.1; inside = m.2; office = later_office a.now b.now m.0 }) in
       record { was_open = λ _. was_open; committed = λ o. kept.committed o ∙ m.3 };
   survives = quiet_then a b c made.survives quiet;
 }
-
-pub migrates_failed : (day : ℤ) (a b : State) {X Y : Type 0} (e f : Error) (r : Result Y Error) → r ≡ Err f → MakesInside {X = X} AreLaterMade with_certificates a b (Err e) → MakesInside (IsMigrated day) old_schema a b r
-migrates_failed day a b e f r is made = rw is (record { ok = λ _ _ _ _. tt; err = made.err; survives = made.survives })

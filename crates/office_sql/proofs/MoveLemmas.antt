@@ -1,5 +1,5 @@
 -- What the texts of a migration do to the tables.
-use Rattle.std.proofs.Common.{◌≡◌, ◌≢◌, inl, inr, ℕ, List, [], ◌∷◌, ◌++◌, drop, map, nat_le, ◌^◌, Bool, true, false, not, cond, None, Ok, refl, sym, ap, ap₂, subst, ◌∙◌, IsPermutation}
+use Rattle.std.proofs.Common.{◌≡◌, ◌≢◌, ℕ, Option, List, [], ◌∷◌, ◌++◌, drop, map, nat_le, ◌^◌, Bool, true, false, not, cond, None, Ok, refl, sym, ap, ap₂, subst, ◌∙◌, IsPermutation}
 use Rattle.std.specs.List.{AllByRecursion}
 use Rattle.std.proofs.lemmas.Bool.{and_parts}
 use Rattle.std.proofs.lemmas.List.{append-nil}
@@ -20,25 +20,28 @@ use Rattle.sqlite_schema.specs.declared.schema.Keys.TheVariants.{Enforced}
 use Rattle.sqlite_schema.specs.declared.command.Command.TheVariants.{Insert}
 use Rattle.sqlite_schema.specs.declared.command.Source.TheVariants.{Query}
 use Rattle.sqlite_rules.specs.Cast.{cast_row}
-use Rattle.sqlite_rules.specs.Edit.{are_fresh, at_least, edit_of, have_rowids, is_chosen, is_taken, next_rowid, numbered, put_all, with_rowid}
+use Rattle.sqlite_rules.specs.Edit.{IsNoIndex, taken_by, are_fresh, at_least, edit_of, have_rowids, is_chosen, is_taken, next_rowid, numbered, put_all, with_rowid}
 use Rattle.sqlite_rules.specs.declared.error.Rowids.{Rowids}
 use Rattle.sqlite_rules.specs.declared.error.Rowids.TheVariants.{Chosen}
-use Rattle.sqlite_keyed.proofs.ListLemmas.{all_both, map-map}
+use Rattle.sqlite_keyed.proofs.ListLemmas.{map-map}
 use Rattle.sqlite.specs.Effect.{Database}
 use Rattle.sqlite.specs.Rows.{Written}
-use Rattle.sqlite.specs.Does.{Does, Tally}
+use Rattle.sqlite.specs.Does.{AtPlace, OnRows, Tally}
 use Rattle.sqlite.specs.Listing.{understood}
 use Rattle.sqlite.specs.State.{State, mode_of, Executes}
 use Rattle.sqlite.proofs.Callers.{one_step, runs_as, statement_of}
-use Rattle.office_sql.specs.Bags.{shown, rows_of}
+use Rattle.office_sql.specs.Bags.{rows_of, shown, tree_in}
+use Rattle.office_sql.specs.Editions.{version_2}
 use Rattle.office_sql.specs.Migrated.{IsScheduleRow, Moved}
-use Rattle.office_sql.specs.Office.{IsOffice}
-use Rattle.office_sql.specs.Schema.{at, office_schema, schedules, schedules2}
+use Rattle.office_sql.specs.Office.{IsOffice, SparesOthers, tree_of}
+use Rattle.office_sql.specs.Schema.{at, schedules, schedules2}
 use Rattle.office_sql.specs.Texts.{move_schedules, moved_collations, moved_terms, selects}
 use Rattle.office_sql.proofs.BagLemmas.{put_shuffles}
 use Rattle.office_sql.proofs.MoveTexts.{move_schedules_is}
 use Rattle.office_sql.proofs.PutLemmas.{cast_int, cast_null}
-use Rattle.office_sql.proofs.RemoveLemmas.{same_or_not}
+use Rattle.office_sql.proofs.Kept.{finds_in, found_in, left_office, left_others, stands_in}
+use Rattle.office_sql.proofs.OfTwo.{has_schedules, has_schedules2}
+use Rattle.office_sql.proofs.TableThere.{idle, low}
 use Rattle.office_sql.proofs.Replace.{went, same_value}
 
 -- ---- a query of all rows
@@ -100,60 +103,73 @@ all_of_map : {X Y : Type 0} (P : Y → Type 0) (Q : X → Type 0) (f : X → Y) 
 all_of_map P Q f each [] all = tt
 all_of_map P Q f each (x ∷ xs) all = (each x all.0, all_of_map P Q f each xs all.1)
 
-blind_schedules2 : (v : _) (r : Row) → shown (at 18 schedules2) (v ∷ drop 1 r) ≡ shown (at 18 schedules2) r
+blind_schedules2 : (v : _) (r : Row) → shown schedules2 (v ∷ drop 1 r) ≡ shown schedules2 r
 blind_schedules2 v [] = refl
 blind_schedules2 v (x ∷ r) = refl
 
 -- the row that is put in shows what the other shows
-same_schedule : (r : Row) → IsScheduleRow (shown (at 1 schedules) r) → shown (at 1 schedules) r ≡ shown (at 18 schedules2) (cast_row (at 18 schedules2) (Null ∷ shown (at 1 schedules) r))
-same_schedule r (code, start_at, unit, span, roll, disposal, is) =
-    subst (λ (row : Row). row ≡ shown (at 18 schedules2) (cast_row (at 18 schedules2) (Null ∷ row))) (sym is) (simp (cast_null, cast_int))
+same_schedule : (r : Row) → IsScheduleRow (shown schedules r) → shown schedules r ≡ shown schedules2 (cast_row schedules2 (Null ∷ shown schedules r))
+same_schedule r (code, start_at, unit, span, roll, disposal, is) = subst (λ (row : Row). row ≡ shown schedules2 (cast_row schedules2 (Null ∷ row))) (sym is) (simp (cast_null, cast_int))
 
--- the rows of one tree are others, and the rest is as it was
-module _ (n : ℕ) (db next : Trees) (here : IsShaped shape.Table (next n)) (tables : AllByRecursion (λ t. t.tree ≢ n → next t.tree ≡ db t.tree) office_schema.tables) where
-  pub still_shaped : AllByRecursion (λ t. IsShaped shape.Table (db t.tree)) office_schema.tables → AllByRecursion (λ t. IsShaped shape.Table (next t.tree)) office_schema.tables
-  still_shaped all =
-      all_both (λ t. IsShaped shape.Table (db t.tree)) (λ t. t.tree ≢ n → next t.tree ≡ db t.tree) (λ t. IsShaped shape.Table (next t.tree)) (λ t was same. elim (same_or_not t.tree n) [
-        | inl is ↦ subst (λ k. IsShaped shape.Table (next k)) (sym is) here
-        | inr apart ↦ subst (IsShaped shape.Table) (sym (same apart)) was
-      ]) office_schema.tables all tables
+none_mapped : {X Y : Type 0} (f : X → Y) (xs : List X) → map f xs ≡ [] → xs ≡ []
+none_mapped f [] none = refl
+none_mapped f (x ∷ xs) none = absurd (cc)
 
-pub moves : (old new : State) (count : ℕ) → IsOffice old.now → old.now.trees 18 ≡ [] → AllByRecursion IsScheduleRow (rows_of (at 1 schedules) old.now.trees) → Executes move_schedules [] old new (Ok count) → Moved old.now new.now
-moves old new count office none rows h =
+pub moves : (old new : State) (count : ℕ) → IsOffice old.now → rows_of schedules2 old.now.trees ≡ [] → AllByRecursion IsScheduleRow (rows_of schedules old.now.trees) → Executes move_schedules [] old new (Ok count) → Moved old.now new.now
+moves old new count office no_row all_rows h =
+    let s = old.now.schema in
     let db = old.now.trees in
-    let table = at 18 schedules2 in
-    let command = Insert 11 (Query (record { lets = []; body = selects 1 moved_terms moved_collations })) in
-    let w = runs_as move_schedules [] old new office_schema office.schema command move_schedules_is.0 move_schedules_is.1 count h in
-    let text = statement_of move_schedules (understood office_schema move_schedules) in
-    let done = went (subst (λ s. Does old.step_limit (mode_of old) [] (record old.now { schema = s }) text None command (Ok (w.tally, new.now))) office.schema w.changed) in
+    let is = office.has in
+    let its = stands_in version_2 schedules2 has_schedules2 old.now is in
+    let from = stands_in version_2 schedules has_schedules old.now is in
+    let n = tree_of s schedules2.name in
+    let m = tree_of s schedules.name in
+    let table = at n schedules2 in
+    let none : db n ≡ [] = none_mapped (shown schedules2) (db n) (subst (λ k. map (shown schedules2) (db k) ≡ []) (found_in version_2 schedules2 has_schedules2 old.now is) no_row) in
+    let rows : AllByRecursion IsScheduleRow (map (shown schedules) (db m)) = subst (λ k. AllByRecursion IsScheduleRow (map (shown schedules) (db k))) (found_in version_2 schedules has_schedules old.now is) all_rows in
+    let command = Insert its.place (Query (record { lets = []; body = selects m moved_terms moved_collations })) in
+    let means = move_schedules_is s its.place n from.place m its.named its.found (finds_in version_2 schedules has_schedules old.now is) in
+    let w = runs_as move_schedules [] old new s refl command means.0 means.1 count h in
+    let text = statement_of move_schedules (understood s move_schedules) in
+    let on = subst (λ (o : Option Table). AtPlace (λ t. OnRows (record { limit = old.step_limit; keys = Enforced; schema = s; table = t; params = [] }) (mode_of old) None command db) o (Ok (w.tally, new.now))) its.found w.changed in
+    let done = went on in
     let shows = went (went done.2).2 in
-    let after_is : new.now ≡ record { schema = office_schema; trees = done.0.trees } = ap (λ (p : Tally × Database). p.1) (same_value shows.2) in
+    let after_is : new.now ≡ record { schema = s; trees = done.0.trees } = ap (λ (p : Tally × Database). p.1) (same_value shows.2) in
     let given = went done.1 in
     let written = went (went given.2).2 in
     let counted = went written.2 in
     let trees : done.0.trees ≡ written.0 = ap (λ (it : Written). it.trees) (same_value counted.2) ∙ same_value counted.1 in
     let edit = edit_of db table [] Chosen 0 given.0 in
-    let did = one_step office_schema Enforced db written.0 edit refl written.1 in
+    let did = one_step s Enforced db written.0 edit (idle s schedules2 is.apart its (taken_by db edit) edit.news) written.1 in
     let to : written.0 ≡ new.now.trees = sym trees ∙ ap (λ (d : Database). d.trees) (sym after_is) in
-    let left : written.0 18 ≡ put_all [] edit.news = did.rows ∙ ap (λ l. put_all l edit.news) none in
+    let left : written.0 n ≡ put_all [] edit.news = did.rows ∙ ap (λ l. put_all l edit.news) none in
     let fresh : are_fresh [] edit.news ≡ true = subst (λ l. are_fresh l edit.news ≡ true) none did.fresh in
-    let in_turn : IsPermutation edit.news (written.0 18) = subst (IsPermutation edit.news) (sym left) (subst (λ l. IsPermutation l (put_all [] edit.news)) (append-nil edit.news) (put_all_shuffles edit.news [] fresh)) in
+    let in_turn : IsPermutation edit.news (written.0 n) = subst (IsPermutation edit.news) (sym left) (subst (λ l. IsPermutation l (put_all [] edit.news)) (append-nil edit.news) (put_all_shuffles edit.news [] fresh)) in
     let casts = map (λ s. cast_row table (drop 0 s)) in
-    let told : map (shown table) edit.news ≡ map (shown table) (casts given.0) = shown_numbered table blind_schedules2 Chosen (db 18) (casts given.0) in
-    let found : IsPermutation (map (λ r. Null ∷ shown (at 1 schedules) r) (db 1)) given.0 = all_found 1 moved_terms moved_collations refl [] db given.0 (given.1.answer Null) in
-    let same : map (shown (at 1 schedules)) (db 1) ≡ map (λ r. shown table (cast_row table (Null ∷ shown (at 1 schedules) r))) (db 1) =
-    map_on _ _ (db 1) (all_of_map IsScheduleRow _ (shown (at 1 schedules)) same_schedule (db 1) rows) in
-    let sources : IsPermutation (map (shown (at 1 schedules)) (db 1)) (map (λ s. shown table (cast_row table (drop 0 s))) given.0) =
-    subst (λ l. IsPermutation l (map (λ s. shown table (cast_row table (drop 0 s))) given.0)) (map-map (λ s. shown table (cast_row table (drop 0 s))) (λ r. Null ∷ shown (at 1 schedules) r) (db 1) ∙ sym same) (IsPermutation-map (λ s. shown table (cast_row table (drop 0 s))) _ _ found) in
-    let bag : IsPermutation (map (shown (at 1 schedules)) (db 1)) (map (shown table) edit.news) =
-    subst (IsPermutation (map (shown (at 1 schedules)) (db 1))) (sym (map-map (shown table) (λ s. cast_row table (drop 0 s)) given.0) ∙ sym told) sources in
-    let shaped : IsShaped shape.Table (written.0 18) = subst (IsShaped shape.Table) (sym left) (put_all_shaped edit.news [] did.keyed (tt, tt)) in
+    let told : map (shown schedules2) edit.news ≡ map (shown schedules2) (casts given.0) = shown_numbered schedules2 blind_schedules2 Chosen (db n) (casts given.0) in
+    let small = low s schedules is.apart from db is.database in
+    let found : IsPermutation (map (λ r. Null ∷ shown schedules r) (db m)) given.0 = all_found m moved_terms moved_collations small [] db given.0 (given.1.answer Null) in
+    let same : map (shown schedules) (db m) ≡ map (λ r. shown schedules2 (cast_row table (Null ∷ shown schedules r))) (db m) =
+    map_on _ _ (db m) (all_of_map IsScheduleRow _ (shown schedules) same_schedule (db m) rows) in
+    let sources : IsPermutation (map (shown schedules) (db m)) (map (λ s. shown schedules2 (cast_row table (drop 0 s))) given.0) =
+    subst (λ l. IsPermutation l (map (λ s. shown schedules2 (cast_row table (drop 0 s))) given.0)) (map-map (λ s. shown schedules2 (cast_row table (drop 0 s))) (λ r. Null ∷ shown schedules r) (db m) ∙ sym same) (IsPermutation-map (λ s. shown schedules2 (cast_row table (drop 0 s))) _ _ found) in
+    let bag : IsPermutation (map (shown schedules) (db m)) (map (shown schedules2) edit.news) =
+    subst (IsPermutation (map (shown schedules) (db m))) (sym (map-map (shown schedules2) (λ s. cast_row table (drop 0 s)) given.0) ∙ sym told) sources in
+    let moved : IsPermutation (map (shown schedules) (db m)) (map (shown schedules2) (written.0 n)) = IsPermutation-trans _ _ _ bag (IsPermutation-map (shown schedules2) _ _ in_turn) in
+    let order : IsShaped shape.Table (new.now.trees n) = subst (λ (d : Trees). IsShaped shape.Table (d n)) to (subst (IsShaped shape.Table) (sym left) (put_all_shaped edit.news [] did.keyed (tt, tt))) in
+    let schema : new.now.schema ≡ s = ap (λ (d : Database). d.schema) after_is in
+    let spares : SparesOthers schedules2 old.now new.now = record {
+      schema = schema;
+      tables = subst (λ (d : Trees). AllByRecursion (λ (u : Table). u.tree ≢ n → d u.tree ≡ db u.tree) s.tables) to did.tables;
+      others = subst (λ (d : Trees). (tree : ℕ) → tree ≢ n → IsNoIndex s tree → d tree ≡ db tree) to did.others;
+    } in
+    let now = left_office schedules2 has_schedules2 old.now new.now office w.sound spares order in
+    let there : tree_in new.now.trees schedules2.name ≡ n = found_in version_2 schedules2 has_schedules2 new.now now.has ∙ ap (λ x. tree_of x schedules2.name) schema in
     record {
-      is_office = record {
-        database = w.sound;
-        schema = ap (λ (d : Database). d.schema) after_is;
-        shaped = subst (λ d. AllByRecursion (λ t. IsShaped shape.Table (d t.tree)) office_schema.tables) to (still_shaped 18 db written.0 shaped did.tables office.shaped);
-      };
-      rows = subst (λ d. IsPermutation (rows_of (at 1 schedules) db) (rows_of table d)) to (IsPermutation-trans _ _ _ bag (IsPermutation-map (shown table) _ _ in_turn));
-      others = subst (λ d. AllByRecursion (λ t. t.tree ≢ 18 → d t.tree ≡ db t.tree) office_schema.tables) to did.tables;
+      is_office = now;
+      rows = subst (λ k. IsPermutation (rows_of schedules db) (map (shown schedules2) (new.now.trees k))) (sym there)
+          (subst (λ k. IsPermutation (map (shown schedules) (db k)) (map (shown schedules2) (new.now.trees n))) (sym (found_in version_2 schedules has_schedules old.now is))
+          (subst (λ (d : Trees). IsPermutation (map (shown schedules) (db m)) (map (shown schedules2) (d n))) to moved));
+      others = left_others schedules2 has_schedules2 old.now new.now office w.sound spares order;
+      spares = spares;
     }

@@ -76,7 +76,7 @@ draft_of tree places keys = record {
 abbrev pub draft_for : Clauses → State → Draft
 draft_for c st = ungrouped (c.body.steps ++ st.steps) c.body.filter c.body.level.shown false c.order (lit (Int (negsuc 0))) (number 0)
 
-abbrev answer_for : Clauses → State → Answer
+abbrev pub answer_for : Clauses → State → Answer
 answer_for c st = (draft_for c st, map (λ o. o.name) c.body.level.shown, map (λ o. o.carried.collation) c.body.level.shown)
 
 -- what the parts of a SELECT over one table give is its query

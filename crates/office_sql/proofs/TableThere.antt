@@ -25,8 +25,7 @@ use Rattle.sqlite_catalog.proofs.LayoutLemmas.{zipped_left}
 use Rattle.sqlite_keyed.proofs.ListLemmas.{none_from_any, flat_map_none}
 use Rattle.sqlite.specs.Effect.{Database, IsDatabase}
 use Rattle.office_sql.specs.Schema.{at}
-use Rattle.office_sql.specs.Beside as beside
-use Rattle.office_sql.specs.Beside.{tree_of}
+use Rattle.office_sql.specs.Office.{HasTable, tree_of}
 use Rattle.office_sql.proofs.BagLemmas.{same_tests}
 use Rattle.office_sql.proofs.Understood.{Finds}
 
@@ -42,7 +41,7 @@ pub record Standing (s : Schema) (t : Table) : Type 0 where
   pub unreferred : AllByRecursion (λ u. list_any (λ ref. same_name t.name ref.parent) u.references ≡ false) s.tables
   pub keyed : AllByRecursion (λ i. guards i (at (tree_of s t.name) t) ≡ true → IsKeyOf t i) s.indexes
 
-pub standing : (s : Schema) (t : Table) → beside.HasTable s t → Standing s t
+pub standing : (s : Schema) (t : Table) → HasTable s t → Standing s t
 standing s t it = go (table_named s t.name) refl it.found
   where
     keyed : AllByRecursion (λ i. guards i (at (tree_of s t.name) t) ≡ true → IsKeyOf t i) s.indexes
@@ -55,7 +54,7 @@ standing s t it = go (table_named s t.name) refl it.found
     go None is none = absurd (cc)
     go (Some place) is found = record { place = place; named = is; found = found; unreferred = it.unreferred; keyed = keyed }
 
-pub from_standing : (s : Schema) (t : Table) → Standing s t → beside.HasTable s t
+pub from_standing : (s : Schema) (t : Table) → Standing s t → HasTable s t
 from_standing s t it = record {
   found = ap (option_and_then (slice_get s.tables)) it.named ∙ it.found;
   unreferred = it.unreferred;

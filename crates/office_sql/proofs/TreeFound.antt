@@ -12,7 +12,8 @@ use Rattle.sqlite_schema.specs.Names.{same_name}
 use Rattle.sqlite_catalog.specs.Listing.{IsTableRow, is_table_row}
 use Rattle.sqlite.specs.Effect.{Database, IsDatabase}
 use Rattle.office_sql.specs.Schema.{at}
-use Rattle.office_sql.specs.Beside.{tree_in, tree_of}
+use Rattle.office_sql.specs.Bags.{tree_in}
+use Rattle.office_sql.specs.Office.{tree_of}
 use Rattle.office_sql.proofs.TableThere.{Standing}
 
 module _ {X : Type 0} (p : X → Bool) where

@@ -10,24 +10,27 @@ use Rattle.sqlite_syntax.specs.declared.statement.Parsed.{Parsed}
 use Rattle.sqlite_schema.specs.declared.schema.Schema.{Schema}
 use Rattle.sqlite_schema.specs.declared.schema.Table.{Table}
 use Rattle.sqlite_schema.specs.declared.command.Command.{Command}
-use Rattle.sqlite_schema.specs.declared.command.Command.TheVariants.{InsertOr, Delete, Select, CreateTable as MakeTable}
+use Rattle.sqlite_schema.specs.declared.command.Command.TheVariants.{Insert, InsertOr, Update, Delete, Select, CreateTable as MakeTable}
 use Rattle.sqlite_schema.specs.declared.command.Conflict.TheVariants.{Replace}
 use Rattle.sqlite_schema.specs.declared.command.Returning.{Returning}
+use Rattle.sqlite_schema.specs.declared.command.Source.{Source}
 use Rattle.sqlite_schema.specs.declared.program.Program.{Program}
 use Rattle.sqlite_schema.specs.Names.{table_named, view_named, index_named}
 use Rattle.sqlite_draft.specs.declared.query.Draft.{Draft}
-use Rattle.sqlite_resolve.specs.Compile.{compiled, planned, meaning, timed, returning, command, insert_or, delete, read, create_table, is_attached, creates, is_reserved, shows, first, new_rows, small, with_command, on_table, formats_of}
+use Rattle.sqlite_resolve.specs.Compile.{compiled, planned, meaning, timed, returning, command, insert, insert_or, insert_or_abort, update, delete, read, create_table, is_attached, creates, is_reserved, shows, first, new_rows, small, with_command, on_table, formats_of}
 use Rattle.sqlite_resolve.specs.Define as define
 use Rattle.sqlite_resolve.specs.Given.{upserts}
 use Rattle.sqlite_resolve.specs.Lowering.{Checked, and_then}
 use Rattle.sqlite_resolve.specs.Program.{program, query}
-use Rattle.sqlite_resolve.specs.Write.{deleted}
+use Rattle.sqlite_resolve.specs.Write.{deleted, updated}
 use Rattle.sqlite_resolve.specs.declared.compiled.Compiled.{Compiled}
 use Rattle.sqlite_resolve.specs.declared.error.CompileError.TheVariants.{Unsupported}
 use Rattle.sqlite_value.specs.declared.keys.Collation.{Collation}
 use Rattle.sqlite.specs.Listing.{understood, reads_listing, misses_table}
 use Rattle.sqlite_sql.specs.Term.{Term}
-use Rattle.sqlite.proofs.Callers.{IsPlain, command_of}
+use Rattle.sqlite_catalog.proofs.StepLemmas.{no_index, no_table, no_view}
+use Rattle.sqlite.specs.Change.{is_used}
+use Rattle.sqlite.proofs.Callers.{IsPlain, command_of, statement_of}
 use Rattle.office_sql.specs.Schema.{at}
 use Rattle.office_sql.specs.Texts.{ids_where, puts}
 
@@ -69,6 +72,35 @@ module _ (s : Schema) (name : List ℕ) (place : ℕ) (t : Table) (named : table
   pub insert_understood : (text : List ℕ) (p : Parsed) (columns : List (List ℕ)) (rows : Rows) → first text ≡ Ok p → p.statement ≡ written.Insert conflict.Replace name columns rows [] []
       → IsGiven (insert_given p columns rows) → understood s text ≡ insert_given p columns rows
   insert_understood text p columns rows is states given = understood_is s text _ (insert_compiled text p columns rows is states) given
+
+  inserts_plain_at : (formats : List (List ℕ)) (base : ℕ) (columns : List (List ℕ)) (rows : Rows)
+      → command s formats base (written.Insert conflict.Abort name columns rows [] []) ≡ and_then (new_rows s t base columns rows) (λ src. Ok (Insert place src))
+  unfolding command insert_or_abort insert
+  inserts_plain_at formats base columns rows = on_table_at _
+
+  abbrev insert_plain_given : Parsed → List (List ℕ) → Rows → Checked Compiled
+  insert_plain_given p columns rows =
+      and_then (and_then (and_then (and_then (new_rows s t (small p.names + small (p.formats ++ t.stamps.formats)) columns rows) (λ src. Ok (Insert place src))) (λ c. let none : Option Returning = None in Ok (c, none))) (λ plan. Ok (p.formats ++ t.stamps.formats, plan)))
+      (λ plan. Ok (with_command p plan))
+
+  insert_plain_compiled : (text : List ℕ) (p : Parsed) (columns : List (List ℕ)) (rows : Rows) → first text ≡ Ok p → p.statement ≡ written.Insert conflict.Abort name columns rows [] []
+      → compiled s text ≡ insert_plain_given p columns rows
+  unfolding compiled planned meaning timed returning shows
+  insert_plain_compiled text p columns rows is states = rw (is, states, formats_at, inserts_plain_at) refl
+
+  pub insert_plain_made : (text : List ℕ) (p : Parsed) (columns : List (List ℕ)) (rows : Rows) (src : Source) → first text ≡ Ok p → p.statement ≡ written.Insert conflict.Abort name columns rows [] []
+      → new_rows s t (small p.names + small (p.formats ++ t.stamps.formats)) columns rows ≡ Ok src → compiled s text ≡ Ok (with_command p (p.formats ++ t.stamps.formats, (Insert place src, None)))
+  insert_plain_made text p columns rows src is states made = insert_plain_compiled text p columns rows is states ∙ rw made refl
+
+  updates_at : (formats : List (List ℕ)) (base : ℕ) (sets : List (List ℕ × Expr)) (test : Option Expr) (d : Draft) (q : Program) → updated s place t sets test ≡ Ok d → program s [] d ≡ Ok q
+      → command s formats base (written.Update name sets test []) ≡ Ok (Update place q)
+  unfolding command update
+  updates_at formats base sets test d q draws means = on_table_at _ ∙ rw (draws, means) refl
+
+  pub update_compiled : (text : List ℕ) (p : Parsed) (sets : List (List ℕ × Expr)) (test : Option Expr) (d : Draft) (q : Program) → first text ≡ Ok p → p.statement ≡ written.Update name sets test []
+      → updated s place t sets test ≡ Ok d → program s [] d ≡ Ok q → compiled s text ≡ Ok (with_command p (p.formats, (Update place q, None)))
+  unfolding compiled planned meaning timed returning shows
+  update_compiled text p sets test d q is states draws means = rw (is, states, updates_at p.formats (small p.names + small p.formats) sets test d q draws means) refl
 
   deletes_at : (formats : List (List ℕ)) (base : ℕ) (test : Option Expr) (d : Draft) (q : Program) → deleted s place t test ≡ Ok d → program s [] d ≡ Ok q
       → command s formats base (written.Delete name test []) ≡ Ok (Delete place q)
@@ -123,3 +155,11 @@ MeansRemoval sql t filters = (s : Schema) (place tree : ℕ) → Finds s t place
 -- what a text means that puts one row of these terms, under any schema that has the table
 abbrev pub MeansPut : List ℕ → Table → List Term → ℕ → Type 0
 MeansPut sql t terms width = (s : Schema) (place tree : ℕ) → table_named s t.name ≡ Some place → slice_get s.tables place ≡ Some (at tree t) → (command_of (understood s sql) ≡ puts place terms width) × IsPlain (understood s sql)
+
+-- what a text means that makes a table, under any schema that has not its name
+abbrev pub MeansMaking : List ℕ → Table → Type 0
+MeansMaking text t = (s : Schema) → is_used s t.name ≡ false → (command_of (understood s text) ≡ MakeTable) × IsPlain (understood s text) × (statement_of text (understood s text) ≡ text)
+
+-- a name that is not used is no table's, view's or index's
+pub is_free : (s : Schema) (name : List ℕ) → is_used s name ≡ false → IsFree s name
+is_free s name free = record { tables = no_table s name free; views = no_view s name free; indexes = no_index s name free }

@@ -1,10 +1,10 @@
--- What a text that makes a table does. Source: own.
-use Rattle.std.specs.Prelude.{◌≡◌, ℕ, [], false, List, Ok, Result, IsTrue, OnOk, OnErr}
+-- What a text that makes a table does, beside whatever a file has. Source: own.
+use Rattle.std.specs.Prelude.{◌≡◌, ◌++◌, ℕ, [], false, List, Ok, Result, drop, take, IsTrue, OnOk, OnErr}
 use Rattle.std.specs.List.{AllByRecursion}
-use Rattle.sqlite_trees.specs.Tree.{Trees}
 use Rattle.sqlite_schema.specs.declared.schema.Schema.{Schema}
 use Rattle.sqlite_schema.specs.declared.schema.Table.{Table}
 use Rattle.sqlite_schema.specs.declared.command.Command.TheVariants.{CreateTable}
+use Rattle.sqlite_rules.specs.Lists.{Has}
 use Rattle.sqlite.specs.Compile.{table_defined_by}
 use Rattle.sqlite.specs.Change.{created, next_tree, KeepsRows}
 use Rattle.sqlite.specs.Effect.{Database, IsDatabase}
@@ -14,7 +14,9 @@ use Rattle.sqlite.specs.Does.{lacks_sequence}
 use Rattle.sqlite.specs.Listing.{understood}
 use Rattle.sqlite.specs.Given.{IsPlain}
 use Rattle.sqlite.proofs.Callers.{command_of, statement_of}
-use Rattle.office_sql.specs.Schema.{office_schema, old_schema}
+use Rattle.office_sql.specs.Bags.{rows_of}
+use Rattle.office_sql.specs.Editions.{version_2}
+use Rattle.office_sql.specs.Office.{HasRoom, HasRoomBeside, HasTables, tree_of}
 
 -- under this schema the text makes this table
 pub record Makes (s : Schema) (text : List ℕ) (table : Table) : Type 0 where
@@ -31,33 +33,27 @@ pub record IsMade (table : Table) (old new : Database) : Type 0 where
   pub others : KeepsRows old.schema.tables old.trees new.trees
   pub sound : IsDatabase new
 
--- what the making of tables inside a transaction leaves
-pub record MakesInside {X : Type 0} (Changes : Database → Database → Type 0) (before : Schema) (old new : State) (result : Result X Error) : Type 0 where
-  pub ok : HasCleanDisk new → IsTrue old.is_open → IsTrue old.in_transaction → old.now.schema ≡ before
+-- what the making of tables inside a transaction leaves, where it starts so
+pub record MakesInside {X : Type 0} (Starts : Database → Type 0) (Changes : Database → Database → Type 0) (old new : State) (result : Result X Error) : Type 0 where
+  pub ok : HasCleanDisk new → IsTrue old.is_open → IsTrue old.in_transaction → Starts old.now
       → OnOk result (Changes old.now new.now × IsTrue new.is_open × IsTrue new.in_transaction × (new.committed ≡ old.committed))
-  pub err : HasCleanDisk new → IsTrue old.is_open → IsTrue old.in_transaction → old.now.schema ≡ before → OnErr result (KeepsCommit old new)
+  pub err : HasCleanDisk new → IsTrue old.is_open → IsTrue old.in_transaction → Starts old.now → OnErr result (KeepsCommit old new)
   pub survives : Survives old new (λ _. ⊥)
 
--- none of these tables has a row
-abbrev pub AreEmpty : List Table → Trees → Type 0
-AreEmpty tables trees = AllByRecursion (λ t. trees t.tree ≡ []) tables
+-- the new tables are there beside those that were made before, and have no row; whatever was there is as it was, and there is still room for the rest
+pub record Grown (made news rest : List Table) (old new : Database) : Type 0 where
+  pub has : HasTables (made ++ news) new
+  pub room : HasRoom rest new.schema
+  pub fresh : AllByRecursion (λ t. rows_of t new.trees ≡ []) news
+  pub kept : AllByRecursion (λ t. rows_of t new.trees ≡ rows_of t old.trees) made
+  pub others : KeepsRows old.schema.tables old.trees new.trees
+  pub tables : (u : Table) → Has old.schema.tables u → Has new.schema.tables u
+  pub placed : AllByRecursion (λ t. tree_of new.schema t.name ≡ tree_of old.schema t.name) made
 
--- the schema is the later one, and where the tables of the earlier had no row, its tables have none
-pub record Grows (earlier later : Schema) (old new : Database) : Type 0 where
-  pub schema : new.schema ≡ later
-  pub sound : IsDatabase new
-  pub empty : AreEmpty earlier.tables old.trees → AreEmpty later.tables new.trees
+-- the first so many tables of version 2 are there, and there is room for the others
+abbrev pub IsMadeUpTo : ℕ → Database → Type 0
+IsMadeUpTo n db = HasRoomBeside (take n version_2) (drop n version_2) db
 
--- the thirteen tables are there, and none has a row
-pub record AreAllMade (old new : Database) : Type 0 where
-  pub schema : new.schema ≡ office_schema
-  pub sound : IsDatabase new
-  pub empty : AreEmpty office_schema.tables new.trees
-
--- the two tables that version 1 has not are there, and have no row; the others have theirs
-pub record AreLaterMade (old new : Database) : Type 0 where
-  pub schema : new.schema ≡ office_schema
-  pub sound : IsDatabase new
-  pub schedules2 : new.trees 18 ≡ []
-  pub events : new.trees 20 ≡ []
-  pub others : AllByRecursion (λ t. new.trees t.tree ≡ old.trees t.tree) old_schema.tables
+-- after the first so many of them, those up to the second number are made
+abbrev pub GrowsTo : ℕ → ℕ → Database → Database → Type 0
+GrowsTo m n old new = Grown (take m version_2) (drop m (take n version_2)) (drop n version_2) old new

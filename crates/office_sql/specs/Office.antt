@@ -1,40 +1,100 @@
--- What the database of an office is between calls and inside a transaction, and what a put or a removal does to it. Source: own.
-use Rattle.std.specs.Prelude.{◌≡◌, ◌≢◌, ◌⊎◌, ℕ, pos, neg_ℤ, false, List, [], ◌∷◌, filter, not, Result, OnOk, OnErr, IsTrue}
-use Rattle.std.specs.List.{AllByRecursion}
+-- What the database of an office is between calls and inside a transaction, beside whatever else the file has, and what a put or a removal does to it. Source: own.
+use Rattle.std.specs.Prelude.{◌≡◌, ◌≢◌, ◌⊎◌, ℕ, pos, neg_ℤ, true, false, List, [], ◌∷◌, filter, not, slice_get, Option, Some, option_map, option_and_then, unwrap_or, Result, OnOk, OnErr, IsTrue}
+use Rattle.std.specs.List.{AllByRecursion, list_any}
+use Rattle.std.specs.Str.{bytes_eq}
+use Rattle.sqlite_value.specs.Keys.{plain}
 use Rattle.sqlite_value.specs.Order.{Row}
-use Rattle.sqlite_trees.specs.Tree.{Trees}
+use Rattle.sqlite_trees.specs.Tree.{Trees, IsAscending}
 use Rattle.sqlite_trees.specs.View.{IsShaped}
 use Rattle.sqlite_trees.specs.declared.store.Shape.TheVariants as shape
+use Rattle.sqlite_schema.specs.declared.schema.Schema.{Schema}
 use Rattle.sqlite_schema.specs.declared.schema.Table.{Table}
+use Rattle.sqlite_schema.specs.Names.{same_name, table_named}
+use Rattle.sqlite_schema.specs.Rules.{guards}
+use Rattle.sqlite_rules.specs.Edit.{IsNoIndex}
+use Rattle.sqlite.specs.Change.{KeepsRows, is_used}
+use Rattle.sqlite.specs.Does.{lacks_sequence}
 use Rattle.sqlite.specs.Effect.{Database, IsDatabase}
 use Rattle.sqlite.specs.State.{State, HasCleanDisk, KeepsCommit, Survives}
 use Rattle.sqlite.specs.declared.error.Error.{Error}
-use Rattle.office_sql.specs.Editions.{schema_of}
+use Rattle.office_sql.specs.Bags.{rows_of, share, IsPut}
+use Rattle.office_sql.specs.Editions.{later_tables, tables_of, version_2}
+use Rattle.office_sql.specs.Schema.{at, office}
+use Rattle.office_sql.specs.Shown.{office_row}
 use Rattle.office_sql.specs.declared.editions.Edition.{Edition}
 use Rattle.office_sql.specs.declared.editions.Edition.TheVariants as edition
-use Rattle.office_sql.specs.Schema.{office_schema, no_schema, office, at}
-use Rattle.office_sql.specs.Bags.{rows_of, share, IsPut}
-use Rattle.office_sql.specs.Shown.{office_row}
 
--- a database of the office's tables over these trees
-abbrev pub office_over : Edition → Trees → Database
-office_over e trees = record { schema = schema_of e; trees = trees }
+-- the tree of the table that has this name
+unfoldable pub tree_of : Schema → List ℕ → ℕ
+tree_of s name = unwrap_or (option_map (λ t. t.tree) (option_and_then (slice_get s.tables) (table_named s name))) 0
 
--- the database has the office's tables of that version and nothing else, and lists them, and in each of them the rowids rise
-pub record IsOfficeOf (e : Edition) (db : Database) : Type 0 where
+-- no foreign key names the table
+abbrev pub IsUnreferred : Schema → Table → Type 0
+IsUnreferred s t = AllByRecursion (λ u. list_any (λ ref. same_name t.name ref.parent) u.references ≡ false) s.tables
+
+-- the table is there as it is made; no foreign key names it, and each unique index on it is one of its own keys
+pub record HasTable (s : Schema) (t : Table) : Type 0 where
+  pub found : option_and_then (slice_get s.tables) (table_named s t.name) ≡ Some (at (tree_of s t.name) t)
+  pub unreferred : IsUnreferred s t
+  pub keyed : AllByRecursion (λ i. guards i (at (tree_of s t.name) t) ≡ true → (list_any (bytes_eq i.columns) t.uniques ≡ true) × (i.order ≡ plain)) s.indexes
+
+-- a sound database in which each table has a tree of its own, with these tables, in each of which the rowids rise
+pub record HasTables (version : List Table) (db : Database) : Type 0 where
   pub database : IsDatabase db
-  pub schema : db.schema ≡ schema_of e
-  pub shaped : AllByRecursion (λ t. IsShaped shape.Table (db.trees t.tree)) (schema_of e).tables
+  pub apart : IsAscending (λ a b. a.tree ≡ b.tree → ⊥) db.schema.tables
+  pub tables : AllByRecursion (HasTable db.schema) version
+  pub shaped : AllByRecursion (λ t. IsShaped shape.Table (db.trees (tree_of db.schema t.name))) version
+
+-- these tables can be made: no table, index or view has their names, and no foreign key names them
+pub record HasRoom (tables : List Table) (s : Schema) : Type 0 where
+  pub free : AllByRecursion (λ t. is_used s t.name ≡ false) tables
+  pub unreferred : AllByRecursion (IsUnreferred s) tables
+  pub uncounted : lacks_sequence s ≡ false
+
+-- these tables are there, and there is room for those
+pub record HasRoomBeside (made rest : List Table) (db : Database) : Type 0 where
+  pub has : HasTables made db
+  pub room : HasRoom rest db.schema
+
+-- a sound database in which each table has a tree of its own, and an office can be made, whatever else is there
+pub record IsBare (db : Database) : Type 0 where
+  pub has : HasTables [] db
+  pub room : HasRoom version_2 db.schema
+
+-- version 1 has room for the tables of version 2
+abbrev pub HasRoomBy : Edition → Schema → Type 0
+HasRoomBy edition.One s = HasRoom later_tables s
+HasRoomBy edition.Two s = Unit {0}
+
+-- the database has the office's tables of that version, beside whatever else
+pub record IsOfficeOf (e : Edition) (db : Database) : Type 0 where
+  pub has : HasTables (tables_of e) db
+  pub room : HasRoomBy e db.schema
+
+-- the trees are those of such a database; its schema is one alone, which they list
+abbrev pub IsOfficeIn : Edition → Trees → Type 0
+IsOfficeIn e trees = (schema : Schema) × IsOfficeOf e (record { schema = schema; trees = trees })
 
 -- so it is of version 2
 abbrev pub IsOffice : Database → Type 0
 IsOffice db = IsOfficeOf edition.Two db
 
--- the row is put in: those that share one of the keys with it are out, the other tables as they were
+-- nothing but this table and entries of indexes is other than it was
+pub record SparesOthers (t : Table) (old new : Database) : Type 0 where
+  pub schema : new.schema ≡ old.schema
+  pub tables : AllByRecursion (λ u. u.tree ≢ tree_of old.schema t.name → new.trees u.tree ≡ old.trees u.tree) old.schema.tables
+  pub others : (tree : ℕ) → tree ≢ tree_of old.schema t.name → IsNoIndex old.schema tree → new.trees tree ≡ old.trees tree
+
+-- the rows of the office's other tables are as they were
+abbrev pub KeepsOthers : Table → Database → Database → Type 0
+KeepsOthers t old new = AllByRecursion (λ u. bytes_eq u.name t.name ≡ false → rows_of u new.trees ≡ rows_of u old.trees) version_2
+
+-- the row is put in: those that share one of the keys with it are out, all else as it was
 pub record Wrote (table : Table) (keys : List (List ℕ)) (row : Row) (old new : Database) : Type 0 where
   pub office : IsOffice new
   pub put : IsPut keys row (rows_of table old.trees) (rows_of table new.trees)
-  pub others : AllByRecursion (λ t. t.tree ≢ table.tree → new.trees t.tree ≡ old.trees t.tree) office_schema.tables
+  pub others : KeepsOthers table old new
+  pub spares : SparesOthers table old new
 
 -- in a transaction over the office's tables
 pub record IsInside (s : State) : Type 0 where
@@ -61,12 +121,12 @@ pub record IsAtRestOver (e : Edition) (s : State) : Type 0 where
 abbrev pub IsAtRest : State → Type 0
 IsAtRest s = IsAtRestOver edition.Two s
 
--- the same of a database that has no table yet
+-- the same of a database that has room for an office, whatever else it has
 pub record IsBlank (s : State) : Type 0 where
   pub is_open : IsTrue s.is_open
   pub autocommit : s.in_transaction ≡ false
   pub settled : s.now ≡ s.committed
-  pub schema : s.now.schema ≡ no_schema
+  pub bare : IsBare s.now
   pub only : (db : Trees) → s.may_leave db → db ≡ s.now.trees
   pub stays : s.may_leave s.now.trees
 
@@ -74,28 +134,30 @@ pub record IsBlank (s : State) : Type 0 where
 abbrev pub first_row : Row
 first_row = office_row (pos 1) (pos 2) (neg_ℤ (pos 719_162))
 
--- the table `office` has that row alone, and no other table has a row
-pub record IsNewOffice (db : Database) : Type 0 where
-  pub is_office : IsOffice db
-  pub row : rows_of (at 0 office) db.trees ≡ first_row ∷ []
-  pub others : AllByRecursion (λ t. t.tree ≢ 0 → db.trees t.tree ≡ []) office_schema.tables
+-- the table `office` has that row alone, no other table of the office has a row, and each table that was there has its rows
+pub record IsNewOffice (old new : Database) : Type 0 where
+  pub is_office : IsOffice new
+  pub row : rows_of office new.trees ≡ first_row ∷ []
+  pub others : AllByRecursion (λ t. bytes_eq t.name office.name ≡ false → rows_of t new.trees ≡ []) version_2
+  pub kept : KeepsRows old.schema.tables old.trees new.trees
 
 -- what a crash may leave is the old database, or a new office
 abbrev pub LeavesNew : State → State → Type 0
-LeavesNew old new = (db : Trees) → new.may_leave db → (db ≡ old.now.trees) ⊎ ((next : Database) × IsNewOffice next × (db ≡ next.trees))
+LeavesNew old new = (db : Trees) → new.may_leave db → (db ≡ old.now.trees) ⊎ ((next : Database) × IsNewOffice old.now next × (db ≡ next.trees))
 
 -- how the making of an office ends
 pub record Creates {X : Type 0} (old new : State) (result : Result X Error) : Type 0 where
-  pub ok : HasCleanDisk new → IsBlank old → OnOk result (IsNewOffice new.now × IsAtRest new)
+  pub ok : HasCleanDisk new → IsBlank old → OnOk result (IsNewOffice old.now new.now × IsAtRest new)
   pub err : HasCleanDisk new → IsBlank old → OnErr result (LeavesNew old new)
   -- where no fault has shut it, nothing was done
   pub undone : HasCleanDisk new → IsBlank old → IsTrue new.is_open → OnErr result ((new.now ≡ old.now) × IsBlank new)
 
--- the rows that share the key with this one are out
+-- the rows that share the key with this one are out, all else as it was
 pub record Removed (table : Table) (keys : List (List ℕ)) (row : Row) (old new : Database) : Type 0 where
   pub office : IsOffice new
   pub removed : rows_of table new.trees ≡ filter (λ r. not (share keys r row)) (rows_of table old.trees)
-  pub others : AllByRecursion (λ t. t.tree ≢ table.tree → new.trees t.tree ≡ old.trees t.tree) office_schema.tables
+  pub others : KeepsOthers table old new
+  pub spares : SparesOthers table old new
 
 -- each of them is done, one after the other
 abbrev pub AreDone : {X : Type 0} → (X → Database → Database → Type 0) → List X → Database → Database → Type 0

@@ -1,14 +1,12 @@
 -- The schedules of either version are read of their own table, the events of version 2 of theirs, and what is told of the version by the names of tables.
-use Rattle.std.proofs.Common.{◌≡◌, All, List, [], ◌∷◌, Some, true, false, refl, sym, subst, arith}
+use Rattle.std.proofs.Common.{◌≡◌, All, List, [], ◌∷◌, true, false, refl, sym, subst, arith}
 use Rattle.std.proofs.lemmas.List.Sorted.{IsPermutation-refl}
 use Rattle.sqlite_value.specs.Order.{Row}
-use Rattle.sqlite_schema.specs.Names.{same_name}
 use Rattle.sqlite_trees.specs.Tree.{Trees}
 use Rattle.office_sql.specs.Bags.{rows_of}
-use Rattle.office_sql.specs.Editions.{IsTableOf, schedules_of, schedules_table, schema_of}
+use Rattle.office_sql.specs.Editions.{IsTableOf, schedules_of, schedules_table}
 use Rattle.office_sql.specs.declared.editions.Edition.{Edition}
 use Rattle.office_sql.specs.declared.editions.Edition.TheVariants as edition
-use Rattle.office_sql.specs.Names.{layout_of}
 use Rattle.office_sql.specs.declared.reading.OfficeTable.TheVariants as table
 use Rattle.office_sql.specs.Reads.{IsByKey, bag_of, key_of}
 use Rattle.office_store.specs.Stands.{events_in}
@@ -35,12 +33,6 @@ no_event_yet edition.Two db = refl
 pub events_by_key : (ed : Edition) (db : Trees) (rows : List Row) → HaveEventsCome ed true true db rows → IsByKey (0 ∷ []) (events_in ed db) rows
 events_by_key edition.One db rows none = subst (IsByKey (0 ∷ []) []) (sym none) (record { same = IsPermutation-refl _; sorted = λ k d low high. absurd (omega arith) })
 events_by_key edition.Two db rows by = by
-
--- the names of the tables are those of one version
-pub layout_is : (ed : Edition) → layout_of (schema_of ed) ≡ Some ed
-unfolding same_name
-layout_is edition.One = refl
-layout_is edition.Two = refl
 
 -- the tables of both versions
 

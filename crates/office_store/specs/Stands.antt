@@ -14,8 +14,8 @@ use Rattle.office_sql.specs.Bags as bags
 use Rattle.office_sql.specs.Editions.{schedules_of, version_of}
 use Rattle.office_sql.specs.declared.editions.Edition.{Edition}
 use Rattle.office_sql.specs.declared.editions.Edition.TheVariants as edition
-use Rattle.office_sql.specs.Office.{IsAtRest, IsAtRestOver, IsOffice, office_over}
-use Rattle.office_sql.specs.Schema.{at, aggregations, certificates, classes, contents, entries, events, holds, office, records, runs, schedules, targets}
+use Rattle.office_sql.specs.Office.{IsAtRest, IsAtRestOver, IsOfficeIn}
+use Rattle.office_sql.specs.Schema.{aggregations, certificates, classes, contents, entries, events, holds, office, records, runs, schedules, targets}
 use Rattle.office_sql.specs.Shown.{certificate_row, content_row, office_row}
 use Rattle.office_saving.specs.Encoded.{aggregation_shown, class_shown, entry_shown, event_shown, hold_shown, record_shown, run_shown, schedule_shown, target_shown}
 
@@ -26,37 +26,37 @@ Has table db rows = IsPermutation rows (bags.rows_of table db)
 -- `targets` has each pair of hold and target that there is, and no other
 abbrev pub HasTargets : Trees → (List ℕ → Target → Bool) → Type 0
 HasTargets db is_target =
-    (pairs : List (List ℕ × Target)) × Has (at 12 targets) db (map (λ e. target_shown e.0 e.1) pairs)
+    (pairs : List (List ℕ × Target)) × Has targets db (map (λ e. target_shown e.0 e.1) pairs)
     × ((code : List ℕ) (target : Target) → list_any (λ e. is_pair e.0 e.1 code target) pairs ≡ is_target code target)
 
 -- `contents` has these contents, and no other
 abbrev pub HasContents : Trees → ByteMap → Type 0
-HasContents db bytes = Has (at 9 contents) db (map (λ e. content_row (pos e.0) e.1) (finmap.entries bytes))
+HasContents db bytes = Has contents db (map (λ e. content_row (pos e.0) e.1) (finmap.entries bytes))
 
 -- the rows of `events`; version 1 has no events
 abbrev pub events_in : Edition → Trees → List Row
 events_in edition.One db = []
-events_in edition.Two db = bags.rows_of (at 20 events) db
+events_in edition.Two db = bags.rows_of events db
 
 -- `schedules` has no row in version 2
 abbrev pub IsEmptied : Edition → Trees → Type 0
 IsEmptied edition.One db = Unit {0}
-IsEmptied edition.Two db = Has (at 1 schedules) db []
+IsEmptied edition.Two db = Has schedules db []
 
 -- the tables of that version have these rows; `office` has one, of that version
 pub record StandsIn (e : Edition) (t : TableRows) (db : Trees) : Type 0 where
-  pub office : Has (at 0 office) db (office_row (pos 1) (version_of e) t.day ∷ [])
+  pub office : Has office db (office_row (pos 1) (version_of e) t.day ∷ [])
   pub schedules : Has (schedules_of e) db (map (λ e. schedule_shown e.0 e.1) t.schedules)
-  pub classes : Has (at 3 classes) db (map (λ e. class_shown e.0 e.1) t.classes)
-  pub aggregations : Has (at 5 aggregations) db (map (λ e. aggregation_shown e.0 e.1) t.aggregations)
-  pub records : Has (at 7 records) db (map (λ e. record_shown e.0 e.1) t.records)
+  pub classes : Has classes db (map (λ e. class_shown e.0 e.1) t.classes)
+  pub aggregations : Has aggregations db (map (λ e. aggregation_shown e.0 e.1) t.aggregations)
+  pub records : Has records db (map (λ e. record_shown e.0 e.1) t.records)
   pub events : IsPermutation (map (λ e. event_shown e.0 e.1) t.events) (events_in e db)
-  pub contents : Has (at 9 contents) db (map (λ e. content_row (pos e.0) e.1) t.contents)
-  pub holds : Has (at 10 holds) db (map (λ e. hold_shown e.0 e.1) t.holds)
+  pub contents : Has contents db (map (λ e. content_row (pos e.0) e.1) t.contents)
+  pub holds : Has holds db (map (λ e. hold_shown e.0 e.1) t.holds)
   pub targets : HasTargets db t.targets
-  pub runs : Has (at 14 runs) db (map (λ e. run_shown e.0 e.1) t.runs)
-  pub entries : Has (at 15 entries) db (map (λ e. entry_shown e.1) t.entries_by)
-  pub certificates : Has (at 17 certificates) db (map (λ e. certificate_row (pos e.0) e.1) t.certificates)
+  pub runs : Has runs db (map (λ e. run_shown e.0 e.1) t.runs)
+  pub entries : Has entries db (map (λ e. entry_shown e.1) t.entries_by)
+  pub certificates : Has certificates db (map (λ e. certificate_row (pos e.0) e.1) t.certificates)
   pub emptied : IsEmptied e db
 
 -- those of version 2
@@ -77,9 +77,9 @@ pub record HoldsOldRows (t : TableRows) (s : State) : Type 0 where
   pub rest : IsAtRestOver edition.One s
   pub stands : OldStands t s.now.trees
 
--- the tables are such as opening asks of an office: they list just an office's, soundly, and in each of them the rowids rise
+-- the tables are such as opening asks of an office: those of a sound database that has an office's, beside whatever else
 abbrev pub AreOfficeTables : Trees → Type 0
-AreOfficeTables db = IsOffice (office_over edition.Two db)
+AreOfficeTables db = IsOfficeIn edition.Two db
 
 -- whatever tables a crash leaves, they are an office's again
 abbrev pub LeavesOffices : State → Type 0
