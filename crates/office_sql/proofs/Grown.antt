@@ -18,10 +18,11 @@ use Rattle.sqlite_catalog.specs.Change.{automatics}
 use Rattle.sqlite_catalog.specs.Listing.{automatic}
 use Rattle.office_sql.specs.Bags.{rows_of, shown, tree_in}
 use Rattle.office_sql.specs.Made.{Grown, IsMade}
-use Rattle.office_sql.specs.Office.{HasRoom, HasTable, HasTables, IsUnreferred, tree_of}
+use Rattle.office_sql.specs.Office.{HasRoom, HasTable, HasTables, IsUnreferred, KeepsObjects, KeepsRest, tree_of}
 use Rattle.office_sql.specs.Schema.{at}
 use Rattle.office_sql.proofs.Growing.{all_either, is_there, new_tree, same_tree, still_there, trees_apart, uncounted_still}
 use Rattle.office_sql.proofs.Kept.{found_in, stands_in}
+use Rattle.office_sql.proofs.Rest.{objects_then}
 use Rattle.office_sql.proofs.TableThere.{from_standing, itself}
 
 -- fewer tables, in whatever order
@@ -137,8 +138,11 @@ module _ (made : List Table) (t : Table) (rest : List Table) (old new : Database
     fresh = (new_rows, tt);
     kept = all_from _ made kept_rows;
     others = did.others;
-    tables = λ u h. subst (λ (x : Schema). Has x.tables u) (sym did.schema) (has_left old.schema.tables (at (next_tree old.schema) t ∷ []) u h);
-    placed = all_from _ made (λ u h. ap (λ s. tree_of s u.name) did.schema ∙ stays u h);
+    objects = subst (KeepsObjects old.schema) (sym did.schema) (record {
+      tables = λ u h. has_left old.schema.tables (at (next_tree old.schema) t ∷ []) u h;
+      indexes = λ i h. has_left old.schema.indexes _ i h;
+      views = λ v h. h;
+    });
   }
 
 -- tables that are made after others
@@ -148,7 +152,10 @@ grown_then made xs ys rest a b c first second = record {
   room = second.room;
   fresh = all_either _ xs ys (λ u h. all_has _ (made ++ xs) u second.kept (has_right made xs u h) ∙ all_has _ xs u first.fresh h) (λ u h. all_has _ ys u second.fresh h);
   kept = all_from _ made (λ u h. all_has _ (made ++ xs) u second.kept (has_left made xs u h) ∙ all_has _ made u first.kept h);
-  others = all_from _ a.schema.tables (λ u h. all_has _ b.schema.tables u second.others (first.tables u h) ∙ all_has _ a.schema.tables u first.others h);
-  tables = λ u h. second.tables u (first.tables u h);
-  placed = all_from _ made (λ u h. all_has _ (made ++ xs) u second.placed (has_left made xs u h) ∙ all_has _ made u first.placed h);
+  others = all_from _ a.schema.tables (λ u h. all_has _ b.schema.tables u second.others (first.objects.tables u h) ∙ all_has _ a.schema.tables u first.others h);
+  objects = objects_then a.schema b.schema c.schema first.objects second.objects;
 }
+
+-- whatever else was there is kept
+pub kept_made : (made news rest : List Table) (a b : Database) → Grown made news rest a b → KeepsRest a b
+kept_made made news rest a b grown = record { objects = grown.objects; rows = λ u here other. all_has _ a.schema.tables u grown.others here }

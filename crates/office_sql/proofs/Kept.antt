@@ -10,6 +10,8 @@ use Rattle.sqlite_trees.specs.View.{IsShaped}
 use Rattle.sqlite_trees.specs.declared.store.Shape.TheVariants as shape
 use Rattle.sqlite_schema.specs.declared.schema.Schema.{Schema}
 use Rattle.sqlite_schema.specs.declared.schema.Table.{Table}
+use Rattle.sqlite_catalog.proofs.StepLemmas.{same_itself}
+use Rattle.sqlite_schema.specs.Names.{same_name}
 use Rattle.sqlite_rules.specs.Edit.{IsNoIndex}
 use Rattle.sqlite_rules.specs.Lists.{Has}
 use Rattle.sqlite_rules.proofs.ListLemmas.{all_from, all_has}
@@ -19,11 +21,17 @@ use Rattle.sqlite_catalog.proofs.LayoutLemmas.{zipped_left}
 use Rattle.sqlite.specs.Effect.{Database, IsDatabase}
 use Rattle.office_sql.specs.Bags.{rows_of, shown, tree_in}
 use Rattle.office_sql.specs.Editions.{version_2}
-use Rattle.office_sql.specs.Office.{HasTable, HasTables, IsOffice, KeepsOthers, SparesOthers, tree_of}
+use Rattle.office_sql.specs.Office.{HasTable, HasTables, IsOffice, KeepsOthers, SparesRest, tree_of}
 use Rattle.office_sql.specs.Schema.{at}
 use Rattle.office_sql.proofs.TableThere.{Standing, finds_it, itself, standing}
 use Rattle.office_sql.proofs.Understood.{Finds}
 use Rattle.office_sql.proofs.TreeFound.{tree_is}
+
+-- nothing but this table and entries of indexes is other than it was
+pub record SparesOthers (t : Table) (old new : Database) : Type 0 where
+  pub schema : new.schema ≡ old.schema
+  pub tables : AllByRecursion (λ u. u.tree ≢ tree_of old.schema t.name → new.trees u.tree ≡ old.trees u.tree) old.schema.tables
+  pub others : (tree : ℕ) → tree ≢ tree_of old.schema t.name → IsNoIndex old.schema tree → new.trees tree ≡ old.trees tree
 
 -- a table of the office stands somewhere
 pub stands_in : (version : List Table) (t : Table) → Has version t → (db : Database) → HasTables version db → Standing db.schema t
@@ -100,3 +108,17 @@ pub as_listed : (version : List Table) (t : Table) → Has version t → (old ne
 as_listed version t mine old new was now same P h =
     let there : tree_in new.trees t.name ≡ tree_of old.schema t.name = found_in version t mine new now ∙ ap (λ x. tree_of x t.name) same in
     subst (λ n. P (rows_of t old.trees) (map (shown t) (new.trees n))) (sym there) (subst (λ n. P (map (shown t) (old.trees n)) (map (shown t) (new.trees (tree_of old.schema t.name)))) (sym (found_in version t mine old was)) h)
+
+-- a table of another name stands in another tree
+other_tree : (version : List Table) (t : Table) → Has version t → (db : Database) → HasTables version db → (u : Table) → Has db.schema.tables u → same_name u.name t.name ≡ false → u.tree ≢ tree_of db.schema t.name
+other_tree version t mine db is u here differs same =
+    let its = stands_in version t mine db is in
+    let one : u ≡ at (tree_of db.schema t.name) t = same_table db.schema.tables u (at (tree_of db.schema t.name) t) is.apart here (itself db.schema t is.apart its) same in
+    true≢false (sym (same_itself t.name) ∙ ap (λ (x : Table). same_name x.name t.name) (sym one) ∙ differs)
+
+-- so a write of one table of the office spares the rest of the file
+pub spares_rest : (t : Table) → Has version_2 t → (old new : Database) → IsOffice old → SparesOthers t old new → SparesRest old new
+spares_rest t mine old new office spares = record {
+  schema = spares.schema;
+  rows = λ u here other. all_has _ old.schema.tables u spares.tables here (other_tree version_2 t mine old office.has u here (all_has (λ (t : Table). same_name u.name t.name ≡ false) version_2 t other mine));
+}

@@ -16,14 +16,14 @@ use Rattle.sqlite.specs.declared.error.Error.{Error}
 use Rattle.office_sql.specs.Bags.{rows_of, share}
 use Rattle.office_sql.specs.Editions.{later_tables, version_1, version_2}
 use Rattle.office_sql.specs.Made.{GrowsTo, IsMadeUpTo, MakesInside}
-use Rattle.office_sql.specs.Migrated.{IsMigrated, IsNoneOfThree, IsReadyToMove, KeepsRest, Moved, MovedOver, Raised}
+use Rattle.office_sql.specs.Migrated.{IsMigrated, IsNoneOfThree, IsReadyToMove, Moved, MovedOver, Raised}
 use Rattle.office_sql.specs.declared.editions.Edition.TheVariants as edition
-use Rattle.office_sql.specs.Office.{GoesInside, HasRoom, IsOffice, IsOfficeOf, KeepsOthers, Removed, SparesOthers, tree_of}
+use Rattle.office_sql.specs.Office.{GoesInside, IsOffice, IsOfficeOf, KeepsOthers, Removed, SparesRest}
 use Rattle.office_sql.specs.Schema.{at, events, office, schedules, schedules2}
 use Rattle.office_sql.proofs.Inside.{early, quiet_then}
-use Rattle.office_sql.proofs.Kept.{stands_in}
 use Rattle.office_sql.proofs.OfTwo.{has_events, has_office, has_schedules, has_schedules2}
-use Rattle.office_sql.proofs.TableThere.{itself}
+use Rattle.office_sql.proofs.Grown.{kept_made}
+use Rattle.office_sql.proofs.Rest.{keeps_spared, keeps_then, spares_then}
 
 module _ (a b c : State) {X Y : Type 0} (P Q R : Database → Database → Type 0) where
   -- one step, and another that rests on what the first did
@@ -59,13 +59,7 @@ pub record Emptied (old new : Database) : Type 0 where
   pub moved : IsPermutation (rows_of schedules old.trees) (rows_of schedules2 new.trees)
   pub emptied : rows_of schedules new.trees ≡ []
   pub others : AllByRecursion (λ t. bytes_eq t.name schedules.name ≡ false → bytes_eq t.name schedules2.name ≡ false → rows_of t new.trees ≡ rows_of t old.trees) version_2
-  pub schema : new.schema ≡ old.schema
-  pub rest : KeepsRest (schedules ∷ schedules2 ∷ []) old new
-
--- what one statement after another spares
-spares_first : (t : Table) (more : List Table) (a b c : Database) → SparesOthers t b c → b.schema ≡ a.schema → KeepsRest more a b → KeepsRest (t ∷ more) a c
-spares_first t more a b c spares same kept u here apart =
-    all_has _ b.schema.tables u spares.tables (subst (λ (s : Schema). Has s.tables u) (sym same) here) (subst (λ s. u.tree ≢ tree_of s t.name) (sym same) apart.0) ∙ kept u here apart.1
+  pub rest : SparesRest old new
 
 pub empties : (a b c : Database) → Moved a b → Removed schedules ([] ∷ []) [] b c → Emptied a c
 empties a b c moved gone = record {
@@ -74,8 +68,7 @@ empties a b c moved gone = record {
   emptied = gone.removed ∙ none_kept (rows_of schedules b.trees);
   others = all_both (λ (t : Table). bytes_eq t.name schedules2.name ≡ false → rows_of t b.trees ≡ rows_of t a.trees) (λ t. bytes_eq t.name schedules.name ≡ false → rows_of t c.trees ≡ rows_of t b.trees)
       (λ t. bytes_eq t.name schedules.name ≡ false → bytes_eq t.name schedules2.name ≡ false → rows_of t c.trees ≡ rows_of t a.trees) (λ t was same apart other. same apart ∙ was other) version_2 moved.others gone.others;
-  schema = gone.spares.schema ∙ moved.spares.schema;
-  rest = spares_first schedules (schedules2 ∷ []) a b c gone.spares moved.spares.schema (λ u here apart. all_has _ a.schema.tables u moved.spares.tables here apart.0);
+  rest = spares_then a b c moved.rest gone.rest;
 }
 
 pub tells : (day : ℤ) (a b c : Database) → Emptied a b → Raised day b c → MovedOver day a c
@@ -86,8 +79,7 @@ tells day a b c left told = record {
   emptied = same_rows office schedules has_schedules b c told.others refl ∙ left.emptied;
   others = all_both (λ (t : Table). bytes_eq t.name schedules.name ≡ false → bytes_eq t.name schedules2.name ≡ false → rows_of t b.trees ≡ rows_of t a.trees) (λ t. bytes_eq t.name office.name ≡ false → rows_of t c.trees ≡ rows_of t b.trees)
       (λ t. IsNoneOfThree t → rows_of t c.trees ≡ rows_of t a.trees) (λ t was same apart. same apart.0 ∙ was apart.1 apart.2) version_2 left.others told.others;
-  schema = told.spares.schema ∙ left.schema;
-  rest = spares_first office (schedules ∷ schedules2 ∷ []) a b c told.spares left.schema left.rest;
+  rest = spares_then a b c left.rest told.rest;
 }
 
 -- the one row of `office` stands until it is told anew
@@ -104,13 +96,6 @@ still_ready day old new made ready = record {
   office = made.kept.0 ∙ ready.office;
 }
 
--- a table that was there before stands in no tree of a later one
-later_tree : (a b : Database) → HasRoom later_tables a.schema → GrowsTo 11 13 a b → (t : Table) → Has later_tables t → Has version_2 t → (u : Table) → Has a.schema.tables u → u.tree ≢ tree_of b.schema t.name
-later_tree a b room made t later listed u here same =
-    let its = stands_in version_2 t listed b made.has in
-    let one : u ≡ at (tree_of b.schema t.name) t = same_table b.schema.tables u (at (tree_of b.schema t.name) t) made.has.apart (made.tables u here) (itself b.schema t made.has.apart its) same in
-    all_has _ a.schema.tables u (unnamed a.schema t.name (all_has (λ (x : Table). is_used a.schema x.name ≡ false) later_tables t room.free later)).tables here (ap (λ (x : Table). x.name) one)
-
 -- no table of version 1 has the name of the new one
 not_later : AllByRecursion (λ (t : Table). bytes_eq t.name schedules2.name ≡ false) version_1
 not_later = (refl, (refl, (refl, (refl, (refl, (refl, (refl, (refl, (refl, (refl, (refl, tt)))))))))))
@@ -125,10 +110,7 @@ migrated day a b c was made over = record {
   others = all_from (λ (t : Table). bytes_eq t.name office.name ≡ false → bytes_eq t.name schedules.name ≡ false → rows_of t c.trees ≡ rows_of t a.trees) version_1 (λ t h none one.
       all_has (λ (t : Table). IsNoneOfThree t → rows_of t c.trees ≡ rows_of t b.trees) version_2 t over.others (has_left version_1 later_tables t h) (none, one, all_has (λ (t : Table). bytes_eq t.name schedules2.name ≡ false) version_1 t not_later h)
       ∙ all_has (λ (t : Table). rows_of t b.trees ≡ rows_of t a.trees) version_1 t made.kept h);
-  rest = λ u here apart.
-      over.rest u (made.tables u here)
-      (subst (λ k. u.tree ≢ k) (sym made.placed.0) apart.0, (subst (λ k. u.tree ≢ k) (sym made.placed.1.0) apart.1.0, (later_tree a b was.room made schedules2 (inl refl) has_schedules2 u here, tt)))
-      ∙ all_has _ a.schema.tables u made.others here;
+  rest = keeps_then a b c (kept_made _ _ _ a b made) (keeps_spared b c over.rest);
 }
 
 -- the later tables are made, and the schedules moved over

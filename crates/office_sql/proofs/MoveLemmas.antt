@@ -33,13 +33,13 @@ use Rattle.sqlite.proofs.Callers.{one_step, runs_as, statement_of}
 use Rattle.office_sql.specs.Bags.{rows_of, shown, tree_in}
 use Rattle.office_sql.specs.Editions.{version_2}
 use Rattle.office_sql.specs.Migrated.{IsScheduleRow, Moved}
-use Rattle.office_sql.specs.Office.{IsOffice, SparesOthers, tree_of}
+use Rattle.office_sql.specs.Office.{IsOffice, tree_of}
 use Rattle.office_sql.specs.Schema.{at, schedules, schedules2}
 use Rattle.office_sql.specs.Texts.{move_schedules, moved_collations, moved_terms, selects}
 use Rattle.office_sql.proofs.BagLemmas.{put_shuffles}
 use Rattle.office_sql.proofs.MoveTexts.{move_schedules_is}
 use Rattle.office_sql.proofs.PutLemmas.{cast_int, cast_null}
-use Rattle.office_sql.proofs.Kept.{finds_in, found_in, left_office, left_others, stands_in}
+use Rattle.office_sql.proofs.Kept.{SparesOthers, finds_in, found_in, left_office, left_others, stands_in, spares_rest}
 use Rattle.office_sql.proofs.OfTwo.{has_schedules, has_schedules2}
 use Rattle.office_sql.proofs.TableThere.{idle, low}
 use Rattle.office_sql.proofs.Replace.{went, same_value}
@@ -171,5 +171,5 @@ moves old new count office no_row all_rows h =
           (subst (λ k. IsPermutation (map (shown schedules) (db k)) (map (shown schedules2) (new.now.trees n))) (sym (found_in version_2 schedules has_schedules old.now is))
           (subst (λ (d : Trees). IsPermutation (map (shown schedules) (db m)) (map (shown schedules2) (d n))) to moved));
       others = left_others schedules2 has_schedules2 old.now new.now office w.sound spares order;
-      spares = spares;
+      rest = spares_rest schedules2 has_schedules2 old.now new.now office spares;
     }

@@ -24,11 +24,11 @@ use Rattle.sqlite.proofs.Callers.{one_permutation, one_step, runs_as, statement_
 use Rattle.office_sql.specs.Bags.{rows_of, shown, tree_in}
 use Rattle.office_sql.specs.Editions.{version_2}
 use Rattle.office_sql.specs.Migrated.{Raised}
-use Rattle.office_sql.specs.Office.{IsOffice, SparesOthers, tree_of}
+use Rattle.office_sql.specs.Office.{IsOffice, tree_of}
 use Rattle.office_sql.specs.Schema.{at, office, schedules}
 use Rattle.office_sql.specs.Shown.{office_row}
 use Rattle.office_sql.specs.Texts.{clear_schedules, raise_version, raised_terms, selects}
-use Rattle.office_sql.proofs.Kept.{finds_in, found_in, left_office, left_others, stands_in}
+use Rattle.office_sql.proofs.Kept.{SparesOthers, finds_in, found_in, left_office, left_others, stands_in, spares_rest}
 use Rattle.office_sql.proofs.MoveLemmas.{all_found}
 use Rattle.office_sql.proofs.OfTwo.{has_office, has_schedules}
 use Rattle.office_sql.proofs.TableThere.{idle, low}
@@ -111,5 +111,5 @@ raises day old new count sound has h =
       is_office = now;
       row = ap (λ k. map (shown office) (new.now.trees k)) there ∙ ap (map (shown office)) left_now;
       others = left_others office has_office old.now new.now sound w.sound spares order;
-      spares = spares;
+      rest = spares_rest office has_office old.now new.now sound spares;
     }

@@ -36,9 +36,9 @@ use Rattle.sqlite.proofs.Callers.{IsPlain, command_of, statement_of, runs_as, on
 use Rattle.sqlite_schema.specs.declared.schema.Schema.{Schema}
 use Rattle.office_sql.specs.Bags.{shown, share}
 use Rattle.office_sql.specs.Editions.{version_2}
-use Rattle.office_sql.specs.Office.{IsOffice, Removed, SparesOthers, tree_of}
+use Rattle.office_sql.specs.Office.{IsOffice, Removed, tree_of}
 use Rattle.office_sql.proofs.OfTwo.{has_contents, has_targets}
-use Rattle.office_sql.proofs.Kept.{as_listed, finds_in, left_office, left_others, shape_in, stands_in}
+use Rattle.office_sql.proofs.Kept.{SparesOthers, as_listed, finds_in, left_office, left_others, shape_in, stands_in, spares_rest}
 use Rattle.office_sql.proofs.TableThere.{idle, low}
 use Rattle.office_sql.proofs.Understood.{MeansRemoval}
 use Rattle.office_sql.proofs.Replace.{went, same_value}
@@ -161,7 +161,7 @@ module _ (t : Table) (sql : List ℕ) (filters : List Term) (known : MeansRemova
         removed = as_listed version_2 t mine old.now after.now is now.has schema (λ a b. b ≡ filter (λ r. not (share keys r key)) a)
             (ap (map (shown t)) (left_now ∙ filter_same_on _ _ (trees n) (λ r h. ap not (tests r))) ∙ sym (filter-map (λ r. not (share keys r key)) (shown t) (trees n)));
         others = left_others t mine old.now after.now office w.sound spares order;
-        spares = spares;
+        rest = spares_rest t mine old.now after.now office spares;
       }
 
 pub or_false : (b : Bool) → b ≡ (b || false)

@@ -4,7 +4,6 @@ use Rattle.std.specs.List.{AllByRecursion}
 use Rattle.sqlite_schema.specs.declared.schema.Schema.{Schema}
 use Rattle.sqlite_schema.specs.declared.schema.Table.{Table}
 use Rattle.sqlite_schema.specs.declared.command.Command.TheVariants.{CreateTable}
-use Rattle.sqlite_rules.specs.Lists.{Has}
 use Rattle.sqlite.specs.Compile.{table_defined_by}
 use Rattle.sqlite.specs.Change.{created, next_tree, KeepsRows}
 use Rattle.sqlite.specs.Effect.{Database, IsDatabase}
@@ -16,7 +15,7 @@ use Rattle.sqlite.specs.Given.{IsPlain}
 use Rattle.sqlite.proofs.Callers.{command_of, statement_of}
 use Rattle.office_sql.specs.Bags.{rows_of}
 use Rattle.office_sql.specs.Editions.{version_2}
-use Rattle.office_sql.specs.Office.{HasRoom, HasRoomBeside, HasTables, tree_of}
+use Rattle.office_sql.specs.Office.{HasRoom, HasRoomBeside, HasTables, KeepsObjects}
 
 -- under this schema the text makes this table
 pub record Makes (s : Schema) (text : List ℕ) (table : Table) : Type 0 where
@@ -47,8 +46,7 @@ pub record Grown (made news rest : List Table) (old new : Database) : Type 0 whe
   pub fresh : AllByRecursion (λ t. rows_of t new.trees ≡ []) news
   pub kept : AllByRecursion (λ t. rows_of t new.trees ≡ rows_of t old.trees) made
   pub others : KeepsRows old.schema.tables old.trees new.trees
-  pub tables : (u : Table) → Has old.schema.tables u → Has new.schema.tables u
-  pub placed : AllByRecursion (λ t. tree_of new.schema t.name ≡ tree_of old.schema t.name) made
+  pub objects : KeepsObjects old.schema new.schema
 
 -- the first so many tables of version 2 are there, and there is room for the others
 abbrev pub IsMadeUpTo : ℕ → Database → Type 0

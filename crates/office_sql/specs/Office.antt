@@ -1,5 +1,5 @@
 -- What the database of an office is between calls and inside a transaction, beside whatever else the file has, and what a put or a removal does to it. Source: own.
-use Rattle.std.specs.Prelude.{◌≡◌, ◌≢◌, ◌⊎◌, ℕ, pos, neg_ℤ, true, false, List, [], ◌∷◌, filter, not, slice_get, Option, Some, option_map, option_and_then, unwrap_or, Result, OnOk, OnErr, IsTrue}
+use Rattle.std.specs.Prelude.{◌≡◌, ◌⊎◌, ℕ, pos, neg_ℤ, true, false, List, [], ◌∷◌, filter, not, slice_get, Option, Some, option_map, option_and_then, unwrap_or, Result, OnOk, OnErr, IsTrue}
 use Rattle.std.specs.List.{AllByRecursion, list_any}
 use Rattle.std.specs.Str.{bytes_eq}
 use Rattle.sqlite_value.specs.Keys.{plain}
@@ -7,12 +7,14 @@ use Rattle.sqlite_value.specs.Order.{Row}
 use Rattle.sqlite_trees.specs.Tree.{Trees, IsAscending}
 use Rattle.sqlite_trees.specs.View.{IsShaped}
 use Rattle.sqlite_trees.specs.declared.store.Shape.TheVariants as shape
+use Rattle.sqlite_schema.specs.declared.schema.Index.{Index}
 use Rattle.sqlite_schema.specs.declared.schema.Schema.{Schema}
 use Rattle.sqlite_schema.specs.declared.schema.Table.{Table}
+use Rattle.sqlite_schema.specs.declared.schema.View.{View}
 use Rattle.sqlite_schema.specs.Names.{same_name, table_named}
 use Rattle.sqlite_schema.specs.Rules.{guards}
-use Rattle.sqlite_rules.specs.Edit.{IsNoIndex}
-use Rattle.sqlite.specs.Change.{KeepsRows, is_used}
+use Rattle.sqlite_rules.specs.Lists.{Has}
+use Rattle.sqlite.specs.Change.{is_used}
 use Rattle.sqlite.specs.Does.{lacks_sequence}
 use Rattle.sqlite.specs.Effect.{Database, IsDatabase}
 use Rattle.sqlite.specs.State.{State, HasCleanDisk, KeepsCommit, Survives}
@@ -79,11 +81,33 @@ IsOfficeIn e trees = (schema : Schema) × IsOfficeOf e (record { schema = schema
 abbrev pub IsOffice : Database → Type 0
 IsOffice db = IsOfficeOf edition.Two db
 
--- nothing but this table and entries of indexes is other than it was
-pub record SparesOthers (t : Table) (old new : Database) : Type 0 where
+-- a table that is none of the office's, by its name
+abbrev pub IsOtherTable : Table → Type 0
+IsOtherTable u = AllByRecursion (λ t. same_name u.name t.name ≡ false) version_2
+
+-- each such table has the rows that it had
+abbrev pub KeepsOtherRows : Database → Database → Type 0
+KeepsOtherRows old new = (u : Table) → Has old.schema.tables u → IsOtherTable u → new.trees u.tree ≡ old.trees u.tree
+
+-- nothing but rows of the office's tables and entries of indexes is other than it was
+pub record SparesRest (old new : Database) : Type 0 where
   pub schema : new.schema ≡ old.schema
-  pub tables : AllByRecursion (λ u. u.tree ≢ tree_of old.schema t.name → new.trees u.tree ≡ old.trees u.tree) old.schema.tables
-  pub others : (tree : ℕ) → tree ≢ tree_of old.schema t.name → IsNoIndex old.schema tree → new.trees tree ≡ old.trees tree
+  pub rows : KeepsOtherRows old new
+
+-- each table, index and view that was there is there
+pub record KeepsObjects (old new : Schema) : Type 0 where
+  pub tables : (t : Table) → Has old.tables t → Has new.tables t
+  pub indexes : (i : Index) → Has old.indexes i → Has new.indexes i
+  pub views : (v : View) → Has old.views v → Has new.views v
+
+-- whatever else was there is there, and has its rows
+pub record KeepsRest (old new : Database) : Type 0 where
+  pub objects : KeepsObjects old.schema new.schema
+  pub rows : KeepsOtherRows old new
+
+-- whatever a crash leaves is a database of this kind; its schema is one alone, which the trees list
+abbrev pub Leaves : (Database → Type 0) → State → Type 0
+Leaves Is s = (db : Trees) → s.may_leave db → (schema : Schema) × IsDatabase (record { schema = schema; trees = db }) × Is (record { schema = schema; trees = db })
 
 -- the rows of the office's other tables are as they were
 abbrev pub KeepsOthers : Table → Database → Database → Type 0
@@ -94,7 +118,7 @@ pub record Wrote (table : Table) (keys : List (List ℕ)) (row : Row) (old new :
   pub office : IsOffice new
   pub put : IsPut keys row (rows_of table old.trees) (rows_of table new.trees)
   pub others : KeepsOthers table old new
-  pub spares : SparesOthers table old new
+  pub rest : SparesRest old new
 
 -- in a transaction over the office's tables
 pub record IsInside (s : State) : Type 0 where
@@ -134,12 +158,12 @@ pub record IsBlank (s : State) : Type 0 where
 abbrev pub first_row : Row
 first_row = office_row (pos 1) (pos 2) (neg_ℤ (pos 719_162))
 
--- the table `office` has that row alone, no other table of the office has a row, and each table that was there has its rows
+-- the table `office` has that row alone, no other table of the office has a row, and whatever was there is there
 pub record IsNewOffice (old new : Database) : Type 0 where
   pub is_office : IsOffice new
   pub row : rows_of office new.trees ≡ first_row ∷ []
   pub others : AllByRecursion (λ t. bytes_eq t.name office.name ≡ false → rows_of t new.trees ≡ []) version_2
-  pub kept : KeepsRows old.schema.tables old.trees new.trees
+  pub rest : KeepsRest old new
 
 -- what a crash may leave is the old database, or a new office
 abbrev pub LeavesNew : State → State → Type 0
@@ -157,7 +181,7 @@ pub record Removed (table : Table) (keys : List (List ℕ)) (row : Row) (old new
   pub office : IsOffice new
   pub removed : rows_of table new.trees ≡ filter (λ r. not (share keys r row)) (rows_of table old.trees)
   pub others : KeepsOthers table old new
-  pub spares : SparesOthers table old new
+  pub rest : SparesRest old new
 
 -- each of them is done, one after the other
 abbrev pub AreDone : {X : Type 0} → (X → Database → Database → Type 0) → List X → Database → Database → Type 0

@@ -1,0 +1,44 @@
+-- What is spared or kept of the rest of a file, from one change to the next.
+use Rattle.std.proofs.Common.{◌≡◌, inl, inr, List, [], ◌∷◌, ◌++◌, refl, sym, ap, subst, ◌∙◌}
+use Rattle.sqlite_trees.specs.Tree.{Trees}
+use Rattle.sqlite_schema.specs.declared.schema.Schema.{Schema}
+use Rattle.sqlite_schema.specs.declared.schema.Table.{Table}
+use Rattle.sqlite_catalog.proofs.ReadLemmas.{lists_once}
+use Rattle.sqlite_trees.specs.Objects.{catalog_tree}
+use Rattle.sqlite_rules.specs.Lists.{Has}
+use Rattle.sqlite.specs.Effect.{Database, IsDatabase}
+use Rattle.sqlite.specs.State.{State}
+use Rattle.office_sql.specs.Office.{IsAtRest, IsOfficeOf, KeepsObjects, KeepsRest, Leaves, SparesRest}
+use Rattle.office_sql.specs.declared.editions.Edition.{Edition}
+
+pub spares_none : (d : Database) → SparesRest d d
+spares_none d = record { schema = refl; rows = λ u here other. refl }
+
+pub spares_then : (a b c : Database) → SparesRest a b → SparesRest b c → SparesRest a c
+spares_then a b c first next = record {
+  schema = next.schema ∙ first.schema;
+  rows = λ u here other. next.rows u (subst (λ (s : Schema). Has s.tables u) (sym first.schema) here) other ∙ first.rows u here other;
+}
+
+pub keeps_objects : (a b : Schema) → b ≡ a → KeepsObjects a b
+keeps_objects a b same = subst (KeepsObjects a) (sym same) (record { tables = λ t h. h; indexes = λ i h. h; views = λ v h. h })
+
+pub keeps_spared : (a b : Database) → SparesRest a b → KeepsRest a b
+keeps_spared a b spared = record { objects = keeps_objects a.schema b.schema spared.schema; rows = spared.rows }
+
+pub objects_then : (a b c : Schema) → KeepsObjects a b → KeepsObjects b c → KeepsObjects a c
+objects_then a b c first next = record {
+  tables = λ t h. next.tables t (first.tables t h);
+  indexes = λ i h. next.indexes i (first.indexes i h);
+  views = λ v h. next.views v (first.views v h);
+}
+
+pub keeps_then : (a b c : Database) → KeepsRest a b → KeepsRest b c → KeepsRest a c
+keeps_then a b c first next = record {
+  objects = objects_then a.schema b.schema c.schema first.objects next.objects;
+  rows = λ u here other. next.rows u (first.objects.tables u here) other ∙ first.rows u here other;
+}
+
+-- trees list one schema
+same_schema : (s t : Schema) (trees : Trees) → IsDatabase (record { schema = s; trees = trees }) → IsDatabase (record { schema = t; trees = trees }) → s ≡ t
+same_schema s t trees p q = lists_once (trees catalog_tree) s t p.lists q.lists
