@@ -5,6 +5,7 @@ pub mod Found
 pub mod Fronts
 pub mod LeftFates
 pub mod LeftOffices
+pub mod LeftRest
 pub mod OneFates
 pub mod OneLog
 pub mod Opened

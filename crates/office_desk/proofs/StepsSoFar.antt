@@ -2,6 +2,7 @@
 use Rattle.std.proofs.Common.{◌≡◌, ◌≢◌, ℕ, suc, false, None, refl, sym, ap, subst, ◌∙◌}
 use Rattle.std.specs.FinMap.{empty}
 use Rattle.sqlite.specs.Held.{state}
+use Rattle.sqlite.specs.State.{HasCleanDisk}
 use Rattle.sqlite_trees.specs.declared.store.Store.{Ghosts}
 use Rattle.office_proof.specs.declared.outcome.Outcome.{Outcome}
 use Rattle.office_rules.specs.Acts.{step}
@@ -11,10 +12,11 @@ use Rattle.office_rules.specs.declared.act.Act.TheVariants as act
 use Rattle.office_rules.specs.declared.answer.Answer.{Answer}
 use Rattle.office_rules.specs.declared.answer.Answer.TheVariants.{Step}
 use Rattle.office_store.specs.declared.fault.Fault.{Fault}
-use Rattle.office_desk.specs.Calling.{AreStepsDone, AreStepsStopped, Called, IsDone, IsFaulted}
+use Rattle.office_desk.specs.Calling.{AreStepsDone, AreStepsStopped, Called, IsDone, IsFaulted, LeavesRestOf}
 use Rattle.office_desk.specs.Desk.{DeskState}
 use Rattle.office_desk.specs.Leaving.{StandsAt, StopsAt, StopsLeaving}
 use Rattle.office_desk.specs.Resuming.{resumed_answer}
+use Rattle.office_desk.proofs.LeftRest.{rest_then}
 use Rattle.office_desk.proofs.RunSteps.{IsLast, IsTaken, after_more, last_in, taken_in}
 
 -- so many steps were taken
@@ -28,6 +30,14 @@ CalledSteps g old new = Called g old new (λ s At. AreTaken g s new At)
 
 abbrev pub CalledStep : {S : Type 0} (g : Ghosts S) (old new : DeskState S) (answer : Answer) → Type 0
 CalledStep g old new answer = Called g old new (λ s At. IsDone g s act.RunStep answer new At)
+
+-- what the next step leaves of the rest of the file
+rest_taken : {S : Type 0} (g : Ghosts S) (old mid new : DeskState S) → CalledSteps g old mid → (HasCleanDisk (state g new.held) → HasCleanDisk (state g mid.held)) → (s : State) → HasCleanDisk (state g new.held) → StandsAt g s old
+    → ((t : State) → HasCleanDisk (state g new.held) → StandsAt g t mid → LeavesRestOf g mid new) → LeavesRestOf g old new
+rest_taken g old mid new so_far early s clean at next =
+    let so = so_far.did s at.is_open (sym at.office) in
+    let stands = so.stands (early clean, at) in
+    rest_then g (after_steps s so.count) old mid new stands (so_far.rest s (early clean) at) (next (after_steps s so.count) clean stands)
 
 module _ {S : Type 0} (g : Ghosts S) (mid new : DeskState S) (answer : Answer) (still : mid.is_given_up ≡ false) (one : CalledStep g mid new answer) where
   pub still_open : new.is_given_up ≡ false
@@ -50,6 +60,7 @@ module _ {S : Type 0} (g : Ghosts S) (mid new : DeskState S) (answer : Answer) (
           office = it.office ∙ sym (ap (λ (t : State). t.office) (after_more so.count s));
           stands = λ at. subst (λ (t : State). StandsAt g t new) (sym (after_more so.count s)) (it.stands (at.0, so.stands (one.clean at.0, at.1)));
         };
+    rest = λ s clean at. rest_taken g old mid new so_far one.clean s clean at one.rest;
   }
 
   pub steps_done : (old : DeskState S) → CalledSteps g old mid → open_run mid.office ≡ open_run old.office → ((r : ℕ) (outcome : Outcome) → answer ≢ Step r outcome)
@@ -69,6 +80,7 @@ module _ {S : Type 0} (g : Ghosts S) (mid new : DeskState S) (answer : Answer) (
               office = so.office;
               stands = so.stands;
             };
+        rest = all.rest;
       }
 
 pub steps_stopped : {S : Type 0} (g : Ghosts S) (old mid new : DeskState S) (f : Fault) → mid.is_given_up ≡ false → CalledSteps g old mid → (open_run old.office ≡ None → mid ≡ old)
@@ -86,4 +98,5 @@ steps_stopped g old mid new f still so_far first one = record {
             subst (λ (t : State). StopsLeaving (after_steps s so.count) t f (state g new.held)) (sym (after_more so.count s))
             (it.left (at.0, so.stands (one.clean at.0, at.1)));
       };
+  rest = λ s clean at. rest_taken g old mid new so_far one.clean s clean at one.rest;
 }

@@ -11,6 +11,7 @@ use Rattle.office_rules.specs.Writes.{all_office_writes, all_writes}
 use Rattle.office_rules.specs.declared.act.Act.{Act}
 use Rattle.office_rules.specs.declared.answer.Answer.{Answer}
 use Rattle.office_rules.specs.declared.change.Change.{Change}
+use Rattle.office_sql.specs.Office.{Leaves, SparesRest}
 use Rattle.office_store.specs.Stands.{HoldsRows, LeavesOffices}
 use Rattle.office_store.specs.declared.fault.Fault.{Fault}
 use Rattle.office_store.specs.declared.fault.Fault.TheVariants as fault
@@ -19,10 +20,15 @@ use Rattle.office_desk.specs.Fates.{LeavesFates, LeavesStepFates}
 use Rattle.office_desk.specs.Leaving.{IsFrontAnswered, LeavesRowsOf, StandsAt, StopsAt, StopsLeaving}
 use Rattle.office_desk.specs.Resuming.{AreRunSteps, LeavesMidway, resumed_answer}
 
+-- whatever a crash leaves has all that is not the office's as it was
+abbrev pub LeavesRestOf : {S : Type 0} (g : Ghosts S) (old new : DeskState S) → Type 0
+LeavesRestOf g old new = Leaves (SparesRest (state g old.held).now) (state g new.held)
+
 -- by a desk that is open: what was done from each state with its office, where `At` is that its tables stood there and the disk was clean
 pub record Called {S : Type 0} (g : Ghosts S) (old new : DeskState S) (Did : State → Type 0 → Type 0) : Type 0 where
   pub clean : HasCleanDisk (state g new.held) → HasCleanDisk (state g old.held)
   pub did : (s : State) → old.is_given_up ≡ false → s.office ≡ old.office → Did s (HasCleanDisk (state g new.held) × StandsAt g s old)
+  pub rest : (s : State) → HasCleanDisk (state g new.held) → StandsAt g s old → LeavesRestOf g old new
 
 -- a change was done in memory, and is answered
 pub record IsMade {S : Type 0} (change : Change) (answer : Answer) (old new : DeskState S) : Type 0 where

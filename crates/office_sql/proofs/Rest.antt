@@ -1,14 +1,13 @@
 -- What is spared or kept of the rest of a file, from one change to the next.
-use Rattle.std.proofs.Common.{◌≡◌, inl, inr, List, [], ◌∷◌, ◌++◌, refl, sym, ap, subst, ◌∙◌}
+use Rattle.std.proofs.Common.{◌≡◌, refl, sym, subst, ◌∙◌}
 use Rattle.sqlite_trees.specs.Tree.{Trees}
 use Rattle.sqlite_schema.specs.declared.schema.Schema.{Schema}
-use Rattle.sqlite_schema.specs.declared.schema.Table.{Table}
 use Rattle.sqlite_catalog.proofs.ReadLemmas.{lists_once}
 use Rattle.sqlite_trees.specs.Objects.{catalog_tree}
 use Rattle.sqlite_rules.specs.Lists.{Has}
 use Rattle.sqlite.specs.Effect.{Database, IsDatabase}
 use Rattle.sqlite.specs.State.{State}
-use Rattle.office_sql.specs.Office.{IsAtRest, IsOfficeOf, KeepsObjects, KeepsRest, Leaves, SparesRest}
+use Rattle.office_sql.specs.Office.{IsAtRestOver, KeepsObjects, KeepsRest, Leaves, SparesRest}
 use Rattle.office_sql.specs.declared.editions.Edition.{Edition}
 
 pub spares_none : (d : Database) → SparesRest d d
@@ -42,3 +41,21 @@ keeps_then a b c first next = record {
 -- trees list one schema
 same_schema : (s t : Schema) (trees : Trees) → IsDatabase (record { schema = s; trees = trees }) → IsDatabase (record { schema = t; trees = trees }) → s ≡ t
 same_schema s t trees p q = lists_once (trees catalog_tree) s t p.lists q.lists
+
+-- what a crash leaves, where it is the trees of a database of the kind
+pub leaves_one : (Is : Database → Type 0) (d : Database) (db : Trees) → IsDatabase d → Is d → db ≡ d.trees → (schema : Schema) × IsDatabase (record { schema = schema; trees = db }) × Is (record { schema = schema; trees = db })
+leaves_one Is d db sound is same =
+    subst (λ (t : Trees). (schema : Schema) × IsDatabase (record { schema = schema; trees = t }) × Is (record { schema = schema; trees = t })) (sym same) (d.schema, sound, is)
+
+-- between calls a crash leaves just what is there
+pub leaves_at_rest : (e : Edition) (Is : Database → Type 0) (s : State) → IsAtRestOver e s → Is s.now → Leaves Is s
+leaves_at_rest e Is s rest is db may = leaves_one Is s.now db rest.office.has.database is (rest.only db may)
+
+-- and, where what is left is of the kind of one call after another, the calls compose
+pub leaves_then : (e : Edition) (old mid new : State) → IsAtRestOver e mid → Leaves (SparesRest old.now) mid → Leaves (SparesRest mid.now) new → Leaves (SparesRest old.now) new
+leaves_then e old mid new rest first next db may =
+    let was = first mid.now.trees rest.stays in
+    let same : was.0 ≡ mid.now.schema = same_schema was.0 mid.now.schema mid.now.trees was.1 rest.office.has.database in
+    let spared : SparesRest old.now mid.now = subst (λ (s : Schema). SparesRest old.now (record { schema = s; trees = mid.now.trees })) same was.2 in
+    let left = next db may in
+    (left.0, left.1, spares_then old.now mid.now _ spared left.2)

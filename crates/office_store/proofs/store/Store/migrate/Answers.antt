@@ -7,7 +7,8 @@ use Rattle.office_sql.specs.declared.editions.Edition.TheVariants as edition
 use Rattle.office_sql.specs.Migrated.{Migrates}
 use Rattle.office_store.specs.Stands.{AreOfficeTables, HoldsOldRows, HoldsRows, LeavesMoved, OldStands, Stands}
 use Rattle.office_store.proofs.Saved.{over_trees}
-use Rattle.office_store.proofs.MovedRows.{moved_stand, ready_to_move}
+use Rattle.office_sql.specs.Office.{KeepsRest, Leaves}
+use Rattle.office_store.proofs.MovedRows.{moved_stand, ready_to_move, rest_moved}
 use Rattle.office_store.proofs.store.Store.migrate.Goals as goal
 
 pub returns-clause-ok : goal.returns-clause-ok
@@ -38,4 +39,13 @@ returns-clause-undone g c s clean holds is_open =
     let new = state g.S.Store c.migrate_all.new.conn in
     let moves : Migrates day old new c.migrate_all.result = subst (λ h. Migrates day (state g.S.Store h) new c.migrate_all.result) c.self.view_is (c.migrate_all.ensures.migrates day) in
     let left : OnErr c.migrate_all.result (HoldsOldRows (rows_of s) new) = IfErr-weaker c.migrate_all.result _ _ (λ x it. record { rest = it.1; stands = subst (λ (d : Database). OldStands (rows_of s) d.trees) (sym it.0) holds.stands }) (moves.undone clean holds.rest (ready_to_move (rows_of s) old.now.trees holds.stands) is_open) in
+    search rules
+
+pub returns-clause-rest : goal.returns-clause-rest
+returns-clause-rest g c s clean holds =
+    let day = (rows_of s).day in
+    let old = state g.S.Store c.args.self.now in
+    let new = state g.S.Store c.migrate_all.new.conn in
+    let moves : Migrates day old new c.migrate_all.result = subst (λ h. Migrates day (state g.S.Store h) new c.migrate_all.result) c.self.view_is (c.migrate_all.ensures.migrates day) in
+    let left : Leaves (KeepsRest old.now) new = rest_moved day old new c.migrate_all.result clean holds.rest (ready_to_move (rows_of s) old.now.trees holds.stands) moves in
     search rules
