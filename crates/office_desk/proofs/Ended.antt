@@ -11,8 +11,9 @@ use Rattle.office_store.specs.declared.fault.Fault.{Fault}
 use Rattle.office_store.specs.declared.fault.Fault.TheVariants as fault
 use Rattle.office_desk.specs.Calling.{EndActs, EndSteps, Performed, Resumed}
 use Rattle.office_desk.specs.Desk.{DeskState}
+use Rattle.office_desk.specs.Headline.{AreFormed}
 use Rattle.office_desk.specs.Leaving.{StandsAt}
-use Rattle.office_desk.proofs.LeftFates.{AreFatesTold, fates_after, fates_at, fates_done}
+use Rattle.office_desk.proofs.LeftFates.{AreFatesTold, fates_after, fates_at, fates_done, none_left, one_left}
 use Rattle.office_desk.proofs.LeftOffices.{offices_standing, offices_stopped}
 use Rattle.office_desk.proofs.RunSteps.{GoesOn, leaves_standing, midway_left, midway_resumed, midway_steps, none_resumed, steps_none}
 use Rattle.office_desk.proofs.StepFates.{fates_resumed}
@@ -23,12 +24,13 @@ Closes = (s t : State) (run : ℕ) → open_run s.office ≡ Some run → IsMidw
 
 module _ (told : AreFatesTold) {S : Type 0} (g : Ghosts S) (s : State) (acts : List Act) (At : Type 0) where
   -- no act was begun, for want of memory
-  pub none_begun : {T : Type 0} (given found : List Answer) (desk : DeskState S) → found ≡ given → desk.is_given_up ≡ false → s.office ≡ desk.office → (At → StandsAt g s desk)
+  pub none_begun : {T : Type 0} (given found : List Answer) (desk : DeskState S) → AreFormed acts → found ≡ given → desk.is_given_up ≡ false → s.office ≡ desk.office → (At → StandsAt g s desk)
       → Performed {T = T} g s acts given found (Err fault.Memory) desk At
-  none_begun given found desk silent is_open same at = record {
+  none_begun given found desk formed silent is_open same at = record {
+    formed = formed;
     ends = record {
       count = 0;
-      front = record { within = omega arith; one_more = λ no. absurd (no refl); answered = ◌∙◌ {A = List Answer} silent (sym (append-nil given)) };
+      front = record { within = omega arith; one_more = none_left acts; answered = ◌∙◌ {A = List Answer} silent (sym (append-nil given)) };
       stops = (sym same, is_open);
       left = λ a. (at a).rows;
     };
@@ -37,20 +39,22 @@ module _ (told : AreFatesTold) {S : Type 0} (g : Ghosts S) (s : State) (acts : L
     midway = λ begun run all is_run m a. leaves_standing g begun s run desk m (at a);
   }
 
-  pub performed : {T : Type 0} → GoesOn → (result : Result T Fault) (given found : List Answer) (old new : DeskState S) → (At → StandsAt g s old) → EndActs g s acts given found result new At
+  pub performed : {T : Type 0} → GoesOn → (result : Result T Fault) (given found : List Answer) (old new : DeskState S) → AreFormed acts → (At → StandsAt g s old) → EndActs g s acts given found result new At
       → Performed g s acts given found result new At
-  performed on (Ok x) given found old new at it = record {
+  performed on (Ok x) given found old new formed at it = record {
+    formed = formed;
     ends = it;
     offices = λ a. offices_standing g (after s acts) new (it.stands a);
     fates = λ a. fates_done told s acts (at a).sound (state g new.held) (it.stands a).rows;
     midway = λ begun run all is_run m a. midway_left g (Ok x) begun s run acts new on all is_run m (it.stands a) tt;
   }
-  performed {T} on (Err f) given found old new at it =
+  performed {T} on (Err f) given found old new formed at it =
       let r : Result T Fault = Err f in
       record {
+        formed = formed;
         ends = it;
         offices = λ a. offices_stopped (after s (take it.count acts)) (after s (take (it.count + 1) acts)) f (state g new.held) (it.left a);
-        fates = λ a. fates_at told s acts (at a).sound it.count f (state g new.held) it.front.within it.front.one_more (it.left a);
+        fates = λ a. fates_at told s acts (at a).sound it.count f (state g new.held) it.front.within (one_left f it.count acts it.front.one_more) (it.left a);
         midway = λ begun run all is_run m a. midway_left g r begun s run acts new on all is_run m tt (it.count, it.left a);
       }
 

@@ -17,6 +17,7 @@ use Rattle.office_store.specs.declared.fault.Fault.{Fault}
 use Rattle.office_store.specs.declared.fault.Fault.TheVariants as fault
 use Rattle.office_desk.specs.Desk.{DeskState}
 use Rattle.office_desk.specs.Fates.{LeavesFates, LeavesStepFates}
+use Rattle.office_desk.specs.Headline.{AreFormed}
 use Rattle.office_desk.specs.Leaving.{IsFrontAnswered, LeavesRowsOf, StandsAt, StopsAt, StopsLeaving}
 use Rattle.office_desk.specs.Resuming.{AreRunSteps, LeavesMidway, resumed_answer}
 
@@ -79,6 +80,7 @@ EndActs g s acts given found result new At = MatchResult result (λ _. AreDone g
 
 -- and what a crash leaves at each end
 pub record Performed {S T : Type 0} (g : Ghosts S) (s : State) (acts : List Act) (given found : List Answer) (result : Result T Fault) (new : DeskState S) (At : Type 0) : Type 0 where
+  pub formed : AreFormed acts
   pub ends : EndActs g s acts given found result new At
   pub offices : At → LeavesOffices (state g new.held)
   pub fates : At → LeavesFates s acts (state g new.held)

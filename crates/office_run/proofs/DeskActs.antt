@@ -17,7 +17,7 @@ pub done_at : {S : Type 0} (g : Ghosts S) (acts : List Act) (t : State) (desk : 
     → Performed g t acts front given done desk At → At
     → OnOk done (AreDone acts (state g desk.held) t × (given ≡ answers t acts))
 done_at g acts t desk (Ok it) front given At none did at =
-    (record { rows = (did.ends.stands at).rows; fates = did.fates at }, did.ends.answered ∙ ap (λ (told : List Answer). told ++ answers t acts) none)
+    (record { formed = did.formed; rows = (did.ends.stands at).rows; fates = did.fates at }, did.ends.answered ∙ ap (λ (told : List Answer). told ++ answers t acts) none)
 done_at g acts t desk (Err f) front given At none did at = tt
 
 -- acts at which a fault stopped it
@@ -27,6 +27,6 @@ pub stopped_at : {S : Type 0} (g : Ghosts S) (acts : List Act) (t : State) (desk
 stopped_at g acts t desk (Ok it) front given At none did at = tt
 stopped_at g acts t desk (Err f) front given At none did at = (
   did.ends.count,
-  record { within = did.ends.front.within; one_more = did.ends.front.one_more; leaves = did.ends.left at; fates = did.fates at },
+  record { formed = did.formed; within = did.ends.front.within; one_more = did.ends.front.one_more; leaves = did.ends.left at; fates = did.fates at },
   did.ends.front.answered ∙ ap (λ (told : List Answer). told ++ answers t (take did.ends.count acts)) none,
 )

@@ -55,7 +55,7 @@ all_done g day text refused old desk written after false is h = λ t clean stand
 
 row_cut : {S : Type 0} (g : Ghosts S) (day : ℤ) (u : State) (row : Fields) (f : Fault) (desk : DeskState S) → IsRowStopped g day u row f desk → IsRowCut day u row f (state g desk.held)
 row_cut g day u row f desk (inl it) = inl (it.0, it.1.rows)
-row_cut g day u row f desk (inr it) = inr (it.0, it.1, it.2, it.3, it.4.0, it.4.2)
+row_cut g day u row f desk (inr it) = inr (it.0, it.1, it.2, it.3, it.4.1)
 
 cut : {S : Type 0} (g : Ghosts S) (day : ℤ) (text : Option (List ℕ)) (u : State) (rows : List Fields) (f : Fault) (desk : DeskState S)
     → (f ≡ fault.Memory) × AreFrontRows text rows × StandsAt g u desk ⊎ ((row : Fields) × AreSomeRows text (rows ++ row ∷ []) × IsRowStopped g day u row f desk)

@@ -4,6 +4,8 @@ pub mod DeskActs
 pub mod Endings
 pub mod Exports
 pub mod Imports
+pub mod NextFiles
+pub mod NextStates
 pub mod Openings
 pub mod Reopenings
 pub mod Resumptions

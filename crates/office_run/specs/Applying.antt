@@ -13,7 +13,8 @@ use Rattle.office_store.specs.Stands.{HoldsRows}
 use Rattle.office_store.specs.declared.fault.Fault.{Fault}
 use Rattle.office_store.specs.declared.fault.Fault.TheVariants as fault
 use Rattle.office_desk.specs.Fates.{LeavesFates}
-use Rattle.office_desk.specs.Leaving.{StopsLeaving}
+use Rattle.office_desk.specs.Headline.{AreFormed}
+use Rattle.office_desk.specs.Leaving.{LeavesOne, StopsLeaving}
 use Rattle.office_json.specs.Acts.{asked}
 use Rattle.office_json.specs.Answers.{answer_lines}
 use Rattle.office_json.specs.Lists.{acts_in, not_json, bad_act}
@@ -24,13 +25,15 @@ use Rattle.office_run.specs.Opening.{IsNotOpened, IsOfOpened}
 
 -- the acts were done one after another: the tables are those after them, and these acts tell what became of contents
 pub record AreDone (acts : List Act) (new : FileState) (t : State) : Type 0 where
+  pub formed : AreFormed acts
   pub rows : HoldsRows (rows_of (after_acts t acts)) new
   pub fates : LeavesFates t acts new
 
 -- a fault stopped them after so many: a crash leaves the state after these or after one more
 pub record AreStopped (f : Fault) (acts : List Act) (n : ℕ) (new : FileState) (t : State) : Type 0 where
+  pub formed : AreFormed acts
   pub within : n ≤ length acts
-  pub one_more : f ≢ fault.Memory → n < length acts
+  pub one_more : LeavesOne f n acts
   pub leaves : StopsLeaving (after_acts t (take n acts)) (after_acts t (take (n + 1) acts)) f new
   pub fates : LeavesFates t acts new
 

@@ -1,5 +1,5 @@
 -- What is done with the office in a file, by what its two files held as they were opened. Source: own.
-use Rattle.std.specs.Prelude.{◌≡◌, ◌⊎◌, ℕ, List, Option}
+use Rattle.std.specs.Prelude.{◌≡◌, ◌⊎◌, ℕ, IsTrue, List, Option}
 use Rattle.sqlite_disk.specs.declared.Disk.{Ghosts}
 use Rattle.sqlite_store.specs.declared.store.FileStore.{FileStore}
 use Rattle.sqlite_trees.specs.Tree.{Trees}
@@ -35,11 +35,12 @@ pub record IsOpenedFrom {D : Type 0} {g : Ghosts D} (image : Image) (was last : 
   pub rest : HasCleanDisk (file_state last) → (ed : Edition) (trees : Trees) → HeldOffice ed image trees → IsAtRestOver ed (file_state was) × ((file_state was).now.trees ≡ trees)
   pub blank : HasCleanDisk (file_state last) → IsEmpty (file_state was).now.trees → IsBlank (file_state was)
 
--- files that held this were opened, and so it ended over the connection, which is this one then
+-- files that held this were opened, and so it ended over the connection, which is this one then; where it is open, a crash may leave its last commit
 pub record EndsOver {D : Type 0} {g : Ghosts D} (image : Image) (Ends : Held (FileStore D g) → Held (FileStore D g) → Type 0) (last : Held (FileStore D g)) : Type 0 where
   pub was : Held (FileStore D g)
   pub opened : IsOpenedFrom image was last
   pub ends : Ends was last
+  pub stays : IsTrue (file_state last).is_open → (file_state last).may_leave (file_state last).committed.trees
 
 -- what a connection leaves of its files as it is closed: its last commit, in the database file alone; or, where that failed, no more than what a crash left before
 abbrev pub IsLeftOf : {D : Type 0} {g : Ghosts D} → Held (FileStore D g) → FilesLeft D g → Type 0

@@ -4,6 +4,7 @@ pub mod Endings
 pub mod Exporting
 pub mod Files
 pub mod Importing
+pub mod NextWord
 pub mod Opening
 pub mod Resuming
 pub mod Running

@@ -20,6 +20,6 @@ mod serving;
 
 pub use ending::Ending;
 pub use opening::{FilesLeft, open_and_run};
-pub use reopening::law_of_the_next_word;
+pub use reopening::{law_of_each_word, law_of_the_next_word};
 pub use running::{run_on, tell, tell_listening};
 pub use serving::open_and_serve;

@@ -76,6 +76,7 @@ pub fn open_and_run<S: Start, R: Read, W: Write, E: Write>(
         Ok(conn) => {
             law_of_the_last_commit(&conn);
             let (status, conn) = run_on(rt.alloc(), conn, order, input, out, err);
+            law_of_the_last_commit(&conn);
             (status, close(conn))
         }
         Err(_) => {

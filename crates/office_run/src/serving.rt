@@ -86,6 +86,7 @@ where
         Ok(conn) => {
             law_of_the_last_commit(&conn);
             let (ending, conn) = serve_on(rt, listener, port, count, conn, out, err);
+            law_of_the_last_commit(&conn);
             (ending, close(conn))
         }
         Err(_) => (Ending::Fault(Fault::Store), FilesLeft::Unopened),

@@ -16,11 +16,12 @@ abbrev any : Response → Type 0
 any r = Unit {0}
 
 performed_any : {S : Type 0} (Told : Response → Type 0) (g : Ghosts S) (t : State) (done : List Act) (desk : DeskState S) → ArePerformed Told g t done desk → ArePerformed any g t done desk
-performed_any Told g t done desk (inl it) = inl (record { told = tt; stands = it.stands; fates = it.fates })
+performed_any Told g t done desk (inl it) = inl (record { formed = it.formed; told = tt; stands = it.stands; fates = it.fates })
 performed_any Told g t done desk (inr it) = inr (
   it.0,
   it.1,
   record {
+    formed = it.2.formed;
     within = it.2.within;
     one_more = it.2.one_more;
     told = tt;

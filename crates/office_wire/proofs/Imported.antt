@@ -10,6 +10,7 @@ use Rattle.sqlite.specs.Held.{state}
 use Rattle.sqlite.specs.State.{HasCleanDisk}
 use Rattle.sqlite_trees.specs.declared.store.Store.{Ghosts}
 use Rattle.office_days.specs.declared.refusal.Refusal.{Refusal}
+use Rattle.office_rules.specs.Forms.{IsFormedAct}
 use Rattle.office_rules.specs.Acts.{step}
 use Rattle.office_rules.specs.State.{State}
 use Rattle.office_rules.specs.declared.act.Act.{Act}
@@ -34,19 +35,19 @@ use Rattle.office_wire.specs.declared.importing.ImportStop.TheVariants as stop
 -- ---- one row
 
 -- a record was read, and its act is done
-pub row_done : {S : Type 0} (g : Ghosts S) (day : ℤ) (row : Fields) (new : AskedRecord) (act : Act) (old desk : DeskState S) (x : Result Answer Fault) → record_asked row ≡ Ok new → asked act ≡ adds day new
+pub row_done : {S : Type 0} (g : Ghosts S) (day : ℤ) (row : Fields) (new : AskedRecord) (act : Act) (old desk : DeskState S) (x : Result Answer Fault) → record_asked row ≡ Ok new → IsFormedAct act → asked act ≡ adds day new
     → IfOk x (λ answer. (s : State) → HasCleanDisk (state g desk.held) → StandsAt g s old → (answer ≡ (step s act).0) × StandsAt g (step s act).1 desk)
     → IfOk x (λ answer. (s : State) → HasCleanDisk (state g desk.held) → StandsAt g s old → (t : State) × IsRowDone day s row answer t × StandsAt g t desk)
-row_done g day row new act old desk (Ok answer) read is ok =
-    λ s clean stands. let it = ok s clean stands in ((step s act).1, (rw read (act, is, it.0, refl)), it.1)
-row_done g day row new act old desk (Err f) read is ok = tt
+row_done g day row new act old desk (Ok answer) read formed is ok =
+    λ s clean stands. let it = ok s clean stands in ((step s act).1, (rw read (act, (formed, is), it.0, refl)), it.1)
+row_done g day row new act old desk (Err f) read formed is ok = tt
 
 -- or it was stopped
-pub row_stopped : {S : Type 0} (g : Ghosts S) (day : ℤ) (row : Fields) (new : AskedRecord) (act : Act) (old desk : DeskState S) (x : Result Answer Fault) → record_asked row ≡ Ok new → asked act ≡ adds day new
+pub row_stopped : {S : Type 0} (g : Ghosts S) (day : ℤ) (row : Fields) (new : AskedRecord) (act : Act) (old desk : DeskState S) (x : Result Answer Fault) → record_asked row ≡ Ok new → IsFormedAct act → asked act ≡ adds day new
     → IfErr x (λ fault. (s : State) → HasCleanDisk (state g desk.held) → StandsAt g s old → IsActStopped g s act fault desk)
     → IfErr x (λ fault. (s : State) → HasCleanDisk (state g desk.held) → StandsAt g s old → IsRowStopped g day s row fault desk)
-row_stopped g day row new act old desk (Ok answer) read is err = tt
-row_stopped g day row new act old desk (Err f) read is err = λ s clean stands. inr (new, act, read, is, err s clean stands)
+row_stopped g day row new act old desk (Ok answer) read formed is err = tt
+row_stopped g day row new act old desk (Err f) read formed is err = λ s clean stands. inr (new, act, read, (formed, is), err s clean stands)
 
 -- no record was read, since a field is not of its form or out of its range
 pub bad_row : (x : Result AskedRecord Refusal) (why : Refusal) → (Refused why ≡ Memory) ⊎ (Refused why ≡ fault_of x) → x ≡ Err why

@@ -15,6 +15,7 @@ use Rattle.office_store.specs.declared.fault.Fault.TheVariants as fault
 use Rattle.office_desk.specs.Calling.{AreStopped, EndActs}
 use Rattle.office_desk.specs.Desk.{DeskState}
 use Rattle.office_desk.specs.Leaving.{IsFrontAnswered, StandsAt, StopsAt, StopsLeaving}
+use Rattle.office_desk.proofs.LeftFates.{one_left}
 
 -- no acts
 abbrev pub none : List Act
@@ -31,8 +32,8 @@ stands_stopped g old new t fault.Memory n front given it stops leaves stands =
       sound = stands.sound;
       rows = subst (λ (k : ℕ). HoldsRows (rows_of (after t (take k none))) (state g new.held)) nothing leaves;
     }
-stands_stopped g old new t fault.Store n front given it stops leaves stands = absurd (omega (arith, it.one_more (λ e. cc)))
-stands_stopped g old new t fault.Reopen n front given it stops leaves stands = absurd (omega (arith, it.one_more (λ e. cc)))
+stands_stopped g old new t fault.Store n front given it stops leaves stands = absurd (omega (arith, one_left fault.Store n none it.one_more (λ e. cc)))
+stands_stopped g old new t fault.Reopen n front given it stops leaves stands = absurd (omega (arith, one_left fault.Reopen n none it.one_more (λ e. cc)))
 stands_stopped g old new t fault.Damaged n front given it stops leaves stands = absurd stops
 stands_stopped g old new t fault.Version n front given it stops leaves stands = absurd stops
 
@@ -46,4 +47,4 @@ stands_kept g old new t (Err f) front given At end at stands = stands_stopped g 
 pub told_gone : {S : Type 0} (g : Ghosts S) (t : State) (new : DeskState S) (front given : List Answer) (At : Type 0) (b : Bool)
     → (b ≡ false → AreStopped g t none front given fault.Reopen new At) → true ≡ b
 told_gone g t new front given At true err = refl
-told_gone g t new front given At false err = let it = err refl in absurd (omega (arith, it.front.one_more (λ e. cc)))
+told_gone g t new front given At false err = let it = err refl in absurd (omega (arith, one_left fault.Reopen it.count none it.front.one_more (λ e. cc)))

@@ -1,17 +1,17 @@
 -- Acts that a fault stopped, as they are served.
-use Rattle.std.proofs.Common.{◌≡◌, ◌∙◌, ap, subst, inr, ◌+◌, ℕ, List, [], ◌++◌, take, Err}
+use Rattle.std.proofs.Common.{◌≡◌, ◌∙◌, ap, arith, subst, inl, inr, ◌+◌, ℕ, List, [], ◌∷◌, ◌++◌, take, Err}
 use Rattle.sqlite.specs.Held.{state}
 use Rattle.sqlite.specs.State.{HasCleanDisk}
 use Rattle.sqlite_trees.specs.declared.store.Store.{Ghosts}
-use Rattle.office_rules.specs.Acts.{after, answers}
+use Rattle.office_rules.specs.Acts.{after, answers, step}
 use Rattle.office_rules.specs.State.{State}
 use Rattle.office_rules.specs.declared.act.Act.{Act}
 use Rattle.office_rules.specs.declared.answer.Answer.{Answer}
 use Rattle.office_store.specs.declared.fault.Fault.{Fault}
-use Rattle.office_desk.specs.Calling.{Performed}
+use Rattle.office_desk.specs.Calling.{AreStopped, Performed}
 use Rattle.office_desk.specs.Desk.{DeskState}
 use Rattle.office_desk.specs.Fates.{LeavesFates}
-use Rattle.office_desk.specs.Leaving.{IsFrontAnswered, StandsAt, StopsAt, StopsLeaving}
+use Rattle.office_desk.specs.Leaving.{IsFrontAnswered, LeavesOne, StandsAt, StopsAt, StopsLeaving}
 use Rattle.office_http.specs.Replies.{Response}
 use Rattle.office_wire.specs.Answering.{ArePerformed}
 use Rattle.office_wire.specs.Replies.{stopped_response}
@@ -26,6 +26,7 @@ stopped g done t desk f front given seen At none same it at Told told =
       f,
       stop.count,
       record {
+        formed = it.formed;
         within = stop.front.within;
         one_more = stop.front.one_more;
         told = subst (λ (x : List Answer). Told (stopped_response x f)) answered told;
@@ -34,3 +35,16 @@ stopped g done t desk f front given seen At none same it at Told told =
         fates = it.fates at;
       },
     )
+
+-- one act that a fault stopped
+pub one_stopped : {S : Type 0} (g : Ghosts S) (t : State) (act : Act) (given found : List Answer) (f : Fault) (desk : DeskState S) (At : Type 0) → AreStopped g t (act ∷ []) given found f desk At → At
+    → StopsAt t.office f desk × StopsLeaving t (step t act).1 f (state g desk.held)
+one_stopped g t act given found f desk At it at =
+    let none : it.count ≡ 0 = first it.front.one_more in (
+      subst (λ (k : ℕ). StopsAt (after t (take k (act ∷ []))).office f desk) none it.stops,
+      subst (λ (k : ℕ). StopsLeaving (after t (take k (act ∷ []))) (after t (take (k + 1) (act ∷ []))) f (state g desk.held)) none (it.left at),
+    )
+  where
+    first : LeavesOne f it.count (act ∷ []) → it.count ≡ 0
+    first (inl low) = omega (arith, low)
+    first (inr none) = absurd (let wrong = none.1 in cc)

@@ -7,11 +7,11 @@ use Rattle.office_rules.specs.State.{State}
 use Rattle.office_desk.specs.Desk.{DeskState}
 use Rattle.office_desk.specs.Leaving.{StandsAt}
 use Rattle.office_http.specs.Plans.{is_head_method}
-use Rattle.office_http.specs.Replies.{Response}
+use Rattle.office_http.specs.Replies.{Response, response}
 use Rattle.office_http.specs.Requests.{IsRequest, asks}
 use Rattle.office_http.specs.declared.failure.Failure.TheVariants as failure
 use Rattle.office_wire.specs.Receiving.{IsAskedBy, Wanted, asked_for}
-use Rattle.office_wire.specs.Serving.{IsFailed, IsGoneReply, IsGoneServed, IsGoneToSend, IsReply, IsServed, IsToSend}
+use Rattle.office_wire.specs.Serving.{IsFailed, IsGoneReply, IsGoneServed, IsGoneToSend, IsReply, IsSent, IsServed, IsToSend, Replies}
 use Rattle.office_wire.specs.declared.receiving.Asked.{Asked}
 use Rattle.office_wire.specs.declared.serving.Sending.{Sending}
 
@@ -41,3 +41,9 @@ pub starved_gone : (bytes : List ℕ) (unread : Type 0) (h : RequestHead) (rest 
 starved_gone bytes unread h rest is_head None request same failed = absurd failed
 starved_gone bytes unread h rest is_head (Some it) request same failed =
     inl (asks h rest, request, (failed.1 ∙ same, inr failed.0))
+
+-- what was to be written is written
+pub sent_reply : {S : Type 0} (g : Ghosts S) (t : State) (bytes : List ℕ) (unread : Type 0) (it : Option Sending) (status : ℕ) (written after : Option (List ℕ)) (desk : DeskState S)
+    → IsToSend g t bytes unread it desk → IsSent it status written after → Replies g t bytes unread status written after desk
+sent_reply g t bytes unread None status written after desk asked sent = inl (asked.0, sent.0, sent.1, asked.1)
+sent_reply g t bytes unread (Some it) status written after desk asked sent = inr (it.is_head, response it.reply, asked, sent)

@@ -15,7 +15,8 @@ use Rattle.office_store.specs.declared.fault.Fault.{Fault}
 use Rattle.office_store.specs.declared.fault.Fault.TheVariants as fault
 use Rattle.office_desk.specs.Desk.{DeskState}
 use Rattle.office_desk.specs.Fates.{LeavesFates, LeavesStepFates}
-use Rattle.office_desk.specs.Leaving.{IsContentTold, IsOtherContent, LeavesRowsOf, StandsAt, StopsAt, StopsLeaving}
+use Rattle.office_desk.specs.Headline.{AreFormed}
+use Rattle.office_desk.specs.Leaving.{IsContentTold, IsOtherContent, LeavesOne, LeavesRowsOf, StandsAt, StopsAt, StopsLeaving}
 use Rattle.office_desk.specs.Resuming.{LeavesMidway}
 use Rattle.office_json.specs.Acts.{Asked, asked}
 use Rattle.office_json.specs.Lists.{NoActs, not_json, bad_act, acts_in}
@@ -31,14 +32,16 @@ use Rattle.office_wire.specs.Replies.{acts_response, answer_response, bad_act_re
 
 -- all acts were done, and a crash leaves the tables after them
 pub record AreDone {S : Type 0} (Told : Response → Type 0) (g : Ghosts S) (t : State) (done : List Act) (desk : DeskState S) : Type 0 where
+  pub formed : AreFormed done
   pub told : Told (acts_response (answers t done))
   pub stands : StandsAt g (after t done) desk
   pub fates : LeavesFates t done (state g desk.held)
 
 -- a fault stopped them after so many: a crash leaves the tables after these or after one more
 pub record AreStopped {S : Type 0} (Told : Response → Type 0) (g : Ghosts S) (t : State) (done : List Act) (f : Fault) (n : ℕ) (desk : DeskState S) : Type 0 where
+  pub formed : AreFormed done
   pub within : n ≤ length done
-  pub one_more : f ≢ fault.Memory → n < length done
+  pub one_more : LeavesOne f n done
   pub told : Told (stopped_response (answers t (take n done)) f)
   pub stops : StopsAt (after t (take n done)).office f desk
   pub leaves : StopsLeaving (after t (take n done)) (after t (take (n + 1) done)) f (state g desk.held)

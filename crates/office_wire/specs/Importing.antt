@@ -8,7 +8,8 @@ use Rattle.sqlite.specs.Held.{state}
 use Rattle.sqlite_trees.specs.declared.store.Store.{Ghosts}
 use Rattle.office_days.specs.Refusals.{refusal_number}
 use Rattle.office_days.specs.declared.refusal.Refusal.{Refusal}
-use Rattle.office_rules.specs.Acts.{after, step}
+use Rattle.office_rules.specs.Acts.{step}
+use Rattle.office_rules.specs.Forms.{IsFormedAct}
 use Rattle.office_rules.specs.State.{State}
 use Rattle.office_rules.specs.declared.act.Act.{Act}
 use Rattle.office_rules.specs.declared.answer.Answer.{Answer}
@@ -27,24 +28,27 @@ use Rattle.office_wire.specs.declared.importing.ImportStop.TheVariants as stop
 
 -- ---- one row
 
+-- the act adds this record on the day
+abbrev pub IsAdding : ℤ → AskedRecord → Act → Type 0
+IsAdding day new act = IsFormedAct act × (asked act ≡ adds day new)
+
 -- a row is answered by the step of the act that adds its record on the day, or with its refusal, and then nothing is done
 abbrev pub IsAnsweredBy : ℤ → State → Result AskedRecord Refusal → Answer → State → Type 0
-IsAnsweredBy day s (Ok new) answer t = (act : Act) × (asked act ≡ adds day new) × (answer ≡ (step s act).0) × (t ≡ (step s act).1)
+IsAnsweredBy day s (Ok new) answer t = (act : Act) × IsAdding day new act × (answer ≡ (step s act).0) × (t ≡ (step s act).1)
 IsAnsweredBy day s (Err why) answer t = (answer ≡ kind.Refused why) × (t ≡ s)
 
 abbrev pub IsRowDone : ℤ → State → Fields → Answer → State → Type 0
 IsRowDone day s row answer t = IsAnsweredBy day s (record_asked row) answer t
 
--- a fault stopped an act: it is as after a list of this act alone
+-- a fault stopped an act on the way to the state after it
 abbrev pub IsActStopped : {S : Type 0} → Ghosts S → State → Act → Fault → DeskState S → Type 0
-IsActStopped g s act f desk =
-    (n : ℕ) × StopsAt (after s (take n (act ∷ []))).office f desk × StopsLeaving (after s (take n (act ∷ []))) (after s (take (n + 1) (act ∷ []))) f (state g desk.held)
+IsActStopped g s act f desk = StopsAt s.office f desk × StopsLeaving s (step s act).1 f (state g desk.held)
 
 -- a fault stopped a row: memory was wanting to read it, or the act that adds its record was stopped
 abbrev pub IsRowStopped : {S : Type 0} → Ghosts S → ℤ → State → Fields → Fault → DeskState S → Type 0
 IsRowStopped g day s row f desk =
     ((f ≡ fault.Memory) × StandsAt g s desk)
-    ⊎ ((new : AskedRecord) × (act : Act) × (record_asked row ≡ Ok new) × (asked act ≡ adds day new) × IsActStopped g s act f desk)
+    ⊎ ((new : AskedRecord) × (act : Act) × (record_asked row ≡ Ok new) × IsAdding day new act × IsActStopped g s act f desk)
 
 -- what stopped a row of seven fields: a fault, or its line could not be written
 abbrev pub DoStops : {S : Type 0} → Ghosts S → ℤ → State → Fields → ImportStop → DeskState S → Option (List ℕ) → Option (List ℕ) → Type 0

@@ -67,7 +67,11 @@ fn answer_row<S: Alter>(
     ensures err { IfErr result (λ fault. (s : State) → HasCleanDisk (state S.Store desk.new.held) → StandsAt S.Store s desk.old → IsRowStopped S.Store day s (named row.now) fault desk.new) }
 {
     match read_import_row(alloc, row) {
-        Ok(record) => add(alloc, desk, Act::AddRecord { day, record }),
+        Ok(record) => {
+            let act = Act::AddRecord { day, record };
+            act.formed();
+            add(alloc, desk, act)
+        }
         Err(ReadFault::Refused(refusal)) => Ok(Answer::Refused(refusal)),
         Err(ReadFault::Memory) => Err(Fault::Memory),
     }

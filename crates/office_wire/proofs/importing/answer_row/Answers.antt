@@ -9,11 +9,11 @@ use Rattle.office_wire.proofs.importing.answer_row.Goals as goal
 
 pub returns-in-Ok-clause-ok : goal.returns-in-Ok-clause-ok
 unfolding asked
-returns-in-Ok-clause-ok g c = row_done g.S.Store c.args.day (named c.args.row.now) _ (AddRecord c.args.day c.in-Ok.record) _ _ c.add.result c.in-Ok.ensures refl c.add.ensures.ok
+returns-in-Ok-clause-ok g c = row_done g.S.Store c.args.day (named c.args.row.now) _ (AddRecord c.args.day c.in-Ok.record) _ _ c.add.result c.in-Ok.ensures c.formed.ensures refl c.add.ensures.ok
 
 pub returns-in-Ok-clause-err : goal.returns-in-Ok-clause-err
 unfolding asked
-returns-in-Ok-clause-err g c = row_stopped g.S.Store c.args.day (named c.args.row.now) _ (AddRecord c.args.day c.in-Ok.record) _ _ c.add.result c.in-Ok.ensures refl c.add.ensures.err
+returns-in-Ok-clause-err g c = row_stopped g.S.Store c.args.day (named c.args.row.now) _ (AddRecord c.args.day c.in-Ok.record) _ _ c.add.result c.in-Ok.ensures c.formed.ensures refl c.add.ensures.err
 
 pub returns-in-Err-Refused-clause-ok : goal.returns-in-Err-Refused-clause-ok
 returns-in-Err-Refused-clause-ok g c =

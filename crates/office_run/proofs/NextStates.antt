@@ -1,0 +1,412 @@
+-- At which state a word leaves an office, whatever a crash leaves of it.
+use Rattle.std.proofs.Common.{◌≡◌, ◌⊎◌, inl, inr, ℕ, ℤ, zero, suc, ◌+◌, ◌≤◌, List, [], ◌∷◌, ◌++◌, length, map, take, Option, Some, Result, Ok, Err, refl, sym, ap, subst, ◌∙◌, append-nil, arith}
+use Rattle.std.proofs.Math.Seq.{take-length}
+use Rattle.std.specs.Prelude.{option_map}
+use Rattle.std.specs.Io.KnownBytes.{Appends}
+use Rattle.csv.specs.Reading.{strip_bom}
+use Rattle.sqlite_trees.specs.Tree.{Trees}
+use Rattle.sqlite.specs.Held.{Held, state}
+use Rattle.sqlite_trees.specs.declared.store.Store.{Ghosts}
+use Rattle.sqlite.specs.State.{State as FileState, HasCleanDisk}
+use Rattle.office_days.specs.declared.refusal.Refusal.{Refusal}
+use Rattle.office_rules.specs.Acts.{after as after_acts, answers, step}
+use Rattle.office_rules.specs.Forms.{IsFormedAct}
+use Rattle.office_rules.specs.Rows.{rows_of}
+use Rattle.office_rules.specs.Runs.{after_steps, candidates, open_run, whole}
+use Rattle.office_rules.specs.Sound.{IsSound}
+use Rattle.office_rules.specs.State.{State}
+use Rattle.office_rules.specs.declared.act.Act.{Act}
+use Rattle.office_rules.specs.declared.act.Act.TheVariants as act
+use Rattle.office_rules.specs.declared.answer.Answer.{Answer}
+use Rattle.office_sql.specs.declared.editions.Edition.{Edition}
+use Rattle.office_sql.specs.declared.editions.Edition.TheVariants as edition
+use Rattle.office_sql.specs.Office.{IsAtRestOver, IsOfficeIn}
+use Rattle.office_store.specs.Stands.{HoldsRows, Stands, StandsIn}
+use Rattle.office_store.specs.declared.fault.Fault.{Fault}
+use Rattle.office_store.specs.declared.fault.Fault.TheVariants as fault
+use Rattle.office_desk.specs.Headline.{AreFormed}
+use Rattle.office_desk.specs.Leaving.{StopsLeaving}
+use Rattle.office_desk.specs.Opening.{StandForIn}
+use Rattle.office_desk.proofs.RunSteps.{step_run}
+use Rattle.office_json.specs.Acts.{AskedRecord, asked}
+use Rattle.office_json.specs.Answers.{answer_lines}
+use Rattle.office_json.specs.Lists.{acts_in}
+use Rattle.office_csv.specs.ImportRows.{Fields, record_asked}
+use Rattle.office_wire.specs.Importing.{AreFrontRows, AreRowsDone, AreSomeRows, IsAnsweredBy, IsRowDone, lines_from}
+use Rattle.office_words.specs.Orders.{Ordered, application_ordered, certificate_ordered, due_day_ordered, exportation_ordered, importation_ordered, init_file_ordered, nothing_ordered, overdue_ordered, plan_file_ordered, resumption_ordered, service_ordered}
+use Rattle.office_words.specs.declared.register.Register.{Register}
+use Rattle.office_words.specs.declared.register.Register.TheVariants as register
+use Rattle.office_run.specs.Applying.{ApplyEnds, AreStopped, Applies, Performs}
+use Rattle.office_run.specs.Certifying.{CertificateEnds}
+use Rattle.office_run.specs.Exporting.{ExportEnds}
+use Rattle.office_run.specs.Importing.{ImportEnds, ImportsAt, IsRowCut}
+use Rattle.office_run.specs.NextWord.{AreActsDone, AreRowsAdded, AreStepsTaken, IsLeftBy, IsOfficeAt, IsUntouched, LeavesAt}
+use Rattle.office_run.specs.Opening.{IsNotOpened, IsOfOpened, IsOpened, IsUnopened}
+use Rattle.office_run.specs.Resuming.{ResumeEnds, Resumes}
+use Rattle.office_run.specs.Running.{InitEnds, RunEnds}
+use Rattle.office_run.specs.declared.ending.Ending.{Ending}
+use Rattle.office_run.specs.declared.ending.Ending.TheVariants as how
+
+-- ---- what the laws say
+
+abbrev pub IsOneDatabase : Type 0
+IsOneDatabase = (ed : Edition) (s u : State) (db : Trees) → IsSound s → IsSound u → StandsIn ed (rows_of s) db → StandsIn ed (rows_of u) db → s ≡ u
+
+abbrev pub StaySound : Type 0
+StaySound = (s : State) (a : Act) → IsSound s → IsFormedAct a → IsSound (step s a).1
+
+abbrev pub IsEnded : Type 0
+IsEnded = (s : State) (run : ℕ) → open_run s.office ≡ Some run → after_steps s (suc (length (candidates s.office run))) ≡ whole s run
+
+-- ---- states stay sound
+
+formed_front : (n : ℕ) (acts : List Act) → AreFormed acts → AreFormed (take n acts)
+formed_front zero acts all = tt
+formed_front (suc n) [] all = tt
+formed_front (suc n) (a ∷ acts) (is, all) = (is, formed_front n acts all)
+
+module _ (stay : StaySound) where
+  sound_acts : (acts : List Act) (s : State) → IsSound s → AreFormed acts → IsSound (after_acts s acts)
+  sound_acts [] s sound formed = sound
+  sound_acts (a ∷ acts) s sound (is, rest) = sound_acts acts (step s a).1 (stay s a sound is) rest
+
+  sound_steps : (n : ℕ) (s : State) → IsSound s → IsSound (after_steps s n)
+  sound_steps zero s sound = sound
+  sound_steps (suc n) s sound = sound_steps n _ (subst IsSound (step_run s) (stay s act.RunStep sound tt))
+
+  sound_row : (day : ℤ) (s t : State) (answer : Answer) (x : Result AskedRecord Refusal) → IsAnsweredBy day s x answer t → IsSound s → IsSound t
+  sound_row day s t answer (Ok new) (a, adding, told, is) sound = subst IsSound (sym is) (stay s a sound adding.0)
+  sound_row day s t answer (Err why) (told, is) sound = subst IsSound (sym is) sound
+
+  sound_rows : (day : ℤ) (s t : State) (rows : List Fields) (answers : List Answer) → AreRowsDone day s rows answers t → IsSound s → IsSound t
+  sound_rows day s t [] answers (none, is) sound = subst IsSound (sym is) sound
+  sound_rows day s t (row ∷ rows) answers (answer, rest, m, told, one, all) sound = sound_rows day m t rows rest all (sound_row day s m answer (record_asked row) one sound)
+
+-- ---- what a crash leaves
+
+-- tables that are those of a state alone
+at_rows : (new : FileState) (u : State) → IsSound u → HoldsRows (rows_of u) new → (db : Trees) → new.may_leave db → IsOfficeAt db u
+at_rows new u sound holds db may =
+    let is = sym (holds.rest.only db may) in
+    record {
+      edition = edition.Two;
+      office = subst (λ (t : Trees). IsOfficeIn edition.Two t) is (new.now.schema, holds.rest.office);
+      sound = sound;
+      rows = subst (λ (t : Trees). Stands (rows_of u) t) is holds.stands;
+    }
+
+-- or those of one of two states, by the fault
+at_stop : (new : FileState) (v w : State) (f : Fault) → IsSound v → IsSound w → StopsLeaving v w f new → (db : Trees) → new.may_leave db → IsOfficeAt db v ⊎ IsOfficeAt db w
+at_stop new v w fault.Memory sv sw left db may = inl (at_rows new v sv left db may)
+at_stop new v w fault.Store sv sw left db may = elim (left.either db may) [
+  | inl old ↦ inl (record { edition = edition.Two; office = left.offices db may; sound = sv; rows = old })
+  | inr next ↦ inr (record { edition = edition.Two; office = left.offices db may; sound = sw; rows = next })
+]
+at_stop new v w fault.Reopen sv sw left db may = inr (at_rows new w sw left db may)
+at_stop new v w fault.Damaged sv sw left db may = absurd left
+at_stop new v w fault.Version sv sw left db may = absurd left
+
+module _ (one : IsOneDatabase) (stay : StaySound) (ends : IsEnded) (old new : FileState) (s : State) (clean : HasCleanDisk new) (sound : IsSound s) where
+  -- the state at which the office was found is the one at which it was
+  found_same : (ed : Edition) (t : State) → StandsIn ed (rows_of s) old.now.trees → StandForIn ed old.now.trees t → t ≡ s
+  found_same ed t rows found = one ed t s old.now.trees found.sound sound found.rows rows
+
+  pub of_opened : (ed : Edition) (P : State → Type 0) → IsAtRestOver ed old → StandsIn ed (rows_of s) old.now.trees → IsOfOpened old new P → P s
+  of_opened edition.One P rest rows it = let m = it.moved clean rest in subst P (found_same edition.One m.0 rows m.1) m.2
+  of_opened edition.Two P rest rows it = let m = it.found clean rest in subst P (found_same edition.Two m.0 rows m.1) m.2
+
+  rows_opened : (ed : Edition) → IsAtRestOver ed old → StandsIn ed (rows_of s) old.now.trees → IsOpened old new → HoldsRows (rows_of s) new
+  rows_opened edition.One rest rows it = let m = it.moved clean rest in subst (λ (t : State). HoldsRows (rows_of t) new) (found_same edition.One m.0 rows m.1) m.2
+  rows_opened edition.Two rest rows it = let m = it.found clean rest in subst (λ (t : State). HoldsRows (rows_of t) new) (found_same edition.Two m.0 rows m.1) m.2
+
+  -- what was there before
+  at_before : (ed : Edition) → IsAtRestOver ed old → StandsIn ed (rows_of s) old.now.trees → (db : Trees) → old.may_leave db → IsOfficeAt db s
+  at_before ed rest rows db may =
+      let is = sym (rest.only db may) in
+      record {
+        edition = ed;
+        office = subst (λ (t : Trees). IsOfficeIn ed t) is (old.now.schema, rest.office);
+        sound = sound;
+        rows = subst (λ (t : Trees). StandsIn ed (rows_of s) t) is rows;
+      }
+
+  at_unopened : (ed : Edition) (f : Fault) → IsAtRestOver ed old → StandsIn ed (rows_of s) old.now.trees → IsUnopened f old new → (db : Trees) → new.may_leave db → IsOfficeAt db s
+  at_unopened edition.One f rest rows it db may = elim (it.leaves_old clean rest db may) [
+    | inl before ↦ at_before edition.One rest rows db before
+    | inr next ↦ record { edition = edition.Two; office = next.3; sound = sound; rows = subst (λ (t : State). Stands (rows_of t) db) (found_same edition.One next.0 rows next.1) next.2 }
+  ]
+  at_unopened edition.Two f rest rows it db may = at_before edition.Two rest rows db (it.leaves clean rest db may)
+
+  module _ (ed : Edition) (rest : IsAtRestOver ed old) (rows : StandsIn ed (rows_of s) old.now.trees) where
+    -- the state is left
+    same_left : ((db : Trees) → new.may_leave db → IsOfficeAt db s) → LeavesAt (λ u. u ≡ s) new
+    same_left at db may = (s, refl, at db may)
+
+    untouched : (Is : State → Type 0) (written after : Option (List ℕ)) → (IsUntouched written after s s → Is s) → after ≡ written → ((db : Trees) → new.may_leave db → IsOfficeAt db s) → LeavesAt Is new
+    untouched Is written after is same at db may = (s, is (refl, same), at db may)
+
+    not_opened : (written after : Option (List ℕ)) (ending : Ending) → IsNotOpened old new written after ending → ((db : Trees) → new.may_leave db → IsOfficeAt db s) × (after ≡ written)
+    not_opened written after ending it = (at_unopened ed it.0 rest rows it.2, it.3)
+
+    opened_left : IsOpened old new → LeavesAt (λ u. u ≡ s) new
+    opened_left it = same_left (at_rows new s sound (rows_opened ed rest rows it))
+
+    -- ---- init
+
+    init_left : (written after : Option (List ℕ)) (ending : Ending) → InitEnds old new written after ending → LeavesAt (λ u. u ≡ s) new
+    init_left written after how.Done it = opened_left it.0
+    init_left written after how.File it = opened_left it
+    init_left written after (how.Fault f) it = same_left (at_unopened ed f rest rows it.0)
+    init_left written after (how.Refused refusal) it = absurd it
+    init_left written after (how.LineRefused line refusal) it = absurd it
+    init_left written after how.SomeRefused it = absurd it
+    init_left written after (how.ActRefused place refusal) it = absurd it
+    init_left written after how.NotJson it = absurd it
+    init_left written after how.CsvHeader it = absurd it
+    init_left written after (how.CsvRow number) it = absurd it
+    init_left written after how.BadWords it = absurd it
+    init_left written after how.Socket it = absurd it
+    init_left written after how.SomeFailed it = absurd it
+
+    -- ---- the readings
+
+    export_left : (it : Register) (written after : Option (List ℕ)) (ending : Ending) → ExportEnds it old new written after ending → LeavesAt (λ u. u ≡ s) new
+    export_left it written after ending (inl none) = same_left (not_opened written after ending none).0
+    export_left it written after ending (inr done) = opened_left done.0
+
+    certificate_left : (run : ℕ) (written after : Option (List ℕ)) (ending : Ending) → CertificateEnds run old new written after ending → LeavesAt (λ u. u ≡ s) new
+    certificate_left run written after ending (inl none) = same_left (not_opened written after ending none).0
+    certificate_left run written after ending (inr done) = opened_left done.0
+
+    -- ---- apply
+
+    module _ (text : List ℕ) (written after : Option (List ℕ)) where
+      abbrev ActsLeft : Ending → State → Type 0
+      ActsLeft ending u = IsUntouched written after s u ⊎ AreActsDone text written after ending s u
+
+      module _ (acts : List Act) (read : acts_in text ≡ Ok (map asked acts)) where
+        all_left : (ending : Ending) → AreFormed acts → HoldsRows (rows_of (after_acts s acts)) new → (ending ≡ how.File) ⊎ Appends written after (answer_lines (answers s acts)) → LeavesAt (ActsLeft ending) new
+        all_left ending formed holds told db may =
+            let all : acts ≡ take (length acts) acts = sym (take-length acts) in (
+              after_acts s acts,
+              inr (record {
+                acts = acts;
+                read = read;
+                count = length acts;
+                within = omega arith;
+                answered = subst (λ (xs : List Act). (ending ≡ how.File) ⊎ Appends written after (answer_lines (answers s xs))) all told;
+                state = inl (ap (after_acts s) all);
+              }),
+              at_rows new (after_acts s acts) (sound_acts stay acts s sound formed) holds db may,
+            )
+
+        stopped_left : (ending : Ending) (f : Fault) (n : ℕ) → AreStopped f acts n new s → (ending ≡ how.File) ⊎ Appends written after (answer_lines (answers s (take n acts))) → LeavesAt (ActsLeft ending) new
+        stopped_left ending f n it told db may =
+            let v = after_acts s (take n acts) in
+            let w = after_acts s (take (n + 1) acts) in
+            let sound_at = λ (k : ℕ). sound_acts stay (take k acts) s sound (formed_front k acts it.formed) in
+            elim (at_stop new v w f (sound_at n) (sound_at (n + 1)) it.leaves db may) [
+              | inl here ↦ (v, inr (record { acts = acts; read = read; count = n; within = it.within; answered = told; state = inl refl }), here)
+              | inr next ↦ (w, inr (record { acts = acts; read = read; count = n; within = it.within; answered = told; state = inr refl }), next)
+            ]
+
+        performs_left : (ending : Ending) → Performs (λ P. P s) acts new written after ending → LeavesAt (ActsLeft ending) new
+        performs_left how.Done it = all_left how.Done it.done.formed it.done.rows (inr it.told)
+        performs_left how.SomeRefused it = all_left how.SomeRefused it.done.formed it.done.rows (inr it.told)
+        performs_left (how.Fault f) it = stopped_left (how.Fault f) f it.0 it.1.stopped (inr it.1.told)
+        performs_left how.File (inl it) = all_left how.File it.formed it.rows (inl refl)
+        performs_left how.File (inr it) = stopped_left how.File it.0 it.1 it.2 (inl refl)
+        performs_left (how.Refused refusal) it = absurd it
+        performs_left (how.LineRefused line refusal) it = absurd it
+        performs_left (how.ActRefused place refusal) it = absurd it
+        performs_left how.NotJson it = absurd it
+        performs_left how.CsvHeader it = absurd it
+        performs_left (how.CsvRow number) it = absurd it
+        performs_left how.BadWords it = absurd it
+        performs_left how.Socket it = absurd it
+        performs_left how.SomeFailed it = absurd it
+
+        -- of the state at which the office was
+        performs_at : (ending : Ending) → Performs (IsOfOpened old new) acts new written after ending → Performs (λ P. P s) acts new written after ending
+        performs_at how.Done it = of_opened ed _ rest rows it
+        performs_at how.SomeRefused it = of_opened ed _ rest rows it
+        performs_at (how.Fault f) it = of_opened ed _ rest rows it
+        performs_at how.File it = of_opened ed _ rest rows it
+        performs_at (how.Refused refusal) it = it
+        performs_at (how.LineRefused line refusal) it = it
+        performs_at (how.ActRefused place refusal) it = it
+        performs_at how.NotJson it = it
+        performs_at how.CsvHeader it = it
+        performs_at (how.CsvRow number) it = it
+        performs_at how.BadWords it = it
+        performs_at how.Socket it = it
+        performs_at how.SomeFailed it = it
+
+      applies_left : (ending : Ending) → IsNotOpened old new written after ending ⊎ Applies (IsOfOpened old new) text new written after ending → LeavesAt (ActsLeft ending) new
+      applies_left ending (inl none) = let it = not_opened written after ending none in untouched (ActsLeft ending) written after inl it.1 it.0
+      applies_left ending (inr (inl unread)) = untouched (ActsLeft ending) written after inl unread.2 (at_rows new s sound (of_opened ed (λ t. HoldsRows (rows_of t) new) rest rows unread.1))
+      applies_left ending (inr (inr it)) = performs_left it.0 it.1 ending (performs_at it.0 it.1 ending it.2)
+
+    -- ---- import
+
+    module _ (day : ℤ) (text written after : Option (List ℕ)) where
+      abbrev RowsLeft : Ending → State → Type 0
+      RowsLeft ending u = IsUntouched written after s u ⊎ AreRowsAdded day text written after ending s u
+
+      -- rows were added, and no more
+      added : (ending : Ending) (fs : List Fields) (told : List Answer) (u : State) → AreFrontRows text fs → AreRowsDone day s fs told u → (ending ≡ how.File) ⊎ Appends written after (lines_from 0 told) → HoldsRows (rows_of u) new → LeavesAt (RowsLeft ending) new
+      added ending fs told u front done lines holds db may = (
+        u,
+        inr (record {
+          rows = fs;
+          answers = told;
+          reached = u;
+          begins = ([], subst (AreFrontRows text) (sym (append-nil fs)) front);
+          done = done;
+          answered = lines;
+          state = inl refl;
+        }),
+        at_rows new u (sound_rows stay day s u fs told done sound) holds db may,
+      )
+
+      cut_row : (ending : Ending) (fs : List Fields) (told : List Answer) (u : State) (row : Fields) (f : Fault) → AreSomeRows text (fs ++ row ∷ []) → AreRowsDone day s fs told u → Appends written after (lines_from 0 told) → IsRowCut day u row f new → LeavesAt (RowsLeft ending) new
+      cut_row ending fs told u row f some done lines (inl it) db may = (
+        u,
+        inr (record {
+          rows = fs;
+          answers = told;
+          reached = u;
+          begins = (row ∷ [], inr some);
+          done = done;
+          answered = inr lines;
+          state = inl refl;
+        }),
+        at_rows new u (sound_rows stay day s u fs told done sound) it.1 db may,
+      )
+      cut_row ending fs told u row f some done lines (inr (new_record, a, is, adding, left)) db may =
+          let sound_u = sound_rows stay day s u fs told done sound in
+          elim (at_stop new u (step u a).1 f sound_u (stay u a sound_u adding.0) left db may) [
+            | inl here ↦ (
+              u,
+              inr (record {
+                rows = fs;
+                answers = told;
+                reached = u;
+                begins = (row ∷ [], inr some);
+                done = done;
+                answered = inr lines;
+                state = inl refl;
+              }),
+              here,
+            )
+            | inr next ↦ (
+              (step u a).1,
+              inr (record {
+                rows = fs;
+                answers = told;
+                reached = u;
+                begins = (row ∷ [], inr some);
+                done = done;
+                answered = inr lines;
+                state = inr (row, (step u a).0, (rw is (a, adding, refl, refl)));
+              }),
+              next,
+            )
+          ]
+
+      imports_left : (ending : Ending) → ImportsAt (λ P. P s) day text new written after ending → LeavesAt (RowsLeft ending) new
+      imports_left how.Done (fs, told, u, (r, left, first, ended), it, none) = added how.Done fs told u (inr (r, left, first)) it.done (inr it.told) it.saved
+      imports_left how.SomeRefused (fs, told, u, (r, left, first, ended), it, none) = added how.SomeRefused fs told u (inr (r, left, first)) it.done (inr it.told) it.saved
+      imports_left how.CsvHeader it = untouched (RowsLeft how.CsvHeader) written after inl it.2 (at_rows new s sound it.1)
+      imports_left (how.CsvRow number) (fs, told, u, (r, left, first, bad), it, is) = added (how.CsvRow number) fs told u (inr (r, left, first)) it.done (inr it.told) it.saved
+      imports_left (how.Fault f) (fs, told, u, done, lines, inl it) = added (how.Fault f) fs told u it.1 done (inr lines) it.2
+      imports_left (how.Fault f) (fs, told, u, done, lines, inr it) = cut_row (how.Fault f) fs told u it.0 f it.1 done lines it.2
+      imports_left how.File (fs, told, u, front, done, holds) = added how.File fs told u front done (inl refl) holds
+      imports_left (how.Refused refusal) it = absurd it
+      imports_left (how.LineRefused line refusal) it = absurd it
+      imports_left (how.ActRefused place refusal) it = absurd it
+      imports_left how.NotJson it = absurd it
+      imports_left how.BadWords it = absurd it
+      imports_left how.Socket it = absurd it
+      imports_left how.SomeFailed it = absurd it
+
+      imports_at : (ending : Ending) → ImportsAt (IsOfOpened old new) day text new written after ending → ImportsAt (λ P. P s) day text new written after ending
+      imports_at how.Done it = of_opened ed _ rest rows it
+      imports_at how.SomeRefused it = of_opened ed _ rest rows it
+      imports_at how.CsvHeader it = of_opened ed _ rest rows it
+      imports_at (how.CsvRow number) it = of_opened ed _ rest rows it
+      imports_at (how.Fault f) it = of_opened ed _ rest rows it
+      imports_at how.File it = of_opened ed _ rest rows it
+      imports_at (how.Refused refusal) it = it
+      imports_at (how.LineRefused line refusal) it = it
+      imports_at (how.ActRefused place refusal) it = it
+      imports_at how.NotJson it = it
+      imports_at how.BadWords it = it
+      imports_at how.Socket it = it
+      imports_at how.SomeFailed it = it
+
+      import_left : (ending : Ending) → IsNotOpened old new written after ending ⊎ ImportsAt (IsOfOpened old new) day text new written after ending → LeavesAt (RowsLeft ending) new
+      import_left ending (inl none) = let it = not_opened written after ending none in untouched (RowsLeft ending) written after inl it.1 it.0
+      import_left ending (inr it) = imports_left ending (imports_at ending it)
+
+    -- ---- resume
+
+    whole_left : (ending : Ending) (run : ℕ) → open_run s.office ≡ Some run → HoldsRows (rows_of (whole s run)) new → LeavesAt (AreStepsTaken ending s) new
+    whole_left ending run is_open holds db may =
+        let n = suc (length (candidates s.office run)) in
+        let is : whole s run ≡ after_steps s n = sym (ends s run is_open) in (
+          whole s run,
+          record { count = n; state = is; closed = λ done. (run, is_open, refl) },
+          at_rows new (whole s run) (subst IsSound (sym is) (sound_steps stay n s sound)) holds db may,
+        )
+
+    none_taken : (ending : Ending) → (ending ≡ how.Done → ⊥) → ((db : Trees) → new.may_leave db → IsOfficeAt db s) → LeavesAt (AreStepsTaken ending s) new
+    none_taken ending other at db may = (s, record { count = 0; state = refl; closed = λ done. absurd (other done) }, at db may)
+
+    resumes_left : (written after : Option (List ℕ)) (ending : Ending) → Resumes (IsOfOpened old new) new written after ending → LeavesAt (AreStepsTaken ending s) new
+    resumes_left written after how.Done (run, it, told) = let at = of_opened ed _ rest rows it in whole_left how.Done run at.was_open at.is_whole
+    resumes_left written after how.File (run, it) = let at = of_opened ed _ rest rows it in whole_left how.File run at.was_open at.is_whole
+    resumes_left written after (how.Refused refusal) (is, it, same) = none_taken (how.Refused refusal) (λ done. cc) (at_rows new s sound (of_opened ed _ rest rows it).rows)
+    resumes_left written after (how.Fault f) (it, same) db may =
+        let at = of_opened ed _ rest rows it in
+        let n = at.stopped.0 in
+        elim (at_stop new (after_steps s n) (after_steps s (suc n)) f (sound_steps stay n s sound) (sound_steps stay (suc n) s sound) at.stopped.1 db may) [
+          | inl here ↦ (after_steps s n, record { count = n; state = refl; closed = λ done. absurd cc }, here)
+          | inr next ↦ (after_steps s (suc n), record { count = suc n; state = refl; closed = λ done. absurd cc }, next)
+        ]
+    resumes_left written after (how.LineRefused line refusal) it = absurd it
+    resumes_left written after how.SomeRefused it = absurd it
+    resumes_left written after (how.ActRefused place refusal) it = absurd it
+    resumes_left written after how.NotJson it = absurd it
+    resumes_left written after how.CsvHeader it = absurd it
+    resumes_left written after (how.CsvRow number) it = absurd it
+    resumes_left written after how.BadWords it = absurd it
+    resumes_left written after how.Socket it = absurd it
+    resumes_left written after how.SomeFailed it = absurd it
+
+    resume_left : (written after : Option (List ℕ)) (ending : Ending) → ResumeEnds old new written after ending → LeavesAt (AreStepsTaken ending s) new
+    resume_left written after ending (inl none) = none_taken ending (λ done. let other : how.Fault none.0 ≡ how.Done = sym none.1 ∙ done in cc) (not_opened written after ending none).0
+    resume_left written after ending (inr it) = resumes_left written after ending it
+
+-- ---- each word
+
+module _ (one : IsOneDatabase) (stay : StaySound) (ends : IsEnded) {S : Type 0} (g : Ghosts S) (old new : Held S) (s : State) (clean : HasCleanDisk (state g new)) (sound : IsSound s) (ed : Edition) (rest : IsAtRestOver ed (state g old)) (rows : StandsIn ed (rows_of s) (state g old).now.trees) where
+  -- where the connection is as it was
+  same_held : new ≡ old → LeavesAt (λ u. u ≡ s) (state g new)
+  same_held same = subst (λ (h : Held S). LeavesAt (λ u. u ≡ s) (state g h)) (sym same) (λ db may. (s, refl, at_before one stay ends (state g old) (state g new) s clean sound ed rest rows db may))
+
+  pub word_left : (order : Ordered) (text : List ℕ) (written after : Option (List ℕ)) (ending : Ending) → RunEnds g order (Some text) old new written after ending → LeavesAt (IsLeftBy order text written after ending s) (state g new)
+  word_left nothing_ordered text written after ending it = same_held it.1
+  word_left (due_day_ordered unit count offset day) text written after ending it = same_held it.1
+  word_left (plan_file_ordered file) text written after ending it = same_held it.1
+  word_left (service_ordered file port count) text written after ending it = same_held it.1
+  word_left (init_file_ordered file) text written after ending it = init_left one stay ends (state g old) (state g new) s clean sound ed rest rows written after ending it
+  word_left (application_ordered file acts) text written after ending (inl none) = λ db may.
+      let here = same_held none.1 db may in
+      (s, inl (refl, none.2), subst (IsOfficeAt db) here.1 here.2)
+  word_left (application_ordered file acts) text written after ending (inr it) = applies_left one stay ends (state g old) (state g new) s clean sound ed rest rows text written after ending it
+  word_left (importation_ordered file day csv) text written after ending it = import_left one stay ends (state g old) (state g new) s clean sound ed rest rows day (option_map strip_bom (Some text)) written after ending it
+  word_left (overdue_ordered file day n) text written after ending it = export_left one stay ends (state g old) (state g new) s clean sound ed rest rows (register.Overdue day n) written after ending it
+  word_left (exportation_ordered file register) text written after ending it = export_left one stay ends (state g old) (state g new) s clean sound ed rest rows register written after ending it
+  word_left (resumption_ordered file) text written after ending it = resume_left one stay ends (state g old) (state g new) s clean sound ed rest rows written after ending it
+  word_left (certificate_ordered file run) text written after ending it = certificate_left one stay ends (state g old) (state g new) s clean sound ed rest rows run written after ending it
