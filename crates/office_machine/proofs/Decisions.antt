@@ -37,6 +37,6 @@ accepted_change s conditions answer next change accepted same told few fits lead
 -- a decision to do such writes is right where each change of them is
 pub going : (s : Office) (next : ByteMap → Answer × State) (answer : Answer) (writes : List RowWrite) (decided : Result Decision Memory) → IfOk decided (IsGoing answer writes)
     → ((change : Change) → change.answer ≡ answer → change.writes.items ≡ writes → IsChangeTo s next change) → IfOk decided (λ d. IsDecidedTo s next d)
-going s next answer writes (Ok (Go change)) goes right = right change goes.0 goes.1
+going s next answer writes (Ok (Go change)) goes right = let led = right change goes.0 goes.1 in (led, led.changes)
 going s next answer writes (Ok (Stay told)) goes right = absurd goes
 going s next answer writes (Err refused) goes right = tt

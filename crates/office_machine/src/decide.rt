@@ -1,7 +1,8 @@
 //! What is decided of each kind of act.
 ghost use Rattle.std.specs.Prelude.{IfOk};
-ghost use Rattle.office_rules.specs.Acts.{IsDecidedFor, IsOnAggregations, IsOnHolds, IsOnRecords, IsOnRuns, IsOnSchedules};
+ghost use Rattle.office_rules.specs.Acts.{IsDecidedTo, IsOnAggregations, IsOnHolds, IsOnRecords, IsOnRuns, IsOnSchedules, step};
 ghost use Rattle.office_rules.specs.Sound.{IsSoundOffice};
+ghost use Rattle.office_rules.specs.State.{with_contents};
 
 use crate::parts::Parts;
 use crate::{Act, Decision};
@@ -12,7 +13,7 @@ impl Parts {
     /// What is decided of an act.
     pub(crate) fn decide(&self, alloc: Global, act: &Act) -> Result<Decision, Memory>
         requires { IsSoundOffice self.now }
-        ensures { IfOk result (λ d. IsDecidedFor self.now act.now d) }
+        ensures { IfOk result (λ d. IsDecidedTo self.now (λ contents. step (with_contents self.now contents) act.now) d) }
     {
         match act {
             Act::AddSchedule { .. } | Act::AddClass { .. } | Act::SetClassSchedule { .. } => {
@@ -39,7 +40,7 @@ impl Parts {
     #[tactic(auto, unfolding(office_rules::specs::Acts::step))]
     fn decide_on_schedules(&self, alloc: Global, act: &Act) -> Result<Decision, Memory>
         requires { IsOnSchedules act.now }
-        ensures { IfOk result (λ d. IsDecidedFor self.now act.now d) }
+        ensures { IfOk result (λ d. IsDecidedTo self.now (λ contents. step (with_contents self.now contents) act.now) d) }
     {
         match act {
             Act::AddSchedule {
@@ -77,7 +78,7 @@ impl Parts {
     #[tactic(auto, unfolding(office_rules::specs::Acts::step))]
     fn decide_on_aggregations(&self, alloc: Global, act: &Act) -> Result<Decision, Memory>
         requires { IsOnAggregations act.now }
-        ensures { IfOk result (λ d. IsDecidedFor self.now act.now d) }
+        ensures { IfOk result (λ d. IsDecidedTo self.now (λ contents. step (with_contents self.now contents) act.now) d) }
     {
         match act {
             Act::AddAggregation {
@@ -105,7 +106,7 @@ impl Parts {
     fn decide_on_records(&self, alloc: Global, act: &Act) -> Result<Decision, Memory>
         requires sound { IsSoundOffice self.now }
         requires kind { IsOnRecords act.now }
-        ensures { IfOk result (λ d. IsDecidedFor self.now act.now d) }
+        ensures { IfOk result (λ d. IsDecidedTo self.now (λ contents. step (with_contents self.now contents) act.now) d) }
     {
         match act {
             Act::AddRecord { day, record } => self.decide_add_record(alloc, *day, record),
@@ -146,7 +147,7 @@ impl Parts {
     #[tactic(auto, unfolding(office_rules::specs::Acts::step))]
     fn decide_on_holds(&self, alloc: Global, act: &Act) -> Result<Decision, Memory>
         requires { IsOnHolds act.now }
-        ensures { IfOk result (λ d. IsDecidedFor self.now act.now d) }
+        ensures { IfOk result (λ d. IsDecidedTo self.now (λ contents. step (with_contents self.now contents) act.now) d) }
     {
         match act {
             Act::PlaceHold {
@@ -167,7 +168,7 @@ impl Parts {
     fn decide_on_runs(&self, alloc: Global, act: &Act) -> Result<Decision, Memory>
         requires sound { IsSoundOffice self.now }
         requires kind { IsOnRuns act.now }
-        ensures { IfOk result (λ d. IsDecidedFor self.now act.now d) }
+        ensures { IfOk result (λ d. IsDecidedTo self.now (λ contents. step (with_contents self.now contents) act.now) d) }
     {
         match act {
             Act::OpenRun { day, by } => self.decide_open_run(alloc, *day, by),

@@ -92,6 +92,7 @@ impl<'a> DueRows<'a> {
     pub fn next_row(&mut self) -> Option<DueRow<'a>>
         ensures some { IfSome result (λ row. self.old ≡ due_told row ∷ self.new) }
         ensures none { IsNone result → self.old ≡ [] }
+        ensures ended { IsNone result → self.new ≡ [] }
     {
         match self.pairs.next() {
             Some((due, record_no)) => Some(self.parts.due_row(record_no, due)),

@@ -64,6 +64,7 @@ impl<'a> EntryRows<'a> {
     pub fn next_row(&mut self) -> Option<EntryRow<'a>>
         ensures some { IfSome result (λ row. self.old ≡ entry_told row ∷ self.new) }
         ensures none { IsNone result → self.old ≡ [] }
+        ensures ended { IsNone result → self.new ≡ [] }
     {
         match self.entries.next() {
             Some(entry) => Some(entry_row(self.tree, entry)),

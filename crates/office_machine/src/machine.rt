@@ -2,7 +2,7 @@ ghost use Rattle.std.specs.Prelude.{◌≡◌, IfOk, OnErr, OnOk, false};
 ghost use Rattle.std.specs.FinMap.{get};
 ghost use Rattle.std.specs.Option.{option_map};
 ghost use Rattle.std.specs.String.{string_bytes};
-ghost use Rattle.office_rules.specs.Acts.{CanBeMade, IsDecidedFor, IsFeasible, KeepsHeld, may_release};
+ghost use Rattle.office_rules.specs.Acts.{CanBeMade, IsDecidedFor, IsFeasible, KeepsHeld, TellsItsKind, may_release};
 ghost use Rattle.office_rules.specs.Readings.{IsDueList, IsOverdueList, all_entries_of, ending_entry, record_view};
 ghost use Rattle.office_rules.specs.Registers.{AreDueRows, AreOverdueRows, entry_rows};
 ghost use Rattle.office_rules.specs.Runs.{looked_at, next_in_run};
@@ -59,6 +59,7 @@ impl Machine {
     /// as it is, and the contents of records are not asked for.
     pub fn decide(&self, alloc: Global, act: &Act) -> Result<Decision, Memory>
         ensures step { IfOk result (λ d. IsDecidedFor self.now act.now d) }
+        ensures told { IfOk result TellsItsKind }
         ensures feasible { IfOk result (λ d. IsFeasible self.now d) }
         ensures held { IfOk result (λ d. may_release act.now ≡ false → KeepsHeld self.now d) }
     {

@@ -17,6 +17,7 @@ pub mod OneState
 pub mod OneStep
 pub mod OpenRun
 pub mod Places
+pub mod Repeating
 pub mod Resuming
 pub mod Rising
 pub mod RowWrites

@@ -62,19 +62,28 @@ pub record IsChangeTo (s : Office) (next : ByteMap → Answer × State) (change 
   pub fits : CanWrite s change.writes.items
   pub leads : (contents : ByteMap) → all_writes change.writes.items (with_contents s contents) ≡ (next contents).1
 
--- a decision that is right: where nothing is to be done the answer leaves the state, else it is a change that is right
+-- where a decision leads: where nothing is to be done the answer leaves the state, else it is a change that is right
+abbrev pub LeadsTo : Office → (ByteMap → Answer × State) → Decision → Type 0
+LeadsTo s next (decision.Stay answer) = (contents : ByteMap) → next contents ≡ (answer, with_contents s contents)
+LeadsTo s next (decision.Go change) = IsChangeTo s next change
+
+-- a decision tells of a change exactly where it is one: where nothing is to be done the answer is a refusal, or that the record was added before
+abbrev pub TellsItsKind : Decision → Type 0
+TellsItsKind (decision.Stay answer) = is_of_change answer ≡ false
+TellsItsKind (decision.Go change) = is_of_change change.answer ≡ true
+
+-- a decision that is right: it leads there, and tells of a change exactly where it is one
 abbrev pub IsDecidedTo : Office → (ByteMap → Answer × State) → Decision → Type 0
-IsDecidedTo s next (decision.Stay answer) = (contents : ByteMap) → next contents ≡ (answer, with_contents s contents)
-IsDecidedTo s next (decision.Go change) = IsChangeTo s next change
+IsDecidedTo s next d = LeadsTo s next d × TellsItsKind d
 
 -- a decision to do these writes, with that answer
 abbrev pub IsGoing : Answer → List RowWrite → Decision → Type 0
 IsGoing answer writes (decision.Stay told) = ⊥
 IsGoing answer writes (decision.Go change) = (change.answer ≡ answer) × (change.writes.items ≡ writes)
 
--- and right for an act: it is that one's step, whatever the contents
+-- a decision leads where an act does: to that one's step, whatever the contents
 abbrev pub IsDecidedFor : Office → Act → Decision → Type 0
-IsDecidedFor s a d = IsDecidedTo s (λ contents. step (with_contents s contents) a) d
+IsDecidedFor s a d = LeadsTo s (λ contents. step (with_contents s contents) a) d
 
 -- a change that can be made in an office: its writes can be done, and they lead to a sound office
 unfoldable pub CanBeMade : Office → Change → Type 0

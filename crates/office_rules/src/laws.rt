@@ -2,6 +2,7 @@
 pub mod contents;
 pub mod lasting;
 pub mod refusing;
+pub mod repeating;
 pub mod resuming;
 pub mod rows;
 pub mod running;

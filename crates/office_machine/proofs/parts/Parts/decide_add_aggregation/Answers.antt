@@ -1,4 +1,4 @@
-use Rattle.std.proofs.Common.{◌≡◌, ◌∙◌, ◌∷◌, suc, ◌+◌, length, sym, ap, subst, arith}
+use Rattle.std.proofs.Common.{◌≡◌, ◌∙◌, ◌∷◌, suc, ◌+◌, length, sym, ap, subst, arith, refl}
 use Rattle.std.specs.Option.{option_copied}
 use Rattle.office_tree.specs.Conditions.{first_of, conditions_of_add_aggregation}
 use Rattle.office_tree.specs.Sound.{IsSound}
@@ -21,10 +21,13 @@ table c =
     c.dated.ensures (conditions_of_add_aggregation c.args.self.now.tree c.args.ref_text.now c.args.parent (option_copied c.args.class)) checked
 
 pub returns-in-Some : goal.returns-in-Some
-returns-in-Some c = λ contents.
-    let s = c.args.self.now in
-    let p = (goal.at.returns-in-Some c).After-dated in
-    refused_step (refusals_of_add_aggregation s c.args.day c.args.ref_text.now c.args.parent (option_copied c.args.class)) c.in-Some.refusal (with_contents s contents) (Number (suc (length s.tree.aggregations))) (with_office (with_contents s contents) (after_add_aggregation s c.args.day c.args.ref_text.now c.args.title.now c.args.parent (option_copied c.args.class))) (sym (table p) ∙ c.in-Some.is)
+returns-in-Some c = (
+  λ contents.
+      let s = c.args.self.now in
+      let p = (goal.at.returns-in-Some c).After-dated in
+      refused_step (refusals_of_add_aggregation s c.args.day c.args.ref_text.now c.args.parent (option_copied c.args.class)) c.in-Some.refusal (with_contents s contents) (Number (suc (length s.tree.aggregations))) (with_office (with_contents s contents) (after_add_aggregation s c.args.day c.args.ref_text.now c.args.title.now c.args.parent (option_copied c.args.class))) (sym (table p) ∙ c.in-Some.is),
+  refl,
+)
 
 pub returns : goal.returns
 returns c =

@@ -1,4 +1,4 @@
-use Rattle.std.proofs.Common.{◌≡◌, ◌∙◌, ◌∷◌, sym, ap, subst}
+use Rattle.std.proofs.Common.{◌≡◌, ◌∙◌, ◌∷◌, sym, ap, subst, refl}
 use Rattle.office_tree.specs.Conditions.{first_of, conditions_of_add_class}
 use Rattle.office_tree.specs.Sound.{IsSound}
 use Rattle.office_tree.specs.Tree.{TreeState}
@@ -25,10 +25,13 @@ table c =
     c.dated.ensures (conditions_of_add_class c.args.self.now.tree c.args.code.now c.args.schedule.now) checked
 
 pub returns-in-Some : goal.returns-in-Some
-returns-in-Some c = λ contents.
-    let s = c.args.self.now in
-    let p = (goal.at.returns-in-Some c).After-dated in
-    refused_step (refusals_of_add_class s c.args.day c.args.code.now (asked p)) c.in-Some.refusal (with_contents s contents) Done (with_office (with_contents s contents) (after_add_class s c.args.day c.args.code.now (asked p))) (sym (table p) ∙ c.in-Some.is)
+returns-in-Some c = (
+  λ contents.
+      let s = c.args.self.now in
+      let p = (goal.at.returns-in-Some c).After-dated in
+      refused_step (refusals_of_add_class s c.args.day c.args.code.now (asked p)) c.in-Some.refusal (with_contents s contents) Done (with_office (with_contents s contents) (after_add_class s c.args.day c.args.code.now (asked p))) (sym (table p) ∙ c.in-Some.is),
+  refl,
+)
 
 pub returns : goal.returns
 returns c =

@@ -12,15 +12,17 @@ returns-in-Some-dated c =
     let new = c.args.new.now in
     let given = same_addition c.self.inside.tree s.tree new.ref_text new.aggregation (option_copied c.as_ref-class.result) new.class (option_copied c.as_ref-schedule.result) new.schedule (ap (λ o. o.tree) c.self.view_is) c.as_ref-class.ensures.value c.as_ref-schedule.ensures.value in
     let table = c.dated.ensures (conditions_of_add_record s.tree new.ref_text new.aggregation new.class new.schedule) (c.check_add_record-check.ensures.first ∙ given) in
-    addition_refused s c.args.day new c.in-Some-dated.refusal (sym c.same_record.ensures ∙ c.in_default.is) (sym table ∙ c.in-Some-dated.is)
+    (addition_refused s c.args.day new c.in-Some-dated.refusal (sym c.same_record.ensures ∙ c.in_default.is) (sym table ∙ c.in-Some-dated.is), refl)
 
 pub returns : goal.returns
 returns c =
     let new = c.args.new.now in
     let t = c.self.inside.tree in
     let given = same_addition t t new.ref_text new.aggregation (option_copied c.as_ref-class.result) new.class (option_copied c.as_ref-schedule.result) new.schedule refl c.as_ref-class.ensures.value c.as_ref-schedule.ensures.value in
-    let table = c.dated.ensures (conditions_of_add_record t new.ref_text new.aggregation new.class new.schedule) (c.check_add_record-check.ensures.first ∙ given) in
-    record_added c.args.self.now t c.args.day new (c.record_count-number.result + 1) c.in_ok-head.head c.in_ok-bytes.bytes _
-    (ap (λ o. o.tree) c.self.view_is) (sym c.same_record.ensures ∙ c.in_default.is) (sym table ∙ c.in_default-dated.is) c.sound.ensures
-    (ap (λ n. n + 1) c.record_count-number.ensures.count) c.in_ok-head.ensures (c.in_ok-bytes.ensures.items ∙ c.deref-2.ensures.value) refl
-    (c.in_ok-writes-2.ensures ∙ ap (λ (ws : List RowWrite). ws ++ day_writes c.args.self.now c.args.day) c.in_ok-writes.ensures)
+    let table = c.dated.ensures (conditions_of_add_record t new.ref_text new.aggregation new.class new.schedule) (c.check_add_record-check.ensures.first ∙ given) in (
+      record_added c.args.self.now t c.args.day new (c.record_count-number.result + 1) c.in_ok-head.head c.in_ok-bytes.bytes _
+          (ap (λ o. o.tree) c.self.view_is) (sym c.same_record.ensures ∙ c.in_default.is) (sym table ∙ c.in_default-dated.is) c.sound.ensures
+          (ap (λ n. n + 1) c.record_count-number.ensures.count) c.in_ok-head.ensures (c.in_ok-bytes.ensures.items ∙ c.deref-2.ensures.value) refl
+          (c.in_ok-writes-2.ensures ∙ ap (λ (ws : List RowWrite). ws ++ day_writes c.args.self.now c.args.day) c.in_ok-writes.ensures),
+      refl,
+    )

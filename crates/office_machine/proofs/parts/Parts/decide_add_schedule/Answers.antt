@@ -1,4 +1,4 @@
-use Rattle.std.proofs.Common.{◌≡◌, ◌∙◌, ◌∷◌, sym, ap, subst}
+use Rattle.std.proofs.Common.{◌≡◌, ◌∙◌, ◌∷◌, sym, ap, subst, refl}
 use Rattle.office_tree.specs.Conditions.{first_of, conditions_of_add_schedule}
 use Rattle.office_tree.specs.Sound.{IsSound}
 use Rattle.office_tree.specs.Tree.{TreeState}
@@ -21,9 +21,12 @@ table c =
     c.dated.ensures (conditions_of_add_schedule s.tree c.args.code.now) checked
 
 pub returns-in-Some : goal.returns-in-Some
-returns-in-Some c = λ contents.
-    let s = c.args.self.now in
-    refused_step (refusals_of_add_schedule s c.args.day c.args.code.now) c.in-Some.refusal (with_contents s contents) Done (with_office (with_contents s contents) (after_add_schedule s c.args.day c.args.code.now c.args.schedule)) (sym (table (goal.at.returns-in-Some c).After-dated) ∙ c.in-Some.is)
+returns-in-Some c = (
+  λ contents.
+      let s = c.args.self.now in
+      refused_step (refusals_of_add_schedule s c.args.day c.args.code.now) c.in-Some.refusal (with_contents s contents) Done (with_office (with_contents s contents) (after_add_schedule s c.args.day c.args.code.now c.args.schedule)) (sym (table (goal.at.returns-in-Some c).After-dated) ∙ c.in-Some.is),
+  refl,
+)
 
 pub returns : goal.returns
 returns c =

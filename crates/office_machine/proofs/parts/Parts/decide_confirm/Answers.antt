@@ -1,4 +1,4 @@
-use Rattle.std.proofs.Common.{◌∙◌, sym, ap}
+use Rattle.std.proofs.Common.{◌∙◌, sym, ap, refl}
 use Rattle.office_tree.specs.Conditions.{first_of, conditions_of_confirm}
 use Rattle.office_tree.specs.Tree.{TreeState}
 use Rattle.office_rules.specs.Conditions.{refusals_of_confirm}
@@ -11,11 +11,14 @@ use Rattle.office_machine.proofs.Decisions.{going, refused_step}
 use Rattle.office_machine.proofs.parts.Parts.decide_confirm.Goals as goal
 
 pub returns-in-Some : goal.returns-in-Some
-returns-in-Some c = λ contents.
-    let s = c.args.self.now in
-    let checked = c.check_confirm.ensures.first ∙ ap (λ (t : TreeState). first_of (conditions_of_confirm t c.args.day c.args.record_no c.args.action)) (ap (λ o. o.tree) c.self.view_is) in
-    let table = c.dated.ensures (conditions_of_confirm s.tree c.args.day c.args.record_no c.args.action) checked in
-    refused_step (refusals_of_confirm s c.args.day c.args.record_no c.args.action) c.in-Some.refusal (with_contents s contents) Done (with_office (with_contents s contents) (after_confirm s c.args.day c.args.record_no c.args.action c.args.by.now)) (sym table ∙ c.in-Some.is)
+returns-in-Some c = (
+  λ contents.
+      let s = c.args.self.now in
+      let checked = c.check_confirm.ensures.first ∙ ap (λ (t : TreeState). first_of (conditions_of_confirm t c.args.day c.args.record_no c.args.action)) (ap (λ o. o.tree) c.self.view_is) in
+      let table = c.dated.ensures (conditions_of_confirm s.tree c.args.day c.args.record_no c.args.action) checked in
+      refused_step (refusals_of_confirm s c.args.day c.args.record_no c.args.action) c.in-Some.refusal (with_contents s contents) Done (with_office (with_contents s contents) (after_confirm s c.args.day c.args.record_no c.args.action c.args.by.now)) (sym table ∙ c.in-Some.is),
+  refl,
+)
 
 pub record-requires : goal.record-requires
 record-requires c =

@@ -1,4 +1,4 @@
-use Rattle.std.proofs.Common.{◌≡◌, ◌∷◌, ◌∙◌, List, ℕ, sym, ap}
+use Rattle.std.proofs.Common.{◌≡◌, ◌∷◌, ◌∙◌, List, ℕ, sym, ap, refl}
 use Rattle.office_tree.specs.Conditions.{first_of, conditions_of_event}
 use Rattle.office_tree.specs.Tree.{TreeState}
 use Rattle.office_rules.specs.Conditions.{refusals_of_event}
@@ -19,10 +19,13 @@ table c =
     c.dated.ensures (conditions_of_event c.args.self.now.tree c.args.day c.args.record_no c.args.occurred) checked
 
 pub returns-in-Some : goal.returns-in-Some
-returns-in-Some c = λ contents.
-    let s = c.args.self.now in
-    refused_step (refusals_of_event s c.args.day c.args.record_no c.args.occurred) c.in-Some.refusal (with_contents s contents) Done
-    (with_office (with_contents s contents) (after_event s c.args.day c.args.record_no c.args.occurred c.args.by.now)) (sym (table (goal.at.returns-in-Some c).After-dated) ∙ c.in-Some.is)
+returns-in-Some c = (
+  λ contents.
+      let s = c.args.self.now in
+      refused_step (refusals_of_event s c.args.day c.args.record_no c.args.occurred) c.in-Some.refusal (with_contents s contents) Done
+      (with_office (with_contents s contents) (after_event s c.args.day c.args.record_no c.args.occurred c.args.by.now)) (sym (table (goal.at.returns-in-Some c).After-dated) ∙ c.in-Some.is),
+  refl,
+)
 
 pub returns : goal.returns
 returns c =

@@ -1,4 +1,4 @@
-use Rattle.std.proofs.Common.{◌≡◌, ◌∙◌, ◌∷◌, suc, ◌+◌, length, sym, ap, arith}
+use Rattle.std.proofs.Common.{◌≡◌, ◌∙◌, ◌∷◌, suc, ◌+◌, length, sym, ap, arith, refl}
 use Rattle.office_tree.specs.Conditions.{first_of}
 use Rattle.office_rules.specs.Conditions.{conditions_of_open_run, refusals_of_open_run}
 use Rattle.office_rules.specs.Effects.{after_open_run, new_run}
@@ -18,10 +18,13 @@ table : (c : After-dated) → c.dated.result ≡ first_of (refusals_of_open_run 
 table c = c.dated.ensures (conditions_of_open_run c.args.self.now) c.check_open_run.ensures
 
 pub returns-in-Some : goal.returns-in-Some
-returns-in-Some c = λ contents.
-    let s = c.args.self.now in
-    let p = (goal.at.returns-in-Some c).After-dated in
-    refused_step (refusals_of_open_run s c.args.day) c.in-Some.refusal (with_contents s contents) (Number (suc (length s.runs))) (with_office (with_contents s contents) (after_open_run s c.args.day c.args.by.now)) (sym (table p) ∙ c.in-Some.is)
+returns-in-Some c = (
+  λ contents.
+      let s = c.args.self.now in
+      let p = (goal.at.returns-in-Some c).After-dated in
+      refused_step (refusals_of_open_run s c.args.day) c.in-Some.refusal (with_contents s contents) (Number (suc (length s.runs))) (with_office (with_contents s contents) (after_open_run s c.args.day c.args.by.now)) (sym (table p) ∙ c.in-Some.is),
+  refl,
+)
 
 pub overflow_add-number : goal.overflow_add-number
 overflow_add-number c = let few = few_runs c.args.self.now c.requires in omega (arith, few, c.run_count-number.ensures)

@@ -1,4 +1,4 @@
-use Rattle.std.proofs.Common.{◌≡◌, ◌∙◌, ◌∷◌, sym, ap, subst}
+use Rattle.std.proofs.Common.{◌≡◌, ◌∙◌, ◌∷◌, sym, ap, subst, refl}
 use Rattle.office_tree.specs.Conditions.{first_of}
 use Rattle.office_holds.specs.Conditions.{conditions_of_place_hold}
 use Rattle.office_holds.specs.Forms.{FitsHoldLimits}
@@ -22,9 +22,12 @@ table c =
     c.dated.ensures (conditions_of_place_hold s.holds c.args.code.now) checked
 
 pub returns-in-Some : goal.returns-in-Some
-returns-in-Some c = λ contents.
-    let s = c.args.self.now in
-    refused_step (refusals_of_place_hold s c.args.day c.args.code.now) c.in-Some.refusal (with_contents s contents) Done (with_office (with_contents s contents) (after_place_hold s c.args.day c.args.code.now c.args.reason.now c.args.by.now)) (sym (table (goal.at.returns-in-Some c).After-dated) ∙ c.in-Some.is)
+returns-in-Some c = (
+  λ contents.
+      let s = c.args.self.now in
+      refused_step (refusals_of_place_hold s c.args.day c.args.code.now) c.in-Some.refusal (with_contents s contents) Done (with_office (with_contents s contents) (after_place_hold s c.args.day c.args.code.now c.args.reason.now c.args.by.now)) (sym (table (goal.at.returns-in-Some c).After-dated) ∙ c.in-Some.is),
+  refl,
+)
 
 pub returns : goal.returns
 returns c =

@@ -1,4 +1,4 @@
-use Rattle.std.proofs.Common.{◌∙◌, Some, sym, ap}
+use Rattle.std.proofs.Common.{◌∙◌, Some, sym, ap, refl}
 use Rattle.office_tree.specs.Conditions.{first_of, conditions_of_receipt}
 use Rattle.office_tree.specs.Tree.{TreeState}
 use Rattle.office_rules.specs.Conditions.{refusals_of_receipt}
@@ -11,11 +11,14 @@ use Rattle.office_machine.proofs.Decisions.{going, refused_step}
 use Rattle.office_machine.proofs.parts.Parts.decide_receipt.Goals as goal
 
 pub returns-in-Some : goal.returns-in-Some
-returns-in-Some c = λ contents.
-    let s = c.args.self.now in
-    let checked = c.check_receipt.ensures.first ∙ ap (λ (t : TreeState). first_of (conditions_of_receipt t c.args.record_no c.args.digest)) (ap (λ o. o.tree) c.self.view_is) in
-    let table = c.dated.ensures (conditions_of_receipt s.tree c.args.record_no c.args.digest) checked in
-    refused_step (refusals_of_receipt s c.args.day c.args.record_no c.args.digest) c.in-Some.refusal (with_contents s contents) Done (with_office (with_contents s contents) (after_receipt s c.args.day c.args.record_no c.args.by.now)) (sym table ∙ c.in-Some.is)
+returns-in-Some c = (
+  λ contents.
+      let s = c.args.self.now in
+      let checked = c.check_receipt.ensures.first ∙ ap (λ (t : TreeState). first_of (conditions_of_receipt t c.args.record_no c.args.digest)) (ap (λ o. o.tree) c.self.view_is) in
+      let table = c.dated.ensures (conditions_of_receipt s.tree c.args.record_no c.args.digest) checked in
+      refused_step (refusals_of_receipt s c.args.day c.args.record_no c.args.digest) c.in-Some.refusal (with_contents s contents) Done (with_office (with_contents s contents) (after_receipt s c.args.day c.args.record_no c.args.by.now)) (sym table ∙ c.in-Some.is),
+  refl,
+)
 
 pub record-requires : goal.record-requires
 record-requires c =

@@ -1,4 +1,4 @@
-use Rattle.std.proofs.Common.{◌≡◌, ◌∙◌, None, sym, ap, subst}
+use Rattle.std.proofs.Common.{◌≡◌, ◌∙◌, None, sym, ap, subst, refl}
 use Rattle.std.specs.Option.{option_copied}
 use Rattle.office_tree.specs.Conditions.{conditions_of_reclassify, first_of}
 use Rattle.office_tree.specs.declared.classified.Classified.{Classified}
@@ -22,10 +22,13 @@ table c =
     c.dated.ensures (conditions_of_reclassifying s c.args.target class) (apart ∙ by_parts ∙ lesser_of_reclassifying s c.args.target class)
 
 pub returns-in-Some : goal.returns-in-Some
-returns-in-Some c = λ contents.
-    let s = c.args.self.now in
-    let class = option_copied c.args.class in
-    refused_step (refusals_of_reclassify s c.args.day c.args.target class) c.in-Some.refusal (with_contents s contents) Done (with_office (with_contents s contents) (after_reclassify s c.args.day c.args.target class)) (sym (table (goal.at.returns-in-Some c).After-dated) ∙ c.in-Some.is)
+returns-in-Some c = (
+  λ contents.
+      let s = c.args.self.now in
+      let class = option_copied c.args.class in
+      refused_step (refusals_of_reclassify s c.args.day c.args.target class) c.in-Some.refusal (with_contents s contents) Done (with_office (with_contents s contents) (after_reclassify s c.args.day c.args.target class)) (sym (table (goal.at.returns-in-Some c).After-dated) ∙ c.in-Some.is),
+  refl,
+)
 
 pub decide_class_of_aggregation-requires : goal.decide_class_of_aggregation-requires
 decide_class_of_aggregation-requires c =

@@ -1,4 +1,4 @@
-use Rattle.std.proofs.Common.{◌∙◌, Some, sym, ap}
+use Rattle.std.proofs.Common.{◌∙◌, Some, sym, ap, refl}
 use Rattle.std.specs.Option.{option_copied}
 use Rattle.office_tree.specs.Conditions.{first_of, conditions_of_review}
 use Rattle.office_tree.specs.Lists.{or_else}
@@ -13,12 +13,15 @@ use Rattle.office_machine.proofs.Decisions.{going, refused_step}
 use Rattle.office_machine.proofs.parts.Parts.decide_review.Goals as goal
 
 pub returns-in-Some : goal.returns-in-Some
-returns-in-Some c = λ contents.
-    let s = c.args.self.now in
-    let schedule = option_copied c.args.schedule in
-    let checked = c.check_review.ensures.first ∙ ap (λ (t : TreeState). first_of (conditions_of_review t c.args.day c.args.record_no schedule)) (ap (λ o. o.tree) c.self.view_is) in
-    let table = c.dated.ensures (conditions_of_review s.tree c.args.day c.args.record_no schedule) checked in
-    refused_step (refusals_of_review s c.args.day c.args.record_no schedule) c.in-Some.refusal (with_contents s contents) Done (with_office (with_contents s contents) (after_review s c.args.day c.args.record_no schedule c.args.by.now)) (sym table ∙ c.in-Some.is)
+returns-in-Some c = (
+  λ contents.
+      let s = c.args.self.now in
+      let schedule = option_copied c.args.schedule in
+      let checked = c.check_review.ensures.first ∙ ap (λ (t : TreeState). first_of (conditions_of_review t c.args.day c.args.record_no schedule)) (ap (λ o. o.tree) c.self.view_is) in
+      let table = c.dated.ensures (conditions_of_review s.tree c.args.day c.args.record_no schedule) checked in
+      refused_step (refusals_of_review s c.args.day c.args.record_no schedule) c.in-Some.refusal (with_contents s contents) Done (with_office (with_contents s contents) (after_review s c.args.day c.args.record_no schedule c.args.by.now)) (sym table ∙ c.in-Some.is),
+  refl,
+)
 
 pub record-old-requires : goal.record-old-requires
 record-old-requires c =

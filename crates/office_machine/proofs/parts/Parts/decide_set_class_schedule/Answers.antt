@@ -1,4 +1,4 @@
-use Rattle.std.proofs.Common.{◌≡◌, ◌∙◌, ◌∷◌, Some, sym, ap, subst}
+use Rattle.std.proofs.Common.{◌≡◌, ◌∙◌, ◌∷◌, Some, sym, ap, subst, refl}
 use Rattle.std.specs.FinMap.{get}
 use Rattle.office_tree.specs.Conditions.{first_of, conditions_of_set_class_schedule}
 use Rattle.office_tree.specs.Sound.{IsSound}
@@ -22,10 +22,13 @@ table c =
     c.dated.ensures (conditions_of_set_class_schedule c.args.self.now.tree c.args.class.now c.args.schedule.now) checked
 
 pub returns-in-Some : goal.returns-in-Some
-returns-in-Some c = λ contents.
-    let s = c.args.self.now in
-    let p = (goal.at.returns-in-Some c).After-dated in
-    refused_step (refusals_of_set_class_schedule s c.args.day c.args.class.now c.args.schedule.now) c.in-Some.refusal (with_contents s contents) Done (with_office (with_contents s contents) (after_set_class_schedule s c.args.day c.args.class.now c.args.schedule.now)) (sym (table p) ∙ c.in-Some.is)
+returns-in-Some c = (
+  λ contents.
+      let s = c.args.self.now in
+      let p = (goal.at.returns-in-Some c).After-dated in
+      refused_step (refusals_of_set_class_schedule s c.args.day c.args.class.now c.args.schedule.now) c.in-Some.refusal (with_contents s contents) Done (with_office (with_contents s contents) (after_set_class_schedule s c.args.day c.args.class.now c.args.schedule.now)) (sym (table p) ∙ c.in-Some.is),
+  refl,
+)
 
 pub returns : goal.returns
 returns c =

@@ -20,4 +20,4 @@ taking_writes-requires-clause-confirmed c = taken_confirmed c.args.self.now c.ar
 
 pub returns : goal.returns
 returns c =
-    taken_change c.args.self.now c.args.run c.args.record_no c.in-Some.outcome (record { answer = _; writes = c.in_ok-writes.writes }) c.requires.sound c.requires.opened c.requires.next (sym c.outcome_of.ensures ∙ c.in-Some.is) refl c.in_ok-writes.ensures
+    (taken_change c.args.self.now c.args.run c.args.record_no c.in-Some.outcome (record { answer = _; writes = c.in_ok-writes.writes }) c.requires.sound c.requires.opened c.requires.next (sym c.outcome_of.ensures ∙ c.in-Some.is) refl c.in_ok-writes.ensures, refl)
