@@ -3,7 +3,7 @@ use Rattle.std.proofs.Common.{◌≡◌, ℕ, ◌+◌, ◌-◌, ◌<◌, ◌≤�
 use Rattle.std.specs.Prelude.{IfNone, IfSome, IsTrue}
 use Rattle.std.proofs.lemmas.Option.{slice_get_cases, slice_get_past}
 use Rattle.office_tree.specs.Disposal.{counts, is_disposal}
-use Rattle.office_tree.specs.Lists.{holds_of, numbered}
+use Rattle.office_tree.specs.Lists.{holds_of}
 use Rattle.office_tree.specs.Marks.{mark_at, mark_of}
 use Rattle.office_tree.specs.Outlooks.{AreOutlooks, HasNoCandidateAbove, IsNextCandidate, candidate_by, is_candidate}
 use Rattle.office_tree.specs.Sound.{IsSound}

@@ -51,7 +51,8 @@ impl Outlooks {
         ensures mark_room { OnOk result (vec_len self.new.rows < length self.new.candidates) }
     {
         self.rows.try_reserve(1)?;
-        self.candidates.make_room_for(self.rows.len() as RecordNo + 1)?;
+        self.candidates
+            .make_room_for(self.rows.len() as RecordNo + 1)?;
         Ok(())
     }
 

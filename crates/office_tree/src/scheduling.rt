@@ -105,7 +105,8 @@ impl Tree {
         requires { IsTrue (has_record self.now record_no) }
         ensures { plan_of self.now record_no ≡ Some result.now }
     {
-        self.plans.code(self.outlooks.rows[record_no as usize - 1].plan)
+        self.plans
+            .code(self.outlooks.rows[record_no as usize - 1].plan)
     }
 
     /// The schedule of the record's plan.

@@ -1,7 +1,6 @@
 use Rattle.std.proofs.Common.{◌∙◌, ◌≡◌, ◌-◌, ◌++◌, ◌∷◌, [], length, set, ap, arith}
 use Rattle.std.proofs.Math.Seq.{set-append_seam}
 use Rattle.std.proofs.lemmas.List.{length_push}
-use Rattle.office_tree.specs.declared.outlook.Outlook.{Outlook}
 use Rattle.office_tree.proofs.outlooks.Outlooks.add.Goals as goal
 
 pub returns : goal.returns
