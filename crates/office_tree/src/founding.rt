@@ -16,7 +16,7 @@ ghost use Rattle.office_tree.specs.declared.aggregation.Aggregation.{Aggregation
 use crate::grouping::{Grouping, grouping_of};
 use crate::homes::{Homes, children_of, homes_of};
 use crate::indexing::{index_of_aggregations, index_of_records};
-use crate::outlook::Outlook;
+use crate::outlooks::Outlooks;
 use crate::plans::{Plans, plans_of};
 use crate::renewing::outlooks_of;
 use crate::rows::Rows;
@@ -237,7 +237,7 @@ struct Kept {
     by_aggregation_ref: BTreeMap<Text, AggNo>,
     by_record_ref: BTreeMap<Text, RecordNo>,
     plans: Plans,
-    outlooks: Vec<Outlook>,
+    outlooks: Outlooks,
     tallies: Vec<Tally>,
     homes: Homes,
     children: Homes,
@@ -247,7 +247,7 @@ struct Kept {
 /// What is to be kept beside the rows.
 fn kept_of(alloc: Global, rows: &Rows<'_>) -> Result<Kept, Memory>
     requires { IsSound rows.now }
-    ensures stored { IfOk result (λ kept. IsStored rows.now (from_entries kept.by_aggregation_ref.entries) (from_entries kept.by_record_ref.entries) kept.plans kept.outlooks.items kept.tallies.items kept.homes.last.items kept.homes.before.items) }
+    ensures stored { IfOk result (λ kept. IsStored rows.now (from_entries kept.by_aggregation_ref.entries) (from_entries kept.by_record_ref.entries) kept.plans kept.outlooks.rows.items kept.tallies.items kept.homes.last.items kept.homes.before.items) }
     ensures grouping { IfOk result (λ kept. AreGrouped rows.now.classes rows.now.aggregations rows.now.records (from_entries kept.grouping.numbers.entries) kept.grouping.members.first.items kept.grouping.members.next.items kept.grouping.members.previous.items kept.grouping.members.class.items) }
     ensures children { IfOk result (λ kept. HasChildren rows.now.aggregations kept.children.last.items kept.children.before.items) }
 {

@@ -1,9 +1,9 @@
 //! The plan, the start day and the due day of a record.
-ghost use Rattle.std.specs.Prelude.{◌≡◌, ◌<◌, ◌≤◌, IsTrue, Some, length};
+ghost use Rattle.std.specs.Prelude.{◌≡◌, ◌<◌, ◌≤◌, IfNone, IfSome, IsTrue, Some, length};
 ghost use Rattle.std.specs.FinMap.{from_entries};
 ghost use Rattle.std.specs.Option.{option_and_then, option_map};
 ghost use Rattle.office_tree.specs.Lists.{later, numbered};
-ghost use Rattle.office_tree.specs.Outlooks.{is_candidate};
+ghost use Rattle.office_tree.specs.Outlooks.{HasNoCandidateAbove, IsNextCandidate, is_candidate};
 ghost use Rattle.office_tree.specs.Tallies.{AreLastAdditions};
 ghost use Rattle.office_tree.specs.Tree.{due_by, due_of, has_record, plan_of, schedule_of, start_in, start_of};
 
@@ -96,7 +96,7 @@ impl Tree {
         ensures due { result.due ≡ due_of self.now record_no }
         ensures candidate { result.is_candidate ≡ is_candidate self.now record_no }
     {
-        self.outlooks[record_no as usize - 1]
+        self.outlooks.rows[record_no as usize - 1]
     }
 
     /// The code of the record's plan: its own schedule, else the schedule of its class (MoReq2010,
@@ -105,7 +105,8 @@ impl Tree {
         requires { IsTrue (has_record self.now record_no) }
         ensures { plan_of self.now record_no ≡ Some result.now }
     {
-        self.plans.code(self.outlooks[record_no as usize - 1].plan)
+        self.plans
+            .code(self.outlooks.rows[record_no as usize - 1].plan)
     }
 
     /// The schedule of the record's plan.
@@ -152,5 +153,14 @@ impl Tree {
         ensures { result ≡ is_candidate self.now record_no }
     {
         self.outlook(record_no).is_candidate
+    }
+
+    /// The least candidate for a disposal run above the number, found without the records that are none.
+    pub fn next_candidate(&self, above: RecordNo) -> Option<RecordNo>
+        ensures there { IfSome result (λ r. IsTrue (has_record self.now r)) }
+        ensures found { IfSome result (IsNextCandidate self.now above) }
+        ensures none { IfNone result (HasNoCandidateAbove self.now above) }
+    {
+        self.outlooks.next_candidate(above)
     }
 }

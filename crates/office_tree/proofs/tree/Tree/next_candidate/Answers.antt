@@ -1,0 +1,14 @@
+use Rattle.office_tree.specs.contracts.tree.Tree.{the_view}
+use Rattle.office_tree.proofs.CandidatesMarked.{found_as, none_as, there_as}
+use Rattle.office_tree.proofs.tree.Tree.next_candidate.Goals as goal
+
+pub returns : goal.returns
+returns c =
+    let stored = c.self.invariant.0 in
+    let looks = c.self.inside.outlooks.rows.items in
+    let found = c.next_candidate.ensures in
+    record {
+      there = there_as c.self.inside.plans (the_view c.self.inside) c.args.self.now looks stored.outlooks stored.sound c.self.view_is c.args.above c.next_candidate.result found.higher found.there;
+      found = found_as c.self.inside.plans (the_view c.self.inside) c.args.self.now looks stored.outlooks stored.sound c.self.view_is c.args.above c.next_candidate.result found.higher found.candidate found.between;
+      none = none_as c.self.inside.plans (the_view c.self.inside) c.args.self.now looks stored.outlooks stored.sound c.self.view_is c.args.above c.next_candidate.result found.none;
+    }
