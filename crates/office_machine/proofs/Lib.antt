@@ -11,6 +11,7 @@ pub mod DueLists
 pub mod EndingEntries
 pub mod LesserRefusals
 pub mod LookedAt
+pub mod NextCandidate
 pub mod NextReady
 pub mod OfficeSound
 pub mod OpenedRuns

@@ -57,22 +57,21 @@ impl Parts {
         }
     }
 
-    /// The least ready record above the cursor of the run, and how many candidates were looked at.
+    /// The least ready record above the cursor of the run, and how many candidates were looked at; no other record is.
     fn next_ready_counted(&self, run: RunNo) -> (Option<RecordNo>, u32)
         requires { IsSome (numbered self.now.runs run) }
         ensures next { result.0 ≡ next_ready self.now run }
         ensures count { result.1 ≡ looked_at_in self.now run }
     {
         let it = self.run(run);
+        let mut above = it.cursor;
         let mut count = 0;
-        for before in it.cursor..self.tree.record_count() {
-            let record_no = before + 1;
-            if self.tree.is_candidate(record_no) {
-                count += 1;
-                if self.is_ready(it.day, record_no) {
-                    return (Some(record_no), count);
-                }
+        while let Some(record_no) = self.tree.next_candidate(above) {
+            count += 1;
+            if self.is_ready(it.day, record_no) {
+                return (Some(record_no), count);
             }
+            above = record_no;
         }
         (None, count)
     }
