@@ -367,10 +367,10 @@ module _ (one : IsOneDatabase) (stay : StaySound) (ends : IsEnded) (old new : Fi
     resumes_left written after how.Done (run, it, told) = let at = of_opened ed _ rest rows it in whole_left how.Done run at.was_open at.is_whole
     resumes_left written after how.File (run, it) = let at = of_opened ed _ rest rows it in whole_left how.File run at.was_open at.is_whole
     resumes_left written after (how.Refused refusal) (is, it, same) = none_taken (how.Refused refusal) (λ done. cc) (at_rows new s sound (of_opened ed _ rest rows it).rows)
-    resumes_left written after (how.Fault f) (it, same) db may =
+    resumes_left written after (how.Fault f) (it, same) =
         let at = of_opened ed _ rest rows it in
         let n = at.stopped.0 in
-        elim (at_stop new (after_steps s n) (after_steps s (suc n)) f (sound_steps stay n s sound) (sound_steps stay (suc n) s sound) at.stopped.1 db may) [
+        λ db may. elim (at_stop new (after_steps s n) (after_steps s (suc n)) f (sound_steps stay n s sound) (sound_steps stay (suc n) s sound) at.stopped.1 db may) [
           | inl here ↦ (after_steps s n, record { count = n; state = refl; closed = λ done. absurd cc }, here)
           | inr next ↦ (after_steps s (suc n), record { count = suc n; state = refl; closed = λ done. absurd cc }, next)
         ]

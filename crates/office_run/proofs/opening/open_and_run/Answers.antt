@@ -12,7 +12,7 @@ returns-in-Ok g c =
     let ran = c.run_on-status.ensures in
     let law = c.law_of_the_last_commit.ensures in
     let opened = opened_from (image_at g.S.Start) was last ran.clean c.in-Ok.ensures.opened c.in-Ok.ensures.found law.only law.stays in
-    record { runs = (ran.runs.0, ran.runs.1, inr (last, record { was = was; opened = opened; ends = ran.runs.2; stays = c.law_of_the_last_commit-2.ensures.stays }, c.close.ensures)) }
+    record { runs = (ran.runs.0, ran.runs.1, inr (last, record { was = was; opened = opened; ends = ran.runs.2; stays = c.law_of_the_last_commit-in-Ok.ensures.stays }, c.close.ensures)) }
 
 pub returns : goal.returns
 returns g c = record { runs = (Fault Store, c.status.ensures, inl (refl, refl, refl)) }

@@ -10,7 +10,7 @@ returns-in-Ok g c =
     let served = c.serve_on-ending.ensures in
     let law = c.law_of_the_last_commit.ensures in
     let opened = opened_from (image_at g.S.Start) was last served.clean c.in-Ok.ensures.opened c.in-Ok.ensures.found law.only law.stays in
-    inr (last, record { was = was; opened = opened; ends = served.ends; stays = c.law_of_the_last_commit-2.ensures.stays }, c.close.ensures)
+    inr (last, record { was = was; opened = opened; ends = served.ends; stays = c.law_of_the_last_commit-in-Ok.ensures.stays }, c.close.ensures)
 
 pub returns : goal.returns
 returns g c = inl (refl, refl, refl)
