@@ -19,12 +19,12 @@ use Rattle.office_rules.specs.Rows.{rows_of}
 use Rattle.office_rules.specs.State.{State}
 use Rattle.office_store.specs.Stands.{StandsIn}
 use Rattle.office_words.specs.Orders.{Ordered}
-use Rattle.office_run.specs.Files.{EndsInFiles, EndsOver, HeldOffice, IsLeftOf, RunsInFiles}
-use Rattle.office_run.specs.NextWord.{HoldsOfficeAt, IsLeftBy, IsOfficeAt, LeavesAt, LeavesFilesAt}
-use Rattle.office_run.specs.Running.{RunEnds}
+use Rattle.office_run.specs.Files.{HeldOffice, IsLeftOf, RunsInFiles, ServesInFiles}
+use Rattle.office_run.specs.NextWord.{HoldsOfficeAt, IsLeftBy, IsServedTo, LeavesAt, LeavesFilesAt}
 use Rattle.office_run.specs.declared.ending.Ending.{Ending}
 use Rattle.office_run.specs.declared.opening.FilesLeft.{FilesLeft}
 use Rattle.office_run.specs.declared.opening.FilesLeft.TheVariants as files
+use Rattle.office_run.proofs.NextService.{service_left}
 use Rattle.office_run.proofs.NextStates.{IsEnded, IsOneDatabase, StaySound, word_left}
 
 module _ {D : Type 0} {g : Ghosts D} (Is : State → Type 0) (last : Held (FileStore D g)) (leaves : HasCleanDisk (file_state last) → LeavesAt Is (file_state last))
@@ -65,4 +65,17 @@ word_leaves one stay ends image s order text written after ending left holds (in
     (λ clean.
         let was = over.opened.rest clean ed holds.trees held in
         word_left one stay ends over_files over.was last s clean holds.office.sound ed was.0 (subst (StandsIn ed (rows_of s)) (sym was.1) holds.office.rows) order text written after ending over.ends)
+    over.stays left is_left
+
+-- and so does a service
+pub service_leaves : IsOneDatabase → StaySound → IsEnded → {D : Type 0} {g : Ghosts D} (image : Image) (s : State) (port count : ℕ) (written after : Option (List ℕ)) (ending : Ending) (left : FilesLeft D g)
+    → HoldsOfficeAt image s → ServesInFiles left image port count written after ending → LeavesFilesAt (IsServedTo s) left
+service_leaves one stay ends image s port count written after ending left holds (inl none) = subst (LeavesFilesAt (IsServedTo s)) (sym none.1) tt
+service_leaves one stay ends image s port count written after ending left holds (inr (last, over, is_left)) =
+    let ed = holds.office.edition in
+    let held : HeldOffice ed image holds.trees = record { held = holds.held; office = holds.office.office } in
+    files_at (IsServedTo s) last
+    (λ clean.
+        let was = over.opened.rest clean ed holds.trees held in
+        service_left one stay ends over_files over.was last s clean holds.office.sound ed was.0 (subst (StandsIn ed (rows_of s)) (sym was.1) holds.office.rows) port count written after ending over.ends)
     over.stays left is_left

@@ -60,17 +60,17 @@ IsEnded = (s : State) (run : ℕ) → open_run s.office ≡ Some run → after_s
 
 -- ---- states stay sound
 
-formed_front : (n : ℕ) (acts : List Act) → AreFormed acts → AreFormed (take n acts)
+pub formed_front : (n : ℕ) (acts : List Act) → AreFormed acts → AreFormed (take n acts)
 formed_front zero acts all = tt
 formed_front (suc n) [] all = tt
 formed_front (suc n) (a ∷ acts) (is, all) = (is, formed_front n acts all)
 
 module _ (stay : StaySound) where
-  sound_acts : (acts : List Act) (s : State) → IsSound s → AreFormed acts → IsSound (after_acts s acts)
+  pub sound_acts : (acts : List Act) (s : State) → IsSound s → AreFormed acts → IsSound (after_acts s acts)
   sound_acts [] s sound formed = sound
   sound_acts (a ∷ acts) s sound (is, rest) = sound_acts acts (step s a).1 (stay s a sound is) rest
 
-  sound_steps : (n : ℕ) (s : State) → IsSound s → IsSound (after_steps s n)
+  pub sound_steps : (n : ℕ) (s : State) → IsSound s → IsSound (after_steps s n)
   sound_steps zero s sound = sound
   sound_steps (suc n) s sound = sound_steps n _ (subst IsSound (step_run s) (stay s act.RunStep sound tt))
 
@@ -85,7 +85,7 @@ module _ (stay : StaySound) where
 -- ---- what a crash leaves
 
 -- tables that are those of a state alone
-at_rows : (new : FileState) (u : State) → IsSound u → HoldsRows (rows_of u) new → (db : Trees) → new.may_leave db → IsOfficeAt db u
+pub at_rows : (new : FileState) (u : State) → IsSound u → HoldsRows (rows_of u) new → (db : Trees) → new.may_leave db → IsOfficeAt db u
 at_rows new u sound holds db may =
     let is = sym (holds.rest.only db may) in
     record {
@@ -96,7 +96,7 @@ at_rows new u sound holds db may =
     }
 
 -- or those of one of two states, by the fault
-at_stop : (new : FileState) (v w : State) (f : Fault) → IsSound v → IsSound w → StopsLeaving v w f new → (db : Trees) → new.may_leave db → IsOfficeAt db v ⊎ IsOfficeAt db w
+pub at_stop : (new : FileState) (v w : State) (f : Fault) → IsSound v → IsSound w → StopsLeaving v w f new → (db : Trees) → new.may_leave db → IsOfficeAt db v ⊎ IsOfficeAt db w
 at_stop new v w fault.Memory sv sw left db may = inl (at_rows new v sv left db may)
 at_stop new v w fault.Store sv sw left db may = elim (left.either db may) [
   | inl old ↦ inl (record { edition = edition.Two; office = left.offices db may; sound = sv; rows = old })
@@ -108,7 +108,7 @@ at_stop new v w fault.Version sv sw left db may = absurd left
 
 module _ (one : IsOneDatabase) (stay : StaySound) (ends : IsEnded) (old new : FileState) (s : State) (clean : HasCleanDisk new) (sound : IsSound s) where
   -- the state at which the office was found is the one at which it was
-  found_same : (ed : Edition) (t : State) → StandsIn ed (rows_of s) old.now.trees → StandForIn ed old.now.trees t → t ≡ s
+  pub found_same : (ed : Edition) (t : State) → StandsIn ed (rows_of s) old.now.trees → StandForIn ed old.now.trees t → t ≡ s
   found_same ed t rows found = one ed t s old.now.trees found.sound sound found.rows rows
 
   pub of_opened : (ed : Edition) (P : State → Type 0) → IsAtRestOver ed old → StandsIn ed (rows_of s) old.now.trees → IsOfOpened old new P → P s
@@ -130,7 +130,7 @@ module _ (one : IsOneDatabase) (stay : StaySound) (ends : IsEnded) (old new : Fi
         rows = subst (λ (t : Trees). StandsIn ed (rows_of s) t) is rows;
       }
 
-  at_unopened : (ed : Edition) (f : Fault) → IsAtRestOver ed old → StandsIn ed (rows_of s) old.now.trees → IsUnopened f old new → (db : Trees) → new.may_leave db → IsOfficeAt db s
+  pub at_unopened : (ed : Edition) (f : Fault) → IsAtRestOver ed old → StandsIn ed (rows_of s) old.now.trees → IsUnopened f old new → (db : Trees) → new.may_leave db → IsOfficeAt db s
   at_unopened edition.One f rest rows it db may = elim (it.leaves_old clean rest db may) [
     | inl before ↦ at_before edition.One rest rows db before
     | inr next ↦ record { edition = edition.Two; office = next.3; sound = sound; rows = subst (λ (t : State). Stands (rows_of t) db) (found_same edition.One next.0 rows next.1) next.2 }

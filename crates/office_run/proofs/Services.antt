@@ -7,7 +7,7 @@ use Rattle.office_plan.specs.declared.output.Io.{Io}
 use Rattle.office_desk.specs.Desk.{DeskState}
 use Rattle.office_wire.specs.Connections.{Turn, Turns}
 
-clean_turn : {S : Type 0} (g : Ghosts S) (status : Result ℕ Io) (old new : DeskState S) → Turn g status old new → HasCleanDisk (state g new.held) → HasCleanDisk (state g old.held)
+pub clean_turn : {S : Type 0} (g : Ghosts S) (status : Result ℕ Io) (old new : DeskState S) → Turn g status old new → HasCleanDisk (state g new.held) → HasCleanDisk (state g old.held)
 clean_turn g status old new (inl failed) clean = subst (λ (d : DeskState _). HasCleanDisk (state g d.held)) failed.1 clean
 clean_turn g status old new (inr visited) clean = visited.clean clean
 

@@ -21,6 +21,7 @@ use Rattle.office_rules.specs.declared.answer.Answer.{Answer}
 use Rattle.office_sql.specs.declared.editions.Edition.{Edition}
 use Rattle.office_sql.specs.Office.{IsOfficeIn}
 use Rattle.office_store.specs.Stands.{StandsIn}
+use Rattle.office_desk.specs.Headline.{AreFormed}
 use Rattle.office_words.specs.Orders.{Ordered, application_ordered, certificate_ordered, due_day_ordered, exportation_ordered, importation_ordered, init_file_ordered, nothing_ordered, overdue_ordered, plan_file_ordered, resumption_ordered, service_ordered}
 use Rattle.office_json.specs.Acts.{asked}
 use Rattle.office_json.specs.Answers.{answer_lines}
@@ -93,6 +94,10 @@ IsLeftBy (service_ordered file port count) text written after ending s u = u ≡
 IsLeftBy (plan_file_ordered file) text written after ending s u = u ≡ s
 IsLeftBy (due_day_ordered unit count offset day) text written after ending s u = u ≡ s
 IsLeftBy nothing_ordered text written after ending s u = u ≡ s
+
+-- a service leaves an office after some acts
+abbrev pub IsServedTo : State → State → Type 0
+IsServedTo s u = (done : List Act) × AreFormed done × (u ≡ after_acts s done)
 
 -- ---- what the two files hold then
 

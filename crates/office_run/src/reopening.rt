@@ -13,8 +13,8 @@ ghost use Rattle.office_sql.specs.declared.editions.Edition.{Edition};
 ghost use Rattle.office_sql.specs.Office.{IsOfficeIn};
 ghost use Rattle.office_rules.specs.State.{State};
 ghost use Rattle.office_words.specs.Orders.{Ordered};
-ghost use Rattle.office_run.specs.Files.{HeldOffice, IsLeftOf, LeavesAnOffice, RunsInFiles};
-ghost use Rattle.office_run.specs.NextWord.{HoldsOfficeAt, IsLeftBy, LeavesFilesAt};
+ghost use Rattle.office_run.specs.Files.{HeldOffice, IsLeftOf, LeavesAnOffice, RunsInFiles, ServesInFiles};
+ghost use Rattle.office_run.specs.NextWord.{HoldsOfficeAt, IsLeftBy, IsServedTo, LeavesFilesAt};
 ghost use Rattle.office_run.specs.declared.ending.Ending.{Ending};
 ghost use Rattle.office_run.specs.declared.opening.FilesLeft.{FilesLeft};
 ghost use Rattle.office_run.specs.declared.opening.FilesLeft.TheVariants as files;
@@ -44,7 +44,8 @@ pub fn law_of_the_next_word<D: Disk + Drop>()
 /// was run ([`crate::open_and_run`] promises `RunsInFiles`), hold an office again, at the state at which the word leaves
 /// it (`IsLeftBy`): of `apply`, after the acts whose answers were written and at most one more; of `import`, after the
 /// rows whose lines were written and at most one more; of `resume`, after some steps of the run, and where it says
-/// `certificate` after all; of each other word, at the same state. It is so where the word ended and the files were
+/// `certificate` after all; of each other word, at the same state. A service ([`crate::open_and_serve`] promises
+/// `ServesInFiles`) leaves it after some acts (`IsServedTo`). It is so where the word ended and the files were
 /// closed, as they read now and after any crash, and where they were not closed, since the disk failed or the process
 /// stopped, after any crash.
 ///
@@ -52,8 +53,10 @@ pub fn law_of_the_next_word<D: Disk + Drop>()
 /// `text` is what the reader of ACTS or CSV has, where it tells that; the other words read nothing. That the store is
 /// numbered is a premise of files that were not closed, as in [`law_of_the_next_word`].
 pub fn law_of_each_word<D: Disk + Drop>()
-    ensures { (image : Image) (s : State) (order : Ordered) (text : List ℕ) (written after : Option (List ℕ)) (ending : Ending) (left : FilesLeft D D.Disk)
+    ensures word { (image : Image) (s : State) (order : Ordered) (text : List ℕ) (written after : Option (List ℕ)) (ending : Ending) (left : FilesLeft D D.Disk)
         → HoldsOfficeAt image s → RunsInFiles left image order (Some text) written after ending → LeavesFilesAt (IsLeftBy order text written after ending s) left }
+    ensures service { (image : Image) (s : State) (port count : ℕ) (written after : Option (List ℕ)) (ending : Ending) (left : FilesLeft D D.Disk)
+        → HoldsOfficeAt image s → ServesInFiles left image port count written after ending → LeavesFilesAt (IsServedTo s) left }
 {
     law_of_one_database();
     law_of_soundness();

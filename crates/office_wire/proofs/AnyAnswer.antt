@@ -70,6 +70,7 @@ content_any Told g t (Some r) desk (inr it) = inr (
     kept = it.1.kept;
     given_up = it.1.given_up;
     leaves = it.1.leaves;
+    offices = it.1.offices;
     no_other = it.1.no_other;
   },
 )

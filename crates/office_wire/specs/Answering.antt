@@ -11,6 +11,7 @@ use Rattle.office_rules.specs.Runs.{IsMidway, after_steps, open_run, whole}
 use Rattle.office_rules.specs.State.{Office, State}
 use Rattle.office_rules.specs.declared.act.Act.{Act}
 use Rattle.office_rules.specs.declared.answer.Answer.TheVariants.{Refused, RunClosed}
+use Rattle.office_store.specs.Stands.{LeavesOffices}
 use Rattle.office_store.specs.declared.fault.Fault.{Fault}
 use Rattle.office_store.specs.declared.fault.Fault.TheVariants as fault
 use Rattle.office_desk.specs.Desk.{DeskState}
@@ -108,6 +109,7 @@ pub record IsUntold {S : Type 0} (Told : Response → Type 0) (g : Ghosts S) (t 
   pub kept : f ≢ fault.Store → StandsAt g t desk
   pub given_up : f ≡ fault.Store → IsTrue desk.is_given_up
   pub leaves : LeavesRowsOf t (state g desk.held)
+  pub offices : LeavesOffices (state g desk.held)
   pub no_other : (f ≢ fault.Reopen) × (f ≢ fault.Version)
 
 abbrev pub TellsContent : {S : Type 0} → (Response → Type 0) → Ghosts S → State → Option ℕ → DeskState S → Type 0

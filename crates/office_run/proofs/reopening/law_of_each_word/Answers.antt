@@ -1,5 +1,9 @@
-use Rattle.office_run.proofs.NextFiles.{word_leaves}
+use Rattle.office_run.proofs.NextFiles.{service_leaves, word_leaves}
 use Rattle.office_run.proofs.reopening.law_of_each_word.Goals as goal
 
 pub returns : goal.returns
-returns g c = word_leaves c.law_of_one_database.ensures.one c.law_of_soundness.ensures.step c.law_of_resumption.ensures.ends
+returns g c =
+    let one = c.law_of_one_database.ensures.one in
+    let stay = c.law_of_soundness.ensures.step in
+    let ends = c.law_of_resumption.ensures.ends in
+    record { word = word_leaves one stay ends; service = service_leaves one stay ends }
