@@ -3,6 +3,7 @@ use Rattle.std.specs.Prelude.{◌≡◌, ℕ, ◌≤◌, Bool, false, List, Opti
 use Rattle.office_tree.specs.Flags.{flag_at}
 use Rattle.office_tree.specs.declared.outlook.Outlook.{Outlook}
 
+-- what is kept of a record says whether it is a candidate; where nothing is kept there is none
 abbrev pub mark_of : Option Outlook → Bool
 mark_of None = false
 mark_of (Some it) = it.is_candidate
