@@ -12,7 +12,7 @@ import sys
 import time
 from typing import Any, NamedTuple
 
-from replica_trials.space import socket_in
+from replica_trials.networks import socket_in
 
 TOP = pathlib.Path(__file__).resolve().parent.parent.parent
 OFFICE = str(pathlib.Path(os.environ.get("OFFICE", TOP / "crates/office/out/office")).resolve())
