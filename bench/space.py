@@ -1,4 +1,4 @@
-"""A place of its own for a run of a trial: its mounts, network and processes end with it, whatever happens.
+"""A place of its own for a run of a trial: its mounts, network and processes end with it.
 
 No port of this machine is used, and nothing of it changes. So runs go beside each other.
 """

@@ -210,6 +210,14 @@ class Cluster:
     def signal(self, name: str, what: int) -> None:
         self.processes[name].send_signal(what)
 
+    def make_snapshot(self, machine: int) -> None:
+        """SIGHUP, and then the snapshot at the member's position, or none within two minutes."""
+        place = self.home(machine) / "snapshots" / f"{self.position(machine):016d}"
+        self.signal(f"member{machine}", signal.SIGHUP)
+        began = time.monotonic()
+        while not place.is_dir() and time.monotonic() - began < 120:
+            time.sleep(0.05)
+
     def office_process(self, machine: int) -> int | None:
         """The office that is the child of a member."""
         process = self.processes.get(f"member{machine}")
