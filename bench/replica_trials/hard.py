@@ -13,7 +13,7 @@ import uuid
 
 from replica_trials import faults, requests
 from replica_trials.checks import Archivist
-from replica_trials.cluster import OFFICE, TOP, Cluster
+from replica_trials.cluster import OFFICE, TOP, Cluster, ask
 from replica_trials.judging import judge
 from replica_trials.posting import begun, get, halts, post, posted, record
 from replica_trials.verdict import same_rows
@@ -44,6 +44,10 @@ def no_quorum(cluster: Cluster) -> None:
     judge("no quorum: so is one at a member without its etcd",
           told == b'{"error":"quorum"}' and time.time() - began < 2,
           f"{told!r} {time.time() - began:.2f} s", always=True)
+    replies = [ask(cluster.place(it), "POST", path, body) for it in range(3)
+               for path, body in (("/acts", b"no acts"), ("/run/resume", None))]
+    judge("no quorum: so are a body that is no acts, and a resumption, at all three",
+          {(it.status, it.body) for it in replies} == {(503, b'{"error":"quorum"}')}, replies)
     judge("no quorum: GETs go on at all three",
           all(get(cluster, it, "/records/1").status == 200 for it in range(3)))
     judge("no quorum: a GET that asks for the newest is 503",
@@ -66,6 +70,7 @@ def same_answers(cluster: Cluster) -> None:
     """What is no request for the log is answered by each member as by the bare office."""
     begun(cluster)
     requests.compared(cluster)
+    requests.not_acts(cluster)
     requests.keys(cluster)
     requests.wrong_settings(cluster)
     same_rows(cluster, "requests")
