@@ -1,6 +1,7 @@
 """What a member cannot do or cannot use: each time it stops answering, and comes back by itself."""
 from __future__ import annotations
 
+import json
 import pathlib
 import random
 import resource
@@ -8,10 +9,12 @@ import shutil
 import signal
 import subprocess
 import time
+from typing import Any
 
+from replica_trials.checks import Archivist
 from replica_trials.cluster import Cluster
 from replica_trials.judging import judge
-from replica_trials.posting import begun, get, posted, record
+from replica_trials.posting import begun, get, post, posted, record
 from replica_trials.verdict import same_rows
 
 
@@ -53,6 +56,46 @@ def full_disk(cluster: Cluster) -> None:
     finally:
         cluster.stop_all()
         subprocess.run(["umount", "--lazy", home], check=True)
+
+
+def full_etcd(cluster: Cluster) -> None:
+    """A member that is away holds the log back, until etcd is as full as the settings allow."""
+    cluster.settings.update(etcd_quota=2 * 1024**2, snapshot_every=8)
+    begun(cluster)
+    cluster.kill("member2")
+    source, number, reply = random.Random(7), 0, None
+    while number < 40 and (reply is None or reply.body != b'{"error":"full"}'):
+        number += 1
+        acts = [record(10 + number, source.randbytes(120_000))]
+        reply = post(cluster, number % 2, acts, f"full-{number}")
+    judge("full etcd: a POST is 503 full", reply is not None and reply.body == b'{"error":"full"}',
+          f"at entry {number} of 160,000 bytes", always=True)
+    states = [until_full(cluster, it) for it in (0, 1)]
+    judge("full etcd: both members say so, and their GETs go on",
+          all(it.get("full") is True for it in states)
+          and all(get(cluster, it, "/records/1").status == 200 for it in (0, 1)), states)
+    cluster.etcdctl(0, "del", "/office/city/members/m2")
+    log, began = Archivist(cluster), time.monotonic()
+    while log.number("first") == 1 and time.monotonic() - began < 120:
+        for machine in (0, 1):
+            cluster.make_snapshot(machine)
+        time.sleep(1)
+    judge("full etcd: once it was struck off, new snapshots drop the log", log.number("first") > 1)
+    told = json.loads(cluster.etcdctl(0, "get", "/office/city/tail", "-w", "json").stdout)
+    cluster.etcdctl(0, "compact", str(told["header"]["revision"]))
+    reply = posted(cluster, 0, [record(5000)])
+    judge("full etcd: without that member there is room again", reply.status == 200, reply)
+    same_rows(cluster, "full etcd", [0, 1])
+
+
+def until_full(cluster: Cluster, machine: int) -> dict[str, Any]:
+    """What a member reports, as soon as it says that etcd is full, or a minute later."""
+    began = time.monotonic()
+    while True:
+        state = cluster.state(machine) or {}
+        if state.get("full") is True or time.monotonic() - began > 60:
+            return state
+        time.sleep(0.2)
 
 
 def no_memory(cluster: Cluster) -> None:

@@ -248,7 +248,8 @@ def units(cluster: Cluster) -> None:
 
 
 TRIALS = {"no_quorum": no_quorum, "same_answers": same_answers, "full_disk": faults.full_disk,
-          "no_memory": faults.no_memory, "damaged_file": faults.damaged_file,
+          "full_etcd": faults.full_etcd, "no_memory": faults.no_memory,
+          "damaged_file": faults.damaged_file,
           "flipped_byte": faults.flipped_byte, "away": away, "upgrade": upgrade,
           "wrong_file": wrong_file, "secured": secured, "units": units}
 

@@ -152,6 +152,7 @@ class Follower:
             if self.is_answering and (is_due or self.wants_snapshot):
                 self.wants_snapshot, size, is_due = False, 0, False
                 self.snapshots.take(self.position, self.at_rest(memo))
+                self.reported = None
             self.report(memo, comparison)
             self.decide(goal, comparison.is_split)
             if not entries:
