@@ -9,6 +9,7 @@ import shutil
 import signal
 import subprocess
 import time
+from collections.abc import Callable
 from typing import Any
 
 from replica_trials.checks import Archivist
@@ -125,8 +126,9 @@ def damaged_file(cluster: Cluster) -> None:
     """FILE of a member that had ended well is damaged, is empty, or is gone."""
     begun(cluster)
     file = cluster.file(1)
-    damages = {"its first page is zeros": lambda: overwrite(file, b"\0" * 4096),
-               "it is empty": lambda: file.write_bytes(b""), "it is gone": file.unlink}
+    damages: dict[str, Callable[[], object]] = {
+        "its first page is zeros": lambda: overwrite(file, b"\0" * 4096),
+        "it is empty": lambda: file.write_bytes(b""), "it is gone": file.unlink}
     for number, (name, damage) in enumerate(damages.items()):
         posted(cluster, 0, [record(10 + number)])
         cluster.wait_for(1, cluster.position(0))
