@@ -14,7 +14,7 @@ import time
 from typing import Any, NamedTuple
 
 from replica_trials.cluster import OFFICE, Cluster, Place, Reply, ask
-from replica_trials.space import socket_in
+from replica_trials.networks import socket_in
 from replica_trials.traffic import Post, Read, Traffic
 
 Rows = dict[str, tuple[str, list[Any]]]

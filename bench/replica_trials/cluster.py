@@ -12,7 +12,7 @@ import sys
 import time
 from typing import Any, NamedTuple
 
-from replica_trials.space import socket_in
+from replica_trials.networks import socket_in
 
 TOP = pathlib.Path(__file__).resolve().parent.parent.parent
 OFFICE = str(pathlib.Path(os.environ.get("OFFICE", TOP / "crates/office/out/office")).resolve())
@@ -209,6 +209,14 @@ class Cluster:
 
     def signal(self, name: str, what: int) -> None:
         self.processes[name].send_signal(what)
+
+    def make_snapshot(self, machine: int) -> None:
+        """SIGHUP, and then the snapshot at the member's position, or none within two minutes."""
+        place = self.home(machine) / "snapshots" / f"{self.position(machine):016d}"
+        self.signal(f"member{machine}", signal.SIGHUP)
+        began = time.monotonic()
+        while not place.is_dir() and time.monotonic() - began < 120:
+            time.sleep(0.05)
 
     def office_process(self, machine: int) -> int | None:
         """The office that is the child of a member."""

@@ -6,7 +6,7 @@ import random
 import time
 import uuid
 
-from replica_trials import space
+from replica_trials import networks
 from replica_trials.acts import BEGIN
 from replica_trials.checks import Archivist
 from replica_trials.cluster import FAULTS, Cluster, Reply, ask
@@ -34,7 +34,7 @@ def timed(cluster: Cluster, machine: int, method: str, path: str,
 def one_cut(cluster: Cluster, traffic: Traffic, machine: int, way: str) -> None:
     """Cuts a machine off, looks at it and at the others, and joins it again."""
     name = f"machine {machine}, {way}"
-    space.cut(NETWORKS[machine], WAYS[way])
+    networks.cut(NETWORKS[machine], WAYS[way])
     began = time.time()
     others = [it for it in range(3) if it != machine]
     went_on = [traffic.entry_at(it, began) for it in others]
@@ -56,7 +56,7 @@ def one_cut(cluster: Cluster, traffic: Traffic, machine: int, way: str) -> None:
     reply, _ = timed(cluster, machine, "GET", "/records/1")
     judge(f"{name}: it goes on answering GETs", reply is not None and reply.status in (200, 404),
           reply)
-    space.cut(NETWORKS[machine], [])
+    networks.cut(NETWORKS[machine], [])
     healed = time.time()
     seconds_away = traffic.entry_at(machine, healed)
     judge(f"{name}: joined again it takes entries", seconds_away < GOING_ON_SECONDS,
@@ -64,7 +64,7 @@ def one_cut(cluster: Cluster, traffic: Traffic, machine: int, way: str) -> None:
 
 
 def run(folder: pathlib.Path, kills: int) -> None:
-    space.make_networks(NETWORKS, "10.77.0.")
+    networks.make(NETWORKS, "10.77.0.")
     cluster = Cluster(folder / "cuts", 23000, networks=NETWORKS)
     try:
         cluster.start_all()
@@ -79,5 +79,4 @@ def run(folder: pathlib.Path, kills: int) -> None:
         whole(cluster, traffic, log, "cuts", all_kinds=False)
     finally:
         cluster.stop_all()
-        space.remove_networks(NETWORKS)
-
+        networks.remove(NETWORKS)

@@ -1,9 +1,8 @@
-"""One trial of each hard place: no quorum, a full disk, damage, absence, an upgrade, wrong files."""
+"""One trial of each hard place: no quorum, absence, an upgrade, wrong files; those of faults.py."""
 from __future__ import annotations
 
 import os
 import pathlib
-import random
 import shutil
 import signal
 import sqlite3
@@ -12,9 +11,9 @@ import threading
 import time
 import uuid
 
-from replica_trials import requests
+from replica_trials import faults, requests
 from replica_trials.checks import Archivist
-from replica_trials.cluster import OFFICE, TOP, Cluster
+from replica_trials.cluster import OFFICE, TOP, Cluster, ask
 from replica_trials.judging import judge
 from replica_trials.posting import begun, get, halts, post, posted, record
 from replica_trials.verdict import same_rows
@@ -45,6 +44,10 @@ def no_quorum(cluster: Cluster) -> None:
     judge("no quorum: so is one at a member without its etcd",
           told == b'{"error":"quorum"}' and time.time() - began < 2,
           f"{told!r} {time.time() - began:.2f} s", always=True)
+    replies = [ask(cluster.place(it), "POST", path, body) for it in range(3)
+               for path, body in (("/acts", b"no acts"), ("/run/resume", None))]
+    judge("no quorum: so are a body that is no acts, and a resumption, at all three",
+          {(it.status, it.body) for it in replies} == {(503, b'{"error":"quorum"}')}, replies)
     judge("no quorum: GETs go on at all three",
           all(get(cluster, it, "/records/1").status == 200 for it in range(3)))
     judge("no quorum: a GET that asks for the newest is 503",
@@ -67,75 +70,10 @@ def same_answers(cluster: Cluster) -> None:
     """What is no request for the log is answered by each member as by the bare office."""
     begun(cluster)
     requests.compared(cluster)
+    requests.not_acts(cluster)
     requests.keys(cluster)
     requests.wrong_settings(cluster)
     same_rows(cluster, "requests")
-
-
-def full_disk(cluster: Cluster) -> None:
-    """A small file system under member 2: it stops answering, the others go on."""
-    home = cluster.home(2)
-    home.mkdir()
-    subprocess.run(["mount", "-t", "tmpfs", "-o", "size=1600k", "tmpfs", home], check=True)
-    try:
-        begun(cluster)
-        source, hit = random.Random(5), 0
-        for number in range(1, 60):
-            contents = [record(10 + 2 * number + it, source.randbytes(40_000)) for it in (0, 1)]
-            posted(cluster, 0, contents)
-            state = cluster.state(2)
-            if state is not None and not state["answers"]:
-                hit = number
-                break
-        time.sleep(1)
-        judge("full disk: the member stops answering, GETs too",
-              hit > 0 and get(cluster, 2, "/records/1").status == 503,
-              f"at entry {hit} of 80,000 bytes", always=True)
-        for number in range(5):
-            posted(cluster, number % 2, [record(5000 + number)])
-        judge("full disk: the others go on", cluster.position(0) > cluster.position(2))
-        subprocess.run(["mount", "-o", "remount,size=512m", home], check=True)
-        took = cluster.wait_for(2, cluster.position(0))
-        judge("full disk: with room again it goes back to its snapshot and answers",
-              get(cluster, 2, "/records/1").status == 200, f"{took:.1f} s", always=True)
-        same_rows(cluster, "full disk")
-    finally:
-        cluster.stop_all()
-        subprocess.run(["umount", "--lazy", home], check=True)
-
-
-def flipped_byte(cluster: Cluster) -> None:
-    """The newest snapshot of member 1 has a flipped byte: the one before is taken."""
-    begun(cluster)
-    for number in range(1, 4):
-        posted(cluster, 0, [record(10 + number)])
-        cluster.wait_for(1, cluster.position(0))
-        snapshot(cluster, 1)
-    newest = cluster.snapshots(1)[-1]
-    posted(cluster, 0, [record(50)])
-    with open(newest / "office.db", "r+b") as file:
-        file.seek(5000)
-        byte = file.read(1)[0]
-        file.seek(5000)
-        file.write(bytes([byte ^ 1]))
-    cluster.wait_for(1, cluster.position(0))
-    cluster.kill("member1")
-    shutil.rmtree(cluster.home(1) / "work")
-    cluster.start_member(1)
-    took = cluster.wait_for(1, cluster.position(0))
-    judge("flipped byte: the damaged snapshot is put aside, the one before is taken",
-          pathlib.Path(f"{newest}.damaged").is_dir() and "damaged:" in cluster.journal("member1"),
-          f"{took:.1f} s", always=True)
-    same_rows(cluster, "flipped byte")
-
-
-def snapshot(cluster: Cluster, machine: int) -> None:
-    """SIGHUP, and the snapshot at the member's position."""
-    place = cluster.home(machine) / "snapshots" / f"{cluster.position(machine):016d}"
-    cluster.signal(f"member{machine}", signal.SIGHUP)
-    began = time.monotonic()
-    while not place.is_dir() and time.monotonic() - began < 120:
-        time.sleep(0.05)
 
 
 def give_snapshot(cluster: Cluster, machine: int) -> None:
@@ -150,7 +88,7 @@ def give_snapshot(cluster: Cluster, machine: int) -> None:
 
 
 def away(cluster: Cluster) -> None:
-    """Member 2 is away for longer than the log; a fourth member joins under load."""
+    """Member 2 ends well and is away for longer than the log; a fourth member joins under load."""
     cluster.settings.update(snapshot_every=20)
     begun(cluster)
     stopping = threading.Event()
@@ -176,7 +114,7 @@ def away(cluster: Cluster) -> None:
     took = cluster.wait_for(3, cluster.position(0))
     judge("joining: a fourth member joins from a snapshot under load", True,
           f"{took:.1f} s, at {cluster.position(3)}", always=True)
-    cluster.kill("member2")
+    cluster.kill("member2", how=signal.SIGTERM)
     cluster.etcdctl(0, "del", "/office/city/members/m2")
     left, log = cluster.position(0), Archivist(cluster)
     began = time.monotonic()
@@ -195,7 +133,7 @@ def away(cluster: Cluster) -> None:
     judge("away: the member finds the gap, says so, and does not answer",
           state.get("answers") is False and "copy a snapshot" in str(state.get("why")), state)
     give_snapshot(cluster, 2)
-    took = cluster.wait_for(2, cluster.position(0))
+    took = cluster.wait_for(2, cluster.position(0), 240)
     judge("away: with a newer snapshot in its folder it goes on by itself", True, f"{took:.1f} s",
           always=True)
     same_rows(cluster, "away", [0, 1, 2, 3])
@@ -219,7 +157,7 @@ def upgrade(cluster: Cluster) -> None:
     tail = Archivist(cluster).number("tail")
     for machine in range(3):
         cluster.wait_for(machine, tail)
-        snapshot(cluster, machine)
+        cluster.make_snapshot(machine)
     cluster.kill("member0", "member1", "member2", how=signal.SIGTERM)
     program = another_program(cluster)
     cluster.office = str(program)
@@ -298,7 +236,7 @@ def units(cluster: Cluster) -> None:
     cluster.units = {"etcd": EXAMPLES / "office-etcd.service",
                      "member": EXAMPLES / "office-member@.service"}
     begun(cluster)
-    snapshot(cluster, 1)
+    cluster.make_snapshot(1)
     cluster.kill("member1", "etcd1")
     posted(cluster, 0, [record(10)])
     cluster.start_etcd(1)
@@ -309,8 +247,10 @@ def units(cluster: Cluster) -> None:
     same_rows(cluster, "units")
 
 
-TRIALS = {"no_quorum": no_quorum, "same_answers": same_answers, "full_disk": full_disk,
-          "flipped_byte": flipped_byte, "away": away, "upgrade": upgrade,
+TRIALS = {"no_quorum": no_quorum, "same_answers": same_answers, "full_disk": faults.full_disk,
+          "full_etcd": faults.full_etcd, "no_memory": faults.no_memory,
+          "damaged_file": faults.damaged_file,
+          "flipped_byte": faults.flipped_byte, "away": away, "upgrade": upgrade,
           "wrong_file": wrong_file, "secured": secured, "units": units}
 
 

@@ -6,13 +6,14 @@ import pathlib
 import random
 import subprocess
 import sys
+import time
 from typing import Any
 
 from replica_trials.acts import BEGIN, NOT_ACTS
 from replica_trials.checks import Bare
 from replica_trials.cluster import TOP, Cluster, Reply, ask
 from replica_trials.judging import judge
-from replica_trials.posting import post, record
+from replica_trials.posting import post, posted, record
 
 Case = tuple[str, str, bytes | None, dict[str, str]]
 
@@ -49,27 +50,37 @@ def compared(cluster: Cluster) -> None:
         for method, path, body, lines in CASES:
             wanted = plain(ask(bare.place, method, path, body, lines))
             for machine in range(3):
-                found = plain(ask(cluster.place(machine), method, path, body, lines))
+                found = plain(answered(cluster, machine, method, path, body, lines))
                 if found != wanted:
                     differences.append((machine, method, path, body, lines, found, wanted))
         judge(f"requests: {len(CASES)} are answered by each member as by the bare office",
               not differences, differences)
-        statuses = {post_raw(cluster, it, body).status for it in range(3) for body in NOT_ACTS}
-        judge("requests: a body that is no acts is 400 at each member", statuses == {400}, statuses)
     finally:
         bare.end()
 
 
-def post_raw(cluster: Cluster, machine: int, body: bytes) -> Reply:
-    return ask(cluster.place(machine), "POST", "/acts", body)
+def not_acts(cluster: Cluster) -> None:
+    """A body that is no acts is an entry as any other: one answer and one position everywhere."""
+    faults = []
+    for number, body in enumerate(NOT_ACTS):
+        key = {"Idempotency-Key": f"not-acts-{number}"}
+        replies = [answered(cluster, it, "POST", "/acts", body, key) for it in range(3)]
+        seen = {(it.status, it.body, it.position) for it in replies}
+        if len(seen) != 1 or replies[0].status != 400 or replies[0].position < 1:
+            faults.append((body, replies))
+    judge(f"requests: {len(NOT_ACTS)} bodies that are no acts are 400 at each member alike",
+          not faults, faults)
 
 
-def until_answered(cluster: Cluster, machine: int, body: bytes) -> Reply:
-    """With a key, as a client that tries again: a list that takes a slow office long is `unknown` first."""
-    while True:
-        reply = ask(cluster.place(machine), "POST", "/acts", body, {"Idempotency-Key": "greatest"}, 90)
+def answered(cluster: Cluster, machine: int, method: str, path: str, body: bytes | None,
+             lines: dict[str, str]) -> Reply:
+    """As a client that tries again: a busy machine may say `unknown` or `behind` first."""
+    for _ in range(20):
+        reply = ask(cluster.place(machine), method, path, body, lines, 90)
         if reply.status != 503:
-            return reply
+            break
+        time.sleep(0.5)
+    return reply
 
 
 def keys(cluster: Cluster) -> None:
@@ -79,21 +90,25 @@ def keys(cluster: Cluster) -> None:
         (262_144, 262_144, 240_000))]
     body = json.dumps(acts).encode()
     body += b" " * (1_048_576 - len(body))
-    reply = until_answered(cluster, 0, body)
+    reply = answered(cluster, 0, "POST", "/acts", body, {"Idempotency-Key": "greatest"})
     judge("requests: a body of 1,048,576 bytes is one entry", reply.status == 200, reply)
     reply = ask(cluster.place(0), "POST", "/acts", b"[]", {"Idempotency-Key": "a b"})
     judge("keys: one that is none is 400 header",
           (reply.status, reply.body) == (400, b'{"error":"header"}'), reply)
     reply = ask(cluster.place(0), "GET", "/records/1", None, {"Office-After": "x"})
     judge("keys: an Office-After that is no number is 400 header", reply.status == 400, reply)
-    replies = [post(cluster, it, [record(200)], "k-1") for it in (0, 1, 2, 1)]
+    replies = [posted(cluster, it, [record(200)], "k-1") for it in (0, 1, 2, 1)]
     judge("keys: the same request with the same key is answered the same by each member",
           len({(it.status, it.body, it.position) for it in replies}) == 1
           and replies[0].status == 200, replies)
-    reply = post(cluster, 1, [record(201)], "k-1")
+    reply = posted(cluster, 1, [record(201)], "k-1")
     judge("keys: another body with that key is 422, and not done",
           (reply.status, reply.body) == (422, b'{"error":"key"}'), reply)
-    replies = [post(cluster, it, [record(300)]) for it in range(3)]
+    number = 300
+    while (reply := post(cluster, 0, [record(number)])).status == 503:
+        number += 1
+    body = json.dumps([record(number)]).encode()
+    replies = [reply, *(answered(cluster, it, "POST", "/acts", body, {}) for it in (1, 2))]
     bodies = [json.loads(it.body)[0] for it in replies]
     judge("keys: without a key each request is an entry of its own",
           len({it.position for it in replies}) == 3 and "same" not in bodies[0]

@@ -12,7 +12,15 @@ from pages_run.shell import Shell
 
 PAGE = "docs/REPLICAS.md"
 FIRST_ANSWERS = r'\[\{"done":true\},\{"done":true\},\{"number":1\},\{"number":1\},\{"done":true\},\{"number":1\}\]'
-STEP = "curl --silent --retry 20 --header 'Idempotency-Key: 7f0c' --data '[{\"act\":\"run-step\"}]'"
+STEP = "curl --fail --silent --retry 20 --header 'Idempotency-Key: 7f0c' --data '[{\"act\":\"run-step\"}]'"
+MADE = """machine 1: settings in three/m1/settings.json, etcd at 127.0.0.1:9001
+machine 2: settings in three/m2/settings.json, etcd at 127.0.0.1:9002
+machine 3: settings in three/m3/settings.json, etcd at 127.0.0.1:9003
+replicas/found three/m1/settings.json
+founded city
+cp -r three/m1/snapshots three/m2/
+cp -r three/m1/snapshots three/m3/
+"""
 HERE = Machines()
 
 
@@ -77,11 +85,16 @@ def rules_load(shell: Shell) -> None:
 
 
 def third_burns(shell: Shell) -> None:
-    """The machine archive3 goes for good, with its folders."""
+    """The machine archive3 goes for good, with its folders. archive2 starts anew at that moment: so etcd takes no new
+    machine for some seconds, and the page's commands have to wait for it."""
     HERE.kill(3)
+    HERE.kill(2)
     shutil.rmtree(shell.path("third"))
     shutil.rmtree(shell.path("etcd3"))
-    told = act(2, b"[]")
+    HERE.start_etcd(2)
+    wait_until(lambda: HERE.is_healthy(2))
+    HERE.start_member(2)
+    told = act(1, b"[]")
     judge(f"{PAGE}: the two others go on", told.status == 200, f"{told}")
 
 
@@ -127,6 +140,40 @@ def one_goes_on(shell: Shell) -> None:
     judge(f"{PAGE}: the one that is left answers", HERE.answers(1), shell.path("member1.log").read_text())
     told = act(1, b'[{"act":"run-step"}]')
     judge(f"{PAGE}: and takes acts", told.status in (200, 409), f"{told}")
+    for number in (2, 3):
+        done = shell.run(f"office-etcdctl del /office/city/members/archive{number}")
+        judge(f"{PAGE}: archive{number} is struck off", done.out == "1\n", done.out + done.err)
+
+
+def acts_wait(_: Shell) -> None:
+    told = act(1, b"[]")
+    judge(f"{PAGE}: until etcd of archive2 has started, acts are 503", told.status == 503, f"{told}")
+
+
+def joined(shell: Shell, number: int, folder: str) -> None:
+    """A new machine in place of a lost one, with the page's file of etcd and a snapshot of archive1."""
+    shutil.rmtree(shell.path(f"etcd{number}"))
+    shutil.rmtree(shell.path(folder))
+    HERE.start_etcd(number, "existing")
+    judge(f"{PAGE}: etcd of archive{number} joins the one that is left", wait_until(lambda: HERE.is_healthy(number)),
+          shell.path(f"etcd{number}.log").read_text()[-500:])
+    snapshots = "/var/lib/office-member/city/snapshots"
+    newest = max(it for it in os.listdir(snapshots) if it.isdigit())
+    shutil.copytree(f"{snapshots}/{newest}", shell.path(f"{folder}/snapshots/{newest}"))
+    HERE.start_member(number)
+    judge(f"{PAGE}: the member of archive{number} answers", HERE.answers(number),
+          shell.path(f"member{number}.log").read_text()[-500:])
+
+
+def both_are_new(shell: Shell) -> None:
+    """archive2 is new with the line of the page, then archive3 as the page says for one machine."""
+    joined(shell, 2, "second")
+    done = shell.run("office-etcdctl member add archive3 --peer-urls=https://192.0.2.13:2380")
+    judge(f"{PAGE}: etcd takes archive3 once archive2 has joined", done.status == 0, done.out + done.err)
+    shell.run("sed -i '/^ETCD_INITIAL_CLUSTER=/s|$|,archive3=https://192.0.2.13:2380|' /etc/office/etcd.conf")
+    joined(shell, 3, "third")
+    told = [act(number, b'[{"act":"run-step"}]') for number in (1, 2, 3)]
+    judge(f"{PAGE}: three machines take acts again", all(it.status in (200, 409) for it in told), f"{told}")
 
 
 def snapshot_now(_: Shell) -> None:
@@ -153,16 +200,12 @@ def is_step_once(shell: Shell) -> None:
 
 
 ROWS = [
-    Row("examples/replicas/three make three"),
-    Row("examples/replicas/three etcd three"),
-    Row("replicas/found three/m1/settings.json", prints="founded city\n"),
-    Row("cp -r three/m1/snapshots three/m2/"),
-    Row("cp -r three/m1/snapshots three/m3/"),
+    Row("examples/replicas/three make three", prints=MADE),
     Row("examples/replicas/three start three 1", prints=""),
     Row("examples/replicas/three start three", prints=""),
     Row("curl --silent --data-binary @examples/first/acts.json", like=FIRST_ANSWERS),
     Row("examples/replicas/three kill three 1"),
-    Row("curl --silent --retry 20 --header 'Office-Read: newest'", like=r'\{"added":"2022-01-03",.*\}'),
+    Row("curl --fail --silent --retry 20 --header 'Office-Read: newest'", like=r'\{"added":"2022-01-03",.*\}'),
     Row(f"{STEP} http://127.0.0.1:8093", prints='[{"outcome":"destroyed","record":1}]'),
     Row(f"{STEP} http://127.0.0.1:8091", prints='[{"outcome":"destroyed","record":1}]', then=is_step_once),
     Row("examples/replicas/three stop three"),
@@ -209,6 +252,8 @@ ROWS = [
     Row("systemctl restart office-etcd", skip="without systemd", then=etcd_restarts),
     Row("sed -i /ETCD_FORCE_NEW_CLUSTER/d"),
     Row("systemctl start office-member@city", skip="without systemd", then=one_goes_on),
+    Row("office-etcdctl member add archive2", then=acts_wait),
+    Row("sed -i '/^ETCD_INITIAL_CLUSTER=/", then=both_are_new),
     Row("systemctl reload office-member@city", skip="without systemd", then=snapshot_now),
     Row("cp $(ls -d /var/lib/office-member", then=is_copy),
     Row("office-etcdctl defrag"),

@@ -94,21 +94,36 @@ class Follower:
             self.memo = None
 
     def open(self) -> Memo:
-        """Opens FILE at the position that is known for sure: as it was, or from a snapshot."""
-        try:
-            memo = Memo(self.snapshots.work / "memo.db")
-        except sqlite3.Error:
-            memo = None
-        was_settled = memo is not None and memo.settled
-        if memo is None or not was_settled:
-            if memo is not None:
-                memo.close()
+        """Opens FILE at the position that is known for sure: as it was, or from a snapshot.
+
+        Fault where FILE does not open: the next call takes a snapshot.
+        """
+        memo = self.settled_memo()
+        was_settled = memo is not None
+        if memo is None:
             self.snapshots.restore()
             memo = Memo(self.snapshots.work / "memo.db")
         self.memo, self.position, self.reported = memo, memo.position, None
-        self.office.start()
+        try:
+            self.office.start()
+        except Fault:
+            memo.settle(False)
+            raise
         say(f"opened at {self.position} {'as it was' if was_settled else 'from a snapshot'}")
         return memo
+
+    def settled_memo(self) -> Memo | None:
+        """The memo of `work` where FILE is surely at its position, and no snapshot is beyond it."""
+        try:
+            memo = Memo(self.snapshots.work / "memo.db")
+        except sqlite3.Error:
+            return None
+        newest = max(self.snapshots.positions(), default=0)
+        is_file = has_content(work_file(self.settings.folder))
+        if memo.settled and is_file and memo.position >= newest:
+            return memo
+        memo.close()
+        return None
 
     # ---- following
 
@@ -137,6 +152,7 @@ class Follower:
             if self.is_answering and (is_due or self.wants_snapshot):
                 self.wants_snapshot, size, is_due = False, 0, False
                 self.snapshots.take(self.position, self.at_rest(memo))
+                self.reported = None
             self.report(memo, comparison)
             self.decide(goal, comparison.is_split)
             if not entries:
@@ -292,3 +308,8 @@ class Follower:
 def work_file(folder: pathlib.Path) -> pathlib.Path:
     """FILE of the member in a folder."""
     return folder / "work" / "office.db"
+
+
+def has_content(file: pathlib.Path) -> bool:
+    """Whether the file is there with a byte in it. Of any other the office would make a new one."""
+    return file.is_file() and file.stat().st_size > 0
