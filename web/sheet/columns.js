@@ -4,7 +4,10 @@ import { Unreadable, stripped } from "./unreadable.js";
 
 export const NAMES = ["ref", "title", "originated", "aggregation", "class", "schedule", "content"];
 export const NEEDED = ["ref", "title", "originated", "aggregation"];
-/** Other names that sheets have for them, as `plain` makes them: as in examples/import/spreadsheet/columns.py. */
+/**
+ * Other names that sheets have for them, as `plain` makes them: as in examples/import/spreadsheet/columns.py. The labels
+ * of the page in both languages are among them.
+ */
 const SYNONYMS = {
   ref: [
     "reference", "reference no", "reference number", "ref no", "file no", "file number", "record no",
@@ -16,11 +19,17 @@ const SYNONYMS = {
     "datum", "entstanden", "entstanden am", "entstehungsdatum",
   ],
   aggregation: [
-    "aggregation no", "aggregation number", "folder no", "folder number",
-    "akte nr", "akten nr", "aktennummer",
+    "aggregation no", "aggregation number", "number of the aggregation", "folder no", "folder number",
+    "akte", "akte nr", "akten nr", "aktennummer", "nummer der akte",
   ],
-  class: ["class code", "classification", "klasse", "klassifikation", "aktenplan"],
-  schedule: ["schedule code", "disposal schedule", "retention schedule", "frist", "aufbewahrungsfrist"],
+  class: [
+    "class code", "code of the class", "classification",
+    "klasse", "kennung der klasse", "klassifikation", "aktenplan",
+  ],
+  schedule: [
+    "schedule code", "code of the schedule", "schedule of its own", "disposal schedule", "retention schedule",
+    "regel", "kennung der regel", "eigene regel", "aufbewahrungsregel", "frist", "aufbewahrungsfrist",
+  ],
   content: ["inhalt"],
 };
 
