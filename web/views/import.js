@@ -41,6 +41,7 @@ function itemOf(row) {
 function sayUnreadable({ kind, values }) {
   const words = { ...values };
   if (values.missing) words.missing = values.missing.map((name) => t(`import.columns.${name}`)).join(", ");
+  if (values.places) words.found = reading.placesWords(values.places);
   if (values.name && NAMES.includes(values.name)) words.name = t(`import.columns.${values.name}`);
   if (values.text) words.text = visible(values.text);
   if (values.encoding) words.encoding = t(`import.encodings.${values.encoding}`);
@@ -55,7 +56,8 @@ function sayUnreadable({ kind, values }) {
   });
   const choice = buttons.length ? [made("div", { class: "tools" }, ...buttons)] : [];
   const look = kind === "doubtful" ? "unknown" : "wrong";
-  say(byId("import-outcome"), look, paragraph(t(`import.unreadable.${kind}`, words)), ...choice);
+  const key = kind === "missing" && !words.found ? "missingAll" : kind;
+  say(byId("import-outcome"), look, paragraph(t(`import.unreadable.${key}`, words)), ...choice);
 }
 
 /** Reads the sheet as it is said; null where it cannot be read, which is said too. */
@@ -74,13 +76,13 @@ function read() {
   }
 }
 
-/** The header by which columns are chosen, also of a sheet that cannot be read whole. */
+/** The header by which columns are chosen, and which of them are known, also of a sheet that cannot be read whole. */
 function headerOf() {
   try {
-    return sheet.found ? { ...sheet.found, header: sheet.found.columns.header } : glimpsed(sheet.bytes, sheet.options);
+    return sheet.found ? { ...sheet.found, ...sheet.found.columns, both: {} } : glimpsed(sheet.bytes, sheet.options);
   } catch (why) {
     if (!(why instanceof Unreadable)) throw why;
-    return { header: [] };
+    return { header: [], places: {}, both: {} };
   }
 }
 
@@ -91,22 +93,13 @@ function refresh() {
   sheet.found = read();
   for (const row of rows()) row.item = row.wrong.length ? null : itemOf(row);
   const there = headerOf();
-  reading.show(sheet.options, there.header, { ...there, places: sheet.found?.columns.places });
+  reading.show(sheet.options, there.header, there);
   byId("import-sheet").hidden = false;
   byId("import-rows").hidden = !sheet.found;
   byId("import-heading").textContent = visible(sheet.name);
   if (!sheet.found) return;
-  showUnused();
   preview.take(rows());
   showTotals();
-}
-
-/** Says which columns of the sheet are not used. */
-function showUnused() {
-  const { header, places } = sheet.found.columns;
-  const used = new Set(Object.values(places));
-  const unused = header.filter((cell, at) => !used.has(at) && cell.trim()).map((cell) => visible(cell.trim()));
-  byId("import-unused").textContent = unused.length ? t("import.unused", { names: unused.join(", ") }) : "";
 }
 
 /** Takes what somebody says of the sheet, and reads it anew. */
