@@ -329,7 +329,8 @@ def others(view: View) -> None:
     it = view.browser
     view.choose("short.csv", "Letters of 2023\n\nref;title;date\nS/1;One;2021-06-05\n".encode("utf-16"))
     same("a header further down is found", it.one("#import-header").get_attribute("value"), "3")
-    says("the aggregation is missing", it.seen("#import-outcome"), WORDS["columns"]["aggregation"])
+    says("the aggregation is missing, and where its number comes from is said", it.seen("#import-outcome"),
+         WORDS["columns"]["aggregation"], TEXTS["file"]["whereAggregation"].split("{")[0])
     it.choose("#import-column-aggregation", "same")
     it.write(import_same_aggregation="1")
     it.driver.execute_script("document.activeElement.blur()")

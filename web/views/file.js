@@ -1,17 +1,17 @@
 // Filing: files are dropped or chosen, each becomes a record, and their acts go to the office in few requests.
 import { mark, onSubmit, untick } from "../fields.js";
-import { byId, grouped, paragraph, quiet, say } from "../page.js";
+import { byId, grouped, made, paragraph, quiet, say } from "../page.js";
 import { addRecord, bytesOf } from "../plain/acts.js";
 import { digestOf } from "../plain/certificates.js";
 import {
-  MEMBERS, MOST_CONTENT, MOST_FILES, actBytes, base64, forAll, manifestOf, sizes, wrongOf, wrongsOf,
+  MEMBERS, MOST_CONTENT, MOST_FILES, NO_AGGREGATION, actBytes, base64, forAll, manifestOf, sizes, wrongOf, wrongsOf,
 } from "../plain/filing.js";
 import { isText, today } from "../plain/forms.js";
 import { visible } from "../plain/marks.js";
 import { batches, isSettled } from "../plain/sending.js";
 import { t } from "../texts.js";
 import { isLeftOut, rowOf, showAnswer, showHead, showValues } from "./file_rows.js";
-import { addPanel, guardPage, onDrop, sayFates, send, showSums } from "./filing.js";
+import { addPanel, guardPage, onDrop, sayFates, send, showSums, whereAggregation } from "./filing.js";
 
 /** The files that are listed, in their order; what is written for all of them is in the fields. */
 let entries = [];
@@ -137,6 +137,11 @@ async function actOf(entry) {
   }
 }
 
+/** What is wrong with a field, in words; where an aggregation is needed, also where its number comes from. */
+function wrongWords(wrong) {
+  return wrong === NO_AGGREGATION ? `${t(wrong)} ${whereAggregation(false).join("")}` : t(wrong);
+}
+
 /** Says what is wrong with what is written for all files: whether something is. */
 function markCommon(ready) {
   const shared = common();
@@ -144,7 +149,7 @@ function markCommon(ready) {
   for (const name of MEMBERS.slice(1)) {
     const isNeeded = name === "aggregation" && ready.some((entry) => entry.own.aggregation === undefined);
     const wrong = shared[name] || isNeeded ? wrongOf(name, shared[name]) : "";
-    mark(commonField(name), wrong ? t(wrong) : "");
+    mark(commonField(name), wrong ? wrongWords(wrong) : "");
   }
   return byId("file-common").querySelector("[aria-invalid]");
 }
@@ -172,7 +177,9 @@ async function fileAll(values) {
   const inRows = markRows(ready);
   const wrong = markCommon(ready) ?? inRows;
   if (wrong) {
-    say(place, "wrong", paragraph(t("file.wrong")));
+    const lacksOne = ready.some((entry) => valuesOf(entry).aggregation === "");
+    const needed = [made("p", {}, `${t(NO_AGGREGATION)} `, ...whereAggregation())];
+    say(place, "wrong", paragraph(t("file.wrong")), ...(lacksOne ? needed : []));
     return wrong.focus();
   }
   quiet(place);

@@ -18,6 +18,12 @@ export function fateWords(fate) {
   return made("span", { class: "fate wrong" }, strong, ` ${t("said.meaning", row)} ${t("said.do", row)}`);
 }
 
+/** Where the number of an aggregation comes from, as nodes: the views are links, or their names. */
+export function whereAggregation(isLinked = true) {
+  const view = (name) => (isLinked ? link(`#${name}`, t(`${name}.title`)) : t(`${name}.title`));
+  return sentence("file.whereAggregation", { plan: view("plan"), catalogue: view("catalogue") });
+}
+
 /** The sums of the view `name`, each with its word. */
 export function showSums(name, sums) {
   const words = ([sum, number]) => [made("dt", {}, t(`${name}.totals.${sum}`)), made("dd", {}, grouped(number))];

@@ -10,7 +10,7 @@ import { SEPARATORS, written } from "../sheet/rows.js";
 import { glimpsed, turned } from "../sheet/turning.js";
 import { Unreadable } from "../sheet/unreadable.js";
 import { t } from "../texts.js";
-import { addPanel, onDrop, sayFates, send, showSums } from "./filing.js";
+import { addPanel, onDrop, sayFates, send, showSums, whereAggregation } from "./filing.js";
 import * as reading from "./import_reading.js";
 import * as preview from "./import_rows.js";
 
@@ -55,6 +55,7 @@ function sayUnreadable({ kind, values }) {
     return button;
   });
   const choice = buttons.length ? [made("div", { class: "tools" }, ...buttons)] : [];
+  if (values.missing?.includes("aggregation")) choice.push(made("p", {}, ...whereAggregation()));
   const look = kind === "doubtful" ? "unknown" : "wrong";
   const key = kind === "missing" && !words.found ? "missingAll" : kind;
   say(byId("import-outcome"), look, paragraph(t(`import.unreadable.${key}`, words)), ...choice);
