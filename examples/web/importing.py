@@ -227,7 +227,8 @@ def imported(view: View) -> None:
     added = ROWS - len(WRONG) - len(REFUSED)
     counts = {"added": str(added), "refused": str(len(REFUSED))}
     same("so many are imported, and two are refused", view.counts(), counts)
-    says("what was left out is said", it.seen("#import-send-outcome"), WORDS["leftOut"].format(count=len(WRONG)))
+    left_out = WORDS["leftOut"]["many"].format(count=len(WRONG))
+    says("what was left out is said", it.seen("#import-send-outcome"), left_out)
     refused = {int(row[0]): row[-1] for row in view.filtered("wrong")}
     same("ten rows were not taken", list(refused), sorted([*WRONG, *REFUSED]))
     row = TEXTS["refusals"]["5"]
@@ -254,6 +255,12 @@ def corrected(view: View, lines: list[list[str]]) -> None:
     same("the file has the sheet's own header, and the reason", lines[0], [*HEADER, WORDS["reason"]])
     same("and ten rows", len(lines), 11)
     judge("each with its reason", all(line[-1] for line in lines[1:]), str(lines))
+    saved = dict(zip(sorted([*WRONG, *REFUSED]), enumerate(lines[1:], 2), strict=True))
+    named = [(line[-1].split(" ")[0], f"{'ABCDE'[WRONG[row][0]]}{number}")
+             for row, (number, line) in saved.items() if row in WRONG]
+    same("which names the cell where that file has it", [it for it, _ in named], [it for _, it in named])
+    says("a ref twice is that of a row of the sheet", saved[101][1][-1],
+         WORDS["wrong"]["twiceInSheet"].format(row=99, sheet="bau.csv"))
     fixed = [[*good(number), line[-1]] for number, line in zip(sorted([*WRONG, *REFUSED]), lines[1:], strict=True)]
     text = io.StringIO()
     csv.writer(text, delimiter=";", lineterminator="\r\n").writerows([lines[0], *fixed])

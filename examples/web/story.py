@@ -269,9 +269,10 @@ class Story:
         it = self.browser
         refused = lambda number: (f'409 [{{"refused":{number}}}]', f"Refusal {number}, ", TEXTS["refusals"][str(number)]["meaning"], TEXTS["refusals"][str(number)]["do"])
         self.hold("place", "done", "Hold H-2 is placed.", day="2022-06-01", code="H-2", reason="A second lawsuit", by="Legal office")
+        same("holds: the form for its target has its code then", it.one("#hold-on-code").get_attribute("value"), "H-2")
         self.hold("place", "refused", *refused(4))
         it.choose("#hold-on-kind", "record")
-        self.hold("on", "done", "record:20 is on hold H-2.", day="2022-06-01", code="H-2", target="20")
+        self.hold("on", "done", "record:20 is on hold H-2.", day="2022-06-01", target="20")
         self.hold("on", "refused", *refused(4))
         it.open(f"{self.proxy.page}#record?number=20")
         says("holds: the record is held by it", it.seen("#record-words"), "Hold H-2 covers it")
@@ -284,6 +285,7 @@ class Story:
         self.hold("lift", "refused", *refused(12))
         same("holds: the record is free again", self.told("/records/20")["held"], None)
         self.hold("place", "a day before the office's", *refused(1), day="2022-06-01", code="H-3", reason="Too late", by="Legal office")
+        same("holds: of a hold that is refused no code is carried over", it.one("#hold-on-code").get_attribute("value"), "H-2")
         self.hold("lift", "the lawsuit's", "Hold Q-2020-17 is lifted.", day="2023-11-20", code="Q-2020-17")
 
     # ---- a damaged office

@@ -1,6 +1,6 @@
 // Filing: files are dropped or chosen, each becomes a record, and their acts go to the office in few requests.
 import { mark, onSubmit, untick } from "../fields.js";
-import { byId, grouped, made, paragraph, quiet, say } from "../page.js";
+import { byId, grouped, made, paragraph, plural, quiet, say } from "../page.js";
 import { addRecord, bytesOf } from "../plain/acts.js";
 import { digestOf } from "../plain/certificates.js";
 import {
@@ -56,8 +56,8 @@ function showLarge(count) {
   const place = byId("file-large");
   if (place.dataset.count === String(count)) return;
   place.dataset.count = count;
-  const words = { count: grouped(count), most: grouped(MOST_CONTENT) };
-  if (count) say(place, "wrong", paragraph(t("file.tooLarge", words)), paragraph(t("file.tooLargeDo")));
+  const words = plural("file.tooLarge", count, { most: grouped(MOST_CONTENT) });
+  if (count) say(place, "wrong", paragraph(words), paragraph(t("file.tooLargeDo")));
   else quiet(place);
 }
 
@@ -109,8 +109,8 @@ function take(files, folders = []) {
   entries.push(...more);
   byId("file-table").tBodies[0].append(...more.map((entry) => rowOf(entry, { edited, removed, replaced })));
   const said = folders.map((name) => paragraph(t("file.folder", { name: visible(name) })));
-  const over = { most: grouped(MOST_FILES), count: grouped(files.length - room) };
-  if (files.length > room) said.push(paragraph(t("file.tooMany", over)));
+  const over = files.length - room;
+  if (over > 0) said.push(paragraph(plural("file.tooMany", over, { most: grouped(MOST_FILES) })));
   if (said.length) say(byId("file-taken"), "wrong", ...said);
   else quiet(byId("file-taken"));
   quiet(byId("file-send-outcome"));

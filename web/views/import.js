@@ -1,18 +1,18 @@
 // Import: a CSV of a spreadsheet program is read, shown as the records that its rows will be, and sent in few requests.
 import { onSubmit, untick } from "../fields.js";
-import { byId, grouped, made, paragraph, quiet, save, say } from "../page.js";
+import { byId, grouped, made, paragraph, plural, quiet, save, say } from "../page.js";
 import { addRecord, bytesOf } from "../plain/acts.js";
 import { today } from "../plain/forms.js";
 import { visible } from "../plain/marks.js";
 import { batches, isSettled } from "../plain/sending.js";
-import { NAMES, plain } from "../sheet/columns.js";
-import { SEPARATORS, written } from "../sheet/rows.js";
+import { NAMES } from "../sheet/columns.js";
 import { glimpsed, turned } from "../sheet/turning.js";
 import { Unreadable } from "../sheet/unreadable.js";
 import { t } from "../texts.js";
 import { addPanel, onDrop, sayFates, send, showSums, whereAggregation } from "./filing.js";
 import * as reading from "./import_reading.js";
 import * as preview from "./import_rows.js";
+import { notTaken } from "./import_saved.js";
 
 /** A sheet with more bytes is not read: the page would stand still. */
 const MOST_BYTES = 64 * 1048576;
@@ -167,7 +167,7 @@ function showTotals() {
   if (!isSending) byId("import-submit").textContent = t(key, { count: grouped(ready.length) });
   const refused = rows().filter(preview.isRefused).length;
   byId("import-save").hidden = refused === 0;
-  byId("import-save").textContent = t("import.save", { count: grouped(refused) });
+  byId("import-save").textContent = plural("import.save", refused);
 }
 
 function progressed() {
@@ -189,22 +189,14 @@ async function importAll(values) {
   progressed();
   sayFates(place, ready, answer);
   const wrong = rows().filter((row) => row.wrong.length).length;
-  if (wrong) place.append(paragraph(t("import.leftOut", { count: grouped(wrong) })));
+  if (wrong) place.append(paragraph(plural("import.leftOut", wrong)));
   if (rows().some(preview.isRefused)) place.append(paragraph(t("import.saveAbout")));
   place.focus();
 }
 
-/** Saves the rows that were not taken, as the sheet has them, each with the reason, in the sheet's own separator. */
+/** Saves the rows that were not taken, with their reasons. */
 function saveRefused() {
-  const { header } = sheet.found.columns;
-  // a column of reasons from the time before goes
-  const reason = t("import.reason");
-  const before = header.findIndex((cell) => plain(cell) === plain(reason));
-  const refused = rows().filter(preview.isRefused);
-  const width = Math.max(header.length, ...refused.map((row) => row.cells.length));
-  const cells = (row) => Array.from({ length: width }, (_, at) => row[at] ?? "").filter((_, at) => at !== before);
-  const lines = refused.map((row) => [...cells(row.cells), preview.reasonOf(row)]);
-  const text = written([[...cells(header), reason], ...lines], SEPARATORS[sheet.found.separator]);
+  const text = notTaken(visible(sheet.name), sheet.found, rows().filter(preview.isRefused));
   save(t("import.file", { name: sheet.name.replace(/\.[^.]*$/, "") }), new TextEncoder().encode(text), "text/csv");
 }
 

@@ -2,7 +2,9 @@
 import { get } from "../ask.js";
 import { schedule } from "../catalogue.js";
 import { onSubmit } from "../fields.js";
-import { asking, byId, details, factsOf, failed, link, made, paragraph, quiet, save, say, sentence } from "../page.js";
+import {
+  asking, byId, details, factsOf, failed, inBytes, link, made, paragraph, quiet, save, say, sentence,
+} from "../page.js";
 import { digestOf } from "../plain/certificates.js";
 import { isNumber, today } from "../plain/forms.js";
 import { visible } from "../plain/marks.js";
@@ -59,7 +61,7 @@ function ofConfirmation(record) {
 function factsTold(record) {
   const word = (name) => t(`record.facts.${name}`);
   const plain = ["ref", "title", "originated", "added", "aggregation", "class", "schedule"].map((name) => [word(name), visible(String(record[name]))]);
-  return factsOf([...plain, [word("length"), t("record.bytes", { count: record.length })], [word("digest"), made("code", {}, record.digest)]]);
+  return factsOf([...plain, [word("length"), inBytes(record.length)], [word("digest"), made("code", {}, record.digest)]]);
 }
 
 /** The schedule of a record without a due day, where a catalogue has it: it says why there is none. */
@@ -123,7 +125,7 @@ async function saveContent() {
   save(name, answer.bytes, "application/octet-stream");
   const agrees = digest === record.digest;
   const key = digest === null ? "record.savedUnseen" : agrees ? "record.saved" : "record.savedOther";
-  say(place, digest !== null && !agrees ? "wrong" : "done", paragraph(t(key, { name, count: answer.bytes.length })));
+  say(place, digest !== null && !agrees ? "wrong" : "done", paragraph(t(key, { name, size: inBytes(answer.bytes.length) })));
 }
 
 export function start() {
