@@ -222,7 +222,7 @@ class Story:
         self.success("record 99: there is none, in words", "#record-outcome", '404 {"error":"record"}', "There is no record 99 in this office.", TEXTS["record"]["missingDo"])
         words(1)
         it.press("#record-save")
-        says("record 1: its content is saved", it.seen("#record-saved"), "Saved as record-1.", "agrees with that of the record")
+        says("record 1: its content is saved", it.seen("#record-saved"), "Saved as record-1: ", "agrees with that of the record")
         saved = self.folder / "record-1"
         it.wait(saved.exists, "no file was saved")
         same("record 1: and is that of the office", saved.read_bytes(), self.office.ask("GET", "/records/1/content")[2])
@@ -251,7 +251,7 @@ class Story:
         says("one with a changed byte does not", self.check("byte.txt", text.replace(b"APP/18-07", b"APP/18-08")), words["differs"], words["otherThanOffice"].format(number=1))
         body = text[:-72].replace(b"ENDED 17", b"ENDED 16")
         forged = body + b"SHA256 " + hashlib.sha256(body).hexdigest().encode() + b"\n"
-        says("one with another sum agrees with itself, and is not the office's", self.check("forged.txt", forged), words["agrees"], words["otherThanOffice"].format(number=1), "ENDED says 16, but there are 17 such lines.")
+        says("one with another sum agrees with itself, and is not the office's", self.check("forged.txt", forged), words["agrees"], words["otherThanOffice"].format(number=1), "ENDED says 16, but the number of such lines is 17.")
         says("one that is cut off has no sum", self.check("short.txt", text[:-1]), words["noSum"])
 
     # ---- holds
