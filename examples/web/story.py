@@ -222,7 +222,8 @@ class Story:
         self.success("record 99: there is none, in words", "#record-outcome", '404 {"error":"record"}', "There is no record 99 in this office.", TEXTS["record"]["missingDo"])
         words(1)
         it.press("#record-save")
-        says("record 1: its content is saved", it.seen("#record-saved"), "Saved as record-1: ", "agrees with that of the record")
+        outcome = it.seen("#record-saved")
+        says("record 1: its content is saved", outcome, "Saved as record-1: ", "agrees with that of the record")
         saved = self.folder / "record-1"
         it.wait(saved.exists, "no file was saved")
         same("record 1: and is that of the office", saved.read_bytes(), self.office.ask("GET", "/records/1/content")[2])
@@ -285,7 +286,8 @@ class Story:
         self.hold("lift", "refused", *refused(12))
         same("holds: the record is free again", self.told("/records/20")["held"], None)
         self.hold("place", "a day before the office's", *refused(1), day="2022-06-01", code="H-3", reason="Too late", by="Legal office")
-        same("holds: of a hold that is refused no code is carried over", it.one("#hold-on-code").get_attribute("value"), "H-2")
+        carried = it.one("#hold-on-code").get_attribute("value")
+        same("holds: of a hold that is refused no code is carried over", carried, "H-2")
         self.hold("lift", "the lawsuit's", "Hold Q-2020-17 is lifted.", day="2023-11-20", code="Q-2020-17")
 
     # ---- a damaged office

@@ -17,7 +17,10 @@ function carry(code, forms) {
   }
 }
 
-/** The four forms: the act that each asks for, what is said once it is done, and what where that is unknown; what follows. */
+/**
+ * The four forms: the act that each asks for, what is said once it is done, and what where that is unknown; `after` is
+ * called once it is done.
+ */
 const FORMS = {
   "hold-place": {
     act: (values) => placeHold(values["hold-place-day"], values["hold-place-code"], values["hold-place-reason"], values["hold-place-by"]),

@@ -61,7 +61,8 @@ function ofConfirmation(record) {
 function factsTold(record) {
   const word = (name) => t(`record.facts.${name}`);
   const plain = ["ref", "title", "originated", "added", "aggregation", "class", "schedule"].map((name) => [word(name), visible(String(record[name]))]);
-  return factsOf([...plain, [word("length"), inBytes(record.length)], [word("digest"), made("code", {}, record.digest)]]);
+  const digest = [word("digest"), made("code", {}, record.digest)];
+  return factsOf([...plain, [word("length"), inBytes(record.length)], digest]);
 }
 
 /** The schedule of a record without a due day, where a catalogue has it: it says why there is none. */
@@ -125,7 +126,8 @@ async function saveContent() {
   save(name, answer.bytes, "application/octet-stream");
   const agrees = digest === record.digest;
   const key = digest === null ? "record.savedUnseen" : agrees ? "record.saved" : "record.savedOther";
-  say(place, digest !== null && !agrees ? "wrong" : "done", paragraph(t(key, { name, size: inBytes(answer.bytes.length) })));
+  const words = t(key, { name, size: inBytes(answer.bytes.length) });
+  say(place, digest !== null && !agrees ? "wrong" : "done", paragraph(words));
 }
 
 export function start() {
