@@ -30,10 +30,18 @@ function take(body) {
   about = body?.about[0] ?? null;
 }
 
-/** Looks which catalogue is there: its moment, or null where there is none. */
-export async function refresh() {
+async function lookNow() {
   take(await read("about"));
   return moment;
+}
+
+/** The last look for a catalogue, which may be under way. */
+let look = null;
+
+/** Looks which catalogue is there: its moment, or null where there is none. */
+export function refresh() {
+  look = lookNow();
+  return look;
 }
 
 /** Whether a catalogue was there when somebody looked last. */
@@ -80,3 +88,14 @@ const aggregationIndex = (rows) => indexOf(rows, ({ ref, title }) => `${ref} ${t
 export const records = () => ofPart("records", "records", recordIndex);
 export const aggregations = () => ofPart("aggregations", "aggregations", aggregationIndex);
 export const tree = () => ofPart("tree", "aggregations", treeOf);
+
+const scheduleOf = async (code) => (await part("schedules"))?.find((it) => it.code === code) ?? null;
+
+/**
+ * A schedule by its code, or null where no catalogue has it. No act changes a schedule, so that one of an older
+ * catalogue is right; for a code that is not in it a later catalogue is looked for.
+ */
+export async function schedule(code) {
+  if ((await (look ?? refresh())) === null) return null;
+  return (await scheduleOf(code)) ?? ((await refresh()) === null ? null : scheduleOf(code));
+}

@@ -19,6 +19,14 @@ export const paragraph = (text, kind = "") => made("p", kind ? { class: kind } :
 /** A number as people of the page's language write it. */
 export const grouped = (number) => number.toLocaleString(all().lang);
 
+/** A text that has a form for one and a form for many; the count is one of its values. */
+export function plural(key, count, values = {}) {
+  return t(`${key}.${count === 1 ? "one" : "many"}`, { count: grouped(count), ...values });
+}
+
+/** A number of bytes, in words. */
+export const inBytes = (count) => plural("page.bytes", count);
+
 /** A text as nodes, with an element at each of its places that has one, and a text at the others. */
 export function sentence(key, parts) {
   return t(key).split(/(\{\w+\})/).map((piece) => {

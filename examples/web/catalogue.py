@@ -56,12 +56,18 @@ def make(proxy: Proxy, copy: pathlib.Path) -> None:
     subprocess.run([SERVICE / "office-catalogue", copy, place], check=True)
 
 
+def renew(proxy: Proxy, office: Office) -> None:
+    """The catalogue of an office that is served, as it is now."""
+    copy = proxy.folder / "catalogued.db"
+    copy.unlink(missing_ok=True)
+    subprocess.run([SERVICE / "office-backup", office.file, copy], check=True, env={**os.environ, "OFFICE": OFFICE})
+    make(proxy, copy)
+
+
 @contextlib.contextmanager
 def made(proxy: Proxy, office: Office) -> Iterator[None]:
     """The catalogue of an office that is served, for as long as it is wanted."""
-    copy = proxy.folder / "catalogued.db"
-    subprocess.run([SERVICE / "office-backup", office.file, copy], check=True, env={**os.environ, "OFFICE": OFFICE})
-    make(proxy, copy)
+    renew(proxy, office)
     try:
         yield
     finally:

@@ -85,8 +85,9 @@ class View:
         there = self.story.told(f"/records/{number}")
         same(f"record {number}: its event and its due day", (there["event"], there["due"]), (event, due))
         of_event = WORDS["recorded"].format(event=event) if event else WORDS["none"]
-        of_due = f"It is due on {due}." if due else TEXTS["record"]["noDue"]
-        says(f"record {number}: which the view says", self.words(), of_event, of_due)
+        of_due = f"It is due on {due}." if due else TEXTS["record"]["noDue"]["event"]
+        words = of_due.format(schedule=there["schedule"])
+        says(f"record {number}: which the view says", self.words(), of_event, words)
 
     def is_listed(self, name: str, due: str, is_confirmed: bool) -> None:
         """The list of today has record 1 alone."""

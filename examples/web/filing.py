@@ -153,8 +153,19 @@ def wrong(view: View) -> None:
     """What is wrong is said where it is, and nothing is sent."""
     it = view.browser
     same("without an aggregation nothing is sent", view.file(), 0)
-    same("which is said at its field", it.text("#file-all-aggregation-wrong"), TEXTS["fields"]["numberWrong"])
+    views = {name: TEXTS[name]["title"] for name in ("plan", "catalogue")}
+    words = f"{WORDS['noAggregation']} {WORDS['whereAggregation'].format(**views)}"
+    same("that one is needed, and where its number comes from, is said at its field",
+         it.text("#file-all-aggregation-wrong"), words)
     same("and it has the focus", view.focus(), "file-all-aggregation")
+    says("and so it is beside the button", view.outcome(), WORDS["wrong"], words)
+    links = [link.get_attribute("hash") for link in it.all("#file-send-outcome a")]
+    same("with links to both views", links, ["#plan", "#catalogue"])
+    says("the field's hint says that it is needed", it.text("#file-all-aggregation-hint"), "required", "Plan")
+    it.write(file_all_aggregation="04")
+    same("a number of another form: nothing is sent", view.file(), 0)
+    same("which is another text", it.text("#file-all-aggregation-wrong"), TEXTS["fields"]["numberWrong"])
+    judge("and the outcome does not say that one is needed", WORDS["noAggregation"] not in view.outcome())
     it.write(file_all_prefix="LET/2024/", file_all_aggregation="1", file_all_originated="2024-01-01")
     rows = view.rows()
     same("what is written for all is in each row", {(row[1].startswith("LET/2024/"), row[3], row[4]) for row in rows},
@@ -164,6 +175,12 @@ def wrong(view: View) -> None:
     second[0].send_keys("LET/2024/letter 01.pdf")
     second[2].clear()
     second[2].send_keys("31.12.2023")
+    rowless = it.all("#file-table tbody tr:nth-child(3) input")[3]
+    rowless.send_keys(Keys.BACKSPACE)
+    same("a row alone without an aggregation: nothing is sent", view.file(), 0)
+    said = [node.text for node in it.all("#file-table tbody tr:nth-child(3) strong.wrong") if node.text]
+    same("which is said in that row", said, [WORDS["noAggregation"]])
+    rowless.send_keys("1")
     same("a ref twice, and a day of another form: nothing is sent", view.file(), 0)
     said = [node.text for node in it.all("#file-table tbody tr:nth-child(2) strong.wrong") if node.text]
     same("which is said at both fields", said, [WORDS["twice"], TEXTS["fields"]["dayWrong"]])

@@ -146,23 +146,50 @@ def cases(view: View) -> None:
     same(f"{len(table)} cases of examples/import/cases, in Chromium", wrong, [])
 
 
+# the columns of that sheet, as the lists show them once the title is chosen
+MATCHED = {"ref": "A: Aktenzeichen", "title": "B: Kurztext", "originated": "C: Datum", "aggregation": "D: Akten-Nr.",
+           "class": "E: Aktenplan", "schedule": WORDS["none"], "content": WORDS["none"]}
+EMPTY = dict.fromkeys(MATCHED, WORDS["none"])
+
+
+def columns_of(view: View) -> dict[str, str]:
+    """What each list of the columns shows."""
+    return {name: view.found(f"column-{name}") for name in MATCHED}
+
+
+def in_column(name: str, column: str) -> str:
+    return WORDS["inColumn"].format(name=WORDS["columns"][name], column=column)
+
+
+def unmatched(*names: str) -> str:
+    """The sentence of the columns that are not matched; the first four are needed."""
+    of = [WORDS["neededOf"].format(name=WORDS["columns"][name]) if name in list(MATCHED)[:4] else WORDS["columns"][name]
+          for name in names]
+    return WORDS["unmatched"].format(names=", ".join(of))
+
+
 def matched(view: View) -> None:
     """What was found of the sheet; one column is matched by hand."""
     it = view.browser
     view.open()
     view.choose("bau.csv", sheet())
     outcome = it.seen("#import-outcome")
-    says("no column is known for the title: it is said", outcome, WORDS["columns"]["title"])
+    there = f"{in_column('ref', 'A')}, {in_column('originated', 'C')}, {in_column('aggregation', 'D')}"
+    values = {"row": 1, "found": f"{there}, {in_column('class', 'E')}", "missing": WORDS["columns"]["title"]}
+    says("no column is known for the title: what is found is said, and what is not", outcome,
+         WORDS["unreadable"]["missing"].format(**values))
     judge("and nothing can be sent yet", not it.one("#import-rows").is_displayed())
+    same("the lists show the columns that were found", columns_of(view), {**MATCHED, "title": WORDS["none"]})
+    says("and a sentence above them says which, and which not", it.seen("#import-matched"),
+         WORDS["matched"].format(names=values["found"]), unmatched("title", "schedule", "content"))
     it.choose("#import-column-title", "1")
     same("once it is chosen, all rows are shown", it.one("#import-rows").is_displayed(), True)
     found = [view.found(field) for field in ("encoding", "separator", "days")]
     wanted = [WORDS["encodings"]["windows-1252"], WORDS["separators"]["semicolon"], WORDS["orders"]["dmy"]]
     same("encoding, separator and order of days are found", found, [WORDS["foundIs"].format(value=it) for it in wanted])
-    names = ("ref", "title", "originated", "aggregation", "class", "schedule")
-    columns = [view.found(f"column-{name}") for name in names]
-    named = ["A: Aktenzeichen", "B: Kurztext", "C: Datum", "D: Akten-Nr.", "E: Aktenplan", WORDS["none"]]
-    same("columns are matched by likely names", columns, named)
+    same("columns are matched by likely names", columns_of(view), MATCHED)
+    says("and the sentence says so", it.seen("#import-matched"), in_column("title", "B"),
+         unmatched("schedule", "content"))
     says("and what is not used is said", it.seen("#import-unused"), "Bemerkung")
     totals = view.totals()
     same("the totals", (totals["count"], totals["ready"], totals["wrong"]), (ROWS, ROWS - len(WRONG), len(WRONG)))
@@ -200,7 +227,8 @@ def imported(view: View) -> None:
     added = ROWS - len(WRONG) - len(REFUSED)
     counts = {"added": str(added), "refused": str(len(REFUSED))}
     same("so many are imported, and two are refused", view.counts(), counts)
-    says("what was left out is said", it.seen("#import-send-outcome"), WORDS["leftOut"].format(count=len(WRONG)))
+    left_out = WORDS["leftOut"]["many"].format(count=len(WRONG))
+    says("what was left out is said", it.seen("#import-send-outcome"), left_out)
     refused = {int(row[0]): row[-1] for row in view.filtered("wrong")}
     same("ten rows were not taken", list(refused), sorted([*WRONG, *REFUSED]))
     row = TEXTS["refusals"]["5"]
@@ -227,6 +255,12 @@ def corrected(view: View, lines: list[list[str]]) -> None:
     same("the file has the sheet's own header, and the reason", lines[0], [*HEADER, WORDS["reason"]])
     same("and ten rows", len(lines), 11)
     judge("each with its reason", all(line[-1] for line in lines[1:]), str(lines))
+    saved = dict(zip(sorted([*WRONG, *REFUSED]), enumerate(lines[1:], 2), strict=True))
+    named = [(line[-1].split(" ")[0], f"{'ABCDE'[WRONG[row][0]]}{number}")
+             for row, (number, line) in saved.items() if row in WRONG]
+    same("which names the cell where that file has it", [it for it, _ in named], [it for _, it in named])
+    says("a ref twice is that of a row of the sheet", saved[101][1][-1],
+         WORDS["wrong"]["twiceInSheet"].format(row=99, sheet="bau.csv"))
     fixed = [[*good(number), line[-1]] for number, line in zip(sorted([*WRONG, *REFUSED]), lines[1:], strict=True)]
     text = io.StringIO()
     csv.writer(text, delimiter=";", lineterminator="\r\n").writerows([lines[0], *fixed])
@@ -278,6 +312,8 @@ def doubtful(view: View) -> None:
     text = "ref,title,originated,aggregation\nD/1,One,05/06/2021,1\nD/2,Two,07/08/2021,1\n"
     view.choose("doubtful.csv", text.encode())
     says("two readings are asked about", it.seen("#import-outcome"), "C2", "05/06/2021")
+    named = {"ref": "A: ref", "title": "B: title", "originated": "C: originated", "aggregation": "D: aggregation"}
+    same("and the lists show the columns all the same", columns_of(view), {**EMPTY, **named})
     buttons = [button.text for button in it.all("#import-outcome button")]
     wanted = [WORDS["readAs"].format(day=day, order=WORDS["orders"][order])
               for day, order in (("2021-06-05", "dmy"), ("2021-05-06", "mdy"))]
@@ -300,13 +336,15 @@ def others(view: View) -> None:
     it = view.browser
     view.choose("short.csv", "Letters of 2023\n\nref;title;date\nS/1;One;2021-06-05\n".encode("utf-16"))
     same("a header further down is found", it.one("#import-header").get_attribute("value"), "3")
-    says("the aggregation is missing", it.seen("#import-outcome"), WORDS["columns"]["aggregation"])
+    says("the aggregation is missing, and where its number comes from is said", it.seen("#import-outcome"),
+         WORDS["columns"]["aggregation"], TEXTS["file"]["whereAggregation"].split("{")[0])
     it.choose("#import-column-aggregation", "same")
     it.write(import_same_aggregation="1")
     it.driver.execute_script("document.activeElement.blur()")
     same("it may be the same in each row", [row[1:5] for row in view.rows()], [["S/1", "One", "2021-06-05", "1"]])
     same("and is sent so", (view.press(), view.counts()), (1, {"added": "1"}))
     view.choose("book.xlsx", b"PK\x03\x04")
+    same("and none of its columns is matched", (columns_of(view), it.text("#import-matched")), (EMPTY, ""))
     says("a workbook is no sheet", it.seen("#import-outcome"), WORDS["unreadable"]["workbook"])
     view.choose("odd.csv", "ref,title,originated,aggregation\n\u202egpj.exe,<b>x</b>,2021-06-05,1\n".encode())
     shown = ["[U+202E]gpj.exe", "<b>x</b>"]

@@ -170,7 +170,7 @@ def listed(view: View) -> None:
         says(
             "overdue: the caption tells how many",
             it.seen("#overdue-caption"),
-            f"Records overdue on {DAY}, {COUNT} days after their due day: 5.",
+            f"Records overdue on {DAY}: 5. Days after the due day: {COUNT}.",
             f"Shown here: {len(wanted)}.",
         )
         it.press("#overdue-all")

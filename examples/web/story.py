@@ -222,7 +222,8 @@ class Story:
         self.success("record 99: there is none, in words", "#record-outcome", '404 {"error":"record"}', "There is no record 99 in this office.", TEXTS["record"]["missingDo"])
         words(1)
         it.press("#record-save")
-        says("record 1: its content is saved", it.seen("#record-saved"), "Saved as record-1.", "agrees with that of the record")
+        outcome = it.seen("#record-saved")
+        says("record 1: its content is saved", outcome, "Saved as record-1: ", "agrees with that of the record")
         saved = self.folder / "record-1"
         it.wait(saved.exists, "no file was saved")
         same("record 1: and is that of the office", saved.read_bytes(), self.office.ask("GET", "/records/1/content")[2])
@@ -251,7 +252,7 @@ class Story:
         says("one with a changed byte does not", self.check("byte.txt", text.replace(b"APP/18-07", b"APP/18-08")), words["differs"], words["otherThanOffice"].format(number=1))
         body = text[:-72].replace(b"ENDED 17", b"ENDED 16")
         forged = body + b"SHA256 " + hashlib.sha256(body).hexdigest().encode() + b"\n"
-        says("one with another sum agrees with itself, and is not the office's", self.check("forged.txt", forged), words["agrees"], words["otherThanOffice"].format(number=1), "ENDED says 16, but there are 17 such lines.")
+        says("one with another sum agrees with itself, and is not the office's", self.check("forged.txt", forged), words["agrees"], words["otherThanOffice"].format(number=1), "ENDED says 16, but the number of such lines is 17.")
         says("one that is cut off has no sum", self.check("short.txt", text[:-1]), words["noSum"])
 
     # ---- holds
@@ -269,9 +270,10 @@ class Story:
         it = self.browser
         refused = lambda number: (f'409 [{{"refused":{number}}}]', f"Refusal {number}, ", TEXTS["refusals"][str(number)]["meaning"], TEXTS["refusals"][str(number)]["do"])
         self.hold("place", "done", "Hold H-2 is placed.", day="2022-06-01", code="H-2", reason="A second lawsuit", by="Legal office")
+        same("holds: the form for its target has its code then", it.one("#hold-on-code").get_attribute("value"), "H-2")
         self.hold("place", "refused", *refused(4))
         it.choose("#hold-on-kind", "record")
-        self.hold("on", "done", "record:20 is on hold H-2.", day="2022-06-01", code="H-2", target="20")
+        self.hold("on", "done", "record:20 is on hold H-2.", day="2022-06-01", target="20")
         self.hold("on", "refused", *refused(4))
         it.open(f"{self.proxy.page}#record?number=20")
         says("holds: the record is held by it", it.seen("#record-words"), "Hold H-2 covers it")
@@ -284,6 +286,8 @@ class Story:
         self.hold("lift", "refused", *refused(12))
         same("holds: the record is free again", self.told("/records/20")["held"], None)
         self.hold("place", "a day before the office's", *refused(1), day="2022-06-01", code="H-3", reason="Too late", by="Legal office")
+        carried = it.one("#hold-on-code").get_attribute("value")
+        same("holds: of a hold that is refused no code is carried over", carried, "H-2")
         self.hold("lift", "the lawsuit's", "Hold Q-2020-17 is lifted.", day="2023-11-20", code="Q-2020-17")
 
     # ---- a damaged office

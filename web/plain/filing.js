@@ -38,8 +38,12 @@ const FORMS = {
   schedule: [isCodeOrNone, "fields.codeWrong"],
 };
 
+/** The name of the text that says that an aggregation is needed. */
+export const NO_AGGREGATION = "file.noAggregation";
+
 /** What is wrong with one value: the name of the text that says it, or none. */
 export function wrongOf(name, value) {
+  if (name === "aggregation" && value === "") return NO_AGGREGATION;
   const [takes, wrong] = FORMS[name];
   return takes(value) ? "" : wrong;
 }

@@ -4,7 +4,10 @@ import { Unreadable, stripped } from "./unreadable.js";
 
 export const NAMES = ["ref", "title", "originated", "aggregation", "class", "schedule", "content"];
 export const NEEDED = ["ref", "title", "originated", "aggregation"];
-/** Other names that sheets have for them, as `plain` makes them: as in examples/import/spreadsheet/columns.py. */
+/**
+ * Other names that sheets have for them, as `plain` makes them: as in examples/import/spreadsheet/columns.py. The
+ * labels of the page in both languages are among them.
+ */
 const SYNONYMS = {
   ref: [
     "reference", "reference no", "reference number", "ref no", "file no", "file number", "record no",
@@ -16,11 +19,17 @@ const SYNONYMS = {
     "datum", "entstanden", "entstanden am", "entstehungsdatum",
   ],
   aggregation: [
-    "aggregation no", "aggregation number", "folder no", "folder number",
-    "akte nr", "akten nr", "aktennummer",
+    "aggregation no", "aggregation number", "number of the aggregation", "folder no", "folder number",
+    "akte", "akte nr", "akten nr", "aktennummer", "nummer der akte",
   ],
-  class: ["class code", "classification", "klasse", "klassifikation", "aktenplan"],
-  schedule: ["schedule code", "disposal schedule", "retention schedule", "frist", "aufbewahrungsfrist"],
+  class: [
+    "class code", "code of the class", "classification",
+    "klasse", "kennung der klasse", "klassifikation", "aktenplan",
+  ],
+  schedule: [
+    "schedule code", "code of the schedule", "schedule of its own", "disposal schedule", "retention schedule",
+    "regel", "kennung der regel", "eigene regel", "aufbewahrungsregel", "frist", "aufbewahrungsfrist",
+  ],
   content: ["inhalt"],
 };
 
@@ -43,30 +52,47 @@ function placeOf(name, header) {
 }
 
 /**
- * The columns by the header in row `number`: those that somebody maps (null: none), then those whose names are known.
+ * What a header shows: the places of the columns that somebody maps (null: none), then of those whose names are known.
+ * Where two columns may be one, neither is taken, and `both` has them.
+ * @returns {{ places: Record<string, number>, both: Record<string, [number, number]> }}
+ */
+export function matched(header, mapped = {}, values = {}) {
+  const places = {};
+  const both = {};
+  for (const name of NAMES) if ((mapped[name] ?? null) !== null) places[name] = placeOf(mapped[name], header);
+  header.forEach((cell, at) => {
+    const name = columnNamed(cell);
+    if (!name || name in mapped || name in values || Object.values(places).includes(at)) return;
+    if (name in places) both[name] ??= [places[name], at];
+    else places[name] = at;
+  });
+  for (const name of Object.keys(both)) delete places[name];
+  return { places, both };
+}
+
+/**
+ * The columns by the header in row `number`, as `matched` has them; throws where one that is needed is not told.
  * `values` are the same in each row.
  * @returns {{ places: Record<string, number>, values: Record<string, string>, header: string[] }}
  */
 export function columnsOf(rows, number, mapped = {}, values = {}) {
   const header = rows[number - 1]?.cells ?? [];
-  const places = {};
-  for (const name of NAMES) if ((mapped[name] ?? null) !== null) places[name] = placeOf(mapped[name], header);
-  header.forEach((cell, at) => {
-    const name = columnNamed(cell);
-    if (!name || name in mapped || name in values || Object.values(places).includes(at)) return;
-    if (name in places) throw new Unreadable("both", { name, one: letters(places[name]), other: letters(at) });
-    places[name] = at;
-  });
+  const { places, both } = matched(header, mapped, values);
+  const [unclear] = Object.entries(both);
+  if (unclear) {
+    const [name, [one, other]] = unclear;
+    throw new Unreadable("both", { name, one: letters(one), other: letters(other) });
+  }
   const missing = NEEDED.filter((name) => !(name in places) && !(name in values));
-  if (missing.length) throw whyMissing(rows, number, header, missing);
+  if (missing.length) throw whyMissing(rows, number, header, missing, places);
   return { places, values, header };
 }
 
-function whyMissing(rows, number, header, missing) {
+function whyMissing(rows, number, header, missing, places) {
   const least = Math.max(known(header), 1);
   const better = rows.slice(0, NEAR_TOP).find((row) => known(row.cells) > least);
   if (better) return new Unreadable("header", { row: number, better: better.number });
-  return new Unreadable("missing", { row: number, missing });
+  return new Unreadable("missing", { row: number, missing, places });
 }
 
 /** The places of a row with so many cells for which the header has no name. */

@@ -2,7 +2,7 @@
 // in examples/import/convert, and examples/import/cases/run compares both.
 import { decoded } from "./bytes.js";
 import { codeCell, contentOf, inOneLine, noteOf, numberOf, textOf } from "./cells.js";
-import { NAMES, columnsOf, known, nameless } from "./columns.js";
+import { NAMES, columnsOf, known, matched, nameless } from "./columns.js";
 import { dayRead, orderOf } from "./days.js";
 import { isEmpty, letters, separated } from "./rows.js";
 import { Wrong, stripped } from "./unreadable.js";
@@ -13,9 +13,9 @@ import { Wrong, stripped } from "./unreadable.js";
  *   joinLines?: boolean, columns?: Record<string, string | number | null>, set?: Record<string, string> }} Options
  *
  * A row of the sheet: its number there, its cells, the seven of an import (null where one is wrong), what is wrong with
- * which, and what somebody should look at.
+ * which, and what somebody should look at. `at` is the column of that cell, or null where the sheet has none for it.
  * @typedef {{ number: number, cells: string[], values: (string | null)[], wrong: Found[], notes: Found[] }} Turned
- * @typedef {{ where: string, name: string, text: string, kind: string, values: object }} Found
+ * @typedef {{ where: string, at: number | null, name: string, text: string, kind: string, values: object }} Found
  */
 
 /** A cell without the spaces around it; one that the row has not is empty. */
@@ -46,20 +46,21 @@ function turnRow(row, columns, parts, joinLines) {
   const turned = { number: row.number, cells: row.cells, values: [], wrong: [], notes: [] };
   for (const name of NAMES) {
     const text = cellOf(row, name, columns, joinLines);
-    const at = { where: whereOf(row, name, columns), name, text };
+    const place = { where: whereOf(row, name, columns), at: columns.places[name] ?? null, name, text };
     try {
       turned.values.push(parts[name](text, row));
     } catch (why) {
       if (!(why instanceof Wrong)) throw why;
       turned.values.push(null);
-      turned.wrong.push({ ...at, kind: why.kind, values: why.values });
+      turned.wrong.push({ ...place, kind: why.kind, values: why.values });
     }
     const note = name === "ref" || name === "title" ? noteOf(text) : null;
-    if (note) turned.notes.push({ ...at, kind: note, values: {} });
+    if (note) turned.notes.push({ ...place, kind: note, values: {} });
   }
   for (const at of nameless(columns, row.cells.length)) {
     const text = stripped(row.cells[at]);
-    if (text) turned.wrong.push({ where: `${letters(at)}${row.number}`, name: "", text, kind: "nameless", values: {} });
+    const where = `${letters(at)}${row.number}`;
+    if (text) turned.wrong.push({ where, at, name: "", text, kind: "nameless", values: {} });
   }
   return turned;
 }
@@ -79,10 +80,14 @@ export function turned(bytes, options = {}) {
   return { encoding, separator, columns, order, rows: made, empty: below.length - filled.length };
 }
 
-/** The header of a sheet whose columns cannot be told, so that somebody can say which they are. */
+/**
+ * What is found of a sheet that cannot be read whole, so that somebody can say the rest: its header, and which of its
+ * columns are known, as `matched` has them.
+ */
 export function glimpsed(bytes, options = {}) {
   const { text, encoding } = decoded(bytes, options.encoding);
   const number = options.header ?? 1;
   const { separator, rows } = separated(text, known, number, options.separator);
-  return { encoding, separator, header: rows[number - 1]?.cells ?? [], rows };
+  const header = rows[number - 1]?.cells ?? [];
+  return { encoding, separator, header, ...matched(header, options.columns, options.set) };
 }

@@ -1,17 +1,17 @@
 // Filing: files are dropped or chosen, each becomes a record, and their acts go to the office in few requests.
 import { mark, onSubmit, untick } from "../fields.js";
-import { byId, grouped, paragraph, quiet, say } from "../page.js";
+import { byId, grouped, made, paragraph, plural, quiet, say } from "../page.js";
 import { addRecord, bytesOf } from "../plain/acts.js";
 import { digestOf } from "../plain/certificates.js";
 import {
-  MEMBERS, MOST_CONTENT, MOST_FILES, actBytes, base64, forAll, manifestOf, sizes, wrongOf, wrongsOf,
+  MEMBERS, MOST_CONTENT, MOST_FILES, NO_AGGREGATION, actBytes, base64, forAll, manifestOf, sizes, wrongOf, wrongsOf,
 } from "../plain/filing.js";
 import { isText, today } from "../plain/forms.js";
 import { visible } from "../plain/marks.js";
 import { batches, isSettled } from "../plain/sending.js";
 import { t } from "../texts.js";
 import { isLeftOut, rowOf, showAnswer, showHead, showValues } from "./file_rows.js";
-import { addPanel, guardPage, onDrop, sayFates, send, showSums } from "./filing.js";
+import { addPanel, guardPage, onDrop, sayFates, send, showSums, whereAggregation } from "./filing.js";
 
 /** The files that are listed, in their order; what is written for all of them is in the fields. */
 let entries = [];
@@ -56,8 +56,8 @@ function showLarge(count) {
   const place = byId("file-large");
   if (place.dataset.count === String(count)) return;
   place.dataset.count = count;
-  const words = { count: grouped(count), most: grouped(MOST_CONTENT) };
-  if (count) say(place, "wrong", paragraph(t("file.tooLarge", words)), paragraph(t("file.tooLargeDo")));
+  const words = plural("file.tooLarge", count, { most: grouped(MOST_CONTENT) });
+  if (count) say(place, "wrong", paragraph(words), paragraph(t("file.tooLargeDo")));
   else quiet(place);
 }
 
@@ -109,8 +109,8 @@ function take(files, folders = []) {
   entries.push(...more);
   byId("file-table").tBodies[0].append(...more.map((entry) => rowOf(entry, { edited, removed, replaced })));
   const said = folders.map((name) => paragraph(t("file.folder", { name: visible(name) })));
-  const over = { most: grouped(MOST_FILES), count: grouped(files.length - room) };
-  if (files.length > room) said.push(paragraph(t("file.tooMany", over)));
+  const over = files.length - room;
+  if (over > 0) said.push(paragraph(plural("file.tooMany", over, { most: grouped(MOST_FILES) })));
   if (said.length) say(byId("file-taken"), "wrong", ...said);
   else quiet(byId("file-taken"));
   quiet(byId("file-send-outcome"));
@@ -137,6 +137,11 @@ async function actOf(entry) {
   }
 }
 
+/** What is wrong with a field, in words; where an aggregation is needed, also where its number comes from. */
+function wrongWords(wrong) {
+  return wrong === NO_AGGREGATION ? `${t(wrong)} ${whereAggregation(false).join("")}` : t(wrong);
+}
+
 /** Says what is wrong with what is written for all files: whether something is. */
 function markCommon(ready) {
   const shared = common();
@@ -144,7 +149,7 @@ function markCommon(ready) {
   for (const name of MEMBERS.slice(1)) {
     const isNeeded = name === "aggregation" && ready.some((entry) => entry.own.aggregation === undefined);
     const wrong = shared[name] || isNeeded ? wrongOf(name, shared[name]) : "";
-    mark(commonField(name), wrong ? t(wrong) : "");
+    mark(commonField(name), wrong ? wrongWords(wrong) : "");
   }
   return byId("file-common").querySelector("[aria-invalid]");
 }
@@ -172,7 +177,9 @@ async function fileAll(values) {
   const inRows = markRows(ready);
   const wrong = markCommon(ready) ?? inRows;
   if (wrong) {
-    say(place, "wrong", paragraph(t("file.wrong")));
+    const lacksOne = ready.some((entry) => valuesOf(entry).aggregation === "");
+    const needed = [made("p", {}, `${t(NO_AGGREGATION)} `, ...whereAggregation())];
+    say(place, "wrong", paragraph(t("file.wrong")), ...(lacksOne ? needed : []));
     return wrong.focus();
   }
   quiet(place);

@@ -1,5 +1,5 @@
 // The table of the view File: a row for each file, with what its record will be and what became of it.
-import { grouped, label, made } from "../page.js";
+import { inBytes, label, made } from "../page.js";
 import { MEMBERS, MOST_CONTENT } from "../plain/filing.js";
 import { visible } from "../plain/marks.js";
 import { isSettled } from "../plain/sending.js";
@@ -45,8 +45,7 @@ export function rowOf(entry, { edited, removed, replaced }) {
   const off = buttonOf("file.off", name, () => removed(entry));
   entry.replace = buttonOf("file.manifest", name, () => replaced(entry, true));
   entry.leave = buttonOf("file.leave", name, () => replaced(entry, false));
-  const size = t("file.size", { bytes: grouped(entry.file.size) });
-  const words = [made("span", { class: "named" }, name), made("span", { class: "hint" }, size)];
+  const words = [made("span", { class: "named" }, name), made("span", { class: "hint" }, inBytes(entry.file.size))];
   const first = made("th", { scope: "row", role: "rowheader" }, ...words);
   const cells = MEMBERS.map((member) => made("td", { role: "cell" }, ...fieldOf(entry, member, edited)));
   const answer = made("td", { role: "cell" });

@@ -1,7 +1,7 @@
 // What the views File and Import share: acts are sent with their progress, and what became of each is said in words.
 import { post } from "../ask.js";
 import { field } from "../fields.js";
-import { byId, factsOf, grouped, link, made, paragraph, say, sentence, told, translate } from "../page.js";
+import { byId, factsOf, grouped, link, made, paragraph, plural, say, sentence, told, translate } from "../page.js";
 import { counted, isSettled, sendAll } from "../plain/sending.js";
 import { all, t } from "../texts.js";
 
@@ -16,6 +16,12 @@ export function fateWords(fate) {
   const refusal = t("said.refusal", { number: fate.refusal, name: row.name });
   const strong = made("strong", {}, `${refusal}.`);
   return made("span", { class: "fate wrong" }, strong, ` ${t("said.meaning", row)} ${t("said.do", row)}`);
+}
+
+/** Where the number of an aggregation comes from, as nodes: the views are links, or their names. */
+export function whereAggregation(isLinked = true) {
+  const view = (name) => (isLinked ? link(`#${name}`, t(`${name}.title`)) : t(`${name}.title`));
+  return sentence("file.whereAggregation", { plan: view("plan"), catalogue: view("catalogue") });
 }
 
 /** The sums of the view `name`, each with its word. */
@@ -86,12 +92,13 @@ export function sayFates(place, items, answer) {
   const kinds = FACTS.filter((it) => counts[it] || it === "added");
   const facts = kinds.map((it) => [t(`filing.counts.${it}`), grouped(counts[it])]);
   const settled = items.filter(isSettled).length;
-  const words = { settled: grouped(settled), count: grouped(items.length) };
-  const end = made("p", { class: "verdict" }, t(settled === items.length ? "filing.whole" : "filing.partly", words));
+  const { length } = items;
+  const partly = () => t("filing.partly", { settled: grouped(settled), count: grouped(length) });
+  const end = made("p", { class: "verdict" }, settled === length ? plural("filing.whole", length) : partly());
   const retry = counts.unknown ? "filing.retryUnknown" : "filing.retry";
   const stopped = counts.unknown + counts.left ? [paragraph(t(retry))] : [];
   if (counts.same) stopped.unshift(paragraph(t("filing.sameAbout")));
-  const kind = settled === items.length ? "done" : counts.refused + counts.unread ? "wrong" : "unknown";
+  const kind = settled === length ? "done" : counts.refused + counts.unread ? "wrong" : "unknown";
   say(place, kind, end, factsOf(facts), ...(answer ? told(answer) : []), ...stopped);
 }
 

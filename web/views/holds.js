@@ -1,6 +1,6 @@
 // Holds: place one, put a target on, take one off, lift it. No path shows a hold, so each act's answer is all that is known.
 import { post } from "../ask.js";
-import { onSubmit, untick } from "../fields.js";
+import { mark, onSubmit, untick } from "../fields.js";
 import { asking, byId, failed, made, paragraph, say, told } from "../page.js";
 import { bodyOf, holdOff, holdOn, liftHold, placeHold } from "../plain/acts.js";
 import { isCode } from "../plain/forms.js";
@@ -9,12 +9,24 @@ import { t } from "../texts.js";
 
 const targetOf = (values, form) => `${byId(`${form}-kind`).value}:${values[`${form}-target`]}`;
 
-/** The four forms: the act that each asks for, what is said once it is done, and what where that is unknown. */
+/** Writes a code into these forms for a hold that is there. */
+function carry(code, forms) {
+  for (const form of forms) {
+    byId(`${form}-code`).value = code;
+    mark(byId(`${form}-code`), "");
+  }
+}
+
+/**
+ * The four forms: the act that each asks for, what is said once it is done, and what where that is unknown; `after` is
+ * called once it is done.
+ */
 const FORMS = {
   "hold-place": {
     act: (values) => placeHold(values["hold-place-day"], values["hold-place-code"], values["hold-place-reason"], values["hold-place-by"]),
     done: (act) => t("holds.placed", { hold: act.code }),
     lost: "holds.lostPlace",
+    after: (act) => carry(act.code, ["hold-on"]),
   },
   "hold-on": {
     act: (values) => holdOn(values["hold-on-day"], values["hold-on-code"], targetOf(values, "hold-on")),
@@ -36,7 +48,7 @@ const FORMS = {
 /** Asks for one act, and says what came of it. */
 async function ask(name, values) {
   const place = byId(`${name}-outcome`);
-  const { act, done, lost } = FORMS[name];
+  const { act, done, lost, after } = FORMS[name];
   const asked = act(values);
   asking(place);
   untick(byId(name));
@@ -45,6 +57,7 @@ async function ask(name, values) {
   if (end === "unknown") say(place, "unknown", ...told(answer), paragraph(t(lost)));
   else if (answers[0]?.done) say(place, "done", paragraph(done(asked)), ...told(answer));
   else failed(place, answer);
+  if (end === "answered" && answers[0].done) after?.(asked);
 }
 
 export function start() {
@@ -59,5 +72,5 @@ export function start() {
 export function show(words) {
   const code = words.get("code");
   if (code === null || !isCode(code)) return;
-  for (const form of ["hold-on", "hold-off", "hold-lift"]) byId(`${form}-code`).value = code;
+  carry(code, ["hold-on", "hold-off", "hold-lift"]);
 }

@@ -1,18 +1,18 @@
 // Import: a CSV of a spreadsheet program is read, shown as the records that its rows will be, and sent in few requests.
 import { onSubmit, untick } from "../fields.js";
-import { byId, grouped, made, paragraph, quiet, save, say } from "../page.js";
+import { byId, grouped, made, paragraph, plural, quiet, save, say } from "../page.js";
 import { addRecord, bytesOf } from "../plain/acts.js";
 import { today } from "../plain/forms.js";
 import { visible } from "../plain/marks.js";
 import { batches, isSettled } from "../plain/sending.js";
-import { NAMES, plain } from "../sheet/columns.js";
-import { SEPARATORS, written } from "../sheet/rows.js";
+import { NAMES } from "../sheet/columns.js";
 import { glimpsed, turned } from "../sheet/turning.js";
 import { Unreadable } from "../sheet/unreadable.js";
 import { t } from "../texts.js";
-import { addPanel, onDrop, sayFates, send, showSums } from "./filing.js";
+import { addPanel, onDrop, sayFates, send, showSums, whereAggregation } from "./filing.js";
 import * as reading from "./import_reading.js";
 import * as preview from "./import_rows.js";
+import { notTaken } from "./import_saved.js";
 
 /** A sheet with more bytes is not read: the page would stand still. */
 const MOST_BYTES = 64 * 1048576;
@@ -41,6 +41,7 @@ function itemOf(row) {
 function sayUnreadable({ kind, values }) {
   const words = { ...values };
   if (values.missing) words.missing = values.missing.map((name) => t(`import.columns.${name}`)).join(", ");
+  if (values.places) words.found = reading.placesWords(values.places);
   if (values.name && NAMES.includes(values.name)) words.name = t(`import.columns.${values.name}`);
   if (values.text) words.text = visible(values.text);
   if (values.encoding) words.encoding = t(`import.encodings.${values.encoding}`);
@@ -54,8 +55,10 @@ function sayUnreadable({ kind, values }) {
     return button;
   });
   const choice = buttons.length ? [made("div", { class: "tools" }, ...buttons)] : [];
+  if (values.missing?.includes("aggregation")) choice.push(made("p", {}, ...whereAggregation()));
   const look = kind === "doubtful" ? "unknown" : "wrong";
-  say(byId("import-outcome"), look, paragraph(t(`import.unreadable.${kind}`, words)), ...choice);
+  const key = kind === "missing" && !words.found ? "missingAll" : kind;
+  say(byId("import-outcome"), look, paragraph(t(`import.unreadable.${key}`, words)), ...choice);
 }
 
 /** Reads the sheet as it is said; null where it cannot be read, which is said too. */
@@ -74,13 +77,13 @@ function read() {
   }
 }
 
-/** The header by which columns are chosen, also of a sheet that cannot be read whole. */
+/** The header by which columns are chosen, and which of them are known, also of a sheet that cannot be read whole. */
 function headerOf() {
   try {
-    return sheet.found ? { ...sheet.found, header: sheet.found.columns.header } : glimpsed(sheet.bytes, sheet.options);
+    return sheet.found ? { ...sheet.found, ...sheet.found.columns, both: {} } : glimpsed(sheet.bytes, sheet.options);
   } catch (why) {
     if (!(why instanceof Unreadable)) throw why;
-    return { header: [] };
+    return { header: [], places: {}, both: {} };
   }
 }
 
@@ -91,22 +94,13 @@ function refresh() {
   sheet.found = read();
   for (const row of rows()) row.item = row.wrong.length ? null : itemOf(row);
   const there = headerOf();
-  reading.show(sheet.options, there.header, { ...there, places: sheet.found?.columns.places });
+  reading.show(sheet.options, there.header, there);
   byId("import-sheet").hidden = false;
   byId("import-rows").hidden = !sheet.found;
   byId("import-heading").textContent = visible(sheet.name);
   if (!sheet.found) return;
-  showUnused();
   preview.take(rows());
   showTotals();
-}
-
-/** Says which columns of the sheet are not used. */
-function showUnused() {
-  const { header, places } = sheet.found.columns;
-  const used = new Set(Object.values(places));
-  const unused = header.filter((cell, at) => !used.has(at) && cell.trim()).map((cell) => visible(cell.trim()));
-  byId("import-unused").textContent = unused.length ? t("import.unused", { names: unused.join(", ") }) : "";
 }
 
 /** Takes what somebody says of the sheet, and reads it anew. */
@@ -173,7 +167,7 @@ function showTotals() {
   if (!isSending) byId("import-submit").textContent = t(key, { count: grouped(ready.length) });
   const refused = rows().filter(preview.isRefused).length;
   byId("import-save").hidden = refused === 0;
-  byId("import-save").textContent = t("import.save", { count: grouped(refused) });
+  byId("import-save").textContent = plural("import.save", refused);
 }
 
 function progressed() {
@@ -195,22 +189,14 @@ async function importAll(values) {
   progressed();
   sayFates(place, ready, answer);
   const wrong = rows().filter((row) => row.wrong.length).length;
-  if (wrong) place.append(paragraph(t("import.leftOut", { count: grouped(wrong) })));
+  if (wrong) place.append(paragraph(plural("import.leftOut", wrong)));
   if (rows().some(preview.isRefused)) place.append(paragraph(t("import.saveAbout")));
   place.focus();
 }
 
-/** Saves the rows that were not taken, as the sheet has them, each with the reason, in the sheet's own separator. */
+/** Saves the rows that were not taken, with their reasons. */
 function saveRefused() {
-  const { header } = sheet.found.columns;
-  // a column of reasons from the time before goes
-  const reason = t("import.reason");
-  const before = header.findIndex((cell) => plain(cell) === plain(reason));
-  const refused = rows().filter(preview.isRefused);
-  const width = Math.max(header.length, ...refused.map((row) => row.cells.length));
-  const cells = (row) => Array.from({ length: width }, (_, at) => row[at] ?? "").filter((_, at) => at !== before);
-  const lines = refused.map((row) => [...cells(row.cells), preview.reasonOf(row)]);
-  const text = written([[...cells(header), reason], ...lines], SEPARATORS[sheet.found.separator]);
+  const text = notTaken(visible(sheet.name), sheet.found, rows().filter(preview.isRefused));
   save(t("import.file", { name: sheet.name.replace(/\.[^.]*$/, "") }), new TextEncoder().encode(text), "text/csv");
 }
 

@@ -2,7 +2,7 @@
 import { byId, made } from "../page.js";
 import { visible } from "../plain/marks.js";
 import { ENCODINGS } from "../sheet/bytes.js";
-import { NAMES, plain } from "../sheet/columns.js";
+import { NAMES, NEEDED, plain } from "../sheet/columns.js";
 import { ORDERS } from "../sheet/days.js";
 import { SEPARATORS, letters } from "../sheet/rows.js";
 import { t } from "../texts.js";
@@ -10,6 +10,8 @@ import { t } from "../texts.js";
 /** What a column may be in place of one of the sheet. */
 const NONE = "none";
 const SAME = "same";
+/** What it is while it may be either of two. */
+const EITHER = "";
 /** The members of a record that may well be the same in each row. */
 const SHARED = ["title", "originated", "aggregation", "class", "schedule"];
 
@@ -88,7 +90,50 @@ function columnField(name, changed) {
 /** The words of a column of the sheet: its letters and its name. */
 const columnWords = (cell, at) => `${letters(at)}: ${visible(cell.trim()) || t("import.nameless")}`;
 
-/** Shows what was found of a sheet, and what somebody chose. */
+// ---- what was found
+
+const wordOf = (name) => t(`import.columns.${name}`);
+
+/** Columns with their letters, as `Ref (A), Title (B)`. */
+export const placesWords = (places) =>
+  NAMES.filter((name) => name in places)
+    .map((name) => t("import.inColumn", { name: wordOf(name), column: letters(places[name]) }))
+    .join(", ");
+
+/** Which columns are matched, which may be either of two, which are the same in each row, and which are not matched. */
+function matchWords(found, set) {
+  const { places, both } = found;
+  const either = (name) => both[name].map(letters).join(", ");
+  const eitherOf = (name) => t("import.inColumn", { name: wordOf(name), column: either(name) });
+  const neededOf = (name) => (NEEDED.includes(name) ? t("import.neededOf", { name: wordOf(name) }) : wordOf(name));
+  const unmatched = NAMES.filter((name) => !(name in places) && !(name in both) && !(name in set));
+  const lists = {
+    matched: placesWords(places),
+    unclear: Object.keys(both).map(eitherOf).join(", "),
+    sameFor: Object.keys(set).map(wordOf).join(", "),
+    unmatched: unmatched.map(neededOf).join(", "),
+  };
+  const parts = Object.entries(lists).filter(([, names]) => names);
+  return parts.map(([part, names]) => t(`import.${part}`, { names })).join(" ");
+}
+
+/** Shows the columns of the sheet in the list of one of an import, and which of them it is. */
+function showColumn(name, columns, found, value) {
+  const choice = select(`column-${name}`);
+  const isUnclear = name in found.both;
+  const same = SHARED.includes(name) ? [[SAME, t("import.same")]] : [];
+  choice.replaceChildren(...options([[NONE, t("import.none")], ...same, ...columns]));
+  if (isUnclear) choice.prepend(made("option", { value: EITHER, disabled: "" }, t("import.either")));
+  choice.value = isUnclear ? EITHER : value !== undefined ? SAME : found.places[name] ?? NONE;
+  const input = select(`same-${name}`);
+  input.hidden = choice.value !== SAME;
+  if (document.activeElement !== input) input.value = value ?? "";
+}
+
+/**
+ * Shows what was found of a sheet, and what somebody chose: `found` has the places of the columns that are known, also
+ * where the sheet cannot be read whole.
+ */
 export function show(options_, header, found) {
   const there = { encoding: found.encoding, separator: found.separator, days: found.order?.name };
   for (const [name, value] of Object.entries(there)) {
@@ -99,16 +144,11 @@ export function show(options_, header, found) {
   select("years").value = options_.years ?? "";
   select("header").value = options_.header ?? 1;
   select("join").checked = Boolean(options_.joinLines);
-  const places = header.map((cell, at) => [at, columnWords(cell, at)]);
-  for (const name of NAMES) {
-    const choice = select(`column-${name}`);
-    const same = SHARED.includes(name) ? [[SAME, t("import.same")]] : [];
-    choice.replaceChildren(...options([[NONE, t("import.none")], ...same, ...places]));
-    const value = options_.set?.[name];
-    const at = found.places?.[name] ?? options_.columns?.[name];
-    choice.value = value !== undefined ? SAME : at ?? NONE;
-    const input = select(`same-${name}`);
-    input.hidden = choice.value !== SAME;
-    if (document.activeElement !== input) input.value = value ?? "";
-  }
+  const columns = header.map((cell, at) => [at, columnWords(cell, at)]);
+  const set = options_.set ?? {};
+  for (const name of NAMES) showColumn(name, columns, found, set[name]);
+  byId("import-matched").textContent = header.length ? matchWords(found, set) : "";
+  const used = new Set([...Object.values(found.places), ...Object.values(found.both).flat()]);
+  const unused = header.filter((cell, at) => !used.has(at) && cell.trim()).map((cell) => visible(cell.trim()));
+  byId("import-unused").textContent = unused.length ? t("import.unused", { names: unused.join(", ") }) : "";
 }

@@ -1,5 +1,5 @@
 // The preview of the view Import: what each row of the sheet will be, what is wrong with it, and what became of it.
-import { byId, grouped, label, made } from "../page.js";
+import { byId, grouped, inBytes, label, made } from "../page.js";
 import { visible } from "../plain/marks.js";
 import { isSettled } from "../plain/sending.js";
 import { contentBytes } from "../sheet/cells.js";
@@ -29,9 +29,12 @@ export function foundWords(found, section) {
 /** Whether a row was not taken: it is wrong, or the office refused it. */
 export const isRefused = (row) => row.wrong.length > 0 || row.item?.fate?.kind === "refused";
 
-/** Why a row was not taken, in one text: what is wrong with it, or the refusal. */
-export function reasonOf(row) {
-  if (row.wrong.length) return row.wrong.map((it) => foundWords(it, "wrong")).join("; ");
+/**
+ * Why a row was not taken, in one text: what is wrong with it, or the refusal. `moved` gives what is wrong as it is to
+ * be said, where the row is elsewhere than in the sheet.
+ */
+export function reasonOf(row, moved = (it) => it) {
+  if (row.wrong.length) return row.wrong.map((it) => foundWords(moved(it), "wrong")).join("; ");
   return fateWords(row.item.fate).textContent;
 }
 
@@ -58,7 +61,7 @@ function cellOf(row, name, at) {
   const wrong = row.wrong.find((it) => it.name === name);
   if (wrong) return made("td", { role: "cell", class: "bad" }, inShort(wrong.text));
   const isContent = name === "content" && value;
-  const words = isContent ? t("import.bytes", { count: grouped(contentBytes(value)) }) : visible(value ?? "");
+  const words = isContent ? inBytes(contentBytes(value)) : visible(value ?? "");
   return made("td", { role: "cell" }, words);
 }
 

@@ -1,10 +1,14 @@
 // One record, by its number: what is reported of it in sentences and in facts, its content to save, and what can be recorded of it.
 import { get } from "../ask.js";
+import { schedule } from "../catalogue.js";
 import { onSubmit } from "../fields.js";
-import { asking, byId, details, factsOf, failed, link, made, paragraph, quiet, save, say, sentence } from "../page.js";
+import {
+  asking, byId, details, factsOf, failed, inBytes, link, made, paragraph, quiet, save, say, sentence,
+} from "../page.js";
 import { digestOf } from "../plain/certificates.js";
 import { isNumber, today } from "../plain/forms.js";
 import { visible } from "../plain/marks.js";
+import { reasonsFor } from "../plain/no_due.js";
 import { isMissing, jsonOf } from "../plain/outcomes.js";
 import { t } from "../texts.js";
 import * as acts from "./record_acts.js";
@@ -21,9 +25,18 @@ function ofStatus(record) {
   return line(`record.status.${ended ? ended.outcome : status}`, ended ? { run: certificateLink(ended.run) } : {});
 }
 
-function ofDue(record) {
-  if (record.due === null) return paragraph(t("record.noDue"));
-  return paragraph(t(record.status === "ended" ? "record.dueWas" : "record.due", record));
+/** Why a record has no due day, by the schedule that a catalogue has of it, or null. */
+function ofNoDue(record, rule) {
+  const reasons = reasonsFor(record, rule).map((reason) => t(`record.noDue.${reason}`, record));
+  if (reasons.length === 1) return [paragraph(`${t("record.noDue.is")} ${reasons[0]}`)];
+  const list = made("ul", {}, ...reasons.map((reason) => made("li", {}, reason)));
+  return [paragraph(t("record.noDue.several", record)), list];
+}
+
+/** The due day, or why there is none. */
+function ofDue(record, rule) {
+  if (record.due === null) return ofNoDue(record, rule);
+  return [paragraph(t(record.status === "ended" ? "record.dueWas" : "record.due", record))];
 }
 
 /** The event with which a retention period may begin, whatever the trigger and the status are. */
@@ -48,13 +61,18 @@ function ofConfirmation(record) {
 function factsTold(record) {
   const word = (name) => t(`record.facts.${name}`);
   const plain = ["ref", "title", "originated", "added", "aggregation", "class", "schedule"].map((name) => [word(name), visible(String(record[name]))]);
-  return factsOf([...plain, [word("length"), t("record.bytes", { count: record.length })], [word("digest"), made("code", {}, record.digest)]]);
+  const digest = [word("digest"), made("code", {}, record.digest)];
+  return factsOf([...plain, [word("length"), inBytes(record.length)], digest]);
 }
 
-function tell(record) {
+/** The schedule of a record without a due day, where a catalogue has it: it says why there is none. */
+const ruleOf = (record) => (record.due === null ? schedule(record.schedule) : null);
+
+function tell(record, rule) {
   shown = record;
   byId("record-heading").textContent = t("record.heading", { number: record.number, title: visible(record.title) });
-  byId("record-words").replaceChildren(ofStatus(record), ofDue(record), ofEvent(record), ofHold(record), ...ofConfirmation(record));
+  const words = [ofStatus(record), ...ofDue(record, rule), ofEvent(record), ofHold(record), ...ofConfirmation(record)];
+  byId("record-words").replaceChildren(...words);
   byId("record-facts").replaceChildren(factsTold(record));
   byId("record-content").hidden = record.status === "ended";
   event.offer(record);
@@ -75,8 +93,10 @@ async function open(number) {
   const record = jsonOf(answer);
   if (isMissing(answer, "record")) return say(place, "wrong", paragraph(t("record.missing", { number })), paragraph(t("record.missingDo")), details(answer));
   if (answer.status !== 200 || !record) return failed(place, answer);
+  const rule = await ruleOf(record);
+  if (mine !== asked) return;
   quiet(place);
-  tell(record);
+  tell(record, rule);
 }
 
 /** Reads the record that is shown once more, in its place: what is said of its due day then, or null where it could not be read. */
@@ -84,11 +104,13 @@ async function readAnew() {
   const mine = ++asked;
   const answer = await get(`records/${shown.number}`);
   const record = jsonOf(answer);
+  const isRead = answer.status === 200 && record;
+  const rule = isRead ? await ruleOf(record) : null;
   // another one is being shown by now
   if (mine !== asked) return [];
-  if (answer.status !== 200 || !record) return null;
-  tell(record);
-  return [ofDue(record)];
+  if (!isRead) return null;
+  tell(record, rule);
+  return ofDue(record, rule);
 }
 
 /** Asks for the content of the record that is shown, compares its digest, and gives it to be saved. */
@@ -104,7 +126,8 @@ async function saveContent() {
   save(name, answer.bytes, "application/octet-stream");
   const agrees = digest === record.digest;
   const key = digest === null ? "record.savedUnseen" : agrees ? "record.saved" : "record.savedOther";
-  say(place, digest !== null && !agrees ? "wrong" : "done", paragraph(t(key, { name, count: answer.bytes.length })));
+  const words = t(key, { name, size: inBytes(answer.bytes.length) });
+  say(place, digest !== null && !agrees ? "wrong" : "done", paragraph(words));
 }
 
 export function start() {

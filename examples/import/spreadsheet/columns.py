@@ -9,18 +9,21 @@ from spreadsheet.sheet import NEAR_TOP, Row, Unreadable, letters
 
 NAMES = ["ref", "title", "originated", "aggregation", "class", "schedule", "content"]
 NEEDED = ["ref", "title", "originated", "aggregation"]
-# Other names that sheets have for them, as `plain` makes them: in English, then in German. web/sheet/columns.js has the
-# same, and examples/import/cases tries each.
+# Other names that sheets have for them, as `plain` makes them: in English, then in German. The labels of the
+# page in both languages are among them. web/sheet/columns.js has the same, and examples/import/cases tries each.
 SYNONYMS: dict[str, list[str]] = {
     "ref": ["reference", "reference no", "reference number", "ref no", "file no", "file number", "record no",
             "aktenzeichen", "az", "geschäftszeichen", "signatur", "kennzeichen"],
     "title": ["name", "subject", "titel", "betreff", "bezeichnung"],
     "originated": ["date", "day", "document date", "date of document", "originated on",
                    "datum", "entstanden", "entstanden am", "entstehungsdatum"],
-    "aggregation": ["aggregation no", "aggregation number", "folder no", "folder number",
-                    "akte nr", "akten nr", "aktennummer"],
-    "class": ["class code", "classification", "klasse", "klassifikation", "aktenplan"],
-    "schedule": ["schedule code", "disposal schedule", "retention schedule", "frist", "aufbewahrungsfrist"],
+    "aggregation": ["aggregation no", "aggregation number", "number of the aggregation", "folder no", "folder number",
+                    "akte", "akte nr", "akten nr", "aktennummer", "nummer der akte"],
+    "class": ["class code", "code of the class", "classification",
+              "klasse", "kennung der klasse", "klassifikation", "aktenplan"],
+    "schedule": ["schedule code", "code of the schedule", "schedule of its own", "disposal schedule",
+                 "retention schedule", "regel", "kennung der regel", "eigene regel", "aufbewahrungsregel", "frist",
+                 "aufbewahrungsfrist"],
     "content": ["inhalt"],
 }
 
