@@ -149,14 +149,22 @@ fn do_rest(alloc: Global, image: &mut Image, trial: &Trial<'_>, place: usize) ->
         done(alloc, image, Stop::never(), Errand::Asks(&["resume"]))?;
         return Ok(());
     }
+    let mut asks = Vec::new(alloc);
+    let mut answers = String::new(alloc);
     let asked = trial.steps.iter().zip(trial.answers.as_str().lines());
     for (number, (step, wanted)) in asked.enumerate() {
         if number >= place {
-            let told = done(alloc, image, Stop::never(), Errand::Asks(&[step.as_str()]))?;
-            must(told.as_str().trim() == wanted, step.as_str(), told.as_str())?;
+            asks.push(step.as_str())?;
+            answers.push_str(wanted)?;
+            answers.push('\n')?;
         }
     }
-    Ok(())
+    let told = done(alloc, image, Stop::never(), Errand::Asks(asks.as_slice()))?;
+    must(
+        told.as_str() == answers.as_str(),
+        trial.words,
+        told.as_str(),
+    )
 }
 
 /// The tables must be at the last of the states.
