@@ -92,6 +92,8 @@ mod old_file_stories;
 #[cfg(test)]
 mod old_office;
 #[cfg(test)]
+mod other_stories;
+#[cfg(test)]
 mod others;
 #[cfg(test)]
 mod overdue_stories;
