@@ -28,13 +28,14 @@ fn rows_of<S: Alter>(
 ) -> Result<String, Fail> {
     let mut text = String::new(alloc);
     let names = names_of(alloc, conn, kind)?;
-    for name in names.as_str().split(';') {
-        if !name.is_empty() && name != "none" {
-            let select = format!(in alloc; "SELECT {columns} FROM \"{name}\"")?;
-            let rows = selected(alloc, conn, select.as_str())?;
-            let line = format!(in alloc; "{name} {rows}\n")?;
-            text.push_str(line.as_str())?;
-        }
+    if names.as_str() == "none" {
+        return Ok(text);
+    }
+    for name in names.as_str().split_terminator(';') {
+        let select = format!(in alloc; "SELECT {columns} FROM \"{name}\"")?;
+        let rows = selected(alloc, conn, select.as_str())?;
+        let line = format!(in alloc; "{name} {rows}\n")?;
+        text.push_str(line.as_str())?;
     }
     Ok(text)
 }

@@ -150,18 +150,16 @@ fn do_rest(alloc: Global, image: &mut Image, trial: &Trial<'_>, place: usize) ->
         return Ok(());
     }
     let mut asks = Vec::new(alloc);
-    let mut answers = String::new(alloc);
-    let asked = trial.steps.iter().zip(trial.answers.as_str().lines());
-    for (number, (step, wanted)) in asked.enumerate() {
-        if number >= place {
-            asks.push(step.as_str())?;
-            answers.push_str(wanted)?;
-            answers.push('\n')?;
-        }
+    for step in trial.steps.iter().skip(place) {
+        asks.push(step.as_str())?;
     }
     let told = done(alloc, image, Stop::never(), Errand::Asks(asks.as_slice()))?;
+    let wanted = trial.answers.as_str().lines().skip(place);
+    for (line, wanted) in told.as_str().lines().zip(wanted) {
+        must(line == wanted, trial.words, told.as_str())?;
+    }
     must(
-        told.as_str() == answers.as_str(),
+        told.as_str().lines().count() == asks.len(),
         trial.words,
         told.as_str(),
     )
