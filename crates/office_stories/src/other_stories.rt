@@ -67,7 +67,7 @@ record 5 has "ref":"r5"
 
 # Other tables of many pages stay beside an office that grows among them
 ## in the tables
-CREATE TABLE leaves(num INTEGER PRIMARY KEY, leaf TEXT NOT NULL UNIQUE); INSERT INTO leaves WITH RECURSIVE n(i) AS (SELECT 1 UNION ALL SELECT i + 1 FROM n WHERE i < 400) SELECT i * 7, 'a leaf of the book whose number is ' || i FROM n
+CREATE TABLE leaves(num INTEGER PRIMARY KEY, leaf TEXT NOT NULL UNIQUE); INSERT INTO leaves WITH RECURSIVE n(i) AS (SELECT 1 UNION ALL SELECT i + 1 FROM n WHERE i < 400) SELECT i * 7, 'a leaf of the book, number ' || i FROM n
 ## at the desk of the busy office
 ## in the tables
 CREATE TABLE roots(num INTEGER PRIMARY KEY, leaf INTEGER REFERENCES roots(num)); INSERT INTO roots WITH RECURSIVE n(i) AS (SELECT 1 UNION ALL SELECT i + 1 FROM n WHERE i < 400) SELECT i, i FROM n
@@ -78,7 +78,7 @@ resume = closed 3
 ## closed
 ## read from the tables
 SELECT count(*), min(num), max(num) FROM leaves is 201;7;2800;
-SELECT num FROM leaves WHERE leaf = 'a leaf of the book whose number is 333' is 2331;
+SELECT num FROM leaves WHERE leaf = 'a leaf of the book, number 333' is 2331;
 SELECT num FROM roots WHERE leaf = 333 is 333;
 
 # A file of version 1 with other tables is taken over, and leaves them as they are
