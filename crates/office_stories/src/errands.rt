@@ -5,6 +5,7 @@ use crate::failures::failure;
 use crate::intakes::taken_over;
 use crate::program::tell_program;
 use crate::readings::{fault_text, told};
+use crate::rests::rest_text;
 use crate::rows::{Way, tell_rows};
 use crate::selections::{all_selected, selected};
 use crate::sockets::{Meeting, serve};
@@ -36,6 +37,8 @@ pub(crate) enum Errand<'a> {
     Tables,
     /// What is in the tables is reported, and no office is opened.
     AllRows,
+    /// What else the file has is reported, and no office is opened.
+    Rest,
     /// What a statement reads is reported, and no office is opened.
     Selection(&'a str),
     /// The office is taken over with memory for so many rows.
@@ -69,6 +72,7 @@ fn done_at<S: Alter>(
         Errand::Meeting(rt, listener, meeting) => serve(rt, listener, desk, meeting)?,
         Errand::Program(_) | Errand::Statements(_) | Errand::Selection(_) => {}
         Errand::Counts | Errand::Tables | Errand::AllRows | Errand::TakenOver(_) => {}
+        Errand::Rest => {}
     }
     Ok(String::new(alloc))
 }
@@ -103,11 +107,15 @@ fn done_over<S: Alter + Drop>(
         Errand::Counts => counts_text(alloc, conn),
         Errand::Tables => tables_text(alloc, conn),
         Errand::AllRows => (all_selected(alloc, &mut conn), conn),
+        Errand::Rest => (rest_text(alloc, &mut conn), conn),
         Errand::Selection(select) => (selected(alloc, &mut conn, select), conn),
         Errand::TakenOver(rows) => taken_over(alloc, conn, rows),
         _ => done_at_desk(alloc, conn, errand),
     }
 }
+
+/// How many pages of an office are kept in memory: each opening fills them with zeros first.
+const PAGES: usize = 256;
 
 /// A connection to the files, or these where the disk stops.
 fn connected<D: Disk + Drop>(
@@ -117,7 +125,9 @@ fn connected<D: Disk + Drop>(
     if !files.may_be_used() {
         return Err(files);
     }
-    match Connection::open_files(alloc, files, Options::new(1)) {
+    let mut options = Options::new(1);
+    options.cache_pages = PAGES;
+    match Connection::open_files(alloc, files, options) {
         Ok(conn) => Ok(conn),
         Err((_, left)) => Err(left.into_files()),
     }

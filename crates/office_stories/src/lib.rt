@@ -14,7 +14,9 @@
 //! | `## in the tables` | statements of SQL that change the tables |
 //! | `## in the tables of version 1` | the same, after the eleven tables of version 1 are made (`old_office`) |
 //! | `## in the tables of the old base office` | the same, after the base office is made in these |
-//! | `## the bytes of a file` | what is in the pages of the database file (`pages`): `2 14 0a0b` at place 14 of page 2, `3 like 2`, and the `digest` of the whole |
+//! | `## in the tables of an earlier program` | the same, after other tables, indexes and a view are made that need no office (`others`) |
+//! | `## in the tables of a later program` | the same, after others are made, and views over `records`, which has to be there |
+//! | `## the bytes of a file` | what is in the pages of the database file (`pages`): `2 14 0a0b` at place 14 of page 2, `3 like 2`; the `digest` of the whole, and `3 digest` with that of page 3 |
 //! | `## read from the tables` | a statement of SQL, ` is ` and the values that it gives, `none` or `refused`; no office is opened before |
 //! | `## tried on the tables` | `opened after` or `fault 33 after` statements, each on a copy of the office as it is; what is refused keeps its rows |
 //! | `## counts of the tables` | how many rows the tables have, from schedules to certificates |
@@ -23,6 +25,10 @@
 //! | `## asked while a disk stops` | acts with their answers, or what is read, and how often a disk stops it at least |
 //! | `## resumed while a disk stops` | `by 11 steps = closed 1, at least 25`; `steps again` where each resumption is stopped once more |
 //! | `## opened while a disk stops` | `at least 8`: a file of version 1 is opened, and how often a disk stops it at least; each stop leaves all of version 1, or all of version 2 |
+//!
+//! What else than its thirteen tables a file has, each row of another table and each text of an index or a view, is after each
+//! part what it was before it, but for rows in the tables and bytes of a file (`rests`). What a stop leaves is compared with all
+//! of it too, and with what the views answer.
 //!
 //! An act is a day, its word, its words, ` = ` and the answer, as `2025-01-02 confirm 1 destroy = refused 15`;
 //! `phrases` has them all; acts that are asked at once stand between ` & `, and so do their answers. A title is the ref or the code, a reason is `court`, it is always the registrar
@@ -86,6 +92,10 @@ mod old_file_stories;
 #[cfg(test)]
 mod old_office;
 #[cfg(test)]
+mod other_stories;
+#[cfg(test)]
+mod others;
+#[cfg(test)]
 mod overdue_stories;
 #[cfg(test)]
 mod pages;
@@ -105,6 +115,8 @@ mod repeating;
 mod request_stories;
 #[cfg(test)]
 mod requests;
+#[cfg(test)]
+mod rests;
 #[cfg(test)]
 mod rows;
 #[cfg(test)]

@@ -1,5 +1,6 @@
 //! What is in the tables of an office, as statements read it where no office is opened before.
 use crate::failures::failure;
+use crate::rests::rest_and_views;
 use sqlite::types::ValueRef;
 use sqlite::{Alter, Connection, Row};
 use std::alloc::{AllocError, Global};
@@ -71,7 +72,7 @@ pub(crate) fn selected<S: Alter>(
     }
 }
 
-/// All rows of the tables, each table with its name.
+/// All rows of the tables, each table with its name, and what else the file has.
 pub(crate) fn all_selected<S: Alter>(
     alloc: Global,
     conn: &mut Connection<S>,
@@ -83,5 +84,6 @@ pub(crate) fn all_selected<S: Alter>(
         let line = format!(in alloc; "{table} {rows}\n")?;
         text.push_str(line.as_str())?;
     }
+    text.push_str(rest_and_views(alloc, conn)?.as_str())?;
     Ok(text)
 }

@@ -149,14 +149,20 @@ fn do_rest(alloc: Global, image: &mut Image, trial: &Trial<'_>, place: usize) ->
         done(alloc, image, Stop::never(), Errand::Asks(&["resume"]))?;
         return Ok(());
     }
-    let asked = trial.steps.iter().zip(trial.answers.as_str().lines());
-    for (number, (step, wanted)) in asked.enumerate() {
-        if number >= place {
-            let told = done(alloc, image, Stop::never(), Errand::Asks(&[step.as_str()]))?;
-            must(told.as_str().trim() == wanted, step.as_str(), told.as_str())?;
-        }
+    let mut asks = Vec::new(alloc);
+    for step in trial.steps.iter().skip(place) {
+        asks.push(step.as_str())?;
     }
-    Ok(())
+    let told = done(alloc, image, Stop::never(), Errand::Asks(asks.as_slice()))?;
+    let wanted = trial.answers.as_str().lines().skip(place);
+    for (line, wanted) in told.as_str().lines().zip(wanted) {
+        must(line == wanted, trial.words, told.as_str())?;
+    }
+    must(
+        told.as_str().lines().count() == asks.len(),
+        trial.words,
+        told.as_str(),
+    )
 }
 
 /// The tables must be at the last of the states.

@@ -6,8 +6,10 @@ use crate::intakes::tell_taken_over;
 use crate::migrations::tell_opened;
 use crate::office::{BASE, BUSY};
 use crate::old_office::{OLD_BASE, OLD_TABLES};
+use crate::others::{EARLIER, LATER};
 use crate::pages::put_row;
 use crate::repeating::{FOR_EACH, copies, number};
+use crate::rests::tell_rest;
 use crate::rows::Way;
 use crate::stops::{tell_asked, tell_resumed};
 use crate::tables::{tell_counts, tell_opening, tell_selection};
@@ -64,6 +66,17 @@ fn make_old(alloc: Global, image: &mut Image, place: &str) -> Result<(), Fail> {
     Ok(())
 }
 
+/// The other tables of the file, where the place is in those of an earlier program or of a later one.
+fn make_others(alloc: Global, image: &mut Image, place: &str) -> Result<(), Fail> {
+    if place.ends_with(" of an earlier program") {
+        do_all(alloc, image, Errand::Statements(EARLIER))?;
+    }
+    if place.ends_with(" of a later program") {
+        do_all(alloc, image, Errand::Statements(LATER))?;
+    }
+    Ok(())
+}
+
 /// The acts of the base office or of the busy one, where the place is at its desk.
 fn make_office(alloc: Global, image: &mut Image, place: &str) -> Result<(), Fail> {
     let is_busy = place.ends_with(" of the busy office");
@@ -76,12 +89,12 @@ fn make_office(alloc: Global, image: &mut Image, place: &str) -> Result<(), Fail
     Ok(())
 }
 
-/// A part of a story: its place and its rows.
-fn tell_part(alloc: Global, image: &mut Image, part: &str) -> Result<(), Fail> {
-    let (place, rows) = part.split_once('\n').ok_or("no rows")?;
+/// The rows of a part at their place.
+fn tell_rows_at(alloc: Global, image: &mut Image, place: &str, rows: &str) -> Result<(), Fail> {
     if place == "closed" {
         return close(alloc, image);
     }
+    make_others(alloc, image, place)?;
     make_old(alloc, image, place)?;
     make_office(alloc, image, place)?;
     match way_of(place)? {
@@ -90,12 +103,20 @@ fn tell_part(alloc: Global, image: &mut Image, part: &str) -> Result<(), Fail> {
     }
 }
 
+/// A part of a story: its place and its rows. What else the file has stays as it is, unless they change it.
+fn tell_part(alloc: Global, image: &mut Image, part: &str, rest: &mut String) -> Result<(), Fail> {
+    let (place, rows) = part.split_once('\n').ok_or("no rows")?;
+    tell_rows_at(alloc, image, place, rows)?;
+    tell_rest(alloc, image, place, rest)
+}
+
 /// The parts of a story, from no office on. Gives the office to which they come.
 pub(crate) fn tell_parts(alloc: Global, parts: &str) -> Result<Image, Fail> {
     let mut image = Image::new(alloc);
+    let mut rest = String::new(alloc);
     for part in parts.split("## ") {
         if !part.trim().is_empty() {
-            tell_part(alloc, &mut image, part)?;
+            tell_part(alloc, &mut image, part, &mut rest)?;
         }
     }
     Ok(image)

@@ -10,6 +10,7 @@ use crate::hostile_stories::{ELSEWHERE, HOSTILE};
 use crate::limit_stories::LIMITS;
 use crate::lost_stories::{LOST, UNHEARD};
 use crate::old_file_stories::OLD_FILE;
+use crate::other_stories::{OTHER_FILE, OTHERS, STOPPED_ACTS, STOPPED_BEGINNINGS};
 use crate::overdue_stories::{LOST_OVERDUE, OVERDUE};
 use crate::program_stories::{LOST_LINES, PROGRAM};
 use crate::request_stories::REQUESTS;
@@ -121,6 +122,22 @@ fn files_of_version_1_are_taken_over(rt: HostRuntime) -> Result<(), Fail> {
         tell(rt.alloc(), stories)?;
     }
     Ok(())
+}
+
+#[test]
+fn what_else_a_file_has_stays(rt: HostRuntime) -> Result<(), Fail> {
+    tell(rt.alloc(), OTHERS)?;
+    tell(rt.alloc(), OTHER_FILE)
+}
+
+#[test]
+fn beginnings_beside_other_tables_are_stopped(rt: HostRuntime) -> Result<(), Fail> {
+    tell(rt.alloc(), STOPPED_BEGINNINGS)
+}
+
+#[test]
+fn acts_beside_other_tables_are_stopped(rt: HostRuntime) -> Result<(), Fail> {
+    tell(rt.alloc(), STOPPED_ACTS)
 }
 
 #[test]
