@@ -13,7 +13,7 @@ day_kept (Some it) c = refl
 
 pub run_day_kept : (s : State) (run c : ℕ) → run_day (with_outcomes s run (c ∷ [])).office run ≡ run_day s.office run
 unfolding with_outcomes
-run_day_kept s run c = ap (λ o. unwrap_or (option_map (λ (it : Run). it.day) o) (pos 0)) (numbered_same s.office.runs run _) ∙ day_kept (numbered s.office.runs run) c
+run_day_kept s run c = ap (λ o. unwrap_or (option_map (λ (it : Run). it.day) o) (pos 0)) (numbered_same s.office.runs run _) ∙ day_kept (numbered s.office.runs run) _
 
 pub cursor_moved : (s : State) (run c : ℕ) (it : Run) → numbered s.office.runs run ≡ Some it → cursor_of (with_outcomes s run (c ∷ [])).office run ≡ c
 unfolding with_outcomes
