@@ -63,8 +63,8 @@ word_leaves one stay ends image s order text written after ending left holds (in
     let held : HeldOffice ed image holds.trees = record { held = holds.held; office = holds.office.office } in
     files_at (IsLeftBy order text written after ending s) last
     (λ clean.
-        let was = over.opened.rest clean ed holds.trees held in
-        word_left one stay ends over_files over.was last s clean holds.office.sound ed was.0 (subst (StandsIn ed (rows_of s)) (sym was.1) holds.office.rows) order text written after ending over.ends)
+    let was = over.opened.rest clean ed holds.trees held in
+    word_left one stay ends over_files over.was last s clean holds.office.sound ed was.0 (subst (StandsIn ed (rows_of s)) (sym was.1) holds.office.rows) order text written after ending over.ends)
     over.stays left is_left
 
 -- and so does a service
@@ -76,6 +76,6 @@ service_leaves one stay ends image s port count written after ending left holds 
     let held : HeldOffice ed image holds.trees = record { held = holds.held; office = holds.office.office } in
     files_at (IsServedTo s) last
     (λ clean.
-        let was = over.opened.rest clean ed holds.trees held in
-        service_left one stay ends over_files over.was last s clean holds.office.sound ed was.0 (subst (StandsIn ed (rows_of s)) (sym was.1) holds.office.rows) port count written after ending over.ends)
+    let was = over.opened.rest clean ed holds.trees held in
+    service_left one stay ends over_files over.was last s clean holds.office.sound ed was.0 (subst (StandsIn ed (rows_of s)) (sym was.1) holds.office.rows) port count written after ending over.ends)
     over.stays left is_left

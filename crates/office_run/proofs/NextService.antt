@@ -172,7 +172,7 @@ module _ (one : IsOneDatabase) (stay : StaySound) (ends : IsEnded) {S : Type 0} 
   service_left ed rest rows port count written after ending (inr (first, last, of, inl it, same)) =
       let clean_last : HasCleanDisk (state g last.held) = subst (λ (h : Held S). HasCleanDisk (state g h)) same clean in
       let at = desk_at ed first rest rows of (subst (λ (d : DeskState S). HasCleanDisk (state g d.held)) it.1 clean_last) in
-      subst (λ (h : Held S). LeavesAt (IsServedTo s) (state g h)) (sym same ) (left_at stay ends g s last (subst (ServedAt stay ends g s) (sym it.1) (as_it_was stay ends g s first at)))
+      subst (λ (h : Held S). LeavesAt (IsServedTo s) (state g h)) (sym same) (left_at stay ends g s last (subst (ServedAt stay ends g s) (sym it.1) (as_it_was stay ends g s first at)))
   service_left ed rest rows port count written after ending (inr (first, last, of, inr (n, failed, ended, told, turns, few, all, is), same)) =
       let clean_last : HasCleanDisk (state g last.held) = subst (λ (h : Held S). HasCleanDisk (state g h)) same clean in
       let at = desk_at ed first rest rows of (clean_turns g n failed ended first last turns clean_last) in

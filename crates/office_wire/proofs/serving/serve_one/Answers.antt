@@ -16,9 +16,9 @@ returns-clause-ok g c =
     let after = g.W.Write.contents c.send.new.writer in
     IfOk-weaker c.send.result _ _
     (λ status sent.
-        some_more (g.R.Read.remaining c.args.reader.now)
-        (λ (bytes : List ℕ). (t : State) → HasCleanDisk (state g.S.Store desk.held) → StandsAt g.S.Store t c.args.desk.now → IsToSend g.S.Store t bytes unread c.in_ok-sending.sending desk)
-        (λ (bytes : List ℕ). (t : State) → HasCleanDisk (state g.S.Store desk.held) → StandsAt g.S.Store t c.args.desk.now → Replies g.S.Store t bytes unread status written after desk)
-        c.in_ok-sending.ensures.ok
-        (λ bytes asked t clean stands. sent_reply g.S.Store t bytes unread c.in_ok-sending.sending status written after desk (asked t clean stands) sent))
+    some_more (g.R.Read.remaining c.args.reader.now)
+    (λ (bytes : List ℕ). (t : State) → HasCleanDisk (state g.S.Store desk.held) → StandsAt g.S.Store t c.args.desk.now → IsToSend g.S.Store t bytes unread c.in_ok-sending.sending desk)
+    (λ (bytes : List ℕ). (t : State) → HasCleanDisk (state g.S.Store desk.held) → StandsAt g.S.Store t c.args.desk.now → Replies g.S.Store t bytes unread status written after desk)
+    c.in_ok-sending.ensures.ok
+    (λ bytes asked t clean stands. sent_reply g.S.Store t bytes unread c.in_ok-sending.sending status written after desk (asked t clean stands) sent))
     c.send.ensures.sent
