@@ -165,9 +165,12 @@ class Log:
     def look_for_room(self) -> None:
         """Takes no entry while three quarters of etcd are in use.
 
-        So there is always room to report snapshots, by which the log is dropped.
+        So there is always room to report snapshots, by which the log is dropped. etcd counts anew
+        only when it writes: where no entry is taken, a key is written first.
         """
         was = self.is_full
+        if was:
+            self.etcd.transact([], [put(self.top + "room", self.member)])
         self.is_full = self.etcd.size_in_use() > self.quota * 3 // 4
         if was != self.is_full:
             say("etcd is nearly full: no entry is taken" if self.is_full else "etcd has room again")
