@@ -11,8 +11,8 @@ CITY = "/var/lib/office/city/office.db"
 # as the unit runs it
 AS_OFFICE = "setpriv --reuid office --regid office --clear-groups --no-new-privs"
 # starts the service, and asks it: the body of an answer is its last line
-SERVICE = (f"{AS_OFFICE} office serve {CITY} 8081 100 >/tmp/line & "
-           "until grep -q listening /tmp/line; do sleep 0.1; done; ")
+SERVICE = (f"rm -f /tmp/line; {AS_OFFICE} office serve {CITY} 8081 100 >/tmp/line & "
+           "until grep -qs listening /tmp/line; do sleep 0.1; done; ")
 ASKED = ("exec 3<>/dev/tcp/127.0.0.1/8081; printf 'GET /due/0001-01-01 HTTP/1.0\\r\\n\\r\\n' >&3; tail -n 1 <&3; ")
 SUMS = "find /var/lib/office /var/lib/office-backups /etc/office -type f -exec sha256sum {} + | sort"
 UNIT = "/etc/systemd/system/multi-user.target.wants/office@city.service"
