@@ -1,4 +1,4 @@
-//! Acts and lists of acts as people write them, and which fault is told of a bad one.
+//! Acts and lists of acts as people write them, and which fault is answered to a bad one.
 use crate::answering::push_refused;
 use crate::written::push;
 use office_days::Day;

@@ -1,4 +1,4 @@
-//! What is told of an office in memory: spent aggregations, runs and their certificates, records, what is due.
+//! What is reported of an office in memory: what is spent, runs, certificates, records, what is due.
 ghost use Rattle.std.specs.Prelude.{◌≡◌, IfOk, map};
 ghost use Rattle.serde_json.specs.View.{view};
 ghost use Rattle.office_json.specs.DueJson.{due_row_data};

@@ -1,6 +1,6 @@
-//! One office in memory, to which acts are told row by row.
+//! One office in memory, to which acts are given row by row.
 //!
-//! An act is told in short, its day first, as `2024-01-02 hold-on H-2 record:1`, or as its JSON after the word `act`.
+//! An act is given in short, its day first, as `2024-01-02 hold-on H-2 record:1`, or as its JSON after the word `act`.
 //! What is short is written out by its form and read as any other act; a title is the ref, and a reason and the
 //! name of who acts are always the same.
 ghost use Rattle.office_rules.specs.Acts.{CanBeMade};

@@ -1,4 +1,4 @@
-//! Answers whole, with their status and how many bytes they have, and what a writer that fails leaves.
+//! Whole answers, with their status and their length, and what a failing writer leaves.
 use crate::streams::{Narrow, Sent};
 use httparse::spans::HeaderSpan;
 use office_http::{

@@ -1,4 +1,4 @@
-//! Heads and bodies as clients send them, in pieces of several sizes, and what a reader that fails leaves.
+//! Heads and bodies as clients send them, in pieces, and what a failing reader leaves.
 ghost use Rattle.std.specs.Prelude.{◌≤◌, vec_capacity};
 
 use crate::streams::Sent;

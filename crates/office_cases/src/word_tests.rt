@@ -1,4 +1,4 @@
-//! Words of the command line: that they are taken at all, and of which kind the errors of others are.
+//! Words of the command line: which are taken, and of which kind the errors of others are.
 use crate::act_tests::push_day;
 use crate::answering::push_refused;
 use crate::rows::words_of;

@@ -1,4 +1,4 @@
-//! What stands in the fields of a row, and the row of them.
+//! The fields of a register's row as text, and the row of them.
 ghost use Rattle.std.specs.Prelude.{◌≡◌, [], IfOk, OnOk, map};
 ghost use Rattle.std.specs.Fmt.{decimal};
 ghost use Rattle.std.specs.Io.KnownBytes.{Appends};

@@ -1,3 +1,4 @@
+//! Why the writing of a register stops: memory was refused, or the writer failed.
 use office_tree::Memory;
 
 /// Why a register was not written to its end; some of it may have gone out.

@@ -1,3 +1,4 @@
+//! Dates of the crate `jiff`: the date of a day number, and the end of a period from a date on.
 ghost use Rattle.std.specs.Prelude.{◌≡◌, ◌≤◌, pos, ◌≤ℤ◌};
 ghost use Rattle.jiff.specs.Words.{epoch_day, IsEpochDay, span_months, span_days};
 ghost use Rattle.jiff_core.specs.Span.{clock_days};

@@ -1,3 +1,4 @@
+//! The civil days that may be handed in, by number and as text.
 ghost use Rattle.std.specs.Prelude.{neg_ℤ, pos, ◌≡◌, ◌↔◌, ◌≤◌, IsSome, IfSome, ℤ, ◌≤ℤ◌};
 ghost use Rattle.jiff.specs.Words.{epoch_day};
 ghost use Rattle.office_days.specs.Calendar.{CivilDay, IsDay, civil, number_of};

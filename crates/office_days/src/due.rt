@@ -1,3 +1,4 @@
+//! Due days, and the calendar's rule for one: a start day, a period and an offset.
 ghost use Rattle.std.specs.Prelude.{◌≡◌, ◌↔◌, ◌*◌, ℤ, ◌≤ℤ◌, IsTrue, IsSome, IfSome};
 ghost use Rattle.jiff.specs.Words.{epoch_day};
 ghost use Rattle.office_days.specs.Calendar.{IsDay, civil, number_of};

@@ -1,3 +1,4 @@
+//! The months of the year, by name and number.
 ghost use Rattle.std.specs.Prelude.{◌≡◌, ◌≤◌};
 
 /// A month of the year.

@@ -1,3 +1,4 @@
+//! Whole numbers written in ASCII digits, of any length.
 ghost use Rattle.std.specs.Prelude.{◌≡◌, min};
 ghost use Rattle.std.specs.Option.{option_map};
 ghost use Rattle.std.specs.Char.{is_ascii_digit};

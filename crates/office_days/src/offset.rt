@@ -1,3 +1,4 @@
+//! Calendar offsets of a disposal schedule: to which day a period's end is moved, and their words.
 ghost use Rattle.std.specs.Prelude.{◌≡◌};
 
 use crate::Month;

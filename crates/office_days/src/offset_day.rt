@@ -1,3 +1,4 @@
+//! The first date, from a date on, that a calendar offset allows.
 ghost use Rattle.std.specs.Prelude.{◌≡◌, ◌≢◌, ◌/◌, ◌%◌, ℕ, ◌+◌, ◌*◌, ◌<◌, ◌≤◌, pos, ◌≤ℤ◌, true, false};
 ghost use Rattle.jiff.specs.Words.{epoch_day};
 ghost use Rattle.office_days.specs.Calendar.{day_of, month_index};

@@ -1,3 +1,4 @@
+//! Retention periods: a count of days, weeks, months or years, within the unit's limit.
 ghost use Rattle.std.specs.Prelude.{◌≡◌, ◌≤◌, ◌↔◌, IsSome, IfSome};
 ghost use Rattle.office_days.specs.Limits.{longest};
 

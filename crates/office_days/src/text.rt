@@ -1,3 +1,4 @@
+//! Dates of the crate `jiff` as text, year, month and day in digits: written, and read back.
 ghost use Rattle.std.specs.Prelude.{◌≡◌, ◌≢◌, ℕ, ◌-◌, ◌<◌, ◌≤◌, pos, ◌≤ℤ◌, IfSome, IsNone, SomeIff};
 ghost use Rattle.office_days.specs.Calendar.{CivilDay, IsDay, day_of};
 ghost use Rattle.office_days.specs.Texts.{day_text, digit, IsTwo, IsFour, IsDayParts};

@@ -1,3 +1,4 @@
+//! Numbers of records, aggregations and runs, as people write them.
 ghost use Rattle.std.specs.Prelude.{◌≡◌};
 ghost use Rattle.office_days.specs.ThingNumbers.{thing_number};
 

@@ -1,3 +1,4 @@
+//! The units in which a retention period is counted, and their words.
 ghost use Rattle.std.specs.Prelude.{◌≡◌};
 ghost use Rattle.office_days.specs.Words.{unit_named, unit_word};
 

@@ -1,3 +1,4 @@
+//! Certificates of closed runs, as the office in memory has them.
 ghost use Rattle.std.specs.Prelude.{◌≡◌};
 ghost use Rattle.std.specs.String.{string_bytes};
 

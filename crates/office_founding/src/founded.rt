@@ -1,3 +1,4 @@
+//! The parts of the office that tables represent, once they are loaded.
 use crate::Certificate;
 use office_days::Day;
 use office_holds::Holds;

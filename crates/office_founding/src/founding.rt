@@ -1,4 +1,4 @@
-//! The office for which the rows that have come stand, or that there is none.
+//! The office that the rows so far represent, or that there is none.
 ghost use Rattle.std.specs.Prelude.{◌≡◌, IfOk, length, map};
 ghost use Rattle.std.specs.BTreeMap.{IsOrdered};
 ghost use Rattle.std.specs.Ordering.{nat_cmp};

@@ -1,3 +1,4 @@
+//! Acts on holds, and stored rows put in: placing, lifting, and targets put on and taken off.
 ghost use Rattle.std.specs.Prelude.{◌≡◌, OnOk, OnErr, IsOk, IsTrue, None};
 ghost use Rattle.std.specs.FinMap.{contains_key};
 ghost use Rattle.office_tree.specs.Conditions.{first_of};

@@ -1,3 +1,4 @@
+//! Why an act on holds is refused, as far as the register of holds can say.
 ghost use Rattle.std.specs.Prelude.{◌≡◌, nat_le};
 ghost use Rattle.std.specs.FinMap.{len};
 ghost use Rattle.std.specs.Option.{option_copied};

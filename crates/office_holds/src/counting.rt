@@ -1,4 +1,4 @@
-//! Changes of the holds, each with what is kept beside them.
+//! Changes of the holds, each with the counts that are derived from them.
 ghost use Rattle.std.specs.Prelude.{◌≡◌, IsTrue, OnErr, OnOk, None, Some};
 ghost use Rattle.std.specs.FinMap.{contains_key, get};
 ghost use Rattle.std.specs.Option.{is_none};

@@ -1,3 +1,4 @@
+//! The search through the holds in force for the least code that covers a record.
 ghost use Rattle.std.specs.Prelude.{◌≡◌, Some, filter, slice_get};
 ghost use Rattle.std.specs.BTreeSet.{IsOrdered};
 ghost use Rattle.std.specs.FinMap.{from_entries, get};

@@ -1,3 +1,4 @@
+//! Holds loaded from their rows: columns and targets, appended in the order of their keys.
 ghost use Rattle.std.specs.Prelude.{◌≡◌, ◌++◌, ◌∷◌, [], true, false, ℕ, List, IsTrue, OnErr, OnOk};
 ghost use Rattle.office_rows.specs.Rows.{OnDamaged};
 ghost use Rattle.office_holds.specs.Effects.{held_on};

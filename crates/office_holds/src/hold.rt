@@ -1,3 +1,4 @@
+//! One hold: its columns, the sets of its targets, and whether it covers a record.
 ghost use Rattle.std.specs.Prelude.{◌≡◌, ◌↔◌, ◌≤ℤ◌, IfSome, IsTrue, nat_le, length, Some, None, OnOk, OnErr};
 ghost use Rattle.std.specs.Option.{is_some};
 ghost use Rattle.office_days.specs.Limits.{IsDayNumber};

@@ -1,3 +1,4 @@
+//! The register of holds by code: whether a record is held, and by which hold.
 ghost use Rattle.std.specs.Prelude.{◌≡◌, IsTrue};
 ghost use Rattle.std.specs.FinMap.{empty, get};
 ghost use Rattle.std.specs.Option.{option_copied};

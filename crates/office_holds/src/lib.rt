@@ -6,7 +6,7 @@
 //! record's class. A record is **held** while at least one hold covers it. A hold blocks destruction,
 //! and not the sending of a copy.
 //!
-//! While a hold is in force it is counted for each of its targets, so that three counts tell whether a
+//! While a hold is in force it is counted for each of its targets, so that three counts show whether a
 //! record is held, however many holds there are.
 #![tactic(auto)]
 

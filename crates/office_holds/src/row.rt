@@ -1,3 +1,4 @@
+//! A row of the table of holds, without its key.
 ghost use Rattle.std.specs.Prelude.{◌≡◌, IfOk};
 
 use office_days::Day;

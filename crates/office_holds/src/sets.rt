@@ -1,3 +1,4 @@
+//! Sets of codes and of numbers, of which a hold has one for each kind of target.
 ghost use Rattle.std.specs.Prelude.{◌≡◌, ◌↔◌, ◌<◌, ◌^◌, IsTrue, OnOk, OnErr, true};
 ghost use Rattle.std.specs.FinMap.{contains_key};
 ghost use Rattle.std.specs.FinSet as set;

@@ -1,3 +1,4 @@
+//! Single steps of a change of holds: on the map by code, or on the counts, each alone.
 ghost use Rattle.std.specs.Prelude.{◌≡◌, OnOk, OnErr, None, Some};
 ghost use Rattle.std.specs.FinMap.{contains_key, from_entries, get, insert};
 ghost use Rattle.office_tree.specs.Lists.{amended};

@@ -1,3 +1,4 @@
+//! The things that a hold can be put on.
 ghost use Rattle.std.specs.Prelude.{◌≡◌, IfOk};
 
 use office_tree::{AggNo, Code, Memory, RecordNo};

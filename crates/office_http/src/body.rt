@@ -1,3 +1,4 @@
+//! The body of a request, read after its head, and why it could not be read.
 ghost use Rattle.std.specs.Prelude.{◌≡◌, ℕ, ◌-◌, ◌≤◌, ◌<◌, List, ◌++◌, length, drop, slice_range, IfOk, IfSome, OnOk, IsTrue, IsFalse};
 ghost use Rattle.std.specs.Io.KnownBytes.{Consumes, IsAtEnd};
 ghost use Rattle.std.specs.Vec.{vec_capacity};

@@ -1,3 +1,5 @@
+//! Failures with a fixed reply of their own, besides the failed checks of a head.
+
 /// Why a request is not served, apart from the checks of its head.
 #[derive(Clone, Copy, PartialEq, Eq, Debug)]
 pub enum Failure {

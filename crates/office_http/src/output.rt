@@ -1,3 +1,4 @@
+//! The smallest writes of a reply: bytes, a number, a status code with its phrase.
 ghost use Rattle.std.specs.Prelude.{OnOk, decimal};
 ghost use Rattle.std.specs.Io.KnownBytes.{Appends};
 ghost use Rattle.office_http.specs.Replies.{status_words};

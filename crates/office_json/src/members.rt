@@ -1,3 +1,4 @@
+//! The members of an object of JSON: found by name, and whether there are others.
 ghost use Rattle.std.specs.Prelude.{◌≡◌, option_and_then, option_map};
 ghost use Rattle.std.specs.List.{list_any};
 ghost use Rattle.std.specs.Str.{bytes_eq};

@@ -1,3 +1,4 @@
+//! Why a value of JSON is read as no act, and which of two such reasons is answered.
 use office_days::Refusal;
 use office_tree::Memory;
 

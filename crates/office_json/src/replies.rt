@@ -1,4 +1,4 @@
-//! What is told of acts besides a single answer, and the text of what is told.
+//! Replies to lists of acts, and the text of any reply.
 ghost use Rattle.std.specs.Prelude.{◌≡◌, codes, false, IfOk, OnOk, string_bytes};
 ghost use Rattle.serde_json.specs.Data.{unsigned, number as number_data, put as with_member};
 ghost use Rattle.serde_json.specs.View.{members_view, view};

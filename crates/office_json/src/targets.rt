@@ -1,4 +1,4 @@
-//! Targets: `class:CODE`, `aggregation:N` and `record:N`, as a hold is put on them or a class given.
+//! Targets as texts: `class:CODE`, `aggregation:N` and `record:N`.
 ghost use Rattle.std.specs.Prelude.{◌≡◌, option_map};
 ghost use Rattle.serde_json.specs.Find.{get};
 ghost use Rattle.serde_json.specs.View.{view};

@@ -1,4 +1,4 @@
-//! Texts and days that are told.
+//! Texts and days as values of JSON.
 ghost use Rattle.std.specs.Prelude.{◌≡◌, IfOk};
 ghost use Rattle.std.specs.Str.{IsUtf8};
 ghost use Rattle.serde_json.specs.Data.{string};

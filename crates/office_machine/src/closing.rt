@@ -1,3 +1,4 @@
+//! The certificate of a run that closes: its entries, and the aggregations that are spent.
 ghost use Rattle.std.specs.Prelude.{◌≡◌, IfOk, IsSome, map};
 ghost use Rattle.std.specs.String.{string_bytes};
 ghost use Rattle.office_tree.specs.Lists.{numbered};

@@ -1,3 +1,4 @@
+//! Decisions on schedules, classes and aggregations, and the write of the office's day.
 ghost use Rattle.std.specs.Prelude.{◌≡◌, List, [], ◌∷◌, ◌++◌, Bool, None, IfOk};
 ghost use Rattle.std.specs.Option.{option_copied};
 ghost use Rattle.office_days.specs.declared.refusal.Refusal.{Refusal};

@@ -1,3 +1,4 @@
+//! Decisions on holds: placing, lifting, and targets put on and taken off.
 ghost use Rattle.std.specs.Prelude.{◌≡◌, IfOk};
 ghost use Rattle.office_tree.specs.Conditions.{first_of};
 ghost use Rattle.office_rules.specs.Acts.{IsDecidedTo};

@@ -1,3 +1,4 @@
+//! Decisions on disposal runs: the opening of one, and a step of the open one.
 ghost use Rattle.std.specs.Prelude.{◌≡◌, None, Some, IfOk};
 ghost use Rattle.office_tree.specs.Conditions.{first_of};
 ghost use Rattle.office_rules.specs.Acts.{IsDecidedTo};

@@ -1,4 +1,4 @@
-//! The office for which tables stand that are in memory.
+//! The office that tables in memory represent.
 ghost use Rattle.std.specs.Prelude.{◌≡◌, IfOk};
 ghost use Rattle.office_rows.specs.Rows.{OnDamaged};
 ghost use Rattle.office_rules.specs.Founding.{AreTablesOf, HaveKeys};

@@ -1,3 +1,4 @@
+//! The smaller of two refusals, where tree and holds both have conditions.
 ghost use Rattle.std.specs.Prelude.{◌≡◌};
 ghost use Rattle.office_machine.specs.Lesser.{lesser};
 

@@ -1,3 +1,4 @@
+//! The office as the layers above see it, sound at any time: it decides, applies and reports.
 ghost use Rattle.std.specs.Prelude.{◌≡◌, IfOk, OnErr, OnOk, false};
 ghost use Rattle.std.specs.FinMap.{get};
 ghost use Rattle.std.specs.Option.{option_map};

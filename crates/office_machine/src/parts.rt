@@ -1,3 +1,5 @@
+//! The parts of the office in memory without the promise that they are sound together, so that
+//! a change may be made write by write.
 ghost use Rattle.std.specs.Prelude.{◌≡◌};
 ghost use Rattle.office_rules.specs.State.{empty_office};
 

@@ -1,3 +1,4 @@
+//! Decisions on the own class of an aggregation or a record.
 ghost use Rattle.std.specs.Prelude.{◌≡◌, IfOk, None};
 ghost use Rattle.std.specs.Option.{option_copied};
 ghost use Rattle.office_tree.specs.Conditions.{first_of};

@@ -1,3 +1,4 @@
+//! The open run, and the next ready record for it.
 ghost use Rattle.std.specs.Prelude.{◌≡◌, length, IsSome, IsTrue, Some};
 ghost use Rattle.office_tree.specs.Lists.{numbered};
 ghost use Rattle.office_tree.specs.Outlooks.{is_candidate};

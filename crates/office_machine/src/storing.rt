@@ -1,3 +1,4 @@
+//! Entries and certificates put into their maps.
 ghost use Rattle.std.specs.Prelude.{◌≡◌, OnErr, OnOk};
 ghost use Rattle.std.specs.FinMap.{from_entries, insert};
 ghost use Rattle.std.specs.Ordering.{nat_cmp};

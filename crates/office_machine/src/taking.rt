@@ -1,3 +1,4 @@
+//! A step of a run on one record: its outcome, its entry and its row writes.
 ghost use Rattle.std.specs.Prelude.{◌≡◌, [], ◌∷◌, ◌++◌, IfOk, IsSome, IsTrue, Some};
 ghost use Rattle.office_tree.specs.Disposal.{confirmation_of};
 ghost use Rattle.office_tree.specs.Lists.{numbered};

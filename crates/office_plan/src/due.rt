@@ -1,3 +1,4 @@
+//! The command `due`: its operands read, and the due day written.
 ghost use Rattle.std.specs.Prelude.{◌≡◌, IsOk, IfOk, IfErr, OnOk, OnErr};
 ghost use Rattle.std.specs.Io.KnownBytes.{Appends};
 ghost use Rattle.office_plan.specs.DueCommand.{due_asked, due_line, due_made, move_asked, refusal_asked, written_line};

@@ -1,3 +1,4 @@
+//! Bytes written and flushed, and the error of a reader or a writer.
 ghost use Rattle.std.specs.Prelude.{OnOk};
 ghost use Rattle.std.specs.Io.KnownBytes.{Appends};
 

@@ -1,3 +1,4 @@
+//! A line taken apart into words at its spaces.
 ghost use Rattle.std.specs.Prelude.{◌≡◌, ◌==◌, map, IfOk};
 ghost use Rattle.std.specs.List.{slice_split};
 

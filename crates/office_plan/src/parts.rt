@@ -1,3 +1,4 @@
+//! Periods, days, codes and numbers as the words of a plan file write them.
 ghost use Rattle.std.specs.Prelude.{◌≡◌, ◌≤◌, ◌↔◌, IsSome, IfSome, IfOk};
 ghost use Rattle.office_days.specs.Limits.{longest};
 ghost use Rattle.office_days.specs.Texts.{day_named};

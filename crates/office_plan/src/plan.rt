@@ -1,3 +1,4 @@
+//! The command `plan`: a plan file done line by line, and the due days of its records written.
 ghost use Rattle.std.specs.Prelude.{◌≡◌, ◌++◌, length, Err, IfErr, IfOk, IfSome, IsSome, IsTrue, None, OnOk};
 ghost use Rattle.std.specs.Io.KnownBytes.{Appends};
 ghost use Rattle.std.specs.Str.Lines.{lines};

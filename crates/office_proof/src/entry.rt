@@ -1,3 +1,4 @@
+//! Entries of disposal runs, and the numbers of runs.
 use crate::Outcome;
 use office_days::DueDay;
 use office_tree::{Code, RecordNo, Text};

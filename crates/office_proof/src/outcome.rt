@@ -1,3 +1,4 @@
+//! The outcomes of a run for a record, and their words.
 ghost use Rattle.std.specs.Prelude.{◌≡◌};
 ghost use Rattle.office_proof.specs.Outcomes.{is_ending, is_sending, is_skipping, outcome_named, outcome_word};
 

@@ -1,4 +1,4 @@
-//! The words that stand in the lines of a certificate, and how a line is made of them.
+//! The words in the lines of a certificate, and how a line is made of them.
 ghost use Rattle.std.specs.Prelude.{◌≡◌, ◌∷◌, ◌++◌, [], IfOk, codes, map};
 ghost use Rattle.std.specs.Fmt.{decimal};
 ghost use Rattle.std.specs.Option.{unwrap_or};

@@ -1,3 +1,4 @@
+//! One row more of a map by key or of a list by number, and when rows are damaged.
 ghost use Rattle.std.specs.Prelude.{◌≡◌, ◌≢◌, IsTrue, false, suc, [], ◌∷◌, ◌++◌, length, vec_len, vec_capacity, ◌<◌, IsOk, OnOk, OnErr};
 ghost use Rattle.std.specs.Ordering.{is_lt};
 ghost use Rattle.std.specs.List.{All};

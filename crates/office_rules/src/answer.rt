@@ -1,3 +1,4 @@
+//! The answers to acts.
 use office_days::Refusal;
 use office_proof::{Outcome, RunNo};
 use office_tree::RecordNo;

@@ -1,3 +1,4 @@
+//! The decision on an act: the row writes and the answer, or the answer alone.
 use crate::{Answer, RowWrite};
 
 /// What an accepted act does: at most six row writes, in the order in which they are to be done, and

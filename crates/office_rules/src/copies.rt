@@ -1,5 +1,5 @@
-//! Second texts and codes that are equal to the first. What has many of them takes them in pairs, so
-//! that few stand apart where memory is refused.
+//! Second texts and codes that are equal to the first, often in pairs, so that few are left over
+//! where memory is refused.
 ghost use Rattle.std.specs.Prelude.{◌≡◌, IfOk};
 ghost use Rattle.std.specs.Option.{option_copied};
 

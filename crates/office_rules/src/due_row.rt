@@ -1,3 +1,4 @@
+//! A row of what is due or overdue, as lists and registers report it.
 use office_days::DueDay;
 use office_tree::{Action, Code, RecordNo, Text};
 

@@ -1,3 +1,4 @@
+//! A row of the register of entries.
 use office_proof::Entry;
 use office_tree::Text;
 

@@ -1,5 +1,5 @@
-//! Functions that tell in proofs that what is asked for is of its form. Their calls do nothing: it is
-//! the types that see to it.
+//! What an act asks for is well-formed, stated as functions for proofs. A call does nothing: the
+//! types see to it.
 ghost use Rattle.std.specs.Prelude.{◌≤◌, IfSome};
 ghost use Rattle.office_days.specs.Limits.{IsDayNumber, longest};
 ghost use Rattle.office_tree.specs.Forms.{IsCode, IsText};

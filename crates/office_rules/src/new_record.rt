@@ -1,3 +1,4 @@
+//! A record that an act asks to add, with its content.
 ghost use Rattle.std.specs.Prelude.{◌≡◌, ◌<◌, ◌≤◌, length, IfSome, MatchOption};
 
 use office_days::Day;

@@ -1,3 +1,4 @@
+//! Disposal runs as the office stores them.
 ghost use Rattle.std.specs.Prelude.{◌≡◌, IfOk};
 
 use office_days::Day;

@@ -1,3 +1,4 @@
+//! How a word of the program ends: the exit status, and the line on standard error.
 ghost use Rattle.std.specs.List.{list_any};
 ghost use Rattle.std.specs.Prelude.{◌≡◌};
 ghost use Rattle.office_run.specs.Endings.{is_refusal};

@@ -1,5 +1,5 @@
-//! The story of the city archive, whole: its acts and their answers, and the certificates of both its runs. Its page is
-//! `examples/city_archive/README.md`, where the same acts and answers stand as files.
+//! The whole story of the city archive: its acts and their answers, and both its certificates.
+//! Its page is `examples/city_archive/README.md`, which has the same acts and answers as files.
 
 pub(crate) const ARCHIVE: &str = r#"
 # A city archive, from its schedule to its second disposal run

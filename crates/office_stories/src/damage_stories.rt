@@ -1,4 +1,4 @@
-//! Tables that other programs changed by a statement or two: whether they still stand for an office.
+//! Tables that other programs changed by a statement or two: do they still represent an office?
 //!
 //! Four things no statement can do: a trigger that is none of the six words (a CHECK), a value of another type
 //! than its column's (STRICT), two aggregations or records of one ref (UNIQUE), and null in a column that must not

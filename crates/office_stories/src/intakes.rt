@@ -1,4 +1,4 @@
-//! An office is opened while memory is wanting for one of its rows.
+//! An office is opened while memory is refused for one of its rows.
 use crate::disks::{Image, Stop};
 use crate::errands::{Errand, done};
 use crate::failures::{failure, must};

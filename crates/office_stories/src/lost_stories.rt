@@ -1,4 +1,4 @@
-//! Clients that are lost: before their last byte came, or before the last byte of their answer went.
+//! Clients that are lost: before their last byte came, or before their whole answer went.
 
 /// What they leave behind before their last byte came is nothing.
 pub(crate) const LOST: &str = r#"

@@ -1,4 +1,4 @@
-//! What else a file has stays as it is: other tables, made before the office or after it, their indexes and views.
+//! What else a file has stays as it is: tables of other programs, their indexes and views.
 
 /// The office is made beside them, works, is refused and is made one of version 2.
 pub(crate) const OTHERS: &str = r#"

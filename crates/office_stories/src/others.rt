@@ -1,4 +1,4 @@
-//! Other tables of an office's file, as other programs keep them: made before the office's own tables, and after them.
+//! Tables of other programs in an office's file, made before the office's own or after them.
 
 /// Before the office: a table with a key that is counted on, a reference to itself and two indexes, one of them UNIQUE; one without
 /// a key; two whose names only begin as those of the office's tables; and a view whose rows an index finds.

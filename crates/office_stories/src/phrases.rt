@@ -1,4 +1,4 @@
-//! The words of acts and of answers, and the JSON that they stand for.
+//! The words of acts and of answers, and the JSON that they mean.
 use crate::failures::failure;
 use base64::engine::general_purpose::STANDARD;
 use office_proof::digest_of;

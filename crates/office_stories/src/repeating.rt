@@ -1,5 +1,5 @@
-//! Rows and stories that are told for each of several numbers, and the bytes that are written by escapes or as
-//! pieces that stand many times.
+//! Rows and stories that are repeated for each of several numbers, and bytes that are written by
+//! escapes or as repeated pieces.
 use crate::failures::failure;
 use std::alloc::{AllocError, Global};
 use std::test::Fail;

@@ -1,4 +1,4 @@
-//! What else a file has beside the office's thirteen tables: each other table with its rows, and each index and view.
+//! What a file has besides the office's tables: rows of other tables, indexes and views.
 use crate::disks::{Image, Stop};
 use crate::errands::{Errand, done};
 use crate::failures::must;

@@ -1,5 +1,5 @@
-//! Acts, the making of an office and runs, while a disk stops at each of its calls in turn. Each kind of act is done on an office in
-//! which it writes the most rows, and is of a later day.
+//! Acts, the making of an office and runs, while a disk stops at each of its calls in turn. Each
+//! kind of act is done on an office in which it writes the most rows, and is of a later day.
 
 /// The making of an office, and what is filed in it.
 pub(crate) const STOPPED_FILING: &str = "

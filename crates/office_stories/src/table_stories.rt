@@ -1,4 +1,4 @@
-//! What is saved is found again, and tables that stand for no office are told.
+//! What is saved is found again, and tables that represent no office are reported.
 
 pub(crate) const TABLES: &str = r#"
 # Each kind of change is saved and found

@@ -1,4 +1,4 @@
-//! Stories are told, part by part.
+//! Stories are carried out, part by part.
 use crate::disks::Image;
 use crate::errands::{Errand, close, do_all};
 use crate::failures::failure;

@@ -1,4 +1,4 @@
-//! Every story is told.
+//! Every story is carried out.
 use crate::archive_stories::ARCHIVE;
 use crate::content_stories::CONTENTS;
 use crate::damage_stories::{BASE_DAMAGE, BUSY_DAMAGE};

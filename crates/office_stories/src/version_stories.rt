@@ -1,4 +1,4 @@
-//! Files of version 1 and of version 2: what is taken over, what is refused, and what stays as it is.
+//! Files of version 1 and of version 2: what is taken over, what is refused, what stays as it is.
 
 /// What a file of version 1 becomes.
 pub(crate) const TAKEN_OVER: &str = r#"

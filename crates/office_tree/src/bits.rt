@@ -1,4 +1,4 @@
-//! Flags in words of 64.
+//! Flags, one bit each, in words of 64.
 ghost use Rattle.std.specs.Prelude.{◌≡◌, ◌+◌, ◌*◌, ◌/◌, ◌<◌, ◌≤◌, ℕ, [], IfSome, IfNone, OnOk, false, length, max, slice_set, true};
 ghost use Rattle.office_tree.specs.Flags.{flag_at, HasNoneUpTo, IsFirstFrom};
 

@@ -1,5 +1,5 @@
-//! Functions that tell in proofs that what stands in the tree is of its form. Their calls change
-//! nothing: it is the types that see to it.
+//! The tree is well-formed, stated as functions for proofs. A call changes nothing: the types see
+//! to it.
 ghost use Rattle.std.specs.Prelude.{◌≤◌, ◌<◌, IfSome};
 ghost use Rattle.std.specs.List.{All};
 ghost use Rattle.office_days.specs.Limits.{IsDayNumber, IsDueNumber};

@@ -1,4 +1,4 @@
-//! Flags that each stand for 64 others, with the flags above them.
+//! Flags that each represent 64 others, with the flags above them.
 ghost use Rattle.std.specs.Prelude.{◌≡◌, ◌+◌, ◌*◌, ◌/◌, ◌<◌, ◌≤◌, ℕ, [], IfSome, IfNone, OnOk, false, length, slice_set, true};
 ghost use Rattle.office_tree.specs.Flags.{flag_at, HasNoneFrom, IsFirstFrom};
 

@@ -2,8 +2,8 @@
 //!
 //! An aggregation holds records and other aggregations, at most eight deep. Each record has a
 //! **class**: its own, else that of the nearest aggregation above it that has one. Its **plan**
-//! is its own disposal schedule, else the schedule of its class. The plan's trigger tells the
-//! **start day**, and its retention period and calendar offset tell the **due day**, on which the
+//! is its own disposal schedule, else the schedule of its class. The plan's trigger gives the
+//! **start day**, and its retention period and calendar offset give the **due day**, on which the
 //! record may be disposed of. A trigger may wait for the record's **event**, as the end of a contract:
 //! there is no due day before one is recorded.
 //!

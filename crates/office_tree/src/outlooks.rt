@@ -1,4 +1,4 @@
-//! What is kept of each record, with the candidates for a disposal run among them.
+//! What is derived of each record, beside the set of the candidates for a disposal run.
 ghost use Rattle.std.specs.Prelude.{◌≡◌, ◌-◌, ◌<◌, ◌≤◌, ◌++◌, ◌∷◌, ℕ, [], IfSome, IfNone, OnOk, false, length, slice_set, true, vec_len, vec_capacity};
 ghost use Rattle.office_tree.specs.Marks.{AreMarked, mark_at};
 ghost use Rattle.office_tree.specs.declared.outlook.Outlook.{Outlook};

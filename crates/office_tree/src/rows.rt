@@ -1,4 +1,4 @@
-//! The rows of a tree, lent while what is kept of them is renewed.
+//! The rows of a tree, borrowed while what is derived from them is computed anew.
 ghost use Rattle.std.specs.Prelude.{◌≡◌, ◌&&◌, IsTrue, Some, length};
 ghost use Rattle.std.specs.FinMap.{get};
 ghost use Rattle.std.specs.Ordering.{int_eq};

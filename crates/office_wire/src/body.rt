@@ -1,3 +1,4 @@
+//! The body of a request inside the bytes that were read.
 use std::marker::Model;
 
 /// The bytes of a body, where they lie in what was read. Contracts see them as a list.

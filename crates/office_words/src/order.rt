@@ -1,3 +1,4 @@
+//! What the program is to do, with the operands of its words read.
 ghost use Rattle.std.specs.Prelude.{◌≡◌, Err, IfErr, IfOk, Ok};
 ghost use Rattle.office_words.specs.Command.{asked};
 ghost use Rattle.office_words.specs.Orders.{order_asked, ordered};

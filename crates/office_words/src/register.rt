@@ -1,3 +1,4 @@
+//! The registers that the program writes, and the operand that names one.
 ghost use Rattle.std.specs.Prelude.{◌≡◌};
 ghost use Rattle.office_words.specs.Orders.{register_named};
 

@@ -1,3 +1,4 @@
+//! The words of the command line as a command with its operands, before these are read.
 ghost use Rattle.std.specs.Prelude.{◌≡◌, IfOk, IfErr, true, map};
 ghost use Rattle.clap.specs.Words.{found_of, kind_of, rows_of, subcommand_of, subcommand_rows_of, takes};
 ghost use Rattle.office_words.specs.Command.{apply_asked, asked, asked_in, due_asked, export_asked, import_asked, init_asked, number_asked, office_app, overdue_asked, plan_asked, resume_asked, serve_asked, text_of};

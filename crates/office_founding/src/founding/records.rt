@@ -1,4 +1,4 @@
-//! The rows whose columns are not the fields of what they stand for.
+//! Rows whose columns are not the fields of the thing that they represent.
 ghost use Rattle.std.specs.Prelude.{◌≡◌, ◌≢◌, ◌∷◌, ◌++◌, [], ℕ, List, MatchOption, OnOk, Option, length};
 ghost use Rattle.std.specs.Option.{option_map};
 ghost use Rattle.office_rows.specs.Rows.{OnDamaged, numbered_rows};

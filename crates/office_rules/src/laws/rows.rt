@@ -1,4 +1,4 @@
-//! The rows that a state stands for, and what each write makes of them.
+//! The rows that represent a state, and what each write makes of them.
 ghost use Rattle.std.specs.Prelude.{◌≡◌, List, length};
 ghost use Rattle.office_rules.specs.Acts.{CanBeMade, IsDecidedFor, step};
 ghost use Rattle.office_rules.specs.Rows.{rows_of, write_rows, all_row_writes};

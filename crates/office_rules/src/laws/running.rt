@@ -1,4 +1,4 @@
-//! What a disposal run looks at, what it leaves alone, and what its certificate tells.
+//! What a disposal run looks at, what it leaves alone, and what its certificate reports.
 ghost use Rattle.std.specs.Prelude.{◌≡◌, ◌≢◌, ◌↔◌, ◌≤◌, ℕ, List, [], ◌∷◌, map, length, slice_get, Some, None, IsTrue};
 ghost use Rattle.std.specs.FinMap.{get};
 ghost use Rattle.std.specs.List.{Contains};
