@@ -32,6 +32,11 @@ def blocks(page: str) -> list[list[str]]:
     return found
 
 
+def joined(lines: list[str]) -> list[str]:
+    """The lines, where each that ends with a backslash goes on in the next."""
+    return re.sub(r" \\\n *", " ", "\n".join(lines)).split("\n")
+
+
 def is_program(word: str) -> bool:
     """Whether a block whose first word is this has commands."""
     return word in PROGRAMS or re.fullmatch(r"(\./)?(examples/\S+|replicas/\S+|office(-[a-z]+)?)", word) is not None
@@ -48,6 +53,6 @@ def commands(page: str) -> list[Command]:
                 else:
                     found[-1].shown.append(line)
         elif is_program(block[0].split(" ")[0]):
-            found += [Command(line, None) for line in block]
+            found += [Command(line, None) for line in joined(block)]
     found += [Command(it, None) for it in re.findall(r"\| `(curl [^`]+)` \|", (TOP / page).read_text())]
     return found

@@ -164,6 +164,7 @@ ROWS = [
     Row("mkdir -p /etc/office"),
     Row("cp examples/service/city.conf"),
     Row("cp examples/service/office@.service"),
+    Row("cp examples/service/office-backup@.service"),
     Row("cp examples/service/office-compact@.service"),
     Row("cp examples/service/office-overdue@.service"),
     Row("cp examples/service/office-overdue-mail@.service"),
