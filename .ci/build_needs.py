@@ -1,6 +1,6 @@
-"""What a look at the program, or a build of it, needs of the machine. Each thing that is missing is one line.
+"""What a preview of the program, or a build of it, needs of the machine. Each thing that is missing is one line.
 
-    .ci/build_needs.py look|build
+    .ci/build_needs.py preview|build
 
 The exit status is 2 where something is missing, and standard error says what, and what to do.
 """
@@ -14,10 +14,10 @@ import tempfile
 TOP = pathlib.Path(__file__).resolve().parent.parent
 OUT = TOP / "crates/office/out"
 GB = 1_000_000_000
-# the free memory that is needed: the largest check of a build takes 5.9 GB, a look 4.3 GB
-MEMORY = {"look": 5 * GB, "build": 6 * GB}
+# the free memory that is needed: the largest check of a build takes 5.9 GB, a preview 4.3 GB
+MEMORY = {"preview": 5 * GB, "build": 6 * GB}
 # the free disk that is needed: a build from nothing leaves 9.5 GB, and one that goes on needs what is not there yet
-DISK = {"look": GB, "build": 10 * GB}
+DISK = {"preview": GB, "build": 10 * GB}
 LEAST = 2 * GB
 
 
@@ -66,7 +66,7 @@ def can_write() -> bool:
 
 
 def missing(what: str) -> str | None:
-    """What is missing for a look or a build, as a line that says what to do."""
+    """What is missing for a preview or a build, as a line that says what to do."""
     if shutil.which("rt") is None:
         return ("there is no 'rt' on the PATH: install the Rattle kit and put its folder 'bin' there, as in "
                 "PATH=/opt/rattle/bin:$PATH; an office_VERSION_amd64.deb needs no kit")
@@ -76,17 +76,17 @@ def missing(what: str) -> str | None:
     if free is not None and free < needed:
         return (f"a {what} needs {needed / GB:.0f} GB of free memory, and {free / GB:.1f} GB are free: "
                 "end other programs, add swap, or take a larger machine")
-    place = pathlib.Path(tempfile.gettempdir()) if what == "look" else OUT
-    needed = DISK[what] if what == "look" else max(DISK[what] - there(), LEAST)
+    place = pathlib.Path(tempfile.gettempdir()) if what == "preview" else OUT
+    needed = DISK[what] if what == "preview" else max(DISK[what] - there(), LEAST)
     if room(place) < needed:
-        remedy = "set TMPDIR to a folder with room" if what == "look" else "clone elsewhere"
+        remedy = "set TMPDIR to a folder with room" if what == "preview" else "clone elsewhere"
         return (f"a {what} needs {needed / GB:.0f} GB of free disk in {place}, and {room(place) / GB:.1f} GB are free: "
                 f"remove other files, or {remedy}")
     return None
 
 
 def main(words: list[str]) -> int:
-    if words not in (["look"], ["build"]):
+    if words not in (["preview"], ["build"]):
         sys.exit(__doc__)
     lack = missing(words[0])
     if lack is not None:

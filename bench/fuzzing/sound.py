@@ -1,4 +1,5 @@
-"""When the rows of an office's tables stand for an office: the items of docs/MODEL.md, and what ARCHITECTURE.md says of columns, in plain Python.
+"""When the rows of an office's tables represent an office: the items of docs/MODEL.md, and what docs/TABLES.md says of
+columns, in plain Python.
 
 Rows come as SQLite gives them: of each table a list of dictionaries.
 """

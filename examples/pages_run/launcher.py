@@ -1,6 +1,6 @@
 """What the launcher does without a built program, and what `./office build` says: a stub stands in for the kit's `rt`.
 
-Where PAGES_LOOK is set, one look is done with the kit itself, which takes three minutes.
+Where PAGES_PREVIEW is set, one preview is done with the kit itself, which takes three minutes.
 """
 import json
 import os
@@ -89,20 +89,20 @@ def ended(status: int, said: str = "") -> str:
     return f"{said}checked: ended status={status}\nrun=ended status={status} runners=1 proved=no\n"
 
 
-def line_of_look() -> str:
+def line_of_preview() -> str:
     """The line that README shows."""
     return next(line for line in blocks("README.md")[0] if line.startswith("office: ")) + "\n"
 
 
-def judge_looks(trial: Trial) -> None:
+def judge_previews(trial: Trial) -> None:
     done = trial.run("clone/office due years 7 from-month-4 2017-06-30", PRINTS="2025-04-01\n", SAYS=ended(0))
-    judge("a look prints what the program prints, and README's line", done == (0, "2025-04-01\n", line_of_look()),
+    judge("a preview prints what the program prints, and README's line", done == (0, "2025-04-01\n", line_of_preview()),
           f"{done}")
     words = trial.words.read_text()
     judge("it is done by rt try", words == "try -- due years 7 from-month-4 2017-06-30\n", words)
     refused = ended(1, "office: line 14 refused 10\n")
     done = trial.run("clone/office plan examples/plan/archive.plan", SAYS=refused, STATUS="1")
-    said = line_of_look() + "office: line 14 refused 10\n"
+    said = line_of_preview() + "office: line 14 refused 10\n"
     judge("its status and standard error are the program's", done == (1, "", said), f"{done}")
     plan, words = (TOP / "examples/plan/archive.plan").read_text(), trial.words.read_text()
     judge("the program gets a copy of FILE", plan in words, words)
@@ -112,12 +112,12 @@ def judge_looks(trial: Trial) -> None:
     judge("a FILE that is not there is the program's own error", (done.status, trial.words.read_text()) ==
           (3, "try -- plan office.plan\n"), f"{done}")
     done = trial.run("clone/office due years", SAYS="rt: the sources do not compile\nrun=none proved=no\n", STATUS="2")
-    judge("a look that does not end says so", done.status == 2 and "rt: the sources" in done.err
+    judge("a preview that does not end says so", done.status == 2 and "rt: the sources" in done.err
           and done.err.endswith("./office build makes the program\n"), f"{done}")
     done = trial.run("clone/office package")
     judge("package says to build first", done == (2, "", "office: there is no program yet: run ./office build first\n"),
           f"{done}")
-    judge("a look builds nothing", not list((trial.top / "crates").glob("*/out")))
+    judge("a preview builds nothing", not list((trial.top / "crates").glob("*/out")))
 
 
 def judge_build(trial: Trial) -> None:
@@ -208,7 +208,7 @@ def judge_lacks(trial: Trial) -> None:
         trial, "no right to write", "cannot be written by you"))
 
 
-def look_for_real(shell: Shell) -> None:
+def preview_for_real(shell: Shell) -> None:
     """README's first block, with the kit."""
     place = shell.path("real")
     ignored = shutil.ignore_patterns("out", "__pycache__")
@@ -225,9 +225,9 @@ def look_for_real(shell: Shell) -> None:
 
 def judge_launcher(shell: Shell) -> None:
     trial = Trial(shell)
-    judge_looks(trial)
+    judge_previews(trial)
     judge_build(trial)
     judge_stopped(trial)
     judge_lacks(trial)
-    if os.environ.get("PAGES_LOOK"):
-        look_for_real(shell)
+    if os.environ.get("PAGES_PREVIEW"):
+        preview_for_real(shell)

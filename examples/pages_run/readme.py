@@ -50,7 +50,7 @@ def judge_installs(shell: Shell) -> None:
 
 
 ROWS = [
-    Row("./office due", skip="a stub stands in for rt, unless PAGES_LOOK is set", then=judge_launcher),
+    Row("./office due", skip="a stub stands in for rt, unless PAGES_PREVIEW is set", then=judge_launcher),
     Row("./office apply", then=alone("apply", "first.db", {**FIRST, "runs": 1, "entries": 0})),
     Row("./office resume", then=alone("resume", "first.db", {**FIRST, "runs": 1, "entries": 1, "contents": 0})),
     Row("./office certificate", then=alone("certificate", "first.db", {**FIRST, "runs": 1, "certificates": 1})),

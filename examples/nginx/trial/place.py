@@ -41,7 +41,8 @@ def run(command: str, folder: pathlib.Path = TOP) -> subprocess.CompletedProcess
 def commands() -> list[str]:
     """The commands of the section that puts nginx there."""
     section = (TOP / "docs/OPERATING.md").read_text().split("\n## TLS and access\n")[1].split("\n## ")[0]
-    return re.findall(r"^    (.+)$", section, re.M)
+    # a line that ends with a backslash goes on in the next
+    return re.findall(r"^    (.+)$", re.sub(r" \\\n *", " ", section), re.M)
 
 
 def install(site: str) -> None:
