@@ -21,17 +21,11 @@ use Rattle.sqlite_catalog.proofs.LayoutLemmas.{zipped_left}
 use Rattle.sqlite.specs.Effect.{Database, IsDatabase}
 use Rattle.office_sql.specs.Bags.{rows_of, shown, tree_in}
 use Rattle.office_sql.specs.Editions.{version_2}
-use Rattle.office_sql.specs.Office.{HasTable, HasTables, IsOffice, KeepsOthers, SparesRest, tree_of}
+use Rattle.office_sql.specs.Office.{HasTable, HasTables, KeepsOthers, SparesOthers, SparesRest, tree_of}
 use Rattle.office_sql.specs.Schema.{at}
 use Rattle.office_sql.proofs.TableThere.{Standing, finds_it, itself, standing}
 use Rattle.office_sql.proofs.Understood.{Finds}
 use Rattle.office_sql.proofs.TreeFound.{tree_is}
-
--- nothing but this table and entries of indexes is other than it was
-pub record SparesOthers (t : Table) (old new : Database) : Type 0 where
-  pub schema : new.schema ≡ old.schema
-  pub tables : AllByRecursion (λ u. u.tree ≢ tree_of old.schema t.name → new.trees u.tree ≡ old.trees u.tree) old.schema.tables
-  pub others : (tree : ℕ) → tree ≢ tree_of old.schema t.name → IsNoIndex old.schema tree → new.trees tree ≡ old.trees tree
 
 -- a table of the office stands somewhere
 pub stands_in : (version : List Table) (t : Table) → Has version t → (db : Database) → HasTables version db → Standing db.schema t
@@ -48,9 +42,9 @@ found_in version t mine db is = tree_is db.schema db.trees t is.database (stands
 pub shape_in : (version : List Table) (t : Table) → Has version t → (db : Database) → HasTables version db → IsShaped shape.Table (db.trees (tree_of db.schema t.name))
 shape_in version t mine db is = all_has _ version t is.shaped mine
 
-pub kept_office : (version : List Table) (t : Table) (old new : Database) → HasTables version old → IsDatabase new → SparesOthers t old new
+kept_tables : (version : List Table) (t : Table) (old new : Database) → HasTables version old → IsDatabase new → SparesOthers t old new
     → IsShaped shape.Table (new.trees (tree_of old.schema t.name)) → HasTables version new
-kept_office version t old new was sound spares here = record {
+kept_tables version t old new was sound spares here = record {
   database = sound;
   apart = subst (λ (s : Schema). IsAscending (λ (a b : Table). a.tree ≡ b.tree → ⊥) s.tables) (sym spares.schema) was.apart;
   tables = subst (λ s. AllByRecursion (HasTable s) version) (sym spares.schema) was.tables;
@@ -94,13 +88,13 @@ module _ (version : List Table) (t : Table) (mine : Has version t) (old new : Da
       let rows : new.trees (tree_of s u.name) ≡ old.trees (tree_of s u.name) = all_has _ s.tables (at (tree_of s u.name) u) spares.tables (itself s u was.apart has) differs in
       ap (map (shown u)) (ap new.trees there ∙ rows ∙ sym (ap old.trees here))
 
--- a write of one table leaves an office, and the rows of its other tables
-module _ (t : Table) (mine : Has version_2 t) (old new : Database) (was : IsOffice old) (sound : IsDatabase new) (spares : SparesOthers t old new) (here : IsShaped shape.Table (new.trees (tree_of old.schema t.name))) where
-  pub left_office : IsOffice new
-  left_office = record { has = kept_office version_2 t old new was.has sound spares here; room = tt }
+-- a write of one table leaves these tables, and the rows of the others
+module _ (version : List Table) (t : Table) (mine : Has version t) (old new : Database) (was : HasTables version old) (sound : IsDatabase new) (spares : SparesOthers t old new) (here : IsShaped shape.Table (new.trees (tree_of old.schema t.name))) where
+  pub left_tables : HasTables version new
+  left_tables = kept_tables version t old new was sound spares here
 
-  pub left_others : KeepsOthers t old new
-  left_others = all_from (λ (u : Table). bytes_eq u.name t.name ≡ false → rows_of u new.trees ≡ rows_of u old.trees) version_2 (λ u listed differs. other_rows version_2 t mine old new was.has left_office.has spares u listed (λ same. absurd (true≢false (sym (bytes_same u.name t.name same) ∙ differs))))
+  pub left_others : KeepsOthers version t old new
+  left_others = all_from (λ (u : Table). bytes_eq u.name t.name ≡ false → rows_of u new.trees ≡ rows_of u old.trees) version (λ u listed differs. other_rows version t mine old new was left_tables spares u listed (λ same. absurd (true≢false (sym (bytes_same u.name t.name same) ∙ differs))))
 
 -- what is known of the rows of the table in its tree is known of them as the trees list it
 pub as_listed : (version : List Table) (t : Table) → Has version t → (old new : Database) → HasTables version old → HasTables version new → new.schema ≡ old.schema → (P : List Row → List Row → Type 0)
@@ -117,8 +111,8 @@ other_tree version t mine db is u here differs same =
     true≢false (sym (same_itself t.name) ∙ ap (λ (x : Table). same_name x.name t.name) (sym one) ∙ differs)
 
 -- so a write of one table of the office spares the rest of the file
-pub spares_rest : (t : Table) → Has version_2 t → (old new : Database) → IsOffice old → SparesOthers t old new → SparesRest old new
-spares_rest t mine old new office spares = record {
+pub spares_rest : (t : Table) → Has version_2 t → (old new : Database) → HasTables version_2 old → SparesOthers t old new → SparesRest old new
+spares_rest t mine old new has spares = record {
   schema = spares.schema;
-  rows = λ u here other. all_has _ old.schema.tables u spares.tables here (other_tree version_2 t mine old office.has u here (all_has (λ (t : Table). same_name u.name t.name ≡ false) version_2 t other mine));
+  rows = λ u here other. all_has _ old.schema.tables u spares.tables here (other_tree version_2 t mine old has u here (all_has (λ (t : Table). same_name u.name t.name ≡ false) version_2 t other mine));
 }

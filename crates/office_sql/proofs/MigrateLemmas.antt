@@ -21,13 +21,14 @@ use Rattle.office_sql.specs.declared.editions.Edition.TheVariants as edition
 use Rattle.office_sql.specs.Office.{GoesInside, IsOffice, IsOfficeOf, KeepsOthers, Removed, SparesRest}
 use Rattle.office_sql.specs.Schema.{at, events, office, schedules, schedules2}
 use Rattle.office_sql.proofs.Inside.{early, quiet_then}
+use Rattle.office_sql.proofs.Kept.{spares_rest}
 use Rattle.office_sql.proofs.OfTwo.{has_events, has_office, has_schedules, has_schedules2}
 use Rattle.office_sql.proofs.Grown.{kept_made}
 use Rattle.office_sql.proofs.Rest.{keeps_spared, keeps_then, spares_then}
 
 module _ (a b c : State) {X Y : Type 0} (P Q R : Database → Database → Type 0) where
   -- one step, and another that rests on what the first did
-  pub goes_then : {x : X} (r : Result Y Error) → GoesInside P a b (Ok x) → Survives b c (λ _. ⊥) → (P a.now b.now → GoesInside Q b c r) → (P a.now b.now → Q b.now c.now → R a.now c.now) → GoesInside R a c r
+  pub goes_then : {x : X} (r : Result Y Error) → GoesInside version_2 P a b (Ok x) → Survives b c (λ _. ⊥) → (P a.now b.now → GoesInside version_2 Q b c r) → (P a.now b.now → Q b.now c.now → R a.now c.now) → GoesInside version_2 R a c r
   goes_then (Ok y) first quiet next joins = record {
     ok = λ clean inside.
         let f = first.ok (early b c quiet clean) inside in
@@ -50,7 +51,7 @@ none_kept [] = refl
 none_kept (r ∷ rows) = none_kept rows
 
 -- the rows of one table among those that are kept
-same_rows : (t u : Table) → Has version_2 u → (old new : Database) → KeepsOthers t old new → bytes_eq u.name t.name ≡ false → rows_of u new.trees ≡ rows_of u old.trees
+same_rows : (t u : Table) → Has version_2 u → (old new : Database) → KeepsOthers version_2 t old new → bytes_eq u.name t.name ≡ false → rows_of u new.trees ≡ rows_of u old.trees
 same_rows t u listed old new others differs = all_has (λ (u : Table). bytes_eq u.name t.name ≡ false → rows_of u new.trees ≡ rows_of u old.trees) version_2 u others listed differs
 
 -- moved, and then emptied
@@ -61,14 +62,14 @@ pub record Emptied (old new : Database) : Type 0 where
   pub others : AllByRecursion (λ t. bytes_eq t.name schedules.name ≡ false → bytes_eq t.name schedules2.name ≡ false → rows_of t new.trees ≡ rows_of t old.trees) version_2
   pub rest : SparesRest old new
 
-pub empties : (a b c : Database) → Moved a b → Removed schedules ([] ∷ []) [] b c → Emptied a c
+pub empties : (a b c : Database) → Moved a b → Removed version_2 schedules ([] ∷ []) [] b c → Emptied a c
 empties a b c moved gone = record {
-  is_office = gone.office;
+  is_office = record { has = gone.has; room = tt };
   moved = subst (λ rows. IsPermutation (rows_of schedules a.trees) rows) (sym (same_rows schedules schedules2 has_schedules2 b c gone.others refl)) moved.rows;
   emptied = gone.removed ∙ none_kept (rows_of schedules b.trees);
   others = all_both (λ (t : Table). bytes_eq t.name schedules2.name ≡ false → rows_of t b.trees ≡ rows_of t a.trees) (λ t. bytes_eq t.name schedules.name ≡ false → rows_of t c.trees ≡ rows_of t b.trees)
       (λ t. bytes_eq t.name schedules.name ≡ false → bytes_eq t.name schedules2.name ≡ false → rows_of t c.trees ≡ rows_of t a.trees) (λ t was same apart other. same apart ∙ was other) version_2 moved.others gone.others;
-  rest = spares_then a b c moved.rest gone.rest;
+  rest = spares_then a b c moved.rest (spares_rest schedules has_schedules b c moved.is_office.has gone.spares);
 }
 
 pub tells : (day : ℤ) (a b c : Database) → Emptied a b → Raised day b c → MovedOver day a c
@@ -115,11 +116,11 @@ migrated day a b c was made over = record {
 
 -- the later tables are made, and the schedules moved over
 pub migrates_then : (day : ℤ) (a b c : State) {X Y : Type 0} {x : X} (r : Result Y Error) → IsReadyToMove day a.now.trees → MakesInside (IsMadeUpTo 11) (GrowsTo 11 13) a b (Ok x) → Survives b c (λ _. ⊥)
-    → (rows_of schedules2 b.now.trees ≡ [] → IsReadyToMove day b.now.trees → GoesInside (MovedOver day) b c r) → MakesInside (IsOfficeOf edition.One) (IsMigrated day) a c r
+    → (rows_of schedules2 b.now.trees ≡ [] → IsReadyToMove day b.now.trees → GoesInside version_2 (MovedOver day) b c r) → MakesInside (IsOfficeOf edition.One) (IsMigrated day) a c r
 migrates_then day a b c (Ok y) ready made quiet over = record {
   ok = λ clean was_open inside was.
       let m = made.ok (early b c quiet clean) was_open inside (record { has = was.has; room = was.room }) in
-      let o = (over m.0.fresh.0 (still_ready day a.now b.now m.0 ready)).ok clean (record { is_open = m.1; inside = m.2; office = later_office a.now b.now m.0 }) in
+      let o = (over m.0.fresh.0 (still_ready day a.now b.now m.0 ready)).ok clean (record { is_open = m.1; inside = m.2; has = (later_office a.now b.now m.0).has }) in
       (migrated day a.now b.now c.now was m.0 o.0, o.1.is_open, o.1.inside, o.2 ∙ m.3);
   err = λ _ _ _ _. tt;
   survives = quiet_then a b c made.survives quiet;
@@ -128,7 +129,7 @@ migrates_then day a b c (Err e) ready made quiet over = record {
   ok = λ _ _ _ _. tt;
   err = λ clean was_open inside was.
       let m = made.ok (early b c quiet clean) was_open inside (record { has = was.has; room = was.room }) in
-      let kept = (over m.0.fresh.0 (still_ready day a.now b.now m.0 ready)).err clean (record { is_open = m.1; inside = m.2; office = later_office a.now b.now m.0 }) in
+      let kept = (over m.0.fresh.0 (still_ready day a.now b.now m.0 ready)).err clean (record { is_open = m.1; inside = m.2; has = (later_office a.now b.now m.0).has }) in
       record { was_open = λ _. was_open; committed = λ o. kept.committed o ∙ m.3 };
   survives = quiet_then a b c made.survives quiet;
 }

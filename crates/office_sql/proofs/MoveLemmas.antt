@@ -33,13 +33,13 @@ use Rattle.sqlite.proofs.Callers.{one_step, runs_as, statement_of}
 use Rattle.office_sql.specs.Bags.{rows_of, shown, tree_in}
 use Rattle.office_sql.specs.Editions.{version_2}
 use Rattle.office_sql.specs.Migrated.{IsScheduleRow, Moved}
-use Rattle.office_sql.specs.Office.{IsOffice, tree_of}
+use Rattle.office_sql.specs.Office.{HasTables, SparesOthers, tree_of}
 use Rattle.office_sql.specs.Schema.{at, schedules, schedules2}
 use Rattle.office_sql.specs.Texts.{move_schedules, moved_collations, moved_terms, selects}
 use Rattle.office_sql.proofs.BagLemmas.{put_shuffles}
 use Rattle.office_sql.proofs.MoveTexts.{move_schedules_is}
 use Rattle.office_sql.proofs.PutLemmas.{cast_int, cast_null}
-use Rattle.office_sql.proofs.Kept.{SparesOthers, finds_in, found_in, left_office, left_others, stands_in, spares_rest}
+use Rattle.office_sql.proofs.Kept.{finds_in, found_in, left_others, left_tables, stands_in, spares_rest}
 use Rattle.office_sql.proofs.OfTwo.{has_schedules, has_schedules2}
 use Rattle.office_sql.proofs.TableThere.{idle, low}
 use Rattle.office_sql.proofs.Replace.{went, same_value}
@@ -115,11 +115,10 @@ none_mapped : {X Y : Type 0} (f : X → Y) (xs : List X) → map f xs ≡ [] →
 none_mapped f [] none = refl
 none_mapped f (x ∷ xs) none = absurd (cc)
 
-pub moves : (old new : State) (count : ℕ) → IsOffice old.now → rows_of schedules2 old.now.trees ≡ [] → AllByRecursion IsScheduleRow (rows_of schedules old.now.trees) → Executes move_schedules [] old new (Ok count) → Moved old.now new.now
-moves old new count office no_row all_rows h =
+pub moves : (old new : State) (count : ℕ) → HasTables version_2 old.now → rows_of schedules2 old.now.trees ≡ [] → AllByRecursion IsScheduleRow (rows_of schedules old.now.trees) → Executes move_schedules [] old new (Ok count) → Moved old.now new.now
+moves old new count is no_row all_rows h =
     let s = old.now.schema in
     let db = old.now.trees in
-    let is = office.has in
     let its = stands_in version_2 schedules2 has_schedules2 old.now is in
     let from = stands_in version_2 schedules has_schedules old.now is in
     let n = tree_of s schedules2.name in
@@ -163,13 +162,13 @@ moves old new count office no_row all_rows h =
       tables = subst (λ (d : Trees). AllByRecursion (λ (u : Table). u.tree ≢ n → d u.tree ≡ db u.tree) s.tables) to did.tables;
       others = subst (λ (d : Trees). (tree : ℕ) → tree ≢ n → IsNoIndex s tree → d tree ≡ db tree) to did.others;
     } in
-    let now = left_office schedules2 has_schedules2 old.now new.now office w.sound spares order in
-    let there : tree_in new.now.trees schedules2.name ≡ n = found_in version_2 schedules2 has_schedules2 new.now now.has ∙ ap (λ x. tree_of x schedules2.name) schema in
+    let now = left_tables version_2 schedules2 has_schedules2 old.now new.now is w.sound spares order in
+    let there : tree_in new.now.trees schedules2.name ≡ n = found_in version_2 schedules2 has_schedules2 new.now now ∙ ap (λ x. tree_of x schedules2.name) schema in
     record {
-      is_office = now;
+      is_office = record { has = now; room = tt };
       rows = subst (λ k. IsPermutation (rows_of schedules db) (map (shown schedules2) (new.now.trees k))) (sym there)
           (subst (λ k. IsPermutation (map (shown schedules) (db k)) (map (shown schedules2) (new.now.trees n))) (sym (found_in version_2 schedules has_schedules old.now is))
           (subst (λ (d : Trees). IsPermutation (map (shown schedules) (db m)) (map (shown schedules2) (d n))) to moved));
-      others = left_others schedules2 has_schedules2 old.now new.now office w.sound spares order;
-      rest = spares_rest schedules2 has_schedules2 old.now new.now office spares;
+      others = left_others version_2 schedules2 has_schedules2 old.now new.now is w.sound spares order;
+      rest = spares_rest schedules2 has_schedules2 old.now new.now is spares;
     }

@@ -24,11 +24,11 @@ use Rattle.sqlite.proofs.Callers.{one_permutation, one_step, runs_as, statement_
 use Rattle.office_sql.specs.Bags.{rows_of, shown, tree_in}
 use Rattle.office_sql.specs.Editions.{version_2}
 use Rattle.office_sql.specs.Migrated.{Raised}
-use Rattle.office_sql.specs.Office.{IsOffice, tree_of}
+use Rattle.office_sql.specs.Office.{HasTables, SparesOthers, tree_of}
 use Rattle.office_sql.specs.Schema.{at, office, schedules}
 use Rattle.office_sql.specs.Shown.{office_row}
 use Rattle.office_sql.specs.Texts.{clear_schedules, raise_version, raised_terms, selects}
-use Rattle.office_sql.proofs.Kept.{SparesOthers, finds_in, found_in, left_office, left_others, stands_in, spares_rest}
+use Rattle.office_sql.proofs.Kept.{finds_in, found_in, left_others, left_tables, stands_in, spares_rest}
 use Rattle.office_sql.proofs.MoveLemmas.{all_found}
 use Rattle.office_sql.proofs.OfTwo.{has_office, has_schedules}
 use Rattle.office_sql.proofs.TableThere.{idle, low}
@@ -40,7 +40,7 @@ use Rattle.office_sql.proofs.Replace.{went, same_value}
 
 -- each row goes
 pub clears : Takes clear_schedules schedules ([] ∷ []) [] []
-clears = removes schedules clear_schedules [] clear_schedules_is has_schedules ([] ∷ []) [] [] (λ r. refl)
+clears = removes schedules clear_schedules [] clear_schedules_is ([] ∷ []) [] [] (λ r. refl)
 
 -- a table with one row shows one
 one_shown : (rows : List Row) (day : ℤ) → map (shown office) rows ≡ office_row (pos 1) (pos 1) day ∷ [] → (r : Row) × (rows ≡ r ∷ []) × (shown office r ≡ office_row (pos 1) (pos 1) day)
@@ -64,11 +64,10 @@ left_none db n day r rows key =
     ap (λ l. put_all l (cast_row office (Int (pos 1) ∷ Null ∷ Int (pos 2) ∷ Int day ∷ []) ∷ [])) (ap (λ l. without_all l (pos 1 ∷ [])) rows ∙ none_left r key)
     ∙ ap (λ row. row ∷ []) (cast_still day)
 
-pub raises : (day : ℤ) (old new : State) (count : ℕ) → IsOffice old.now → rows_of office old.now.trees ≡ office_row (pos 1) (pos 1) day ∷ [] → Executes raise_version [] old new (Ok count) → Raised day old.now new.now
-raises day old new count sound has h =
+pub raises : (day : ℤ) (old new : State) (count : ℕ) → HasTables version_2 old.now → rows_of office old.now.trees ≡ office_row (pos 1) (pos 1) day ∷ [] → Executes raise_version [] old new (Ok count) → Raised day old.now new.now
+raises day old new count is has h =
     let s = old.now.schema in
     let db = old.now.trees in
-    let is = sound.has in
     let it = stands_in version_2 office has_office old.now is in
     let n = tree_of s office.name in
     let table = at n office in
@@ -105,11 +104,11 @@ raises day old new count sound has h =
       tables = subst (λ (d : Trees). AllByRecursion (λ (u : Table). u.tree ≢ n → d u.tree ≡ db u.tree) s.tables) to did.tables;
       others = subst (λ (d : Trees). (tree : ℕ) → tree ≢ n → IsNoIndex s tree → d tree ≡ db tree) to did.others;
     } in
-    let now = left_office office has_office old.now new.now sound w.sound spares order in
-    let there : tree_in new.now.trees office.name ≡ n = found_in version_2 office has_office new.now now.has ∙ ap (λ x. tree_of x office.name) schema in
+    let now = left_tables version_2 office has_office old.now new.now is w.sound spares order in
+    let there : tree_in new.now.trees office.name ≡ n = found_in version_2 office has_office new.now now ∙ ap (λ x. tree_of x office.name) schema in
     record {
-      is_office = now;
+      is_office = record { has = now; room = tt };
       row = ap (λ k. map (shown office) (new.now.trees k)) there ∙ ap (map (shown office)) left_now;
-      others = left_others office has_office old.now new.now sound w.sound spares order;
-      rest = spares_rest office has_office old.now new.now sound spares;
+      others = left_others version_2 office has_office old.now new.now is w.sound spares order;
+      rest = spares_rest office has_office old.now new.now is spares;
     }

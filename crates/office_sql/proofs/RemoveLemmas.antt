@@ -35,10 +35,8 @@ use Rattle.sqlite.specs.State.{State, mode_of, Executes}
 use Rattle.sqlite.proofs.Callers.{IsPlain, command_of, statement_of, runs_as, one_step}
 use Rattle.sqlite_schema.specs.declared.schema.Schema.{Schema}
 use Rattle.office_sql.specs.Bags.{shown, share}
-use Rattle.office_sql.specs.Editions.{version_2}
-use Rattle.office_sql.specs.Office.{IsOffice, Removed, tree_of}
-use Rattle.office_sql.proofs.OfTwo.{has_contents, has_targets}
-use Rattle.office_sql.proofs.Kept.{SparesOthers, as_listed, finds_in, left_office, left_others, shape_in, stands_in, spares_rest}
+use Rattle.office_sql.specs.Office.{HasTables, Removed, SparesOthers, tree_of}
+use Rattle.office_sql.proofs.Kept.{as_listed, finds_in, left_others, left_tables, shape_in, stands_in}
 use Rattle.office_sql.proofs.TableThere.{idle, low}
 use Rattle.office_sql.proofs.Understood.{MeansRemoval}
 use Rattle.office_sql.proofs.Replace.{went, same_value}
@@ -117,21 +115,20 @@ module _ (tree : ℕ) (filters : List Term) (low : nat_le (2 ^ 31) tree ≡ fals
 pub same_or_not : (a b : ℕ) → (a ≡ b) ⊎ (a ≢ b)
 same_or_not a b = elim (eqb_tells a b) [ inl same ↦ inl same.1 | inr apart ↦ inr apart.1 ]
 
--- what a text does that takes the rows that share a key with this one out of a table of an office, on these parameters
+-- what a text does that takes the rows that share a key with this one out of a table that is there, on these parameters
 abbrev pub Takes : List ℕ → Table → List (List ℕ) → Row → Row → Type 1
-Takes sql t keys params key = (old new : State) (count : ℕ) → IsOffice old.now → Executes sql params old new (Ok count) → Removed t keys key old.now new.now
+Takes sql t keys params key = (tables : List Table) → Has tables t → (old new : State) (count : ℕ) → HasTables tables old.now → Executes sql params old new (Ok count) → Removed tables t keys key old.now new.now
 
 -- a statement that removes the rows that have a key, wherever the table stands
-module _ (t : Table) (sql : List ℕ) (filters : List Term) (known : MeansRemoval sql t filters) (mine : Has version_2 t) where
+module _ (t : Table) (sql : List ℕ) (filters : List Term) (known : MeansRemoval sql t filters) where
   pub removes : (keys : List (List ℕ)) (params key : Row) → ((r : Row) → list_all (holds (params ∷ r ∷ [])) filters ≡ share keys (shown t r) key) → Takes sql t keys params key
-  removes keys params key tests old after count office h =
-      let is = office.has in
+  removes keys params key tests version mine old after count is h =
       let s = old.now.schema in
       let trees = old.now.trees in
-      let it = stands_in version_2 t mine old.now is in
+      let it = stands_in version t mine old.now is in
       let n = tree_of s t.name in
       let small = low s t is.apart it trees is.database in
-      let means = known s it.place n (finds_in version_2 t mine old.now is) in
+      let means = known s it.place n (finds_in version t mine old.now is) in
       let command = Delete it.place (record { lets = []; body = ids_where n filters }) in
       let w = runs_as sql params old after s refl command means.0 means.1 count h in
       let text = statement_of sql (understood s sql) in
@@ -145,7 +142,7 @@ module _ (t : Table) (sql : List ℕ) (filters : List Term) (known : MeansRemova
       let edit = edit_of trees (at n t) (ids_of read.0) Given 0 [] in
       let did = one_step s Enforced trees step.0 edit (idle s t is.apart it (taken_by trees edit) []) step.1 in
       let next : step.0 ≡ after.now.trees = sym (ap (λ (it : Written). it.trees) (same_value step.2)) ∙ ap (λ (d : Database). d.trees) (sym after_is) in
-      let here = shape_in version_2 t mine old.now is in
+      let here = shape_in version t mine old.now is in
       let left : step.0 n ≡ filter (λ r. not (list_all (holds (params ∷ r ∷ [])) filters)) (trees n) = did.rows ∙ left_is n filters small params trees read.0 (read.1.answer Null) here in
       let left_now : after.now.trees n ≡ filter (λ r. not (list_all (holds (params ∷ r ∷ [])) filters)) (trees n) = ap (λ (d : Trees). d n) (sym next) ∙ left in
       let schema : after.now.schema ≡ s = ap (λ (d : Database). d.schema) after_is in
@@ -155,13 +152,13 @@ module _ (t : Table) (sql : List ℕ) (filters : List Term) (known : MeansRemova
         others = subst (λ (d : Trees). (tree : ℕ) → tree ≢ n → IsNoIndex s tree → d tree ≡ trees tree) next did.others;
       } in
       let order = subst (IsShaped shape.Table) (sym left_now) (IsShaped-filter shape.Table (λ r. not (list_all (holds (params ∷ r ∷ [])) filters)) (trees n) here) in
-      let now = left_office t mine old.now after.now office w.sound spares order in
+      let now = left_tables version t mine old.now after.now is w.sound spares order in
       record {
-        office = now;
-        removed = as_listed version_2 t mine old.now after.now is now.has schema (λ a b. b ≡ filter (λ r. not (share keys r key)) a)
+        has = now;
+        removed = as_listed version t mine old.now after.now is now schema (λ a b. b ≡ filter (λ r. not (share keys r key)) a)
             (ap (map (shown t)) (left_now ∙ filter_same_on _ _ (trees n) (λ r h. ap not (tests r))) ∙ sym (filter-map (λ r. not (share keys r key)) (shown t) (trees n)));
-        others = left_others t mine old.now after.now office w.sound spares order;
-        rest = spares_rest t mine old.now after.now office spares;
+        others = left_others version t mine old.now after.now is w.sound spares order;
+        spares = spares;
       }
 
 pub or_false : (b : Bool) → b ≡ (b || false)
@@ -171,9 +168,9 @@ or_false false = refl
 -- the content of that number, whatever its bytes
 pub removes_content : (num : ℤ) → Takes remove_contents contents ((0 ∷ []) ∷ []) (Int num ∷ []) (content_row num [])
 unfolding first_key
-removes_content num = removes contents remove_contents (is_param 0 0 ∷ []) remove_contents_is has_contents ((0 ∷ []) ∷ []) (Int num ∷ []) (content_row num []) (λ r. or_false _)
+removes_content num = removes contents remove_contents (is_param 0 0 ∷ []) remove_contents_is ((0 ∷ []) ∷ []) (Int num ∷ []) (content_row num []) (λ r. or_false _)
 
 pub removes_target : (hold kind target : List ℕ) → Takes remove_targets targets ((0 ∷ 1 ∷ 2 ∷ []) ∷ []) (target_row hold kind target) (target_row hold kind target)
 unfolding first_key
 removes_target hold kind target =
-    removes targets remove_targets (is_param 1 0 ∷ is_param 2 1 ∷ is_param 3 2 ∷ []) remove_targets_is has_targets ((0 ∷ 1 ∷ 2 ∷ []) ∷ []) (target_row hold kind target) (target_row hold kind target) (λ r. or_false _)
+    removes targets remove_targets (is_param 1 0 ∷ is_param 2 1 ∷ is_param 3 2 ∷ []) remove_targets_is ((0 ∷ 1 ∷ 2 ∷ []) ∷ []) (target_row hold kind target) (target_row hold kind target) (λ r. or_false _)

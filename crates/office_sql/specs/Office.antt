@@ -1,5 +1,5 @@
 -- What the database of an office is between calls and inside a transaction, beside whatever else the file has, and what a put or a removal does to it. Source: own.
-use Rattle.std.specs.Prelude.{◌≡◌, ◌⊎◌, ℕ, pos, neg_ℤ, true, false, List, [], ◌∷◌, filter, not, slice_get, Option, Some, option_map, option_and_then, unwrap_or, Result, OnOk, OnErr, IsTrue}
+use Rattle.std.specs.Prelude.{◌≡◌, ◌≢◌, ◌⊎◌, ℕ, pos, neg_ℤ, true, false, List, [], ◌∷◌, filter, not, slice_get, Option, Some, option_map, option_and_then, unwrap_or, Result, OnOk, OnErr, IsTrue}
 use Rattle.std.specs.List.{AllByRecursion, list_any}
 use Rattle.std.specs.Str.{bytes_eq}
 use Rattle.sqlite_value.specs.Keys.{plain}
@@ -13,6 +13,7 @@ use Rattle.sqlite_schema.specs.declared.schema.Table.{Table}
 use Rattle.sqlite_schema.specs.declared.schema.View.{View}
 use Rattle.sqlite_schema.specs.Names.{same_name, table_named}
 use Rattle.sqlite_schema.specs.Rules.{guards}
+use Rattle.sqlite_rules.specs.Edit.{IsNoIndex}
 use Rattle.sqlite_rules.specs.Lists.{Has}
 use Rattle.sqlite.specs.Change.{is_used}
 use Rattle.sqlite.specs.Does.{lacks_sequence}
@@ -109,28 +110,38 @@ pub record KeepsRest (old new : Database) : Type 0 where
 abbrev pub Leaves : (Database → Type 0) → State → Type 0
 Leaves Is s = (db : Trees) → s.may_leave db → (schema : Schema) × IsDatabase (record { schema = schema; trees = db }) × Is (record { schema = schema; trees = db })
 
--- the rows of the office's other tables are as they were
-abbrev pub KeepsOthers : Table → Database → Database → Type 0
-KeepsOthers t old new = AllByRecursion (λ u. bytes_eq u.name t.name ≡ false → rows_of u new.trees ≡ rows_of u old.trees) version_2
+-- the rows of the others of these tables are as they were
+abbrev pub KeepsOthers : List Table → Table → Database → Database → Type 0
+KeepsOthers tables t old new = AllByRecursion (λ u. bytes_eq u.name t.name ≡ false → rows_of u new.trees ≡ rows_of u old.trees) tables
+
+-- nothing but this table and entries of indexes is other than it was
+pub record SparesOthers (t : Table) (old new : Database) : Type 0 where
+  pub schema : new.schema ≡ old.schema
+  pub tables : AllByRecursion (λ u. u.tree ≢ tree_of old.schema t.name → new.trees u.tree ≡ old.trees u.tree) old.schema.tables
+  pub others : (tree : ℕ) → tree ≢ tree_of old.schema t.name → IsNoIndex old.schema tree → new.trees tree ≡ old.trees tree
 
 -- the row is put in: those that share one of the keys with it are out, all else as it was
-pub record Wrote (table : Table) (keys : List (List ℕ)) (row : Row) (old new : Database) : Type 0 where
-  pub office : IsOffice new
+pub record Wrote (tables : List Table) (table : Table) (keys : List (List ℕ)) (row : Row) (old new : Database) : Type 0 where
+  pub has : HasTables tables new
   pub put : IsPut keys row (rows_of table old.trees) (rows_of table new.trees)
-  pub others : KeepsOthers table old new
-  pub rest : SparesRest old new
+  pub others : KeepsOthers tables table old new
+  pub spares : SparesOthers table old new
 
--- in a transaction over the office's tables
-pub record IsInside (s : State) : Type 0 where
+-- in a transaction over a database that has these tables
+pub record IsInside (tables : List Table) (s : State) : Type 0 where
   pub is_open : IsTrue s.is_open
   pub inside : IsTrue s.in_transaction
-  pub office : IsOffice s.now
+  pub has : HasTables tables s.now
 
 -- what a call inside a transaction does, where its change of the database is so
-pub record GoesInside {X : Type 0} (Changes : Database → Database → Type 0) (old new : State) (result : Result X Error) : Type 0 where
-  pub ok : HasCleanDisk new → IsInside old → OnOk result (Changes old.now new.now × IsInside new × (new.committed ≡ old.committed))
-  pub err : HasCleanDisk new → IsInside old → OnErr result (KeepsCommit old new)
+pub record GoesInside {X : Type 0} (tables : List Table) (Changes : Database → Database → Type 0) (old new : State) (result : Result X Error) : Type 0 where
+  pub ok : HasCleanDisk new → IsInside tables old → OnOk result (Changes old.now new.now × IsInside tables new × (new.committed ≡ old.committed))
+  pub err : HasCleanDisk new → IsInside tables old → OnErr result (KeepsCommit old new)
   pub survives : Survives old new (λ _. ⊥)
+
+-- a row is put into this table, whatever tables are there beside it
+abbrev pub PutsInto : {X : Type 0} → Table → List (List ℕ) → Row → State → State → Result X Error → Type 0
+PutsInto table keys row old new result = (tables : List Table) → Has tables table → GoesInside tables (Wrote tables table keys row) old new result
 
 -- between calls over tables of that version: open, outside a transaction, and a crash leaves just what the last commit left
 pub record IsAtRestOver (e : Edition) (s : State) : Type 0 where
@@ -177,11 +188,15 @@ pub record Creates {X : Type 0} (old new : State) (result : Result X Error) : Ty
   pub undone : HasCleanDisk new → IsBlank old → IsTrue new.is_open → OnErr result ((new.now ≡ old.now) × IsBlank new)
 
 -- the rows that share the key with this one are out, all else as it was
-pub record Removed (table : Table) (keys : List (List ℕ)) (row : Row) (old new : Database) : Type 0 where
-  pub office : IsOffice new
+pub record Removed (tables : List Table) (table : Table) (keys : List (List ℕ)) (row : Row) (old new : Database) : Type 0 where
+  pub has : HasTables tables new
   pub removed : rows_of table new.trees ≡ filter (λ r. not (share keys r row)) (rows_of table old.trees)
-  pub others : KeepsOthers table old new
-  pub rest : SparesRest old new
+  pub others : KeepsOthers tables table old new
+  pub spares : SparesOthers table old new
+
+-- they are taken out of this table, whatever tables are there beside it
+abbrev pub TakesFrom : {X : Type 0} → Table → List (List ℕ) → Row → State → State → Result X Error → Type 0
+TakesFrom table keys row old new result = (tables : List Table) → Has tables table → GoesInside tables (Removed tables table keys row) old new result
 
 -- each of them is done, one after the other
 abbrev pub AreDone : {X : Type 0} → (X → Database → Database → Type 0) → List X → Database → Database → Type 0

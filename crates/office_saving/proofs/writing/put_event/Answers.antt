@@ -1,0 +1,7 @@
+use Rattle.std.proofs.Common.{rules}
+use Rattle.office_sql.specs.Editions.{version_2}
+use Rattle.office_sql.proofs.OfTwo.{has_events}
+use Rattle.office_saving.proofs.writing.put_event.Goals as goal
+
+pub returns-clause-written : goal.returns-clause-written
+returns-clause-written g c = let put = c.put_events.ensures.put version_2 has_events in search (rules, put)
