@@ -1,5 +1,5 @@
 -- What a crash leaves where acts and steps end.
-use Rattle.std.proofs.Common.{◌≡◌, ℕ, suc, ◌+◌, false, take, List, None, Some, Result, Ok, Err, OnOk, arith, refl, sym, ap, subst, ◌∙◌, append-nil}
+use Rattle.std.proofs.Common.{◌≡◌, ℕ, suc, ◌+◌, false, take, List, None, Some, Result, Ok, Err, OnOk, arith, sym, ap, subst, ◌∙◌, append-nil}
 use Rattle.sqlite.specs.Held.{state}
 use Rattle.sqlite_trees.specs.declared.store.Store.{Ghosts}
 use Rattle.office_rules.specs.Acts.{after}

@@ -36,10 +36,13 @@ pub record Called {S : Type 0} (g : Ghosts S) (old new : DeskState S) (Did : Sta
   pub did : (s : State) → old.is_given_up ≡ false → s.office ≡ old.office → Did s (StoodAt g s old new)
   pub rest : (s : State) → HasCleanDisk (state g new.held) → StandsAt g s old → LeavesRestOf g old new
 
--- by any desk: one that was given up stays as it was, and is answered so; of one that was open this holds now
+-- by any desk
 pub record Asked {S : Type 0} (g : Ghosts S) (old new : DeskState S) (Gone Now : Type 0) (Did : State → Type 0 → Type 0) : Type 0 where
+  -- one that was given up stays as it was, and is answered so
   pub gone : IsTrue old.is_given_up → (new ≡ old) × Gone
+  -- of one that was open this is so now
   pub here : old.is_given_up ≡ false → Now
+  -- and this was done
   pub called : Called g old new Did
 
 -- a change was done in memory, and is answered
@@ -64,12 +67,21 @@ pub record IsFaulted {S : Type 0} (g : Ghosts S) (s next : State) (f : Fault) (o
   pub stops : StopsAt old.office f new
   pub left : At → StopsLeaving s next f (state g new.held)
 
+-- so the saving and making of a change ends
+abbrev pub EndChange : {S : Type 0} (g : Ghosts S) (s : State) (change : Change) (result : Result Answer Fault) (old new : DeskState S) (At : Type 0) → Type 0
+EndChange g s change result old new At =
+    MatchResult result (λ answer. IsSaved g s change answer old new At) (λ f. IsFaulted g s (all_writes change.writes.items s) f old new At)
+
 -- an act was done, and is answered
 pub record IsDone {S : Type 0} (g : Ghosts S) (s : State) (a : Act) (answer : Answer) (new : DeskState S) (At : Type 0) : Type 0 where
   pub answered : answer ≡ (step s a).0
   pub office : new.office ≡ (step s a).1.office
   pub is_open : new.is_given_up ≡ false
   pub stands : At → StandsAt g (step s a).1 new
+
+-- so an act ends
+abbrev pub EndAct : {S : Type 0} (g : Ghosts S) (s : State) (a : Act) (result : Result Answer Fault) (old new : DeskState S) (At : Type 0) → Type 0
+EndAct g s a result old new At = MatchResult result (λ answer. IsDone g s a answer new At) (λ f. IsFaulted g s (step s a).1 f old new At)
 
 -- acts were done, and are answered behind those that were given
 pub record AreDone {S : Type 0} (g : Ghosts S) (s : State) (acts : List Act) (given found : List Answer) (new : DeskState S) (At : Type 0) : Type 0 where
@@ -172,9 +184,11 @@ ResumesRun g result old new = Asked g old new (result ≡ Err fault.Reopen) (OnO
 abbrev pub ReadsContent : {S : Type 0} (g : Ghosts S) (r : ℕ) (result : Result (Option (Vec ℕ Global)) Fault) (old new : DeskState S) → Type 0
 ReadsContent g r result old new = Asked g old new (result ≡ Err fault.Reopen) (OnOk result (new.is_given_up ≡ false)) (λ s At. IsContentRead g s r result old new At)
 
--- something is read of the office in memory: what is reported is so; a fault is want of memory, or the desk was given up
+-- something is read of the office in memory
 pub record Reads {S X : Type 0} (desk : DeskState S) (Is : X → Type 0) (result : Result X Fault) : Type 0 where
+  -- what is reported is so, and by an open desk alone
   pub ok : IfOk result Is
   pub is_open : OnOk result (desk.is_given_up ≡ false)
+  -- a fault is want of memory, or the desk was given up, which always is one
   pub err : IfErr result (λ f. (f ≡ fault.Memory) ⊎ (f ≡ fault.Reopen) × IsTrue desk.is_given_up)
   pub gone : IsTrue desk.is_given_up → result ≡ Err fault.Reopen

@@ -41,7 +41,7 @@ pub record LeavesUnmade (old new : State) : Type 0 where
   pub undone : IsTrue new.is_open → IsBlank new × (new.now ≡ old.now)
 
 -- why a new office was not made: another of its tables is there, and then nothing was done, or the database failed
-pub record IsUnmadeBy {S : Type 0} (g : Ghosts S) (conn back : Held S) (f : Fault) : Type 0 where
+pub record IsUnmadeBy {S : Type 0} (g : Ghosts S) (conn : Held S) (f : Fault) (back : Held S) : Type 0 where
   pub faults : (f ≡ fault.Damaged) ⊎ (f ≡ fault.Store)
   pub damaged : f ≡ fault.Damaged → (has_other_table (state g conn).now.schema ≡ true) × (back ≡ conn)
 
@@ -53,7 +53,7 @@ pub record IsCreated {S : Type 0} (g : Ghosts S) (conn store : Held S) : Type 0 
 -- the connection is given back with this fault, and there is no new office
 pub record IsNotCreated {S : Type 0} (g : Ghosts S) (conn : Held S) (f : Fault) (back : Held S) : Type 0 where
   pub ended : back.in_transaction ≡ false
-  pub why : IsUnmadeBy g conn back f
+  pub why : IsUnmadeBy g conn f back
   pub clean : HasCleanDisk (state g back) → HasCleanDisk (state g conn)
   pub left : HasCleanDisk (state g back) → IsBlank (state g conn) → LeavesUnmade (state g conn) (state g back)
 
