@@ -1,3 +1,5 @@
+//! The checks of the head of a request.
+
 /// A check that the head of a request does not pass.
 #[derive(Clone, Copy, PartialEq, Eq, Debug)]
 pub enum Check {

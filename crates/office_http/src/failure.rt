@@ -1,3 +1,5 @@
+//! What fails of a request apart from the checks of its head.
+
 /// Why a request is not served, apart from the checks of its head.
 #[derive(Clone, Copy, PartialEq, Eq, Debug)]
 pub enum Failure {

@@ -1,3 +1,4 @@
+//! The answers whose bytes are fixed.
 ghost use Rattle.std.specs.Prelude.{◌≡◌};
 ghost use Rattle.office_http.specs.Replies.{check_response, failure_response, response, Response};
 ghost use Rattle.office_http.specs.declared.reply.Kind.TheVariants.{Json};

@@ -1,3 +1,4 @@
+//! An answer: its status, its body, and what that is.
 ghost use Rattle.std.specs.Prelude.{◌≡◌};
 ghost use Rattle.office_http.specs.Replies.{body_bytes};
 

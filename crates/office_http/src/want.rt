@@ -1,3 +1,4 @@
+//! What the head of a request asks for.
 use office_days::{ConfirmDays, Day};
 
 /// What the head of a request asks for. What its path does not write is `None`: a number is 1 to
