@@ -7,7 +7,7 @@
 
 use clap::error::ErrorKind;
 use office_plan::{PlanStop, due_to, plan_to, read_whole};
-use office_run::{Ending, open_and_run, open_and_serve, tell};
+use office_run::{Ending, Routes, open_and_run, open_and_serve, tell};
 use office_store::Fault;
 use office_words::{Order, Words, order_of, read_words};
 use sqlite::Wary;
@@ -96,15 +96,18 @@ fn import_in(rt: &HostRuntime, file: &str, csv: &str, order: &Order<'_>) -> u8 {
 }
 
 /// Serves the office in a file, which is made where there is none, at a port of 127.0.0.1, which no other machine
-/// reaches. Where the port cannot be bound, the file stays as it is.
+/// reaches. Where memory is refused for the routes, or the port cannot be bound, the file stays as it is.
 fn serve_in(rt: &HostRuntime, file: &str, port: u16, count: u32) -> Ending {
+    let Ok(routes) = Routes::new(rt.alloc()) else {
+        return Ending::Fault(Fault::Memory);
+    };
     let Ok(listener) = TcpListener::bind(rt, SocketAddr::from((Ipv4Addr::LOCALHOST, port))) else {
         return Ending::Socket;
     };
     let (mut out, mut err) = (io::writer(rt), rt.stderr());
     make_private(rt, file);
     let (ending, _left) = open_and_serve(
-        rt, &listener, port, count, file, Wary, &mut out, &mut err,
+        rt, &routes, &listener, port, count, file, Wary, &mut out, &mut err,
     );
     ending
 }

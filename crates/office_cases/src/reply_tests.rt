@@ -2,7 +2,7 @@
 use crate::streams::{Narrow, Sent};
 use httparse::spans::HeaderSpan;
 use office_http::{
-    Allow, Body, Failure, Head, Io, Kind, LONGEST_HEAD, Plan, Reply, Status, check_reply,
+    Allow, Body, Failure, Head, Io, Kind, LONGEST_HEAD, Plan, Reply, Routes, Status, check_reply,
     failure_reply, is_head_in, plan_in, read_head, write_reply,
 };
 use std::io::Write;
@@ -66,6 +66,7 @@ fn tell_reply(reply: &Reply, is_head: bool, out: &mut Vec<u8>) -> Option<()> {
 /// The answer to a head that does not pass a check, read in pieces.
 fn tell_refused(most: usize, bytes: &[u8], out: &mut Vec<u8>) -> Option<()> {
     let alloc = *out.allocator();
+    let routes = Routes::new(alloc).ok()?;
     let mut buf = Vec::with_capacity(alloc, LONGEST_HEAD).ok()?;
     let mut headers = [HeaderSpan::default(); 64];
     let mut reader = Sent::in_pieces(bytes, most);
@@ -73,8 +74,8 @@ fn tell_refused(most: usize, bytes: &[u8], out: &mut Vec<u8>) -> Option<()> {
         return None;
     };
     let is_head = is_head_in(&buf, &head);
-    match plan_in(alloc, &buf, &head, &headers) {
-        Ok(Plan::Refuse(check)) => tell_reply(&check_reply(check), is_head, out),
+    match plan_in(&routes, &buf, &head, &headers) {
+        Plan::Refuse(check) => tell_reply(&check_reply(check), is_head, out),
         _ => None,
     }
 }

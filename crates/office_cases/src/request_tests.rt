@@ -4,7 +4,7 @@ ghost use Rattle.std.specs.Prelude.{◌≤◌, vec_capacity};
 use crate::streams::Sent;
 use crate::written::push;
 use httparse::spans::HeaderSpan;
-use office_http::{Head, Io, LONGEST_HEAD, Plan, ReadStop, plan_in, read_body, read_head};
+use office_http::{Head, Io, LONGEST_HEAD, Plan, ReadStop, Routes, plan_in, read_body, read_head};
 use std::io::Write;
 
 /// What is done for a head; a day is told by its number, and 19782 is that of 2024-02-29.
@@ -124,14 +124,12 @@ fn push_plan(plan: Plan, out: &mut Vec<u8>) -> Option<()> {
 /// What is done for the head of some bytes that come in pieces.
 fn tell_plan(most: usize, bytes: &[u8], out: &mut Vec<u8>) -> Option<()> {
     let alloc = *out.allocator();
+    let routes = Routes::new(alloc).ok()?;
     let mut buf = Vec::with_capacity(alloc, LONGEST_HEAD).ok()?;
     let mut headers = [HeaderSpan::default(); 64];
     let mut reader = Sent::in_pieces(bytes, most);
     match read_head(&mut reader, &mut buf, &mut headers) {
-        Ok(Head::Found(head)) => match plan_in(alloc, &buf, &head, &headers) {
-            Ok(plan) => push_plan(plan, out),
-            Err(_) => None,
-        },
+        Ok(Head::Found(head)) => push_plan(plan_in(&routes, &buf, &head, &headers), out),
         Ok(Head::Missing) => push(out, "no head"),
         Ok(Head::Empty) => push(out, "no byte"),
         Err(Io) => None,

@@ -5,7 +5,9 @@ use Rattle.std.proofs.lemmas.List.{take-append-le, take-append-drop}
 use Rattle.std.proofs.Math.Seq.{take-append_seam}
 use Rattle.std.specs.Io.KnownBytes.{Consumes}
 use Rattle.httparse.specs.Grammar.{RequestHead, print_request, HasNoRequest}
-use Rattle.office_http.specs.Requests.{IsRequest, IsHeadless, headless}
+use Rattle.httparse.specs.declared.spans.HeaderSpan.{HeaderSpan}
+use Rattle.office_http.specs.Requests.{IsRequest, IsHeadless, ReadsHead, headless}
+use Rattle.office_http.specs.declared.reading.Head.TheVariants.{Missing}
 
 not_empty : (a b : List ℕ) → a ≢ [] → a ++ b ≢ []
 not_empty [] b h = λ e. h refl
@@ -37,6 +39,15 @@ missing_long (Some xs) (Some ys) buf h l s = (
   rw h (long_not_empty buf ys l),
   λ head rest reads short. s head (drop (length (print_request head)) buf) (reads.0, starts _ rest buf ys (sym h ∙ reads.1) (omega (arith, short.bytes, l))),
 )
+
+-- where there is no head, the rest of what reading one says tells nothing
+untold : (old new : Option (List ℕ)) → IfSome old (λ bytes. IfSome new (λ left. Unit {0}))
+untold None new = tt
+untold (Some xs) None = tt
+untold (Some xs) (Some ys) = tt
+
+pub reads_none : (old new : Option (List ℕ)) (buf : List ℕ) (headers : List HeaderSpan) → Consumes old new buf → IfSome old (λ bytes. IsRequest headless bytes) → ReadsHead Missing buf headers old new
+reads_none old new buf headers h n = record { read = h; head = n; spans = tt; asked = untold old new }
 
 -- no bytes begin no head
 pub nothing_has_none : (buf : List ℕ) → true ≡ (length buf == 0) → HasNoRequest buf

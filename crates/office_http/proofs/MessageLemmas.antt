@@ -12,7 +12,7 @@ use Rattle.httparse.specs.Ascii.{crlf_bytes, space}
 use Rattle.httparse.specs.Grammar.{AllPass, Field, IsField, IsResponseHead, ReadsResponse, crlf, is_token_byte, is_value_byte, print_field, print_response, print_section, print_version}
 use Rattle.office_http.proofs.NumberLemmas.{both_true, digits_model}
 use Rattle.office_http.specs.Messages.{allow_fields, close_fields, field_of, message_fields, message_head}
-use Rattle.office_http.specs.Replies.{Response, allow_line, from_allow, from_kind, kind_line, length_line, line_end, media_type, reason_phrase, response_head, response_text, status_line, status_number, status_words}
+use Rattle.office_http.specs.Replies.{Response, allow_line, close_lines, head_end, head_start, kind_line, line_end, media_type, reason_phrase, response_head, response_text, status_number, status_words}
 use Rattle.office_http.specs.declared.reply.Allow.{Allow}
 use Rattle.office_http.specs.declared.reply.Allow.TheVariants as allows
 use Rattle.office_http.specs.declared.reply.Kind.{Kind}
@@ -20,28 +20,31 @@ use Rattle.office_http.specs.declared.reply.Kind.TheVariants as kinds
 use Rattle.office_http.specs.declared.status.Status.{Status}
 use Rattle.office_http.specs.declared.status.Status.TheVariants as statuses
 
--- the status line and what follows it
-start : (s : Status) (rest : List ℕ) → status_line s ++ rest ≡ print_version 1 ++ space ∷ decimal (status_number s) ++ (space ∷ reason_phrase s) ++ crlf_bytes ++ rest
+-- the first lines and what follows them
+start : (s : Status) (k : Kind) (rest : List ℕ) → head_start s k ++ rest ≡ print_version 1 ++ space ∷ decimal (status_number s) ++ (space ∷ reason_phrase s) ++ crlf_bytes ++ (kind_line k ++ rest)
 unfolding status_words digits
-start statuses.Fine rest = refl
-start statuses.BadRequest rest = refl
-start statuses.NotFound rest = refl
-start statuses.MethodNotAllowed rest = refl
-start statuses.Conflict rest = refl
-start statuses.LengthRequired rest = refl
-start statuses.PayloadTooLarge rest = refl
-start statuses.NotImplemented rest = refl
-start statuses.ServiceUnavailable rest = refl
+start statuses.Fine k rest = refl
+start statuses.BadRequest k rest = refl
+start statuses.NotFound k rest = refl
+start statuses.MethodNotAllowed k rest = refl
+start statuses.Conflict k rest = refl
+start statuses.LengthRequired k rest = refl
+start statuses.PayloadTooLarge k rest = refl
+start statuses.NotImplemented k rest = refl
+start statuses.ServiceUnavailable k rest = refl
 
-allowed : (a : Allow) → from_allow a ≡ print_section (allow_fields a) crlf
+allowed : (a : Allow) → allow_line a ++ close_lines ≡ print_section (allow_fields a) crlf
 unfolding allow_line
 allowed allows.Any = refl
 allowed allows.Get = refl
 allowed allows.Post = refl
 
 -- the line of the length, and what follows it
-sized : (value : List ℕ) (fields : List Field) → (codes "Content-Length: " ++ (value ++ line_end)) ++ print_section fields crlf ≡ print_section (field_of (codes "Content-Length") value ∷ fields) crlf
-sized value fields = ap (λ (t : List ℕ). codes "Content-Length: " ++ t) (sym (append_assoc (value ++ crlf_bytes) (flat_map print_field fields) crlf_bytes))
+sized : (value : List ℕ) (fields : List Field) → codes "Content-Length: " ++ (value ++ (line_end ++ print_section fields crlf)) ≡ print_section (field_of (codes "Content-Length") value ∷ fields) crlf
+sized value fields =
+    let rest : List ℕ = print_section fields crlf in
+    ap (λ (t : List ℕ). codes "Content-Length: " ++ t)
+    (sym (append_assoc (value ++ crlf_bytes) (flat_map print_field fields) crlf_bytes ∙ append_assoc value crlf_bytes rest))
 
 -- the line of the kind, and what follows it
 kinds_line : (k : Kind) (fields : List Field) → kind_line k ++ print_section fields crlf ≡ print_section (field_of (codes "Content-Type") (media_type k) ∷ fields) crlf
@@ -50,15 +53,17 @@ kinds_line kinds.Json fields = refl
 kinds_line kinds.Octets fields = refl
 kinds_line kinds.Plain fields = refl
 
-section_is : (r : Response) → from_kind r.kind (length r.body) r.allow ≡ print_section (message_fields r) crlf
+section_is : (r : Response) → kind_line r.kind ++ head_end (length r.body) r.allow ≡ print_section (message_fields r) crlf
 section_is r =
-    ap (λ (t : List ℕ). kind_line r.kind ++ (length_line (length r.body) ++ t)) (allowed r.allow)
+    ap (λ (t : List ℕ). kind_line r.kind ++ (codes "Content-Length: " ++ (decimal (length r.body) ++ (line_end ++ t)))) (allowed r.allow)
     ∙ ap (λ (t : List ℕ). kind_line r.kind ++ t) (sized (decimal (length r.body)) (allow_fields r.allow))
     ∙ kinds_line r.kind (field_of (codes "Content-Length") (decimal (length r.body)) ∷ allow_fields r.allow)
 
 pub head_is : (r : Response) → response_head r ≡ print_response (message_head r)
 unfolding print_response
-head_is r = start r.status (from_kind r.kind (length r.body) r.allow) ∙ ap (λ (t : List ℕ). print_version 1 ++ space ∷ decimal (status_number r.status) ++ (space ∷ reason_phrase r.status) ++ crlf_bytes ++ t) (section_is r)
+head_is r =
+    start r.status r.kind (head_end (length r.body) r.allow)
+    ∙ ap (λ (t : List ℕ). print_version 1 ++ space ∷ decimal (status_number r.status) ++ (space ∷ reason_phrase r.status) ++ crlf_bytes ++ t) (section_is r)
 
 three_digits : (s : Status) → (length (decimal (status_number s)) ≡ 3) × AllPass is_ascii_digit (decimal (status_number s))
 unfolding digits

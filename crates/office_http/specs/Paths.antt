@@ -11,19 +11,19 @@ use Rattle.matchit.specs.declared.error.InsertError.{InsertError}
 use Rattle.office_http.specs.declared.paths.Resource.{Resource}
 use Rattle.office_http.specs.declared.paths.Resource.TheVariants.{Acts, OpenRun, Record, Content, Due, Overdue, Certificate}
 
-abbrev pub Routes : Type 0
-Routes = RowsOf (RouteOf Resource)
+abbrev pub RouteList : Type 0
+RouteList = RowsOf (RouteOf Resource)
 
-abbrev pub with_scanned : Result Scan InsertError → Resource → Routes → Routes
+abbrev pub with_scanned : Result Scan InsertError → Resource → RouteList → RouteList
 with_scanned (Ok s) resource routes = placed ((route_from s resource).pattern, route_from s resource) routes
 with_scanned (Err e) resource routes = routes
 
 -- the routes with one more, as it is written down
-abbrev pub with_route : List ℕ → Resource → Routes → Routes
+abbrev pub with_route : List ℕ → Resource → RouteList → RouteList
 with_route text resource routes = with_scanned (parse_route text) resource routes
 
 -- the paths that there are; `{n}`, `{day}` and `{count}` are one segment of at least one byte
-unfoldable pub office_routes : Routes
+unfoldable pub office_routes : RouteList
 office_routes =
     with_route (codes "/certificates/{n}") Certificate
     (with_route (codes "/overdue/{day}/{count}") Overdue

@@ -1,8 +1,8 @@
 -- What is done for a head: the first check that fails, or else what is asked for. Source: own; methods, fields and targets are those of RFC 9110.
-use Rattle.std.specs.Prelude.{ℕ, ◌≤◌, List, codes, map, take, Bool, true, false, ◌==◌, nat_lt, if◌then◌else◌, bytes_eq, Option, Some, None}
+use Rattle.std.specs.Prelude.{◌≡◌, ℕ, ◌≤◌, List, codes, map, take, Bool, true, false, ◌==◌, nat_lt, if◌then◌else◌, bytes_eq, Option, Some, None}
 use Rattle.std.specs.Result.{result_ok}
 use Rattle.httparse.specs.Grammar.{RequestHead}
-use Rattle.httparse.specs.Spans.{name_and_value, span_bytes, header_bytes}
+use Rattle.httparse.specs.Spans.{name_and_value, span_bytes, header_bytes, IsRequestAt}
 use Rattle.httparse.specs.declared.spans.HeaderSpan.{HeaderSpan}
 use Rattle.httparse.specs.declared.spans.RequestSpans.{RequestSpans}
 use Rattle.office_days.specs.ConfirmCounts.{confirm_days_named}
@@ -100,3 +100,9 @@ IsSized (Serve (wants.Content n)) = Unit {0}
 IsSized (Serve (wants.Due day)) = Unit {0}
 IsSized (Serve (wants.Overdue day days)) = Unit {0}
 IsSized (Serve (wants.Certificate n)) = Unit {0}
+
+-- what is done for a head that lies in a buffer: what its parts say there, and so what is done for any head that they are
+pub record IsPlanned (buf : List ℕ) (spans : RequestSpans) (headers : List HeaderSpan) (it : Plan) : Type 0 where
+  pub plan : it ≡ plan_in buf spans headers
+  pub head : (h : RequestHead) → IsRequestAt buf headers spans h → it ≡ plan_at h
+  pub sized : IsSized it

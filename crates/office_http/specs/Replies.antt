@@ -44,9 +44,6 @@ reason_phrase statuses.ServiceUnavailable = codes "Service Unavailable"
 unfoldable pub status_words : Status → List ℕ
 status_words status = decimal (status_number status) ++ codes " " ++ reason_phrase status
 
-abbrev pub status_line : Status → List ℕ
-status_line status = codes "HTTP/1.1 " ++ (status_words status ++ line_end)
-
 -- the media type of the body
 abbrev pub media_type : Kind → List ℕ
 media_type kinds.Json = codes "application/json"
@@ -62,28 +59,22 @@ allow_line allows.Any = []
 allow_line allows.Get = codes "Allow: GET" ++ line_end
 allow_line allows.Post = codes "Allow: POST" ++ line_end
 
-abbrev pub length_line : ℕ → List ℕ
-length_line n = codes "Content-Length: " ++ (decimal n ++ line_end)
-
 -- the last field line, and the empty line
 abbrev pub close_lines : List ℕ
 close_lines = codes "Connection: close" ++ line_end ++ line_end
 
--- what follows the length
-abbrev pub from_allow : Allow → List ℕ
-from_allow allow = allow_line allow ++ close_lines
+-- the first lines of a head: the status, and the kind of the body
+abbrev pub head_start : Status → Kind → List ℕ
+head_start status kind = codes "HTTP/1.1 " ++ (status_words status ++ (line_end ++ kind_line kind))
 
--- what follows the kind
-abbrev pub from_length : ℕ → Allow → List ℕ
-from_length size allow = length_line size ++ from_allow allow
-
--- what follows the status
-abbrev pub from_kind : Kind → ℕ → Allow → List ℕ
-from_kind kind size allow = kind_line kind ++ from_length size allow
+-- the other lines: the length of the body, the method that is taken, and the end
+abbrev pub head_end : ℕ → Allow → List ℕ
+head_end size allow =
+    codes "Content-Length: " ++ (decimal size ++ (line_end ++ (allow_line allow ++ close_lines)))
 
 -- the head of an answer
 abbrev pub head_text : Status → Kind → ℕ → Allow → List ℕ
-head_text status kind size allow = status_line status ++ from_kind kind size allow
+head_text status kind size allow = head_start status kind ++ head_end size allow
 
 -- an answer, wherever its body lies
 pub record Response : Type 0 where

@@ -1,5 +1,6 @@
 -- Which bytes are which request, up to the end of the head. Source: RFC 9112 section 2 as `httparse` reads it; the limits are own.
-use Rattle.std.specs.Prelude.{◌≡◌, ◌≢◌, ℕ, ◌≤◌, List, [], ◌++◌, drop, length}
+use Rattle.std.specs.Prelude.{◌≡◌, ◌≢◌, ℕ, ◌≤◌, List, [], ◌++◌, drop, length, Option, IfSome}
+use Rattle.std.specs.Io.KnownBytes.{Consumes}
 use Rattle.httparse.specs.Grammar.{RequestHead, print_request, ReadsRequest, HasNoRequest}
 use Rattle.httparse.specs.declared.spans.HeaderSpan.{HeaderSpan}
 use Rattle.httparse.specs.declared.spans.RequestSpans.{RequestSpans}
@@ -57,3 +58,10 @@ abbrev pub IsAsked : Head → List ℕ → List ℕ → List HeaderSpan → List
 IsAsked (Found spans) bytes buf headers left = (h : RequestHead) × IsRequestAt buf headers spans h × IsRequest (asks h (drop spans.len buf ++ left)) bytes
 IsAsked Missing bytes buf headers left = Unit {0}
 IsAsked Empty bytes buf headers left = Unit {0}
+
+-- a connection was read into an empty buffer until its head was whole, or until there was none, by what is before and after in the reader
+pub record ReadsHead (it : Head) (buf : List ℕ) (headers : List HeaderSpan) (before after : Option (List ℕ)) : Type 0 where
+  pub read : Consumes before after buf
+  pub head : IfSome before (λ bytes. IsRead it bytes)
+  pub spans : IsHeadOf it buf headers
+  pub asked : IfSome before (λ bytes. IfSome after (λ left. IsAsked it bytes buf headers left))

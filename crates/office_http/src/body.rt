@@ -1,8 +1,8 @@
-//! The body of a request, read after its head, and why it could not be read.
-ghost use Rattle.std.specs.Prelude.{◌≡◌, ℕ, ◌-◌, ◌≤◌, ◌<◌, List, ◌++◌, length, drop, slice_range, IfOk, IfSome, OnOk, IsTrue, IsFalse};
+//! The body of a request, read into the buffer that begins with its head.
+ghost use Rattle.std.specs.Prelude.{◌≡◌, ℕ, ◌≤◌, ◌<◌, List, ◌++◌, length, IfOk, OnOk, IsTrue, IsFalse};
 ghost use Rattle.std.specs.Io.KnownBytes.{Consumes, IsAtEnd};
 ghost use Rattle.std.specs.Vec.{vec_capacity};
-ghost use Rattle.office_http.specs.Bodies.{IsBody};
+ghost use Rattle.office_http.specs.Bodies.{ReadsBody};
 
 use crate::reading::read_piece;
 use office_plan::Io;
@@ -42,10 +42,8 @@ fn read_rest<R: Read>(
     requires ordered { start ≤ end }
     requires start_in { start ≤ length buf.old.items }
     requires room { end ≤ vec_capacity buf.old }
-    ensures body { IfOk result (λ whole. IfSome (R.remaining reader.old) (λ left.
-        IsBody whole (end - start) (drop start buf.old.items ++ left) (slice_range buf.new.items start end))) }
-    ensures long { IfOk result (λ whole. IsTrue whole → end ≤ length buf.new.items) }
-    ensures read { OnOk result ((piece : List ℕ) × (buf.new.items ≡ buf.old.items ++ piece) × Consumes (R.remaining reader.old) (R.remaining reader.new) piece) }
+    ensures { IfOk result (λ whole. ReadsBody start end whole buf.old.items buf.new.items
+        (R.remaining reader.old) (R.remaining reader.new)) }
 {
     fill(reader, buf, end)
 }
@@ -61,10 +59,8 @@ pub fn read_body<R: Read>(
 ) -> Result<bool, ReadStop>
     requires ordered { start ≤ end }
     requires start_in { start ≤ length buf.old.items }
-    ensures body { IfOk result (λ whole. IfSome (R.remaining reader.old) (λ left.
-        IsBody whole (end - start) (drop start buf.old.items ++ left) (slice_range buf.new.items start end))) }
-    ensures long { IfOk result (λ whole. IsTrue whole → end ≤ length buf.new.items) }
-    ensures read { OnOk result ((piece : List ℕ) × (buf.new.items ≡ buf.old.items ++ piece) × Consumes (R.remaining reader.old) (R.remaining reader.new) piece) }
+    ensures { IfOk result (λ whole. ReadsBody start end whole buf.old.items buf.new.items
+        (R.remaining reader.old) (R.remaining reader.new)) }
 {
     let missing = end.saturating_sub(buf.len());
     if buf.try_reserve(missing).is_err() {

@@ -1,4 +1,4 @@
-//! The checks that the head of a request must pass.
+//! The checks of the head of a request.
 
 /// A check that the head of a request does not pass.
 #[derive(Clone, Copy, PartialEq, Eq, Debug)]

@@ -1,4 +1,4 @@
-//! Failures with a fixed reply of their own, besides the failed checks of a head.
+//! What fails of a request apart from the checks of its head.
 
 /// Why a request is not served, apart from the checks of its head.
 #[derive(Clone, Copy, PartialEq, Eq, Debug)]

@@ -1,4 +1,4 @@
-//! Replies of fixed bytes, for failed checks and for the other kinds of failure.
+//! The answers whose bytes are fixed.
 ghost use Rattle.std.specs.Prelude.{◌≡◌};
 ghost use Rattle.office_http.specs.Replies.{check_response, failure_response, response, Response};
 ghost use Rattle.office_http.specs.declared.reply.Kind.TheVariants.{Json};

@@ -3,10 +3,10 @@
 //!
 //! [`read_head`] reads until the head of a request is whole or there will be none, and [`plan_in`]
 //! tells what is done for it: the first check that fails, as a [`Check`], or what is asked for, as
-//! a [`Want`]. [`read_body`] reads the body that a head announces. The answer is a [`Reply`], and
-//! [`write_reply`] writes it; [`check_reply`] and [`failure_reply`] give the answers whose bytes are
-//! fixed. What is asked for is done by others, who know the office: here are heads, fields, paths
-//! and lengths alone.
+//! a [`Want`]. It looks the path up in [`Routes`], which are made once. [`read_body`] reads the body
+//! that a head announces. The answer is a [`Reply`], and [`write_reply`] writes it; [`check_reply`]
+//! and [`failure_reply`] give the answers whose bytes are fixed. What is asked for is done by others,
+//! who know the office: here are heads, fields, paths and lengths alone.
 #![tactic(auto)]
 
 mod body;
@@ -16,7 +16,6 @@ mod fields;
 mod fixed;
 mod method;
 mod numbers;
-mod output;
 mod paths;
 mod plan;
 mod reading;
@@ -30,6 +29,7 @@ pub use check::Check;
 pub use failure::Failure;
 pub use fixed::{check_reply, failure_reply};
 pub use office_plan::Io;
+pub use paths::Routes;
 pub use plan::{Plan, is_head_in, plan_in};
 pub use reading::{Head, LONGEST_HEAD, MOST_FIELDS, law_of_requests, read_head};
 pub use reply::{Allow, Body, Kind, Reply};

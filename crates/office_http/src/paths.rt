@@ -1,11 +1,11 @@
-//! The paths of the office: their routes, and what each names.
-ghost use Rattle.std.specs.Prelude.{◌≡◌, ◌==◌, IfOk, true, false, MatchOption, None, Some};
+//! What a path names, by routes of the crate `matchit`, and the segments of a path.
+ghost use Rattle.std.specs.Prelude.{◌≡◌, ◌==◌, IfOk, true, false, MatchOption};
 ghost use Rattle.std.specs.List.{list_any};
-ghost use Rattle.matchit.specs.Seek.{first};
-ghost use Rattle.office_http.specs.Paths.{is_path, office_routes, path_segment, resource_at, with_route};
+ghost use Rattle.office_http.specs.Paths.{RouteList, is_path, office_routes, path_segment, resource_at, with_route};
 
 use matchit::Router;
 use std::alloc::{AllocError, Global};
+use std::marker::Model;
 
 /// What a path names.
 #[derive(Clone, Copy, Drop)]
@@ -55,22 +55,39 @@ fn office_router(alloc: Global) -> Result<Router<Resource>, AllocError>
     with_route(router, "/certificates/{n}", Resource::Certificate)
 }
 
-/// What a path names among the routes.
-fn routed(router: &Router<Resource>, path: &str) -> Option<Resource>
-    ensures { MatchOption (first router.now path.now) (result ≡ None) (λ route. result ≡ Some route.value) }
-{
-    match router.at(path) {
-        Ok(found) => Some(*found.value),
-        Err(_) => None,
-    }
+/// The paths that the office answers, and what each names. They are made once; to look a path up takes
+/// no memory.
+#[derive(Drop)]
+pub struct Routes {
+    router: Router<Resource>,
 }
 
-/// What a path names.
-pub(crate) fn resource_at(alloc: Global, path: &str) -> Result<Option<Resource>, AllocError>
-    ensures { IfOk result (λ resource. resource ≡ resource_at path.now) }
-{
-    let router = office_router(alloc)?;
-    Ok(routed(&router, path))
+impl Model for Routes {
+    ghost Value = { RouteList };
+
+    ghost view = { λ routes. routes.router };
+
+    ghost invariant = { λ routes. routes.router ≡ office_routes };
+}
+
+impl Routes {
+    /// Makes the routes of all paths. `AllocError` comes where memory is refused for one of them.
+    pub fn new(alloc: Global) -> Result<Routes, AllocError>
+        ensures { IfOk result (λ routes. routes ≡ office_routes) }
+    {
+        let router = office_router(alloc)?;
+        Ok(Routes { router })
+    }
+
+    /// What a path names.
+    pub(crate) fn resource_at(&self, path: &str) -> Option<Resource>
+        ensures { result ≡ resource_at path.now }
+    {
+        match self.router.at(path) {
+            Ok(found) => Some(*found.value),
+            Err(_) => None,
+        }
+    }
 }
 
 /// Whether the target has a query.

@@ -1,21 +1,18 @@
-//! What is done for the head of a request: the first check that fails, or what it asks for.
-ghost use Rattle.std.specs.Prelude.{◌≡◌, ℕ, ◌≤◌, List, length, map, take, codes, All, IfOk};
-ghost use Rattle.httparse.specs.Grammar.{RequestHead};
-ghost use Rattle.httparse.specs.Spans.{header_bytes, span_bytes, IsHeaderWithin, IsRequestAt, IsRequestWithin};
+//! What is done for the head of a request: the checks one after another, and then what it asks for.
+ghost use Rattle.std.specs.Prelude.{◌≡◌, ℕ, ◌≤◌, List, length, map, take, codes, All};
+ghost use Rattle.httparse.specs.Spans.{header_bytes, span_bytes, IsHeaderWithin, IsRequestWithin};
 ghost use Rattle.office_http.specs.Fields.{found_named};
-ghost use Rattle.office_http.specs.Paths.{resource_at};
-ghost use Rattle.office_http.specs.Plans.{acts_plan, get_plan, has_host, is_head_method, length_plan, path_plan, plan_at, plan_in, plan_of, resource_plan, sized_plan, target_plan, IsSized};
+ghost use Rattle.office_http.specs.Plans.{acts_plan, get_plan, has_host, is_head_method, length_plan, plan_of, resource_plan, sized_plan, target_plan, IsPlanned, IsSized};
 
 use crate::check::Check;
 use crate::fields::{Found, find_named};
 use crate::method::is_method;
 use crate::numbers::{content_length, segment_number};
-use crate::paths::{Resource, path_of, path_segment, resource_at};
+use crate::paths::{Resource, Routes, path_of, path_segment};
 use crate::want::Want;
 use http::Method;
 use httparse::spans::{HeaderSpan, RequestSpans};
 use office_days::{Day, read_confirm_days};
-use std::alloc::{AllocError, Global};
 
 /// What is done for the head of a request.
 #[derive(Clone, Copy, PartialEq, Eq, Debug)]
@@ -102,39 +99,24 @@ fn resource_plan(
     }
 }
 
-/// What is done for a path.
-fn path_plan(
-    alloc: Global,
-    buf: &[u8],
-    headers: &[HeaderSpan],
-    path: &str,
-    method: &[u8],
-) -> Result<Plan, AllocError>
-    requires { All (IsHeaderWithin (length buf.now)) headers.now }
-    ensures plan { IfOk result (λ plan. plan ≡ path_plan (resource_at path.now) path.now method.now (map (header_bytes buf.now) headers.now)) }
-    ensures sized { IfOk result (λ plan. IsSized plan) }
-{
-    match resource_at(alloc, path)? {
-        None => Ok(Plan::Refuse(Check::Path)),
-        Some(resource) => Ok(resource_plan(buf, headers, resource, path, method)),
-    }
-}
-
 /// What is done for a target.
 fn target_plan(
-    alloc: Global,
+    routes: &Routes,
     buf: &[u8],
     headers: &[HeaderSpan],
     target: &[u8],
     method: &[u8],
-) -> Result<Plan, AllocError>
+) -> Plan
     requires { All (IsHeaderWithin (length buf.now)) headers.now }
-    ensures plan { IfOk result (λ plan. plan ≡ target_plan target.now method.now (map (header_bytes buf.now) headers.now)) }
-    ensures sized { IfOk result (λ plan. IsSized plan) }
+    ensures plan { result ≡ target_plan target.now method.now (map (header_bytes buf.now) headers.now) }
+    ensures sized { IsSized result }
 {
-    match path_of(target) {
-        None => Ok(Plan::Refuse(Check::Path)),
-        Some(path) => path_plan(alloc, buf, headers, path, method),
+    let Some(path) = path_of(target) else {
+        return Plan::Refuse(Check::Path);
+    };
+    match routes.resource_at(path) {
+        None => Plan::Refuse(Check::Path),
+        Some(resource) => resource_plan(buf, headers, resource, path, method),
     }
 }
 
@@ -150,24 +132,17 @@ fn has_host(buf: &[u8], headers: &[HeaderSpan], minor: u8) -> bool
     }
 }
 
-/// What is done for a head that [`read_head`](crate::read_head) found in the buffer. Memory is taken
-/// for the routes alone.
-pub fn plan_in(
-    alloc: Global,
-    buf: &[u8],
-    head: &RequestSpans,
-    headers: &[HeaderSpan],
-) -> Result<Plan, AllocError>
+/// What is done for a head that [`read_head`](crate::read_head) found in the buffer. No memory is asked
+/// for.
+pub fn plan_in(routes: &Routes, buf: &[u8], head: &RequestSpans, headers: &[HeaderSpan]) -> Plan
     requires { IsRequestWithin buf.now headers.now head.now }
-    ensures plan { IfOk result (λ plan. plan ≡ plan_in buf.now head.now headers.now) }
-    ensures head { IfOk result (λ plan. (h : RequestHead) → IsRequestAt buf.now headers.now head.now h → plan ≡ plan_at h) }
-    ensures sized { IfOk result (λ plan. IsSized plan) }
+    ensures { IsPlanned buf.now head.now headers.now result }
 {
     let headers = &headers[..head.headers];
     if has_host(buf, headers, head.version) {
-        target_plan(alloc, buf, headers, head.path.of(buf), head.method.of(buf))
+        target_plan(routes, buf, headers, head.path.of(buf), head.method.of(buf))
     } else {
-        Ok(Plan::Refuse(Check::Host))
+        Plan::Refuse(Check::Host)
     }
 }
 

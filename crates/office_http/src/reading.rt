@@ -1,8 +1,8 @@
-//! The head of a request, read from a connection within its limits.
-ghost use Rattle.std.specs.Prelude.{◌≡◌, ◌≢◌, ℕ, ◌+◌, ◌≤◌, ◌<◌, List, [], ◌++◌, length, IfOk, OnOk, IfSome};
+//! Reading a connection until the head of its request is whole, within the limits.
+ghost use Rattle.std.specs.Prelude.{◌≡◌, ◌≢◌, ℕ, ◌+◌, ◌≤◌, ◌<◌, List, [], ◌++◌, length, IfOk, OnOk};
 ghost use Rattle.std.specs.Io.KnownBytes.{Consumes, IsAtEnd};
 ghost use Rattle.std.specs.Vec.{vec_capacity};
-ghost use Rattle.office_http.specs.Requests.{IsAsked, IsHeadOf, IsSeen, IsRead, Request, IsRequest};
+ghost use Rattle.office_http.specs.Requests.{IsSeen, ReadsHead, Request, IsRequest};
 
 use httparse::Status;
 use httparse::spans::{HeaderSpan, RequestSpans, parse_request};
@@ -105,11 +105,8 @@ pub fn read_head<R: Read>(
     requires empty { buf.old.items ≡ [] }
     requires place { 16_384 ≤ vec_capacity buf.old }
     requires room { length headers.old ≡ 64 }
-    ensures read { OnOk result (Consumes (R.remaining reader.old) (R.remaining reader.new) buf.new.items) }
-    ensures head { IfOk result (λ head. IfSome (R.remaining reader.old) (λ bytes. IsRead head bytes)) }
-    ensures spans { IfOk result (λ head. IsHeadOf head buf.new.items headers.new) }
-    ensures asked { IfOk result (λ head. IfSome (R.remaining reader.old) (λ bytes. IfSome (R.remaining reader.new) (λ left.
-        IsAsked head bytes buf.new.items headers.new left))) }
+    ensures { IfOk result (λ head. ReadsHead head buf.new.items headers.new
+        (R.remaining reader.old) (R.remaining reader.new)) }
 {
     loop {
         match see_any(buf.as_slice(), headers) {

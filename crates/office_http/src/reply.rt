@@ -1,4 +1,4 @@
-//! A reply before it is written: status, media type, allowed method and body.
+//! An answer: its status, its body, and what that is.
 ghost use Rattle.std.specs.Prelude.{◌≡◌};
 ghost use Rattle.office_http.specs.Replies.{body_bytes};
 

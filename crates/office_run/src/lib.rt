@@ -19,6 +19,7 @@ mod running;
 mod serving;
 
 pub use ending::Ending;
+pub use office_wire::Routes;
 pub use opening::{FilesLeft, open_and_run};
 pub use reopening::{law_of_each_word, law_of_the_next_word};
 pub use running::{run_on, tell, tell_listening};

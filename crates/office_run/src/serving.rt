@@ -11,7 +11,7 @@ use crate::opening::{FilesLeft, close, law_of_the_last_commit};
 use crate::running::tell_listening;
 use office_desk::Desk;
 use office_store::Fault;
-use office_wire::serve_all;
+use office_wire::{Routes, serve_all};
 use sqlite::{Alter, Connection, FileFrom, Start};
 use std::io::{Read, Write};
 use std::net::{OpenListener, OpenStream};
@@ -19,6 +19,7 @@ use std::net::{OpenListener, OpenStream};
 /// Tells where an open office is served, and serves so many connections.
 fn serve_at<L: OpenListener, W: Write, E: Write, S: Alter>(
     rt: &HostRuntime,
+    routes: &Routes,
     listener: &L,
     port: u16,
     count: u32,
@@ -33,7 +34,7 @@ where
 {
     match tell_listening(port, out) {
         Ok(()) => {
-            let service = serve_all(rt.alloc(), listener, rt, count, desk, err);
+            let service = serve_all(rt.alloc(), routes, listener, rt, count, desk, err);
             Ending::of_service(service.has_failed, service.is_given_up)
         }
         Err(_) => Ending::File,
@@ -43,6 +44,7 @@ where
 /// `serve FILE PORT COUNT` over a connection to the file.
 fn serve_on<L: OpenListener, W: Write, E: Write, S: Alter>(
     rt: &HostRuntime,
+    routes: &Routes,
     listener: &L,
     port: u16,
     count: u32,
@@ -58,7 +60,7 @@ where
 {
     match Desk::open(rt.alloc(), conn) {
         Ok(mut desk) => {
-            let ending = serve_at(rt, listener, port, count, &mut desk, out, err);
+            let ending = serve_at(rt, routes, listener, port, count, &mut desk, out, err);
             (ending, desk.close())
         }
         Err((fault, conn)) => (Ending::Fault(fault), conn),
@@ -70,6 +72,7 @@ where
 /// of the file, as [`crate::open_and_run`] does. The listener is bound to that port of this machine.
 pub fn open_and_serve<L: OpenListener, S: Start, W: Write, E: Write>(
     rt: &HostRuntime,
+    routes: &Routes,
     listener: &L,
     port: u16,
     count: u32,
@@ -85,7 +88,7 @@ where
     match Connection::open_from(rt, file, false, start) {
         Ok(conn) => {
             law_of_the_last_commit(&conn);
-            let (ending, conn) = serve_on(rt, listener, port, count, conn, out, err);
+            let (ending, conn) = serve_on(rt, routes, listener, port, count, conn, out, err);
             law_of_the_last_commit(&conn);
             (ending, close(conn))
         }

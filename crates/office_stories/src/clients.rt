@@ -3,7 +3,7 @@ use crate::failures::failure;
 use crate::peer::{Paper, Pieces};
 use crate::requests::{Exchange, exchange_of};
 use office_desk::Desk;
-use office_wire::{Io, serve_one};
+use office_wire::{Io, Routes, serve_one};
 use sqlite::Alter;
 use std::alloc::Global;
 use std::test::Fail;
@@ -25,7 +25,13 @@ fn ending_of(it: &Exchange) -> Result<u16, Io> {
 }
 
 /// Whether a client is answered so, as far as it takes the answer; its bytes come in pieces of at most so many.
-fn is_answered<S: Alter>(alloc: Global, desk: &mut Desk<S>, it: &Exchange, most: usize) -> bool {
+fn is_answered<S: Alter>(
+    alloc: Global,
+    routes: &Routes,
+    desk: &mut Desk<S>,
+    it: &Exchange,
+    most: usize,
+) -> bool {
     let mut reader = Pieces {
         bytes: it.sent.as_slice(),
         most,
@@ -36,7 +42,7 @@ fn is_answered<S: Alter>(alloc: Global, desk: &mut Desk<S>, it: &Exchange, most:
         room: it.room,
         differs: false,
     };
-    let status = serve_one(alloc, desk, &mut reader, &mut paper);
+    let status = serve_one(alloc, routes, desk, &mut reader, &mut paper);
     status == ending_of(it) && !paper.differs && (paper.room == 0 || paper.awaited.is_empty())
 }
 
@@ -48,7 +54,8 @@ pub(crate) fn tell_client<S: Alter>(
     most: usize,
 ) -> Result<(), Fail> {
     let it = exchange_of(alloc, row)?;
-    if is_answered(alloc, desk, &it, most) {
+    let routes = Routes::new(alloc)?;
+    if is_answered(alloc, &routes, desk, &it, most) {
         return Ok(());
     }
     Err(failure("not answered so", row))

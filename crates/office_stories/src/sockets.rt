@@ -4,7 +4,7 @@ use crate::failures::failure;
 use crate::requests::exchange_of;
 use crate::telling::tell_parts;
 use office_desk::Desk;
-use office_wire::{Service, serve_all};
+use office_wire::{Routes, Service, serve_all};
 use sqlite::Alter;
 use std::alloc::Global;
 use std::io;
@@ -87,7 +87,16 @@ pub(crate) fn serve<S: Alter>(
     meeting: &Meeting<'_>,
 ) -> Result<(), Fail> {
     let mut err = Vec::new(rt.alloc());
-    let service = serve_all(rt.alloc(), listener, rt, meeting.most, desk, &mut err);
+    let routes = Routes::new(rt.alloc())?;
+    let service = serve_all(
+        rt.alloc(),
+        &routes,
+        listener,
+        rt,
+        meeting.most,
+        desk,
+        &mut err,
+    );
     if service == meeting.service && err.as_slice() == meeting.told.as_bytes() {
         return Ok(());
     }

@@ -5,6 +5,7 @@ ghost use Rattle.office_wire.specs.Connections.{Ends, IsKept, Turn, Turns, has_f
 use crate::deadline::{Timed, is_interrupted};
 use crate::serving::serve_one;
 use office_desk::Desk;
+use office_http::Routes;
 use office_json::Io;
 use office_store::Fault;
 use sqlite::Alter;
@@ -73,6 +74,7 @@ fn writer_of<'a, C: Write + OpenStream + Drop, K: Clock>(
 /// Serves a connection, which is closed at the end.
 fn serve_stream<C: Read + Write + OpenStream + Drop, K: Clock, S: Alter>(
     alloc: Global,
+    routes: &Routes,
     stream: C,
     clock: &K,
     desk: &mut Desk<S>,
@@ -83,7 +85,7 @@ fn serve_stream<C: Read + Write + OpenStream + Drop, K: Clock, S: Alter>(
         return Err(Io);
     };
     let mut reader = Timed::new(stream, clock);
-    let status = serve_one(alloc, desk, &mut reader, &mut writer)?;
+    let status = serve_one(alloc, routes, desk, &mut reader, &mut writer)?;
     if writer.flush().is_err() {
         return Err(Io);
     }
@@ -95,6 +97,7 @@ fn serve_stream<C: Read + Write + OpenStream + Drop, K: Clock, S: Alter>(
 /// of file descriptors, does not use up the count at once.
 fn serve_next<L: OpenListener, K: Clock, S: Alter>(
     alloc: Global,
+    routes: &Routes,
     listener: &L,
     clock: &K,
     desk: &mut Desk<S>,
@@ -104,7 +107,7 @@ where
     ensures { Turn S.Store result desk.old desk.new }
 {
     match listener.accept() {
-        Ok((stream, _)) => serve_stream(alloc, stream, clock, desk),
+        Ok((stream, _)) => serve_stream(alloc, routes, stream, clock, desk),
         Err(_) => {
             thread::sleep(clock, Duration::from_millis(ACCEPT_PAUSE));
             Err(Io)
@@ -156,6 +159,7 @@ fn tell_failure<E: Write>(served: Result<u16, Io>, err: &mut E) {
 /// the desk stands where serving something leaves it.
 pub fn serve_all<L: OpenListener, K: Clock, E: Write, S: Alter>(
     alloc: Global,
+    routes: &Routes,
     listener: &L,
     clock: &K,
     count: u32,
@@ -170,7 +174,7 @@ where
 {
     let mut has_failed = false;
     for before in 0..count {
-        let served = serve_next(alloc, listener, clock, desk);
+        let served = serve_next(alloc, routes, listener, clock, desk);
         tell_failure(served, err);
         has_failed = failed_by(has_failed, served);
         if ends_after(alloc, desk, served) {

@@ -23,6 +23,7 @@ pub use body::ActsBody;
 pub use connections::{Service, serve_all};
 pub use deadline::LONGEST;
 pub use importing::{ImportStop, import_records};
+pub use office_http::Routes;
 pub use office_json::{Io, ReadFault, answer_value, read_act};
 pub use receiving::{Asked, Asking, ReceiveStop, Received, receive};
 pub use registers::{ExportStop, export_due, export_entries, export_overdue};

@@ -1,8 +1,8 @@
 //! All of a request is read here, and nothing is done yet.
 ghost use Rattle.std.specs.Prelude.{◌≡◌, ◌≢◌, ◌+◌, ◌≤◌, ◌++◌, drop, length, IfErr, IfOk, IfSome, OnErr};
 ghost use Rattle.httparse.specs.Grammar.{RequestHead};
-ghost use Rattle.httparse.specs.Spans.{IsRequestAt, IsRequestWithin};
-ghost use Rattle.office_http.specs.Plans.{IsSized, is_head_method, plan_at};
+ghost use Rattle.httparse.specs.Spans.{IsRequestAt};
+ghost use Rattle.office_http.specs.Plans.{IsSized};
 ghost use Rattle.office_http.specs.Requests.{IsHeadAt};
 ghost use Rattle.office_wire.specs.Receiving.{IsAskedBy, IsReceived, IsStarved, IsStarvedFor, asked_for, body_wanted, plan_wanted, want_wanted};
 
@@ -10,11 +10,10 @@ use crate::body::ActsBody;
 use httparse::spans::{HeaderSpan, RequestSpans};
 use office_days::{ConfirmDays, Day};
 use office_http::{
-    Check, Head, LONGEST_HEAD, MOST_FIELDS, Plan, ReadStop, Want, is_head_in, plan_in, read_body,
-    read_head,
+    Check, Head, LONGEST_HEAD, MOST_FIELDS, Plan, ReadStop, Routes, Want, is_head_in, plan_in,
+    read_body, read_head,
 };
 use office_json::Io;
-use office_tree::Memory;
 use std::alloc::Global;
 use std::io::Read;
 
@@ -68,7 +67,7 @@ pub enum ReceiveStop {
     Io,
     /// Memory was refused before a byte was read.
     Memory,
-    /// Memory was refused after the head was read; whether its method is HEAD.
+    /// Memory was refused for the body, after the head was read; whether its method is HEAD.
     MemoryFor(bool),
 }
 
@@ -133,28 +132,9 @@ fn receive_planned<R: Read>(
     }
 }
 
-/// The plan for a head in a buffer, and whether its method is HEAD.
-fn planned(
-    alloc: Global,
-    buf: &Vec<u8>,
-    head: &RequestSpans,
-    headers: &[HeaderSpan],
-) -> (Result<Plan, Memory>, bool)
-    requires { IsRequestWithin buf.now.items headers.now head.now }
-    ensures plan { (h : RequestHead) → IsRequestAt buf.now.items headers.now head.now h → IfOk result.0 (λ plan. plan ≡ plan_at h) }
-    ensures sized { IfOk result.0 (λ plan. IsSized plan) }
-    ensures is_head { (h : RequestHead) → IsRequestAt buf.now.items headers.now head.now h → result.1 ≡ is_head_method h.method }
-{
-    let is_head = is_head_in(buf.as_slice(), head);
-    match plan_in(alloc, buf.as_slice(), head, headers) {
-        Ok(plan) => (Ok(plan), is_head),
-        Err(_) => (Err(Memory), is_head),
-    }
-}
-
 /// Reads the rest of a request whose head is in the buffer.
 fn receive_rest<R: Read>(
-    alloc: Global,
+    routes: &Routes,
     reader: &mut R,
     buf: Vec<u8>,
     head: &RequestSpans,
@@ -165,10 +145,8 @@ fn receive_rest<R: Read>(
         (h : RequestHead) → IsRequestAt buf.items headers.now head.now h → IsAskedBy h (drop head.now.len buf.items ++ left) it)) }
     ensures err { IfErr result (λ stop. (h : RequestHead) → IsRequestAt buf.items headers.now head.now h → IsStarvedFor h stop) }
 {
-    let (plan, is_head) = planned(alloc, &buf, head, headers);
-    let Ok(plan) = plan else {
-        return Err(ReceiveStop::MemoryFor(is_head));
-    };
+    let is_head = is_head_in(buf.as_slice(), head);
+    let plan = plan_in(routes, buf.as_slice(), head, headers);
     match receive_planned(reader, buf, head.len, plan) {
         Ok(asking) => Ok(Asked { asking, is_head }),
         Err(ReadStop::Memory) => Err(ReceiveStop::MemoryFor(is_head)),
@@ -179,7 +157,11 @@ fn receive_rest<R: Read>(
 /// Reads all of a request: its head, and a body where it asks for acts. It is known then whether a check
 /// of the head fails; no act is looked at yet. Nothing is known of the office here, so nothing is done
 /// where it stops.
-pub fn receive<R: Read>(alloc: Global, reader: &mut R) -> Result<Received, ReceiveStop>
+pub fn receive<R: Read>(
+    alloc: Global,
+    routes: &Routes,
+    reader: &mut R,
+) -> Result<Received, ReceiveStop>
     ensures ok { IfOk result (λ received. IfSome (R.remaining reader.old) (λ bytes. IsReceived received bytes)) }
     ensures err { IfErr result (λ stop. IfSome (R.remaining reader.old) (λ bytes. IsStarved stop bytes)) }
     ensures unread { result ≡ Err ReceiveStop.Memory → reader.new ≡ reader.old }
@@ -190,7 +172,7 @@ pub fn receive<R: Read>(alloc: Global, reader: &mut R) -> Result<Received, Recei
     let mut headers = [HeaderSpan::default(); MOST_FIELDS];
     match read_head(reader, &mut buf, &mut headers) {
         Ok(Head::Found(head)) => {
-            let asked = receive_rest(alloc, reader, buf, &head, &headers)?;
+            let asked = receive_rest(routes, reader, buf, &head, &headers)?;
             Ok(Received::Request(asked))
         }
         Ok(Head::Missing) => Ok(Received::Headless),

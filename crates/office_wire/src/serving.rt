@@ -15,7 +15,7 @@ ghost use Rattle.office_wire.specs.Serving.{Breaks, GoneReplies, IsFailed, IsGon
 use crate::answering::answer;
 use crate::receiving::{Asked, Asking, ReceiveStop, Received, receive};
 use office_desk::Desk;
-use office_http::{Failure, Reply, failure_reply, write_reply};
+use office_http::{Failure, Reply, Routes, failure_reply, write_reply};
 use office_json::Io;
 use sqlite::Alter;
 use std::alloc::Global;
@@ -73,6 +73,7 @@ fn answered<S: Alter>(alloc: Global, desk: &mut Desk<S>, asked: Asked) -> Sendin
 /// here; and then nothing was done.
 pub fn answer_next<R: Read, S: Alter>(
     alloc: Global,
+    routes: &Routes,
     desk: &mut Desk<S>,
     reader: &mut R,
 ) -> Result<Option<Sending>, Io>
@@ -84,7 +85,7 @@ pub fn answer_next<R: Read, S: Alter>(
     ensures gone { IfOk result (λ it. IfSome (R.remaining reader.old) (λ bytes. IsTrue desk.old.is_given_up → IsGoneToSend bytes (reader.new ≡ reader.old) it)) }
     ensures told { desk.old.is_given_up ≡ false → IsTrue desk.new.is_given_up → IfOk result (λ it. TellsUnavailable it) }
 {
-    match receive(alloc, reader) {
+    match receive(alloc, routes, reader) {
         Ok(Received::Nothing) => Ok(None),
         Ok(Received::Headless) => Ok(failed(Failure::Head, false)),
         Ok(Received::Request(asked)) => Ok(Some(answered(alloc, desk, asked))),
@@ -119,6 +120,7 @@ pub fn send<W: Write>(sending: Option<Sending>, writer: &mut W) -> Result<u16, I
 /// it is given up here, the status is 503.
 pub fn serve_one<R: Read, W: Write, S: Alter>(
     alloc: Global,
+    routes: &Routes,
     desk: &mut Desk<S>,
     reader: &mut R,
     writer: &mut W,
@@ -132,6 +134,6 @@ pub fn serve_one<R: Read, W: Write, S: Alter>(
     ensures gone { IfOk result (λ status. IfSome (R.remaining reader.old) (λ bytes. IsTrue desk.old.is_given_up → GoneReplies bytes (reader.new ≡ reader.old) status (W.contents writer.old) (W.contents writer.new))) }
     ensures told { desk.old.is_given_up ≡ false → IsTrue desk.new.is_given_up → IfOk result (λ status. status ≡ 503) }
 {
-    let sending = answer_next(alloc, desk, reader)?;
+    let sending = answer_next(alloc, routes, desk, reader)?;
     send(sending, writer)
 }

@@ -1,9 +1,16 @@
-use Rattle.std.proofs.Common.{refl, arith}
-use Rattle.office_http.proofs.HeadLemmas.{missing_ever, missing_long}
+use Rattle.std.proofs.Common.{◌≤◌, length, refl, arith}
+use Rattle.office_http.proofs.HeadLemmas.{missing_ever, missing_long, reads_none}
 use Rattle.office_http.proofs.reading.read_head.Goals as goal
 
-pub returns-in-Never-clause-head : goal.returns-in-Never-clause-head
-returns-in-Never-clause-head g c = missing_ever _ _ c.loop-head.buf.items c.loop-head.invariant.1 (rw c.as_slice.ensures.value at c.in-Never.ensures.some refl) (rw c.as_slice.ensures.value at c.in-Never.ensures.seen)
+pub returns-in-Never : goal.returns-in-Never
+returns-in-Never g c =
+    let some = rw c.as_slice.ensures.value at c.in-Never.ensures.some refl in
+    let never = rw c.as_slice.ensures.value at c.in-Never.ensures.seen in
+    let read = c.loop-head.invariant.1 in
+    reads_none _ _ _ _ read (missing_ever _ _ c.loop-head.buf.items read some never)
 
-pub returns-then-len-ge-LONGEST_HEAD-clause-head : goal.returns-then-len-ge-LONGEST_HEAD-clause-head
-returns-then-len-ge-LONGEST_HEAD-clause-head g c = missing_long _ _ c.loop-head.buf.items c.loop-head.invariant.1 (omega (arith, c.if-len-ge-LONGEST_HEAD.true, c.len.ensures)) (rw c.as_slice.ensures.value at c.in-Part.ensures.seen)
+pub returns-then-len-ge-LONGEST_HEAD : goal.returns-then-len-ge-LONGEST_HEAD
+returns-then-len-ge-LONGEST_HEAD g c =
+    let read = c.loop-head.invariant.1 in
+    let long : 16_384 ≤ length c.loop-head.buf.items = omega (arith, c.if-len-ge-LONGEST_HEAD.true, c.len.ensures) in
+    reads_none _ _ _ _ read (missing_long _ _ c.loop-head.buf.items read long (rw c.as_slice.ensures.value at c.in-Part.ensures.seen))
