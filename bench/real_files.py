@@ -21,6 +21,8 @@ from save_records import OLD_TABLES, TABLES as TEXTS, add, begin
 OFFICE = os.environ.get("OFFICE") or str(pathlib.Path(__file__).resolve().parent.parent / "office")
 TABLES = [text.split("(")[0].removeprefix("CREATE TABLE ") for text in TEXTS]
 OPENED = ("version 2\n", 0)
+# the disks on which a trial is: both, or the one that is set
+DISKS = [os.environ["OFFICE_DISK"]] if "OFFICE_DISK" in os.environ else ["any", "powersafe"]
 RECORDS = 60
 # of a file of version 1: as many schedules as there may be, and some thousand records
 OLD_SCHEDULES, OLD_RECORDS = 1_000, 5_000
@@ -144,10 +146,13 @@ class Trial:
     def finish(self, file, done):
         raise NotImplementedError
 
-    def once(self, at):
-        """What is not as it must be after a kill at that part of the work; none where all is."""
+    def once(self, at, disk, later_disk):
+        """What is not as it must be after a kill at that part of the work, on one disk, with what follows on another; none where all is."""
         file = copied(self.base, self.room / "file")
-        return self.judge(file, *self.kill(file, at * self.seconds))
+        os.environ["OFFICE_DISK"] = disk
+        left = self.kill(file, at * self.seconds)
+        os.environ["OFFICE_DISK"] = later_disk
+        return self.judge(file, *left)
 
     def judge(self, file, answered, more):
         """The same of a file whose work was stopped after so many answered steps and at most so many more."""

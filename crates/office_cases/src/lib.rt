@@ -1,7 +1,7 @@
 //! Cases worked out by hand, each a row of text: what is asked, ` = `, and what must come of it.
 //!
 //! Rows are in their subject's file and begin with the word of what they ask: `due`, `plan`,
-//! `digest`, .. A line that begins with `#` is a remark. What follows is written as text in which `\r`, `\n`, `\t`,
+//! `digest`, `disk`, .. A line that begins with `#` is a remark. What follows is written as text in which `\r`, `\n`, `\t`,
 //! `\s`, `\0`, `\1` and `\f` are a carriage return, a line feed, a tab, a space and the bytes 0, 1 and 255, and a
 //! backslash before any other character is that character. It may come in pieces with ` + ` between
 //! them, of which each may end in ` x N` where it comes N times; `nothing` is no byte. Words are between

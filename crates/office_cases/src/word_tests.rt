@@ -1,13 +1,13 @@
-//! Words of the command line: which are taken, and of which kind the errors of others are.
+//! Words of the command line: which are taken, and of which kind the errors of others are; the disk that a value names.
 use crate::act_tests::push_day;
 use crate::answering::push_refused;
 use crate::rows::words_of;
 use crate::written::push;
-use office_words::{Order, Register, order_of, read_words};
+use office_words::{Order, Register, disk_of, order_of, read_words};
 use std::io::Write;
 
-/// Each row is a command line. A refusal is that of an operand; what is no command of the program is told
-/// by the kind of the error of `clap`.
+/// Each row is a command line, or a variable with its value, where it is set. A refusal is that of an operand; what is no
+/// command of the program is told by the kind of the error of `clap`.
 pub(crate) const ROWS: &str = "
     words office due years 7 from-month-4 2017-06-30 = due years 7 from-month-4 2017-06-30
     words office plan tree.txt = plan tree.txt
@@ -83,6 +83,23 @@ pub(crate) const ROWS: &str = "
     words office serve office.db 80 +1 = refused 2
     words office serve office.db 0 many = refused 2
     words office serve office.db http 0 = refused 2
+
+    # disks
+    disk OFFICE_DISK = Any
+    disk OFFICE_DISK any = Any
+    disk OFFICE_DISK powersafe = PowerSafe
+
+    # values that name no disk
+    disk OFFICE_DISK| = OFFICE_DISK must be any or powersafe
+    disk OFFICE_DISK Any = OFFICE_DISK must be any or powersafe
+    disk OFFICE_DISK powersave = OFFICE_DISK must be any or powersafe
+    disk OFFICE_DISK power-safe = OFFICE_DISK must be any or powersafe
+    disk OFFICE_DISK an = OFFICE_DISK must be any or powersafe
+    disk OFFICE_DISK anyone = OFFICE_DISK must be any or powersafe
+    disk OFFICE_DISK|any  = OFFICE_DISK must be any or powersafe
+    disk OFFICE_DISK| powersafe = OFFICE_DISK must be any or powersafe
+    disk OFFICE_DISK unknown = OFFICE_DISK must be any or powersafe
+    disk OFFICE_DISK 1 = OFFICE_DISK must be any or powersafe
 ";
 
 /// Appends words with spaces between them.
@@ -153,9 +170,20 @@ fn tell_words(words: &[&str], out: &mut Vec<u8>) -> Option<()> {
     }
 }
 
-/// What the words of a row order. With memory at hand, its want is no answer.
-pub(crate) fn tell(_word: &str, asked: &[u8], out: &mut Vec<u8>) -> Option<()> {
+/// The disk that a variable names.
+fn tell_disk(words: &[&str], out: &mut Vec<u8>) -> Option<()> {
+    match disk_of(words.get(1).copied()) {
+        Ok(disk) => write!(out, "{disk:?}").ok(),
+        Err(error) => write!(out, "{error}").ok(),
+    }
+}
+
+/// What the words of a row order, or the disk that its variable names. With memory at hand, its want is no answer.
+pub(crate) fn tell(word: &str, asked: &[u8], out: &mut Vec<u8>) -> Option<()> {
     let text = str::from_utf8(asked).ok()?;
     let words = words_of(*out.allocator(), text)?;
-    tell_words(&words, out)
+    match word {
+        "disk" => tell_disk(&words, out),
+        _ => tell_words(&words, out),
+    }
 }

@@ -10,6 +10,10 @@ FILES = [
     ("/usr/share/office/web/", "the page for a browser, which a proxy serves"),
     ("/usr/share/doc/office/", "the pages, and examples of configurations for nginx, logrotate and nftables"),
 ]
+ENVIRONMENT = [
+    ("OFFICE_DISK", "what is supposed of the disk: `any`, also where it is not set, or `powersafe`, where the device "
+                    "finishes each sector that it begins; docs/OPERATING.md says more"),
+]
 EXAMPLE = """office init archive.db
 office apply archive.db acts.json
 office export archive.db 2025-01-01 > due.csv"""
@@ -63,6 +67,7 @@ def office(version: str, day: str, scripts: list[str]) -> str:
         ".SH WORDS", *rows(words), ".TP", "\\fBoffice help\\fP", "Shows the words.",
         ".SH OPERANDS", inline(operands),
         ".SH EXIT STATUS", inline(status),
+        ".SH ENVIRONMENT", *[line for name, text in ENVIRONMENT for line in (".TP", f"\\fB{name}\\fP", inline(text))],
         ".SH FILES", *[line for file, text in FILES for line in (".TP", f"\\fI{plain(file)}\\fP", plain(text))],
         ".SH EXAMPLES", ".EX", *map(plain, EXAMPLE.split("\n")), ".EE",
         ".SH SEE ALSO",
