@@ -4,7 +4,7 @@ ghost use Rattle.httparse.specs.Grammar.{RequestHead};
 ghost use Rattle.httparse.specs.Spans.{IsRequestAt};
 ghost use Rattle.office_http.specs.Plans.{IsSized};
 ghost use Rattle.office_http.specs.Requests.{IsHeadAt};
-ghost use Rattle.office_wire.specs.Receiving.{IsAskedBy, IsReceived, IsStarved, IsStarvedFor, asked_for, body_wanted, plan_wanted, want_wanted};
+ghost use Rattle.office_wire.specs.Receiving.{IsAskedBy, IsStarvedFor, Receives, asked_for, body_wanted, plan_wanted, want_wanted};
 
 use crate::body::ActsBody;
 use httparse::spans::{HeaderSpan, RequestSpans};
@@ -162,8 +162,7 @@ pub fn receive<R: Read>(
     routes: &Routes,
     reader: &mut R,
 ) -> Result<Received, ReceiveStop>
-    ensures ok { IfOk result (λ received. IfSome (R.remaining reader.old) (λ bytes. IsReceived received bytes)) }
-    ensures err { IfErr result (λ stop. IfSome (R.remaining reader.old) (λ bytes. IsStarved stop bytes)) }
+    ensures came { IfSome (R.remaining reader.old) (λ bytes. Receives result bytes) }
     ensures unread { result ≡ Err ReceiveStop.Memory → reader.new ≡ reader.old }
 {
     let Ok(mut buf) = Vec::with_capacity(alloc, LONGEST_HEAD) else {
