@@ -41,11 +41,6 @@ pub applies_of : (Of Others : (State → Type 0) → Type 0) → ((P : State →
 applies_of Of Others to text new written after e (inl unread) = inl (unread.0, to _ unread.1, unread.2)
 applies_of Of Others to text new written after e (inr done) = inr (done.0, done.1, performs_of Of Others to done.0 new written after e done.2)
 
--- what is applied over a connection is applied over the one that a closing gives back
-pub closed_applies : {S : Type 0} (g : Ghosts S) (text : List ℕ) (old : FileState) (held closed : Held S) (written after : Option (List ℕ)) (e : Ending) → closed ≡ held
-    → Applies (IsOfOpened old (state g held)) text (state g held) written after e → TextEnds text old (state g closed) written after e
-closed_applies g text old held closed written after e same told = subst (λ (h : Held _). TextEnds text old (state g h) written after e) (sym same) (inr told)
-
 -- acts that were all done and whose answers are told, by whether one of these is a refusal
 answered_performs : (A : Type 0) (B : State → Type 0) (acts : List Act) (new : FileState) (written after : Option (List ℕ)) (given : List Answer) (some : Bool) → list_any is_refusal given ≡ some
     → Appends written after (answer_lines given) → ((t : State) → A → B t → AreDone acts new t × (given ≡ answers t acts))

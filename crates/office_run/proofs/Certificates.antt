@@ -34,11 +34,6 @@ pub text_certifies : (Of : (State → Type 0) → Type 0) (run : ℕ) (written a
 text_certifies Of run written after text e (inl done) told is = subst (λ (x : Ending). Certifies Of run written after x) (sym done) (text, is, told done)
 text_certifies Of run written after text e (inr file) told is = subst (λ (x : Ending). Certifies Of run written after x) (sym file) (text, is)
 
--- what is told over a connection is told over the one that a closing gives back
-pub closed_certifies : {S : Type 0} (g : Ghosts S) (run : ℕ) (old : FileState) (held closed : Held S) (written after : Option (List ℕ)) (e : Ending) → closed ≡ held
-    → IsOpened old (state g held) → Certifies (IsOfOpened old (state g held)) run written after e → CertificateEnds run old (state g closed) written after e
-closed_certifies g run old held closed written after e same opened told = subst (λ (h : Held _). CertificateEnds run old (state g h) written after e) (sym same) (inr (opened, told))
-
 -- a desk that is open tells no fault but that of memory
 pub memory_alone : (f : Fault) (is_given_up : Bool) → is_given_up ≡ false → (f ≡ fault.Memory) ⊎ (f ≡ fault.Reopen) × IsTrue is_given_up → f ≡ fault.Memory
 memory_alone f true still told = absurd cc

@@ -30,11 +30,6 @@ exports_of Of Others to it written after how.SomeFailed h = h
 exports_of Of Others to it written after how.File h = h
 exports_of Of Others to it written after (how.Fault f) h = h
 
--- what is exported over a connection is so over the one that a closing gives back
-pub closed_exports : {S : Type 0} (g : Ghosts S) (it : Register) (old : FileState) (held closed : Held S) (written after : Option (List ℕ)) (e : Ending) → closed ≡ held
-    → IsOpened old (state g held) → Exports (IsOfOpened old (state g held)) it written after e → ExportEnds it old (state g closed) written after e
-closed_exports g it old held closed written after e same opened told = subst (λ (h : Held _). ExportEnds it old (state g h) written after e) (sym same) (inr (opened, told))
-
 not_gone : (is_given_up : Bool) → is_given_up ≡ false → IsTrue is_given_up → ⊥
 not_gone true still gone = absurd cc
 not_gone false still gone = let no : false ≡ true = gone in absurd cc

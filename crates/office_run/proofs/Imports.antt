@@ -37,12 +37,6 @@ imports_of Of Others to day text new written after how.BadWords h = h
 imports_of Of Others to day text new written after how.Socket h = h
 imports_of Of Others to day text new written after how.SomeFailed h = h
 
--- and what is imported over a connection is so over the one that a closing gives back
-pub closed_imports : {S : Type 0} (g : Ghosts S) (day : ℤ) (text : Option (List ℕ)) (old : FileState) (held closed : Held S) (written after : Option (List ℕ)) (e : Ending) → closed ≡ held
-    → ImportsAt (IsOfOpened old (state g held)) day text (state g held) written after e → ImportsAt (IsOfOpened old (state g closed)) day text (state g closed) written after e
-closed_imports g day text old held closed written after e same told =
-    subst (λ (h : Held _). ImportsAt (IsOfOpened old (state g h)) day text (state g h) written after e) (sym same) told
-
 saved : {S : Type 0} (g : Ghosts S) (day : ℤ) (text : Option (List ℕ)) (t : State) (refused : ℕ) (desk : DeskState S) (written after : Option (List ℕ)) (none : Bool) → (refused == 0) ≡ none → Imports g day t text refused desk written after → AreAllSaved day text none (state g desk.held) written after t
 saved g day text t refused desk written after none is it =
     (it.0, it.1, it.2, it.3, record { done = it.4.done; saved = it.4.stands.rows; told = it.4.told }, ap (λ (n : ℕ). n == 0) (sym it.5) ∙ is)

@@ -1,4 +1,5 @@
 pub mod Applications
+pub mod Callings
 pub mod Certificates
 pub mod DeskActs
 pub mod Endings

@@ -31,8 +31,3 @@ pub told_resumes : (Of : (State → Type 0) → Type 0) (new : FileState) (writt
 told_resumes Of new written after None e told closed none = subst (λ (x : Ending). Resumes Of new written after x) (sym told.0) (refl, none refl, told.1)
 told_resumes Of new written after (Some run) e (inl done) closed none = subst (λ (x : Ending). Resumes Of new written after x) (sym done.0) (run, closed run refl, done.1)
 told_resumes Of new written after (Some run) e (inr file) closed none = subst (λ (x : Ending). Resumes Of new written after x) (sym file) (run, closed run refl)
-
--- a resumption over a connection is one over the one that a closing gives back
-pub closed_resumes : {S : Type 0} (g : Ghosts S) (old : FileState) (held closed : Held S) (written after : Option (List ℕ)) (e : Ending) → closed ≡ held
-    → Resumes (IsOfOpened old (state g held)) (state g held) written after e → ResumeEnds old (state g closed) written after e
-closed_resumes g old held closed written after e same told = subst (λ (h : Held _). ResumeEnds old (state g h) written after e) (sym same) (inr told)

@@ -1,5 +1,5 @@
 -- How `apply` ends. Source: own.
-use Rattle.std.specs.Prelude.{◌≡◌, ◌≢◌, ◌⊎◌, ◌+◌, ◌<◌, ◌≤◌, ℕ, Bool, true, false, List, length, map, take, Option, Ok, Err}
+use Rattle.std.specs.Prelude.{◌≡◌, ◌≢◌, ◌⊎◌, ◌+◌, ◌<◌, ◌≤◌, ℕ, Bool, true, false, List, length, map, take, IfSome, Option, Ok, Err}
 use Rattle.std.specs.List.{list_any}
 use Rattle.std.specs.Io.KnownBytes.{Appends}
 use Rattle.sqlite.specs.Held.{Held, state}
@@ -94,6 +94,6 @@ TextEnds text old new written after ending = IsNotOpened old new written after e
 abbrev pub IsNoText : {S : Type 0} → Held S → Held S → Option (List ℕ) → Option (List ℕ) → Ending → Type 0
 IsNoText old new written after ending = ((ending ≡ how.File) ⊎ (ending ≡ how.Fault fault.Memory)) × (new ≡ old) × (after ≡ written)
 
--- `apply FILE ACTS`, by the ending
-abbrev pub ApplyEnds : {S : Type 0} → Ghosts S → List ℕ → Held S → Held S → Option (List ℕ) → Option (List ℕ) → Ending → Type 0
-ApplyEnds g text old new written after ending = IsNoText old new written after ending ⊎ TextEnds text (state g old) (state g new) written after ending
+-- `apply FILE ACTS`, by the ending, where the reader tells the text
+abbrev pub ApplyEnds : {S : Type 0} → Ghosts S → Option (List ℕ) → Held S → Held S → Option (List ℕ) → Option (List ℕ) → Ending → Type 0
+ApplyEnds g text old new written after ending = IfSome text (λ it. IsNoText old new written after ending ⊎ TextEnds it (state g old) (state g new) written after ending)

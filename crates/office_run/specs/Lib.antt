@@ -1,4 +1,5 @@
 pub mod Applying
+pub mod Calling
 pub mod Certifying
 pub mod Endings
 pub mod Exporting
@@ -6,6 +7,7 @@ pub mod Files
 pub mod Importing
 pub mod NextWord
 pub mod Opening
+pub mod Reopening
 pub mod Resuming
 pub mod Running
 pub mod Serving

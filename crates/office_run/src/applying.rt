@@ -1,9 +1,8 @@
 //! The acts of a JSON array, at the office in a file.
-ghost use Rattle.std.specs.Prelude.{◌≡◌, ◌⊎◌, ℕ, IfSome, List, Ok, Option, false};
+ghost use Rattle.std.specs.Prelude.{◌≡◌, false};
 ghost use Rattle.sqlite.specs.Held.{state};
 ghost use Rattle.sqlite.specs.State.{HasCleanDisk};
-ghost use Rattle.office_rules.specs.State.{State};
-ghost use Rattle.office_desk.specs.Leaving.{StandsAt};
+ghost use Rattle.office_run.specs.Calling.{AtDesk, CarriedOut, Shown};
 ghost use Rattle.office_run.specs.Applying.{Applies, ApplyEnds, Performs, TextEnds};
 ghost use Rattle.office_run.specs.Endings.{ending_of_acts};
 
@@ -26,7 +25,7 @@ fn perform_at<W: Write, S: Alter>(
 ) -> Ending
     requires { desk.old.is_given_up ≡ false }
     ensures clean { HasCleanDisk (state S.Store desk.new.held) → HasCleanDisk (state S.Store desk.old.held) }
-    ensures performs { Performs (λ P. (t : State) → HasCleanDisk (state S.Store desk.new.held) → StandsAt S.Store t desk.old → P t) acts.now (state S.Store desk.new.held) (W.contents out.old) (W.contents out.new) result }
+    ensures performs { Performs (AtDesk S.Store desk.old desk.new) acts.now (state S.Store desk.new.held) (W.contents out.old) (W.contents out.new) result }
 {
     let mut answers = Vec::new(alloc);
     let done = desk.perform_all(acts, &mut answers);
@@ -45,7 +44,7 @@ fn apply_at<W: Write, S: Alter>(
 ) -> Ending
     requires { desk.old.is_given_up ≡ false }
     ensures clean { HasCleanDisk (state S.Store desk.new.held) → HasCleanDisk (state S.Store desk.old.held) }
-    ensures applies { Applies (λ P. (t : State) → HasCleanDisk (state S.Store desk.new.held) → StandsAt S.Store t desk.old → P t) text.now (state S.Store desk.new.held) (W.contents out.old) (W.contents out.new) result }
+    ensures applies { Applies (AtDesk S.Store desk.old desk.new) text.now (state S.Store desk.new.held) (W.contents out.old) (W.contents out.new) result }
 {
     match read_acts(alloc, text) {
         Ok(acts) => perform_at(alloc, desk, acts.as_slice(), out),
@@ -63,8 +62,7 @@ fn apply_text<W: Write, S: Alter>(
     out: &mut W,
 ) -> (Ending, Connection<S>)
     requires { conn.in_transaction ≡ false }
-    ensures ends { TextEnds text.now (state S.Store conn) (state S.Store result.1) (W.contents out.old) (W.contents out.new) result.0 }
-    ensures clean { HasCleanDisk (state S.Store result.1) → HasCleanDisk (state S.Store conn) }
+    ensures { CarriedOut S.Store conn result W.contents out.old out.new (Shown S.Store (TextEnds text.now)) }
 {
     match Desk::open(alloc, conn) {
         Ok(mut desk) => {
@@ -83,8 +81,7 @@ pub fn apply_on<R: Read, W: Write, S: Alter>(
     out: &mut W,
 ) -> (Ending, Connection<S>)
     requires { conn.in_transaction ≡ false }
-    ensures ends { IfSome (R.remaining input.old) (λ text. ApplyEnds S.Store text conn result.1 (W.contents out.old) (W.contents out.new) result.0) }
-    ensures clean { HasCleanDisk (state S.Store result.1) → HasCleanDisk (state S.Store conn) }
+    ensures { CarriedOut S.Store conn result W.contents out.old out.new (ApplyEnds S.Store (R.remaining input.old)) }
 {
     match read_whole(alloc, input) {
         Ok(text) => apply_text(alloc, conn, text.as_slice(), out),

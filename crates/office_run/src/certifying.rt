@@ -1,9 +1,8 @@
 //! The certificate of a run of the office in a file.
 ghost use Rattle.std.specs.Prelude.{◌≡◌, ◌⊎◌, false};
 ghost use Rattle.std.specs.Io.KnownBytes.{Appends};
-ghost use Rattle.sqlite.specs.Held.{state};
-ghost use Rattle.sqlite.specs.State.{HasCleanDisk};
 ghost use Rattle.office_rules.specs.State.{State};
+ghost use Rattle.office_run.specs.Calling.{CarriedOut, Shown};
 ghost use Rattle.office_run.specs.Certifying.{CertificateEnds, Certifies};
 
 use crate::ending::Ending;
@@ -45,8 +44,7 @@ pub fn certificate_on<W: Write, S: Alter>(
     out: &mut W,
 ) -> (Ending, Connection<S>)
     requires { conn.in_transaction ≡ false }
-    ensures ends { CertificateEnds run (state S.Store conn) (state S.Store result.1) (W.contents out.old) (W.contents out.new) result.0 }
-    ensures clean { HasCleanDisk (state S.Store result.1) → HasCleanDisk (state S.Store conn) }
+    ensures { CarriedOut S.Store conn result W.contents out.old out.new (Shown S.Store (CertificateEnds run)) }
 {
     match Desk::open(alloc, conn) {
         Ok(desk) => {

@@ -1,8 +1,7 @@
 //! The registers of the office in a file.
 ghost use Rattle.std.specs.Prelude.{◌≡◌, ◌⊎◌, IfErr, IsTrue, OnOk, false};
-ghost use Rattle.sqlite.specs.Held.{state};
-ghost use Rattle.sqlite.specs.State.{HasCleanDisk};
 ghost use Rattle.office_rules.specs.State.{State};
+ghost use Rattle.office_run.specs.Calling.{CarriedOut, Shown};
 ghost use Rattle.office_run.specs.Exporting.{ExportEnds, Exports, IsRegister};
 
 use crate::ending::Ending;
@@ -55,8 +54,7 @@ pub fn export_on<W: Write, S: Alter>(
     out: &mut W,
 ) -> (Ending, Connection<S>)
     requires { conn.in_transaction ≡ false }
-    ensures ends { ExportEnds register (state S.Store conn) (state S.Store result.1) (W.contents out.old) (W.contents out.new) result.0 }
-    ensures clean { HasCleanDisk (state S.Store result.1) → HasCleanDisk (state S.Store conn) }
+    ensures { CarriedOut S.Store conn result W.contents out.old out.new (Shown S.Store (ExportEnds register)) }
 {
     match Desk::open(alloc, conn) {
         Ok(mut desk) => {

@@ -3,8 +3,7 @@ ghost use Rattle.std.specs.Prelude.{◌≡◌, false, option_map};
 ghost use Rattle.csv.specs.Reading.{strip_bom};
 ghost use Rattle.sqlite.specs.Held.{state};
 ghost use Rattle.sqlite.specs.State.{HasCleanDisk};
-ghost use Rattle.office_rules.specs.State.{State};
-ghost use Rattle.office_desk.specs.Leaving.{StandsAt};
+ghost use Rattle.office_run.specs.Calling.{AtDesk, CarriedOut, Shown};
 ghost use Rattle.office_run.specs.Importing.{ImportEnds, ImportsAt};
 
 use crate::ending::Ending;
@@ -24,7 +23,7 @@ fn import_at<R: Read, W: Write, S: Alter>(
     out: &mut W,
 ) -> Ending
     ensures clean { HasCleanDisk (state S.Store desk.new.held) → HasCleanDisk (state S.Store desk.old.held) }
-    ensures imports { ImportsAt (λ P. (t : State) → HasCleanDisk (state S.Store desk.new.held) → StandsAt S.Store t desk.old → P t) day (option_map strip_bom (R.remaining input.old)) (state S.Store desk.new.held) (W.contents out.old) (W.contents out.new) result }
+    ensures imports { ImportsAt (AtDesk S.Store desk.old desk.new) day (option_map strip_bom (R.remaining input.old)) (state S.Store desk.new.held) (W.contents out.old) (W.contents out.new) result }
 {
     Ending::of_import(import_records(alloc, desk, day, input, out))
 }
@@ -38,8 +37,7 @@ pub fn import_on<R: Read, W: Write, S: Alter>(
     out: &mut W,
 ) -> (Ending, Connection<S>)
     requires { conn.in_transaction ≡ false }
-    ensures ends { ImportEnds day (R.remaining input.old) (state S.Store conn) (state S.Store result.1) (W.contents out.old) (W.contents out.new) result.0 }
-    ensures clean { HasCleanDisk (state S.Store result.1) → HasCleanDisk (state S.Store conn) }
+    ensures { CarriedOut S.Store conn result W.contents out.old out.new (Shown S.Store (ImportEnds day (R.remaining input.old))) }
 {
     match Desk::open(alloc, conn) {
         Ok(mut desk) => {

@@ -4,9 +4,8 @@ ghost use Rattle.sqlite_trees.specs.Tree.{Trees};
 ghost use Rattle.sqlite_wal.specs.Files.{image_at};
 ghost use Rattle.sqlite.specs.Held.{state};
 ghost use Rattle.office_words.specs.Orders.{ordered};
-ghost use Rattle.office_run.specs.Endings.{exit_status};
+ghost use Rattle.office_run.specs.Calling.{Exits};
 ghost use Rattle.office_run.specs.Files.{IsLeftOf, RunsInFiles};
-ghost use Rattle.office_run.specs.declared.ending.Ending.{Ending as AnyEnding};
 
 use crate::ending::Ending;
 use crate::running::{run_on, tell};
@@ -70,7 +69,7 @@ pub fn open_and_run<S: Start, R: Read, W: Write, E: Write>(
     out: &mut W,
     err: &mut E,
 ) -> (u8, FilesLeft<FileFrom<S>>)
-    ensures runs { (ending : AnyEnding) × (result.0 ≡ exit_status ending) × RunsInFiles result.1 (image_at S.Start) (ordered order.now) (R.remaining input.old) (W.contents out.old) (W.contents out.new) ending }
+    ensures runs { Exits result.0 (RunsInFiles result.1 (image_at S.Start) (ordered order.now) (R.remaining input.old) (W.contents out.old) (W.contents out.new)) }
 {
     match Connection::open_from(rt, file, false, start) {
         Ok(conn) => {

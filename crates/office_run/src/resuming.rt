@@ -3,9 +3,8 @@ ghost use Rattle.std.specs.Prelude.{◌≡◌, ℕ, Option, Some, false, OnOk};
 ghost use Rattle.std.specs.Io.KnownBytes.{Appends};
 ghost use Rattle.sqlite.specs.Held.{state};
 ghost use Rattle.sqlite.specs.State.{HasCleanDisk};
-ghost use Rattle.office_rules.specs.State.{State};
-ghost use Rattle.office_desk.specs.Leaving.{StandsAt};
 ghost use Rattle.office_desk.specs.Resuming.{resumed_answer};
+ghost use Rattle.office_run.specs.Calling.{AtDesk, CarriedOut, Shown};
 ghost use Rattle.office_run.specs.Resuming.{IsAnswerTold, ResumeEnds, Resumes, certificate_line};
 
 use crate::ending::Ending;
@@ -51,7 +50,7 @@ fn tell_answer<W: Write>(answer: Answer, out: &mut W) -> Ending
 fn resume_at<W: Write, S: Alter>(desk: &mut Desk<S>, out: &mut W) -> Ending
     requires { desk.old.is_given_up ≡ false }
     ensures clean { HasCleanDisk (state S.Store desk.new.held) → HasCleanDisk (state S.Store desk.old.held) }
-    ensures resumes { Resumes (λ P. (t : State) → HasCleanDisk (state S.Store desk.new.held) → StandsAt S.Store t desk.old → P t) (state S.Store desk.new.held) (W.contents out.old) (W.contents out.new) result }
+    ensures resumes { Resumes (AtDesk S.Store desk.old desk.new) (state S.Store desk.new.held) (W.contents out.old) (W.contents out.new) result }
 {
     law_of_resumption();
     match desk.resume() {
@@ -67,8 +66,7 @@ pub fn resume_on<W: Write, S: Alter>(
     out: &mut W,
 ) -> (Ending, Connection<S>)
     requires { conn.in_transaction ≡ false }
-    ensures ends { ResumeEnds (state S.Store conn) (state S.Store result.1) (W.contents out.old) (W.contents out.new) result.0 }
-    ensures clean { HasCleanDisk (state S.Store result.1) → HasCleanDisk (state S.Store conn) }
+    ensures { CarriedOut S.Store conn result W.contents out.old out.new (Shown S.Store ResumeEnds) }
 {
     match Desk::open(alloc, conn) {
         Ok(mut desk) => {

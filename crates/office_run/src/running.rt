@@ -1,12 +1,11 @@
 //! The orders that run on the office in a file, over a connection to it.
 ghost use Rattle.std.specs.Prelude.{◌≡◌, ◌⊎◌, false, OnOk};
 ghost use Rattle.std.specs.Io.KnownBytes.{Appends};
-ghost use Rattle.sqlite.specs.Held.{state};
-ghost use Rattle.sqlite.specs.State.{HasCleanDisk};
 ghost use Rattle.office_store.specs.declared.fault.Fault.{Fault as AnyFault};
 ghost use Rattle.office_words.specs.Orders.{ordered};
-ghost use Rattle.office_run.specs.Endings.{exit_status, line_said};
-ghost use Rattle.office_run.specs.Running.{InitEnds, RunEnds, listening_line, version_line};
+ghost use Rattle.office_run.specs.Calling.{CarriedOut, Shown};
+ghost use Rattle.office_run.specs.Endings.{line_said};
+ghost use Rattle.office_run.specs.Running.{InitEnds, RunEnds, Runs, listening_line, version_line};
 ghost use Rattle.office_run.specs.declared.ending.Ending.{Ending as AnyEnding};
 
 use crate::applying::apply_on;
@@ -40,8 +39,7 @@ fn init_on<W: Write, S: Alter>(
     out: &mut W,
 ) -> (Ending, Connection<S>)
     requires { conn.in_transaction ≡ false }
-    ensures ends { InitEnds (state S.Store conn) (state S.Store result.1) (W.contents out.old) (W.contents out.new) result.0 }
-    ensures clean { HasCleanDisk (state S.Store result.1) → HasCleanDisk (state S.Store conn) }
+    ensures ends { CarriedOut S.Store conn result W.contents out.old out.new (Shown S.Store InitEnds) }
     ensures untouched { (fault : AnyFault) → result.0 ≡ Ending.Fault fault → out.new ≡ out.old }
 {
     match Desk::open(alloc, conn) {
@@ -74,8 +72,7 @@ fn carry_out<R: Read, W: Write, S: Alter>(
     out: &mut W,
 ) -> (Ending, Connection<S>)
     requires { conn.in_transaction ≡ false }
-    ensures ends { RunEnds S.Store (ordered order.now) (R.remaining input.old) conn result.1 (W.contents out.old) (W.contents out.new) result.0 }
-    ensures clean { HasCleanDisk (state S.Store result.1) → HasCleanDisk (state S.Store conn) }
+    ensures { CarriedOut S.Store conn result W.contents out.old out.new (RunEnds S.Store (ordered order.now) (R.remaining input.old)) }
 {
     match order {
         Order::Init { .. } => init_on(alloc, conn, out),
@@ -106,8 +103,7 @@ pub fn run_on<R: Read, W: Write, E: Write, S: Alter>(
     err: &mut E,
 ) -> (u8, Connection<S>)
     requires { conn.in_transaction ≡ false }
-    ensures runs { (ending : AnyEnding) × (result.0 ≡ exit_status ending) × RunEnds S.Store (ordered order.now) (R.remaining input.old) conn result.1 (W.contents out.old) (W.contents out.new) ending }
-    ensures clean { HasCleanDisk (state S.Store result.1) → HasCleanDisk (state S.Store conn) }
+    ensures runs { Runs S.Store (ordered order.now) (R.remaining input.old) conn result W.contents out.old out.new }
 {
     let (ending, conn) = carry_out(alloc, conn, order, input, out);
     let _ = tell(ending, err);

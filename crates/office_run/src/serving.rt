@@ -3,6 +3,7 @@ ghost use Rattle.std.specs.Prelude.{◌≡◌, false};
 ghost use Rattle.sqlite_wal.specs.Files.{image_at};
 ghost use Rattle.sqlite.specs.Held.{state};
 ghost use Rattle.sqlite.specs.State.{HasCleanDisk};
+ghost use Rattle.office_run.specs.Calling.{CarriedOut};
 ghost use Rattle.office_run.specs.Files.{ServesInFiles};
 ghost use Rattle.office_run.specs.Serving.{ServesAt, ServiceEnds};
 
@@ -55,8 +56,7 @@ fn serve_on<L: OpenListener, W: Write, E: Write, S: Alter>(
 where
     L::Stream: Read + Write + OpenStream,
     requires { conn.in_transaction ≡ false }
-    ensures ends { ServiceEnds S.Store port count conn result.1 (W.contents out.old) (W.contents out.new) result.0 }
-    ensures clean { HasCleanDisk (state S.Store result.1) → HasCleanDisk (state S.Store conn) }
+    ensures { CarriedOut S.Store conn result W.contents out.old out.new (ServiceEnds S.Store port count) }
 {
     match Desk::open(rt.alloc(), conn) {
         Ok(mut desk) => {

@@ -1,10 +1,9 @@
 use Rattle.std.proofs.Common.{◌≡◌, ◌∙◌, Some, refl, sym, ap}
 use Rattle.std.specs.FinMap.{empty}
 use Rattle.sqlite.specs.Held.{state}
-use Rattle.sqlite.specs.State.{HasCleanDisk}
 use Rattle.office_rules.specs.Runs.{open_run}
-use Rattle.office_rules.specs.State.{State, with_contents}
-use Rattle.office_desk.specs.Leaving.{StandsAt}
+use Rattle.office_rules.specs.State.{with_contents}
+use Rattle.office_run.specs.Calling.{AtDesk}
 use Rattle.office_run.proofs.Resumptions.{told_resumes}
 use Rattle.office_run.proofs.resuming.resume_at.Goals as goal
 
@@ -15,7 +14,7 @@ pub returns-in-Ok-clause-resumes : goal.returns-in-Ok-clause-resumes
 returns-in-Ok-clause-resumes g c =
     let told = c.in-Ok.ensures.called in
     let new = state g.S.Store c.resume.new.self.held in
-    told_resumes (λ (P : State → Type 0). (t : State) → HasCleanDisk new → StandsAt g.S.Store t c.args.desk.now → P t) new _ _ (open_run c.args.desk.now.office) _
+    told_resumes (AtDesk g.S.Store c.args.desk.now c.resume.new.self) new _ _ (open_run c.args.desk.now.office) _
     (c.tell_answer.ensures (open_run c.args.desk.now.office) (told.did (with_contents c.args.desk.now.office empty) c.requires refl).ends.answered)
     (λ run is_open t clean stands.
     let did = told.did t c.requires (sym stands.office) in
