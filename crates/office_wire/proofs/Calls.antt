@@ -1,7 +1,5 @@
 -- Calls at a desk, one after another.
 use Rattle.std.proofs.Common.{◌≡◌, Bool, false, IsTrue, refl}
-use Rattle.sqlite.specs.Held.{state}
-use Rattle.sqlite.specs.State.{HasCleanDisk}
 use Rattle.sqlite_trees.specs.declared.store.Store.{Ghosts}
 use Rattle.office_rules.specs.State.{State}
 use Rattle.office_desk.specs.Desk.{DeskState}

@@ -108,15 +108,15 @@ front_start g day s0 o0 d0 w0 =
     record {
       few = omega arith;
       call = not_called g d0 (λ s. IsFront g day s s0 o0 s0 o0 d0 w0 w0 0 0) (λ s at.
-      record {
-        rows = [];
-        answers = [];
-        last = s;
-        front = none_yet o0 s0;
-        count = refl;
-        imported = none_imported g day s d0 w0 at;
-        refusals = refl;
-      });
+          record {
+            rows = [];
+            answers = [];
+            last = s;
+            front = none_yet o0 s0;
+            count = refl;
+            imported = none_imported g day s d0 w0 at;
+            refusals = refl;
+          });
     }
 
 few_more : (before refused : ℕ) (is_refused : Bool) → refused ≤ before → refused + one_if is_refused ≤ before + 1

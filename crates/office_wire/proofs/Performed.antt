@@ -3,7 +3,6 @@ use Rattle.std.proofs.Common.{◌≡◌, ◌∙◌, ap, arith, refl, subst, sym,
 use Rattle.std.specs.Option.{ok_or}
 use Rattle.std.specs.Prelude.{slice_index_or}
 use Rattle.sqlite.specs.Held.{state}
-use Rattle.sqlite.specs.State.{HasCleanDisk}
 use Rattle.sqlite_trees.specs.declared.store.Store.{Ghosts}
 use Rattle.office_rules.specs.Acts.{after, answers, step}
 use Rattle.office_rules.specs.State.{State}
@@ -13,8 +12,7 @@ use Rattle.office_store.specs.declared.fault.Fault.{Fault}
 use Rattle.office_store.specs.declared.fault.Fault.TheVariants as fault
 use Rattle.office_desk.specs.Calling.{AreDone, AreStopped, Performed}
 use Rattle.office_desk.specs.Desk.{DeskState}
-use Rattle.office_desk.specs.Fates.{LeavesFates}
-use Rattle.office_desk.specs.Leaving.{IsFrontAnswered, LeavesOne, StandsAt, StopsAt, StopsLeaving}
+use Rattle.office_desk.specs.Leaving.{LeavesOne, StopsAt, StopsLeaving}
 use Rattle.office_http.specs.Replies.{Response}
 use Rattle.office_wire.specs.Answering.{ArePerformed}
 use Rattle.office_wire.specs.Importing.{EndsAct}

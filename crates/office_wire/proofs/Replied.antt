@@ -9,7 +9,7 @@ use Rattle.office_desk.specs.Desk.{DeskState}
 use Rattle.office_desk.specs.Leaving.{StandsAt}
 use Rattle.office_http.specs.Plans.{is_head_method}
 use Rattle.office_http.specs.Replies.{Response, response, status_number}
-use Rattle.office_http.specs.Requests.{IsRequest, asks, headless, nothing}
+use Rattle.office_http.specs.Requests.{IsRequest, asks, headless}
 use Rattle.office_http.specs.declared.failure.Failure.TheVariants as failure
 use Rattle.office_http.specs.declared.status.Status.{Status}
 use Rattle.office_plan.specs.declared.output.Io.{Io}

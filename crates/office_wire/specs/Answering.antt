@@ -1,6 +1,6 @@
 -- What is answered to what is asked of the office, and where the desk stands then. Source: own.
 use Rattle.std.specs.FinMap.{get}
-use Rattle.std.specs.Prelude.{◌≡◌, ◌≢◌, ◌⊎◌, ◌+◌, ◌<◌, ◌≤◌, ℕ, ℤ, suc, IfOk, IsTrue, List, MatchResult, [], length, map, take, Option, Some, None, Result, Ok, Err}
+use Rattle.std.specs.Prelude.{◌≡◌, ◌≢◌, ◌⊎◌, ◌+◌, ◌≤◌, ℕ, ℤ, suc, IfOk, IsTrue, List, MatchResult, [], length, map, take, Option, Some, None, Result, Ok, Err}
 use Rattle.sqlite.specs.Held.{state}
 use Rattle.sqlite_trees.specs.declared.store.Store.{Ghosts}
 use Rattle.office_days.specs.declared.refusal.Refusal.TheVariants as refusal

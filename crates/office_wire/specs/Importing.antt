@@ -1,5 +1,5 @@
 -- Records that are added by the rows of a text of CSV. Source: own; the text is that of RFC 4180.
-use Rattle.std.specs.Prelude.{◌≡◌, ◌≢◌, ◌⊎◌, ◌+◌, ℕ, ℤ, Bool, true, false, IsTrue, List, MatchResult, [], ◌∷◌, ◌++◌, codes, length, option_map, take, Option, Result, Ok, Err}
+use Rattle.std.specs.Prelude.{◌≡◌, ◌≢◌, ◌⊎◌, ◌+◌, ℕ, ℤ, Bool, true, false, IsTrue, List, MatchResult, [], ◌∷◌, ◌++◌, codes, length, option_map, Option, Result, Ok, Err}
 use Rattle.std.specs.Fmt.{decimal}
 use Rattle.std.specs.Io.KnownBytes.{Appends}
 use Rattle.csv.specs.Reading.{strip_bom}

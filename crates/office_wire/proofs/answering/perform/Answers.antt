@@ -1,6 +1,4 @@
-use Rattle.std.proofs.Common.{refl, sym, rules}
-use Rattle.std.specs.FinMap.{empty}
-use Rattle.office_rules.specs.State.{with_contents}
+use Rattle.std.proofs.Common.{sym, rules}
 use Rattle.office_http.specs.Replies.{response}
 use Rattle.office_wire.specs.Answering.{IsGiven}
 use Rattle.office_wire.proofs.Performed.{all_done, stopped}
@@ -16,10 +14,10 @@ returns-in-Ok g c =
         did = λ t clean at. all_done g.S.Store c.args.acts.now t c.perform_all.new.self _ _ c.perform_all.new.answers.items _ _ c.new-answers.ensures.items c.as_slice.ensures.value (it.called.did t at.is_open (sym at.office)) (clean, at)
             (IsGiven c.acts_reply.result) c.acts_reply.ensures;
       };
-      kept = λ was. (it.gone was).2;
-      gone = λ was. absurd (let wrong = (it.gone was).0 in cc);
+      kept = λ was. (it.gone was).0;
+      gone = λ was. absurd (let wrong = (it.gone was).1.0 in cc);
       -- a desk that ended by an answer is open
-      told = λ is_open. let still = (it.called.did (with_contents c.args.desk.now.office empty) is_open refl).ends.is_open in search rules;
+      told = λ is_open. let still = it.here is_open in search rules;
     }
 
 pub returns : goal.returns
@@ -31,7 +29,7 @@ returns g c =
         did = λ t clean at. stopped g.S.Store c.args.acts.now t c.perform_all.new.self c.in-Err.fault _ c.perform_all.new.answers.items _ _ c.new-answers.ensures.items c.as_slice-in-Err.ensures.value (it.called.did t at.is_open (sym at.office)) (clean, at)
             (IsGiven c.stopped_reply.result) c.stopped_reply.ensures;
       };
-      kept = λ was. (it.gone was).2;
+      kept = λ was. (it.gone was).0;
       gone = search rules;
       told = λ is_open gone. stopped_unavailable response c.stopped_reply.result _ _ c.stopped_reply.ensures;
     }

@@ -1,7 +1,5 @@
-use Rattle.std.proofs.Common.{refl, sym, ap, rules}
-use Rattle.std.specs.FinMap.{empty}
+use Rattle.std.proofs.Common.{sym, ap, rules}
 use Rattle.office_rules.specs.Runs.{open_run}
-use Rattle.office_rules.specs.State.{with_contents}
 use Rattle.office_http.specs.Replies.{response}
 use Rattle.office_wire.specs.Answering.{IsGiven}
 use Rattle.office_wire.proofs.Resumed.{resumed, run_stopped}
@@ -20,10 +18,10 @@ returns-in-Ok g c =
             (λ s run first midway. did.ends.whole s run first midway (clean, at)) (λ run is. c.law_of_resumption.ensures.on_the_way t run 0 is) (λ none. did.ends.none none (clean, at)) (did.fates (clean, at))
             (IsGiven c.answer_reply.result) c.answer_reply.ensures;
       };
-      kept = λ was. (it.gone was).1;
-      gone = λ was. absurd (let wrong = (it.gone was).0 in cc);
+      kept = λ was. (it.gone was).0;
+      gone = λ was. absurd (let wrong = (it.gone was).1 in cc);
       -- a desk that ended by an answer is open
-      told = λ is_open. let still = (it.called.did (with_contents c.args.desk.now.office empty) is_open refl).ends.is_open in search rules;
+      told = λ is_open. let still = it.here is_open in search rules;
     }
 
 pub returns-in-Err : goal.returns-in-Err
@@ -38,7 +36,7 @@ returns-in-Err g c =
             (λ s run first midway. did.midway s run first midway (clean, at)) (λ none. did.left none (clean, at)) (did.fates (clean, at))
             (IsGiven c.fault_reply.result) c.fault_reply.ensures;
       };
-      kept = λ was. (it.gone was).1;
+      kept = λ was. (it.gone was).0;
       gone = search rules;
       told = λ is_open gone. fault_unavailable response c.fault_reply.result _ c.fault_reply.ensures;
     }

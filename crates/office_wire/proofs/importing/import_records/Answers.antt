@@ -1,4 +1,4 @@
-use Rattle.std.proofs.Common.{refl, rules}
+use Rattle.std.proofs.Common.{refl}
 use Rattle.office_wire.proofs.Calls.{called_on}
 use Rattle.office_wire.proofs.importing.import_records.Goals as goal
 
