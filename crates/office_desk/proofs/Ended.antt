@@ -1,5 +1,5 @@
 -- What a crash leaves where acts and steps end.
-use Rattle.std.proofs.Common.{◌≡◌, ℕ, suc, ◌+◌, false, take, List, None, Some, Result, Ok, Err, arith, refl, sym, ap, subst, ◌∙◌, append-nil}
+use Rattle.std.proofs.Common.{◌≡◌, ℕ, suc, ◌+◌, false, take, List, None, Some, Result, Ok, Err, OnOk, arith, sym, ap, subst, ◌∙◌, append-nil}
 use Rattle.sqlite.specs.Held.{state}
 use Rattle.sqlite_trees.specs.declared.store.Store.{Ghosts}
 use Rattle.office_rules.specs.Acts.{after}
@@ -88,3 +88,12 @@ module _ (told : AreFatesTold) (on : GoesOn) (closes : Closes) {S : Type 0} (g :
         offices = λ a. offices_stopped (after_steps s it.count) (after_steps s (suc it.count)) f (state g new.held) (it.left a);
         fates = λ a. fates_resumed told g s new r old (at a) tt (it.count, it.left a);
       }
+
+-- a desk is open where acts, and steps, end without a fault
+pub still_after : {S T : Type 0} (g : Ghosts S) (s : State) (acts : List Act) (given found : List Answer) (result : Result T Fault) (new : DeskState S) (At : Type 0) → EndActs g s acts given found result new At → OnOk result (new.is_given_up ≡ false)
+still_after g s acts given found (Ok x) new At it = it.is_open
+still_after g s acts given found (Err f) new At it = tt
+
+pub still_after_steps : {S : Type 0} (g : Ghosts S) (s : State) (result : Result Answer Fault) (old new : DeskState S) (At : Type 0) → EndSteps g s result old new At → OnOk result (new.is_given_up ≡ false)
+still_after_steps g s (Ok answer) old new At it = it.is_open
+still_after_steps g s (Err f) old new At it = tt

@@ -6,7 +6,7 @@ use Rattle.sqlite_trees.specs.declared.store.Store.{Ghosts}
 use Rattle.office_rules.specs.State.{State}
 use Rattle.office_sql.specs.declared.editions.Edition.{Edition}
 use Rattle.office_sql.specs.declared.editions.Edition.TheVariants as edition
-use Rattle.office_sql.specs.Office.{IsAtRestOver, KeepsRest, Leaves, SparesRest}
+use Rattle.office_sql.specs.Office.{IsAtRestOver, KeepsRest, SparesRest}
 use Rattle.office_sql.proofs.Rest.{keeps_spared, leaves_at_rest, leaves_one, leaves_then, spares_none}
 use Rattle.office_store.specs.Adopted.{LeavesLess}
 use Rattle.office_desk.specs.Calling.{LeavesRestOf}

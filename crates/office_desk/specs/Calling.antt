@@ -1,5 +1,6 @@
 -- What a call of a desk does, from each state with its office, and what it leaves of the tables. Source: own.
-use Rattle.std.specs.Prelude.{◌≡◌, ◌+◌, ℕ, suc, false, List, ◌++◌, take, Result, MatchResult, IsTrue, Some, None}
+use Rattle.std.specs.Prelude.{◌≡◌, ◌≢◌, ◌⊎◌, ◌+◌, ℕ, suc, false, List, ◌++◌, take, Vec, Result, Err, MatchResult, IfErr, IfOk, IsTrue, OnOk, Option, Some, None, option_map}
+use Rattle.std.specs.Global.{Global}
 use Rattle.sqlite.specs.Held.{state}
 use Rattle.sqlite.specs.State.{HasCleanDisk}
 use Rattle.sqlite_trees.specs.declared.store.Store.{Ghosts}
@@ -18,18 +19,31 @@ use Rattle.office_store.specs.declared.fault.Fault.TheVariants as fault
 use Rattle.office_desk.specs.Desk.{DeskState}
 use Rattle.office_desk.specs.Fates.{LeavesFates, LeavesStepFates}
 use Rattle.office_desk.specs.Headline.{AreFormed}
-use Rattle.office_desk.specs.Leaving.{IsFrontAnswered, LeavesRowsOf, StandsAt, StopsAt, StopsLeaving}
+use Rattle.office_desk.specs.Leaving.{IsContentTold, IsFrontAnswered, IsOtherContent, LeavesRowsOf, StandsAt, StopsAt, StopsLeaving}
 use Rattle.office_desk.specs.Resuming.{AreRunSteps, LeavesMidway, resumed_answer}
 
 -- whatever a crash leaves has all that is not the office's as it was
 abbrev pub LeavesRestOf : {S : Type 0} (g : Ghosts S) (old new : DeskState S) → Type 0
 LeavesRestOf g old new = Leaves (SparesRest (state g old.held).now) (state g new.held)
 
--- by a desk that is open: what was done from each state with its office, where `At` is that its tables stood there and the disk was clean
+-- the desk stood at the state, and the disk is clean
+abbrev pub StoodAt : {S : Type 0} (g : Ghosts S) (s : State) (old new : DeskState S) → Type 0
+StoodAt g s old new = HasCleanDisk (state g new.held) × StandsAt g s old
+
+-- by a desk that is open: what was done from each state with its office, where `At` is that it stood there
 pub record Called {S : Type 0} (g : Ghosts S) (old new : DeskState S) (Did : State → Type 0 → Type 0) : Type 0 where
   pub clean : HasCleanDisk (state g new.held) → HasCleanDisk (state g old.held)
-  pub did : (s : State) → old.is_given_up ≡ false → s.office ≡ old.office → Did s (HasCleanDisk (state g new.held) × StandsAt g s old)
+  pub did : (s : State) → old.is_given_up ≡ false → s.office ≡ old.office → Did s (StoodAt g s old new)
   pub rest : (s : State) → HasCleanDisk (state g new.held) → StandsAt g s old → LeavesRestOf g old new
+
+-- by any desk
+pub record Asked {S : Type 0} (g : Ghosts S) (old new : DeskState S) (Gone Now : Type 0) (Did : State → Type 0 → Type 0) : Type 0 where
+  -- one that was given up stays as it was, and is answered so
+  pub gone : IsTrue old.is_given_up → (new ≡ old) × Gone
+  -- of one that was open this is so now
+  pub here : old.is_given_up ≡ false → Now
+  -- and this was done
+  pub called : Called g old new Did
 
 -- a change was done in memory, and is answered
 pub record IsMade {S : Type 0} (change : Change) (answer : Answer) (old new : DeskState S) : Type 0 where
@@ -53,12 +67,21 @@ pub record IsFaulted {S : Type 0} (g : Ghosts S) (s next : State) (f : Fault) (o
   pub stops : StopsAt old.office f new
   pub left : At → StopsLeaving s next f (state g new.held)
 
+-- so the saving and making of a change ends
+abbrev pub EndChange : {S : Type 0} (g : Ghosts S) (s : State) (change : Change) (result : Result Answer Fault) (old new : DeskState S) (At : Type 0) → Type 0
+EndChange g s change result old new At =
+    MatchResult result (λ answer. IsSaved g s change answer old new At) (λ f. IsFaulted g s (all_writes change.writes.items s) f old new At)
+
 -- an act was done, and is answered
 pub record IsDone {S : Type 0} (g : Ghosts S) (s : State) (a : Act) (answer : Answer) (new : DeskState S) (At : Type 0) : Type 0 where
   pub answered : answer ≡ (step s a).0
   pub office : new.office ≡ (step s a).1.office
   pub is_open : new.is_given_up ≡ false
   pub stands : At → StandsAt g (step s a).1 new
+
+-- so an act ends
+abbrev pub EndAct : {S : Type 0} (g : Ghosts S) (s : State) (a : Act) (result : Result Answer Fault) (old new : DeskState S) (At : Type 0) → Type 0
+EndAct g s a result old new At = MatchResult result (λ answer. IsDone g s a answer new At) (λ f. IsFaulted g s (step s a).1 f old new At)
 
 -- acts were done, and are answered behind those that were given
 pub record AreDone {S : Type 0} (g : Ghosts S) (s : State) (acts : List Act) (given found : List Answer) (new : DeskState S) (At : Type 0) : Type 0 where
@@ -122,3 +145,50 @@ pub record Resumed {S : Type 0} (g : Ghosts S) (s : State) (result : Result Answ
   pub midway : (begun : State) (run : ℕ) → open_run begun.office ≡ Some run → IsMidway begun run s → At → LeavesMidway begun run (state g new.held)
   pub offices : At → LeavesOffices (state g new.held)
   pub fates : At → LeavesStepFates s (state g new.held)
+
+-- ---- a content
+
+-- a content is reported, and the desk stays
+pub record IsContentTaken {S : Type 0} (g : Ghosts S) (s : State) (r : ℕ) (bytes : Option (List ℕ)) (new : DeskState S) (At : Type 0) : Type 0 where
+  pub told : At → IsContentTold s r bytes
+  pub is_open : new.is_given_up ≡ false
+  pub stands : At → StandsAt g s new
+
+-- a content is not reported
+pub record IsContentMissed {S : Type 0} (g : Ghosts S) (s : State) (r : ℕ) (f : Fault) (new : DeskState S) (At : Type 0) : Type 0 where
+  pub faults : (f ≢ fault.Reopen) × (f ≢ fault.Version)
+  pub damaged : At → f ≡ fault.Damaged → IsOtherContent s r
+  -- where the database failed the desk is given up, and else it stays
+  pub given_up : f ≡ fault.Store → IsTrue new.is_given_up
+  pub kept : At → f ≢ fault.Store → StandsAt g s new
+
+-- so the reading of a content ends, and what a crash leaves
+pub record IsContentRead {S : Type 0} (g : Ghosts S) (s : State) (r : ℕ) (result : Result (Option (Vec ℕ Global)) Fault) (old new : DeskState S) (At : Type 0) : Type 0 where
+  pub ends : MatchResult result (λ bytes. IsContentTaken g s r (option_map (λ it. it.items) bytes) new At) (λ f. IsContentMissed g s r f new At)
+  pub office : new.office ≡ old.office
+  pub leaves : At → LeavesRowsOf s (state g new.held)
+  pub offices : At → LeavesOffices (state g new.held)
+
+-- ---- the public calls
+
+-- a list of acts is performed
+abbrev pub PerformsAll : {S T : Type 0} (g : Ghosts S) (acts : List Act) (given found : List Answer) (result : Result T Fault) (old new : DeskState S) → Type 0
+PerformsAll g acts given found result old new =
+    Asked g old new ((result ≡ Err fault.Reopen) × (found ≡ given)) (OnOk result (new.is_given_up ≡ false)) (λ s At. Performed g s acts given found result new At)
+
+-- the open run is resumed
+abbrev pub ResumesRun : {S : Type 0} (g : Ghosts S) (result : Result Answer Fault) (old new : DeskState S) → Type 0
+ResumesRun g result old new = Asked g old new (result ≡ Err fault.Reopen) (OnOk result (new.is_given_up ≡ false)) (λ s At. Resumed g s result old new At)
+
+-- the content of a record is read
+abbrev pub ReadsContent : {S : Type 0} (g : Ghosts S) (r : ℕ) (result : Result (Option (Vec ℕ Global)) Fault) (old new : DeskState S) → Type 0
+ReadsContent g r result old new = Asked g old new (result ≡ Err fault.Reopen) (OnOk result (new.is_given_up ≡ false)) (λ s At. IsContentRead g s r result old new At)
+
+-- something is read of the office in memory
+pub record Reads {S X : Type 0} (desk : DeskState S) (Is : X → Type 0) (result : Result X Fault) : Type 0 where
+  -- what is reported is so, and by an open desk alone
+  pub ok : IfOk result Is
+  pub is_open : OnOk result (desk.is_given_up ≡ false)
+  -- a fault is want of memory, or the desk was given up, which always is one
+  pub err : IfErr result (λ f. (f ≡ fault.Memory) ⊎ (f ≡ fault.Reopen) × IsTrue desk.is_given_up)
+  pub gone : IsTrue desk.is_given_up → result ≡ Err fault.Reopen

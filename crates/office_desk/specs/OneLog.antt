@@ -1,12 +1,13 @@
 -- Offices that do the acts of one log. Source: own.
-use Rattle.std.specs.Prelude.{List}
+use Rattle.std.specs.Prelude.{◌≡◌, ◌++◌, List}
 use Rattle.sqlite.specs.Held.{state}
 use Rattle.sqlite.specs.State.{HasCleanDisk}
 use Rattle.sqlite_trees.specs.declared.store.Store.{Ghosts}
+use Rattle.office_rules.specs.Acts.{after, answers}
 use Rattle.office_rules.specs.State.{State}
 use Rattle.office_rules.specs.declared.act.Act.{Act}
 use Rattle.office_rules.specs.declared.answer.Answer.{Answer}
-use Rattle.office_desk.specs.Calling.{AreDone}
+use Rattle.office_desk.specs.Calling.{AreDone, StoodAt}
 use Rattle.office_desk.specs.Desk.{DeskState}
 use Rattle.office_desk.specs.Leaving.{StandsAt}
 
@@ -14,4 +15,13 @@ use Rattle.office_desk.specs.Leaving.{StandsAt}
 pub record DidAll {S : Type 0} (g : Ghosts S) (s : State) (acts : List Act) (given found : List Answer) (old new : DeskState S) : Type 0 where
   pub clean : HasCleanDisk (state g new.held)
   pub began : StandsAt g s old
-  pub done : AreDone g s acts given found new (HasCleanDisk (state g new.held) × StandsAt g s old)
+  pub done : AreDone g s acts given found new (StoodAt g s old new)
+
+-- offices that do the entries of one log in order
+pub record OneLog {S : Type 0} (g : Ghosts S) : Type 0 where
+  -- acts that are done in two lists: the answers and the end of the joined list
+  pub joined : (s : State) (first rest : List Act) → (after s (first ++ rest) ≡ after (after s first) rest) × (answers s (first ++ rest) ≡ answers s first ++ answers (after s first) rest)
+  -- offices at one state that did the same acts gave the same answers, and are at one state
+  pub alike : (s : State) (acts : List Act) (given found other_found : List Answer) (old one other_old other : DeskState S)
+      → DidAll g s acts given found old one → DidAll g s acts given other_found other_old other
+      → (found ≡ other_found) × StandsAt g (after s acts) one × StandsAt g (after s acts) other

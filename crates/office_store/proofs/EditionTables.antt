@@ -1,5 +1,5 @@
 -- The schedules of either version are read of their own table, the events of version 2 of theirs, and what is told of the version by the names of tables.
-use Rattle.std.proofs.Common.{◌≡◌, All, List, [], ◌∷◌, true, false, refl, sym, subst, arith}
+use Rattle.std.proofs.Common.{All, List, [], ◌∷◌, true, false, refl, sym, subst, arith}
 use Rattle.std.proofs.lemmas.List.Sorted.{IsPermutation-refl}
 use Rattle.sqlite_value.specs.Order.{Row}
 use Rattle.sqlite_trees.specs.Tree.{Trees}

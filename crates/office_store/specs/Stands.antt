@@ -5,11 +5,14 @@ use Rattle.std.specs.FinMap as finmap
 use Rattle.sqlite_value.specs.Order.{Row}
 use Rattle.sqlite_trees.specs.Tree.{Trees}
 use Rattle.sqlite_schema.specs.declared.schema.Table.{Table}
+use Rattle.sqlite.specs.Effect.{Database}
 use Rattle.sqlite.specs.State.{State}
 use Rattle.office_holds.specs.Founding.{is_pair}
 use Rattle.office_holds.specs.declared.target.Target.{Target}
 use Rattle.office_rules.specs.Rows.{TableRows, rows_of}
-use Rattle.office_rules.specs.State.{ByteMap, empty_state}
+use Rattle.office_rules.specs.State.{ByteMap, State as OfficeState, empty_state}
+use Rattle.office_rules.specs.Writes.{all_writes}
+use Rattle.office_rules.specs.declared.change.Change.{Change}
 use Rattle.office_sql.specs.Bags as bags
 use Rattle.office_sql.specs.Editions.{schedules_of, version_of}
 use Rattle.office_sql.specs.declared.editions.Edition.{Edition}
@@ -17,6 +20,7 @@ use Rattle.office_sql.specs.declared.editions.Edition.TheVariants as edition
 use Rattle.office_sql.specs.Office.{IsAtRest, IsAtRestOver, IsOfficeIn}
 use Rattle.office_sql.specs.Schema.{aggregations, certificates, classes, contents, entries, events, holds, office, records, runs, schedules, targets}
 use Rattle.office_sql.specs.Shown.{certificate_row, content_row, office_row}
+use Rattle.office_saving.specs.Written.{AreWritten}
 use Rattle.office_saving.specs.Encoded.{aggregation_shown, class_shown, entry_shown, event_shown, hold_shown, record_shown, run_shown, schedule_shown, target_shown}
 
 -- the table has these rows and no others, in any order
@@ -97,3 +101,7 @@ LeavesMoved t old new = (db : Trees) → new.may_leave db → (db ≡ old.now.tr
 -- a crash leaves what was there, or the tables of a new office
 abbrev pub LeavesFirst : State → State → Type 0
 LeavesFirst old new = (db : Trees) → new.may_leave db → (db ≡ old.now.trees) ⊎ (Stands (rows_of empty_state) db × AreOfficeTables db)
+
+-- the writes of a change make tables that have the rows of a state those of the next
+abbrev pub SavesRows : OfficeState → Change → Type 0
+SavesRows s change = (old new : Database) → Stands (rows_of s) old.trees → AreWritten change.writes.items old new → Stands (rows_of (all_writes change.writes.items s)) new.trees

@@ -1,13 +1,11 @@
 -- How rows are done, one after another.
 use Rattle.std.proofs.Common.{◌≡◌, ◌∙◌, refl, sym, ap, subst, arith, ℕ, ℤ, ◌+◌, ◌≤◌, List, [], ◌∷◌, ◌++◌, append-nil, append_assoc, length, length-append, Option, Some, None, Result, Ok, Err, inl, inr, Bool, true, false}
-use Rattle.std.specs.Prelude.{◌⊎◌, IfErr, IfOk}
+use Rattle.std.specs.Prelude.{◌⊎◌}
 use Rattle.std.specs.Io.KnownBytes.{Appends, Keeps}
 use Rattle.csv.specs.Reading.{ReadsNext, default_config}
 use Rattle.csv.specs.Records.{AllText}
 use Rattle.csv.specs.declared.parser.State.{State as Reading}
 use Rattle.csv.specs.declared.parser.State.TheVariants.{StartRecord}
-use Rattle.sqlite.specs.Held.{state}
-use Rattle.sqlite.specs.State.{HasCleanDisk}
 use Rattle.sqlite_trees.specs.declared.store.Store.{Ghosts}
 use Rattle.office_days.specs.declared.refusal.Refusal.{Refusal}
 use Rattle.office_rules.specs.Forms.{IsFormedAct}
@@ -28,26 +26,19 @@ use Rattle.office_csv.specs.ImportText.{AreAtFront, HeadsText, TakesNoText}
 use Rattle.office_csv.specs.declared.reading.RowStop.{RowStop}
 use Rattle.office_csv.specs.declared.reading.RowStop.TheVariants as row_stop
 use Rattle.office_csv.proofs.Front.{bad_next, bad_text, no_more, none_yet, one_more}
-use Rattle.office_wire.specs.Importing.{AreFrontRows, AreImported, AreRowsBehind, AreRowsDone, AreSomeRows, Imports, IsActStopped, IsRowDone, IsRowStopped, RowsImport, RowsStop, RowsStopAtIo, Stops, StopsAtFault, StopsAtIo, TakeStops, is_refusal, line_of, lines_from, one_if, refused_count, stop_at}
+use Rattle.office_wire.specs.Calling.{CalledAt}
+use Rattle.office_wire.specs.Importing.{AreFrontRows, AreImported, AreRowsBehind, AreRowsDone, AreSomeRows, EndsAct, EndsImport, EndsLine, EndsRow, EndsRows, EndsTaking, Imports, IsRowDone, IsRowStopped, RowsStop, Stops, StopsAtFault, StopsAtIo, TakeStops, is_refusal, line_of, lines_from, one_if, refused_count, stop_at}
 use Rattle.office_wire.specs.declared.importing.ImportStop.{ImportStop}
 use Rattle.office_wire.specs.declared.importing.ImportStop.TheVariants as stop
+use Rattle.office_wire.proofs.Calls.{called, called_on, not_called}
 
 -- ---- one row
 
--- a record was read, and its act is done
-pub row_done : {S : Type 0} (g : Ghosts S) (day : ℤ) (row : Fields) (new : AskedRecord) (act : Act) (old desk : DeskState S) (x : Result Answer Fault) → record_asked row ≡ Ok new → IsFormedAct act → asked act ≡ adds day new
-    → IfOk x (λ answer. (s : State) → HasCleanDisk (state g desk.held) → StandsAt g s old → (answer ≡ (step s act).0) × StandsAt g (step s act).1 desk)
-    → IfOk x (λ answer. (s : State) → HasCleanDisk (state g desk.held) → StandsAt g s old → (t : State) × IsRowDone day s row answer t × StandsAt g t desk)
-row_done g day row new act old desk (Ok answer) read formed is ok =
-    λ s clean stands. let it = ok s clean stands in ((step s act).1, (rw read (act, (formed, is), it.0, refl)), it.1)
-row_done g day row new act old desk (Err f) read formed is ok = tt
-
--- or it was stopped
-pub row_stopped : {S : Type 0} (g : Ghosts S) (day : ℤ) (row : Fields) (new : AskedRecord) (act : Act) (old desk : DeskState S) (x : Result Answer Fault) → record_asked row ≡ Ok new → IsFormedAct act → asked act ≡ adds day new
-    → IfErr x (λ fault. (s : State) → HasCleanDisk (state g desk.held) → StandsAt g s old → IsActStopped g s act fault desk)
-    → IfErr x (λ fault. (s : State) → HasCleanDisk (state g desk.held) → StandsAt g s old → IsRowStopped g day s row fault desk)
-row_stopped g day row new act old desk (Ok answer) read formed is err = tt
-row_stopped g day row new act old desk (Err f) read formed is err = λ s clean stands. inr (new, act, read, (formed, is), err s clean stands)
+-- a record was read, and its act was done or stopped
+pub row_ended : {S : Type 0} (g : Ghosts S) (day : ℤ) (s : State) (row : Fields) (new : AskedRecord) (act : Act) (x : Result Answer Fault) (desk : DeskState S) → record_asked row ≡ Ok new → IsFormedAct act → asked act ≡ adds day new
+    → EndsAct g s act x desk → EndsRow g day s row x desk
+row_ended g day s row new act (Ok answer) desk read formed is it = ((step s act).1, (rw read (act, (formed, is), it.0, refl)), it.1)
+row_ended g day s row new act (Err f) desk read formed is it = inr (new, act, read, (formed, is), it)
 
 -- no record was read, since a field is not of its form or out of its range
 pub bad_row : (x : Result AskedRecord Refusal) (why : Refusal) → (Refused why ≡ Memory) ⊎ (Refused why ≡ fault_of x) → x ≡ Err why
@@ -98,124 +89,129 @@ one_imported g day s rows answers m t row answer mid desk old seen new number it
 
 -- ---- how far an import has come
 
-pub record Front {S : Type 0} (g : Ghosts S) (day : ℤ) (s0 : Reading) (o0 : Option (List ℕ)) (s1 : Reading) (o1 : Option (List ℕ)) (d0 d : DeskState S) (w0 w : Option (List ℕ)) (before refused : ℕ) : Type 0 where
+-- from a state: these rows were done, and so many were refused
+pub record IsFront {S : Type 0} (g : Ghosts S) (day : ℤ) (s : State) (s0 : Reading) (o0 : Option (List ℕ)) (s1 : Reading) (o1 : Option (List ℕ)) (d : DeskState S) (w0 w : Option (List ℕ)) (before refused : ℕ) : Type 0 where
   pub rows : List Fields
+  pub answers : List Answer
+  pub last : State
   pub front : AreAtFront s0 o0 rows s1 o1
   pub count : before ≡ length rows
+  pub imported : AreImported g day s rows answers last d w0 w
+  pub refusals : refused ≡ refused_count answers
+
+pub record Front {S : Type 0} (g : Ghosts S) (day : ℤ) (s0 : Reading) (o0 : Option (List ℕ)) (s1 : Reading) (o1 : Option (List ℕ)) (d0 d : DeskState S) (w0 w : Option (List ℕ)) (before refused : ℕ) : Type 0 where
   pub few : refused ≤ before
-  pub clean : HasCleanDisk (state g d.held) → HasCleanDisk (state g d0.held)
-  pub done : (s : State) → HasCleanDisk (state g d.held) → StandsAt g s d0 → (answers : List Answer) × (t : State) × AreImported g day s rows answers t d w0 w × (refused ≡ refused_count answers)
+  pub call : CalledAt g d0 d (λ s. IsFront g day s s0 o0 s1 o1 d w0 w before refused)
 
 pub front_start : {S : Type 0} (g : Ghosts S) (day : ℤ) (s0 : Reading) (o0 : Option (List ℕ)) (d0 : DeskState S) (w0 : Option (List ℕ)) → Front g day s0 o0 s0 o0 d0 d0 w0 w0 0 0
 front_start g day s0 o0 d0 w0 =
     record {
-      rows = [];
-      front = none_yet o0 s0;
-      count = refl;
       few = omega arith;
-      clean = λ clean. clean;
-      done = λ s clean stands. ([], s, none_imported g day s d0 w0 stands, refl);
+      call = not_called g d0 (λ s. IsFront g day s s0 o0 s0 o0 d0 w0 w0 0 0) (λ s at.
+          record {
+            rows = [];
+            answers = [];
+            last = s;
+            front = none_yet o0 s0;
+            count = refl;
+            imported = none_imported g day s d0 w0 at;
+            refusals = refl;
+          });
     }
 
 few_more : (before refused : ℕ) (is_refused : Bool) → refused ≤ before → refused + one_if is_refused ≤ before + 1
 few_more before refused true h = omega (arith, h)
 few_more before refused false h = omega (arith, h)
 
-pub front_more : {S : Type 0} (g : Ghosts S) (day : ℤ) (s0 s1 s2 : Reading) (o0 o1 o2 : Option (List ℕ)) (d0 d d2 : DeskState S) (w0 w w2 : Option (List ℕ)) (before refused : ℕ) (is_refused : Bool) (fields : List (List ℕ))
-    → Front g day s0 o0 s1 o1 d0 d w0 w before refused → ReadsNext default_config s1 o1 o2 true fields s2 → AllText fields → (HasCleanDisk (state g d2.held) → HasCleanDisk (state g d.held))
-    → ((row : Fields) × (fields ≡ fields_in row) × ((s : State) → HasCleanDisk (state g d2.held) → StandsAt g s d → (answer : Answer) × (t : State) × IsRowDone day s row answer t × StandsAt g t d2
-    × Appends w w2 (line_of (before + 1) answer) × (is_refused ≡ is_refusal answer)))
-    → Front g day s0 o0 s2 o2 d0 d2 w0 w2 (before + 1) (refused + one_if is_refused)
-front_more g day s0 s1 s2 o0 o1 o2 d0 d d2 w0 w w2 before refused is_refused fields f reads all clean took =
-    record {
-      rows = f.rows ++ took.0 ∷ [];
-      front = one_more o0 o1 o2 s0 s1 s2 f.rows took.0 fields f.front reads all took.1;
-      count = omega (arith, f.count, length-append f.rows (took.0 ∷ []));
-      few = few_more before refused is_refused f.few;
-      clean = λ it. f.clean (clean it);
-      done = λ s still stands.
-          let it = f.done s (clean still) stands in
-          let one = took.2 it.1 still it.2.stands in (
-            it.0 ++ one.0 ∷ [],
-            one.1,
-            one_imported g day s f.rows it.0 it.1 one.1 took.0 one.0 d d2 w0 w w2 (before + 1) it.2 one.2 one.3 one.4 (ap (λ (n : ℕ). n + 1) f.count),
-            ap (λ (n : ℕ). n + one_if is_refused) it.3 ∙ ap (λ (b : Bool). refused_count it.0 + one_if b) one.5 ∙ sym (count_more it.0 one.0),
-          );
-    }
+module _ {S : Type 0} (g : Ghosts S) (day : ℤ) (s0 s1 s2 : Reading) (o0 o1 o2 : Option (List ℕ)) (d0 d d2 : DeskState S) (w0 w w2 : Option (List ℕ)) (before refused : ℕ) (fields : List (List ℕ))
+    (reads : ReadsNext default_config s1 o1 o2 true fields s2) (all : AllText fields) where
+  -- a row was read after these
+  row_read : (rows : List Fields) (row : Fields) → AreAtFront s0 o0 rows s1 o1 → fields ≡ fields_in row → AreAtFront s0 o0 (rows ++ row ∷ []) s2 o2
+  row_read rows row front is = one_more o0 o1 o2 s0 s1 s2 rows row fields front reads all is
 
-pub front_end : {S : Type 0} (g : Ghosts S) (day : ℤ) (s0 s1 s2 : Reading) (o0 o1 o2 : Option (List ℕ)) (d0 d : DeskState S) (w0 w : Option (List ℕ)) (before refused : ℕ) (fields : List (List ℕ))
-    → Front g day s0 o0 s1 o1 d0 d w0 w before refused → ReadsNext default_config s1 o1 o2 false fields s2
-    → (s : State) → HasCleanDisk (state g d.held) → StandsAt g s d0 → RowsImport g day s s0 o0 refused d w0 w
-front_end g day s0 s1 s2 o0 o1 o2 d0 d w0 w before refused fields f reads s clean stands =
-    let it = f.done s clean stands in
-    (f.rows, it.0, it.1, (s1, o1, f.front, no_more o1 o2 s1 s2 fields reads), it.2, it.3)
+  row_more : (s : State) (is_refused : Bool) (it : IsFront g day s s0 o0 s1 o1 d w0 w before refused) → EndsTaking g day it.last (before + 1) fields (Ok is_refused) d2 w w2
+      → IsFront g day s s0 o0 s2 o2 d2 w0 w2 (before + 1) (refused + one_if is_refused)
+  row_more s is_refused it (row, is, (answer, t, one, stands, line, same)) =
+      record {
+        rows = it.rows ++ row ∷ [];
+        answers = it.answers ++ answer ∷ [];
+        last = t;
+        front = row_read it.rows row it.front is;
+        count = omega (arith, it.count, length-append it.rows (row ∷ []));
+        imported = one_imported g day s it.rows it.answers it.last t row answer d d2 w0 w w2 (before + 1) it.imported one stands line (ap (λ (n : ℕ). n + 1) it.count);
+        refusals = ap (λ (n : ℕ). n + one_if is_refused) it.refusals ∙ ap (λ (b : Bool). refused_count it.answers + one_if b) same ∙ sym (count_more it.answers answer);
+      }
 
--- no row was read
-pub front_unread : {S : Type 0} (g : Ghosts S) (day : ℤ) (s0 s1 : Reading) (o0 o1 : Option (List ℕ)) (d0 d : DeskState S) (w0 w : Option (List ℕ)) (before refused : ℕ) (why : RowStop)
-    → Front g day s0 o0 s1 o1 d0 d w0 w before refused → (why ≡ row_stop.NotText → TakesNoText s1 o1)
-    → (s : State) → HasCleanDisk (state g d.held) → StandsAt g s d0 → RowsStop g day s s0 o0 (stop_at why (before + 1)) d w0 w
-front_unread g day s0 s1 o0 o1 d0 d w0 w before refused row_stop.NotText f none s clean stands =
-    let it = f.done s clean stands in
-    (f.rows, it.0, it.1, (s1, o1, f.front, bad_text o1 s1 (none refl)), it.2, ap (λ (n : ℕ). n + 1) f.count)
-front_unread g day s0 s1 o0 o1 d0 d w0 w before refused row_stop.Memory f none s clean stands =
-    let it = f.done s clean stands in
-    (f.rows, it.0, it.1, it.2.done, it.2.told, inl (refl, (s1, o1, f.front), it.2.stands))
-front_unread g day s0 s1 o0 o1 d0 d w0 w before refused row_stop.Io f none s clean stands =
-    let it = f.done s clean stands in
-    (f.rows, it.0, it.1, (s1, o1, f.front), it.2.done, it.2.stands)
+  pub front_more : (is_refused : Bool) → Front g day s0 o0 s1 o1 d0 d w0 w before refused → CalledAt g d d2 (λ s. EndsTaking g day s (before + 1) fields (Ok is_refused) d2 w w2)
+      → Front g day s0 o0 s2 o2 d0 d2 w0 w2 (before + 1) (refused + one_if is_refused)
+  front_more is_refused f took =
+      record {
+        few = few_more before refused is_refused f.few;
+        call = called_on g d0 d d2 (λ s. IsFront g day s s0 o0 s1 o1 d w0 w before refused) (λ s. EndsTaking g day s (before + 1) fields (Ok is_refused) d2 w w2)
+            (λ s. IsFront g day s s0 o0 s2 o2 d2 w0 w2 (before + 1) (refused + one_if is_refused)) f.call took (λ s it. (it.last, it.imported.stands, λ row. row_more s is_refused it row));
+      }
 
--- what was read was stopped
-pub front_stopped : {S : Type 0} (g : Ghosts S) (day : ℤ) (s0 s1 s2 : Reading) (o0 o1 o2 : Option (List ℕ)) (d0 d d2 : DeskState S) (w0 w w2 : Option (List ℕ)) (before refused : ℕ) (fields : List (List ℕ)) (why : ImportStop)
-    → Front g day s0 o0 s1 o1 d0 d w0 w before refused → ReadsNext default_config s1 o1 o2 true fields s2 → AllText fields → (HasCleanDisk (state g d2.held) → HasCleanDisk (state g d.held))
-    → ((s : State) → HasCleanDisk (state g d2.held) → StandsAt g s d → TakeStops g day s (before + 1) fields why d2 w w2)
-    → (s : State) → HasCleanDisk (state g d2.held) → StandsAt g s d0 → RowsStop g day s s0 o0 why d2 w0 w2
-front_stopped g day s0 s1 s2 o0 o1 o2 d0 d d2 w0 w w2 before refused fields stop.Header f reads all clean stops s still stands =
-    let it = f.done s (clean still) stands in
-    absurd (stops it.1 still it.2.stands)
-front_stopped g day s0 s1 s2 o0 o1 o2 d0 d d2 w0 w w2 before refused fields (stop.Row number) f reads all clean stops s still stands =
-    let it = f.done s (clean still) stands in
-    let k = stops it.1 still it.2.stands in (
-      f.rows,
-      it.0,
-      it.1,
-      (s1, o1, f.front, bad_next o1 o2 s1 s2 fields reads k.1),
-      record { done = it.2.done; stands = k.2; told = subst (λ (x : Option (List ℕ)). Appends w0 x (lines_from 0 it.0)) (sym k.3) it.2.told },
-      k.0 ∙ ap (λ (n : ℕ). n + 1) f.count,
-    )
-front_stopped g day s0 s1 s2 o0 o1 o2 d0 d d2 w0 w w2 before refused fields (stop.Fault why) f reads all clean stops s still stands =
-    let it = f.done s (clean still) stands in
-    let k = stops it.1 still it.2.stands in (
-      f.rows,
-      it.0,
-      it.1,
-      it.2.done,
-      subst (λ (x : Option (List ℕ)). Appends w0 x (lines_from 0 it.0)) (sym k.2.0) it.2.told,
-      inr (k.0, (s2, o2, one_more o0 o1 o2 s0 s1 s2 f.rows k.0 fields f.front reads all k.1), k.2.1),
-    )
-front_stopped g day s0 s1 s2 o0 o1 o2 d0 d d2 w0 w w2 before refused fields stop.Io f reads all clean stops s still stands =
-    let it = f.done s (clean still) stands in
-    let k = stops it.1 still it.2.stands in
-    (f.rows ++ k.0 ∷ [], it.0 ++ k.2.0 ∷ [], k.2.1, (s2, o2, one_more o0 o1 o2 s0 s1 s2 f.rows k.0 fields f.front reads all k.1), done_more day s f.rows it.0 it.1 k.0 k.2.0 k.2.1 it.2.done k.2.2, k.2.3)
+  -- what was read was stopped
+  row_stopped : (s : State) (why : ImportStop) (it : IsFront g day s s0 o0 s1 o1 d w0 w before refused) → TakeStops g day it.last (before + 1) fields why d2 w w2 → RowsStop g day s s0 o0 why d2 w0 w2
+  row_stopped s stop.Header it k = absurd k
+  row_stopped s (stop.Row number) it (place, short, stands, silent) = (
+    it.rows,
+    it.answers,
+    it.last,
+    (s1, o1, it.front, bad_next o1 o2 s1 s2 fields reads short),
+    record { done = it.imported.done; stands = stands; told = subst (λ (x : Option (List ℕ)). Appends w0 x (lines_from 0 it.answers)) (sym silent) it.imported.told },
+    place ∙ ap (λ (n : ℕ). n + 1) it.count,
+  )
+  row_stopped s (stop.Fault f) it (row, is, (silent, stopped)) = (
+    it.rows,
+    it.answers,
+    it.last,
+    it.imported.done,
+    subst (λ (x : Option (List ℕ)). Appends w0 x (lines_from 0 it.answers)) (sym silent) it.imported.told,
+    inr (row, (s2, o2, row_read it.rows row it.front is), stopped),
+  )
+  row_stopped s stop.Io it (row, is, (answer, t, one, stands)) =
+      (it.rows ++ row ∷ [], it.answers ++ answer ∷ [], t, (s2, o2, row_read it.rows row it.front is), done_more day s it.rows it.answers it.last row answer t it.imported.done one, stands)
 
-pub front_io : {S : Type 0} (g : Ghosts S) (day : ℤ) (s0 s1 : Reading) (o0 o1 : Option (List ℕ)) (d0 d : DeskState S) (w0 w : Option (List ℕ)) (before refused : ℕ)
-    → Front g day s0 o0 s1 o1 d0 d w0 w before refused → (s : State) → HasCleanDisk (state g d.held) → StandsAt g s d0 → RowsStopAtIo g day s s0 o0 d
-front_io g day s0 s1 o0 o1 d0 d w0 w before refused f s clean stands =
-    let it = f.done s clean stands in
-    (f.rows, it.0, it.1, (s1, o1, f.front), it.2.done, it.2.stands)
+  pub front_stopped : (why : ImportStop) → Front g day s0 o0 s1 o1 d0 d w0 w before refused → CalledAt g d d2 (λ s. EndsTaking g day s (before + 1) fields (Err why) d2 w w2)
+      → CalledAt g d0 d2 (λ s. EndsRows g day s s0 o0 (Err why) d2 w0 w2)
+  front_stopped why f stops =
+      called_on g d0 d d2 (λ s. IsFront g day s s0 o0 s1 o1 d w0 w before refused) (λ s. EndsTaking g day s (before + 1) fields (Err why) d2 w w2) (λ s. EndsRows g day s s0 o0 (Err why) d2 w0 w2)
+      f.call stops (λ s it. (it.last, it.imported.stands, λ k. row_stopped s why it k))
 
--- a row that was taken has seven fields
-pub taken : (x : Result Bool ImportStop) (fields : List (List ℕ)) (row : Fields) (Done : Fields → Bool → Type 0) → fields ≡ fields_in row → IfOk x (Done row) → IfOk x (λ refused. (it : Fields) × (fields ≡ fields_in it) × Done it refused)
-taken (Ok refused) fields row Done e h = (row, e, h)
-taken (Err why) fields row Done e h = tt
+module _ {S : Type 0} (g : Ghosts S) (day : ℤ) (s0 s1 : Reading) (o0 o1 : Option (List ℕ)) (d0 d : DeskState S) (w0 w : Option (List ℕ)) (before refused : ℕ) (f : Front g day s0 o0 s1 o1 d0 d w0 w before refused) where
+  -- no row is left
+  pub front_end : (s2 : Reading) (o2 : Option (List ℕ)) (fields : List (List ℕ)) → ReadsNext default_config s1 o1 o2 false fields s2 → CalledAt g d0 d (λ s. EndsRows g day s s0 o0 (Ok refused) d w0 w)
+  front_end s2 o2 fields reads =
+      called g d0 d (λ s. IsFront g day s s0 o0 s1 o1 d w0 w before refused) (λ s. EndsRows g day s s0 o0 (Ok refused) d w0 w) f.call
+      (λ s it. (it.rows, it.answers, it.last, (s1, o1, it.front, no_more o1 o2 s1 s2 fields reads), it.imported, it.refusals))
+
+  -- no row was read
+  unread : (s : State) (why : RowStop) → (why ≡ row_stop.NotText → TakesNoText s1 o1) → IsFront g day s s0 o0 s1 o1 d w0 w before refused → RowsStop g day s s0 o0 (stop_at why (before + 1)) d w0 w
+  unread s row_stop.NotText none it = (it.rows, it.answers, it.last, (s1, o1, it.front, bad_text o1 s1 (none refl)), it.imported, ap (λ (n : ℕ). n + 1) it.count)
+  unread s row_stop.Memory none it = (it.rows, it.answers, it.last, it.imported.done, it.imported.told, inl (refl, (s1, o1, it.front), it.imported.stands))
+  unread s row_stop.Io none it = (it.rows, it.answers, it.last, (s1, o1, it.front), it.imported.done, it.imported.stands)
+
+  pub front_unread : (why : RowStop) → (why ≡ row_stop.NotText → TakesNoText s1 o1) → CalledAt g d0 d (λ s. EndsRows g day s s0 o0 (Err (stop_at why (before + 1))) d w0 w)
+  front_unread why none =
+      called g d0 d (λ s. IsFront g day s s0 o0 s1 o1 d w0 w before refused) (λ s. EndsRows g day s s0 o0 (Err (stop_at why (before + 1))) d w0 w) f.call (λ s it. unread s why none it)
+
+  -- there are more rows than are counted
+  pub front_io : CalledAt g d0 d (λ s. EndsRows g day s s0 o0 (Err stop.Io) d w0 w)
+  front_io =
+      called g d0 d (λ s. IsFront g day s s0 o0 s1 o1 d w0 w before refused) (λ s. EndsRows g day s s0 o0 (Err stop.Io) d w0 w) f.call
+      (λ s it. (it.rows, it.answers, it.last, (s1, o1, it.front), it.imported.done, it.imported.stands))
+
+-- a row of seven fields
+pub taken : {S : Type 0} (g : Ghosts S) (day : ℤ) (s : State) (number : ℕ) (fields : List (List ℕ)) (row : Fields) (x : Result Bool ImportStop) (desk : DeskState S) (old new : Option (List ℕ)) → fields ≡ fields_in row
+    → EndsLine g day s number row x desk old new → EndsTaking g day s number fields x desk old new
+taken g day s number fields row (Ok refused) desk old new e it = (row, e, it)
+taken g day s number fields row (Err stop.Header) desk old new e it = it
+taken g day s number fields row (Err (stop.Row n)) desk old new e it = absurd it
+taken g day s number fields row (Err (stop.Fault f)) desk old new e it = (row, e, it)
+taken g day s number fields row (Err stop.Io) desk old new e it = (row, e, it)
 
 -- ---- with the header before the rows
-
-pub headed_ok : {S : Type 0} (g : Ghosts S) (day : ℤ) (s1 : Reading) (o o1 : Option (List ℕ)) (d0 d : DeskState S) (w0 w : Option (List ℕ)) (x : Result ℕ ImportStop) → HeadsText StartRecord o s1 o1
-    → IfOk x (λ refused. (s : State) → HasCleanDisk (state g d.held) → StandsAt g s d0 → RowsImport g day s s1 o1 refused d w0 w)
-    → IfOk x (λ refused. (s : State) → HasCleanDisk (state g d.held) → StandsAt g s d0 → Imports g day s o refused d w0 w)
-headed_ok g day s1 o o1 d0 d w0 w (Ok refused) heads h =
-    λ s clean stands. let it = h s clean stands in (it.0, it.1, it.2, (it.3.0, it.3.1, (s1, o1, heads, it.3.2), it.3.3), it.4, it.5)
-headed_ok g day s1 o o1 d0 d w0 w (Err why) heads h = tt
 
 some_behind : (s1 : Reading) (o o1 : Option (List ℕ)) (rows : List Fields) → HeadsText StartRecord o s1 o1 → AreRowsBehind s1 o1 rows → AreSomeRows o rows
 some_behind s1 o o1 rows heads it = (it.0, it.1, (s1, o1, heads, it.2))
@@ -232,11 +228,10 @@ stops_behind g day s1 o o1 s d w0 w (stop.Row number) heads it = (it.0, it.1, it
 stops_behind g day s1 o o1 s d w0 w (stop.Fault f) heads it = (it.0, it.1, it.2, it.3, it.4, fault_behind g day s1 o o1 f it.2 it.0 d heads it.5)
 stops_behind g day s1 o o1 s d w0 w stop.Io heads it = (it.0, it.1, it.2, inr (some_behind s1 o o1 it.0 heads it.3), it.4, it.5)
 
-pub headed_err : {S : Type 0} (g : Ghosts S) (day : ℤ) (s1 : Reading) (o o1 : Option (List ℕ)) (d0 d : DeskState S) (w0 w : Option (List ℕ)) (x : Result ℕ ImportStop) → HeadsText StartRecord o s1 o1
-    → IfErr x (λ why. (s : State) → HasCleanDisk (state g d.held) → StandsAt g s d0 → RowsStop g day s s1 o1 why d w0 w)
-    → IfErr x (λ why. (s : State) → HasCleanDisk (state g d.held) → StandsAt g s d0 → Stops g day s o why d w0 w)
-headed_err g day s1 o o1 d0 d w0 w (Ok refused) heads h = tt
-headed_err g day s1 o o1 d0 d w0 w (Err why) heads h = λ s clean stands. stops_behind g day s1 o o1 s d w0 w why heads (h s clean stands)
+pub headed : {S : Type 0} (g : Ghosts S) (day : ℤ) (s1 : Reading) (o o1 : Option (List ℕ)) (s : State) (x : Result ℕ ImportStop) (d : DeskState S) (w0 w : Option (List ℕ)) → HeadsText StartRecord o s1 o1 → EndsRows g day s s1 o1 x d w0 w
+    → EndsImport g day s o x d w0 w
+headed g day s1 o o1 s (Ok refused) d w0 w heads (rows, answers, t, (s2, rest, front, ended), imported, is) = (rows, answers, t, (s2, rest, (s1, o1, heads, front), ended), imported, is)
+headed g day s1 o o1 s (Err why) d w0 w heads it = stops_behind g day s1 o o1 s d w0 w why heads it
 
 -- nothing was done yet
 pub none_done : {S : Type 0} (g : Ghosts S) (day : ℤ) (s : State) (o : Option (List ℕ)) (d : DeskState S) (w : Option (List ℕ)) → StandsAt g s d → StopsAtFault g day s o fault.Memory d w w

@@ -1,8 +1,6 @@
 -- A desk that is asked for no acts.
-use Rattle.std.proofs.Common.{◌≡◌, ◌+◌, ℕ, List, [], take, Bool, true, false, Result, Ok, Err, arith, refl, subst}
-use Rattle.std.specs.Prelude.{IfErr, OnOk}
+use Rattle.std.proofs.Common.{◌≡◌, ◌+◌, ℕ, List, [], take, Bool, true, false, IsTrue, Result, Ok, Err, arith, refl, subst, sym}
 use Rattle.sqlite.specs.Held.{state}
-use Rattle.sqlite.specs.State.{HasCleanDisk}
 use Rattle.sqlite_trees.specs.declared.store.Store.{Ghosts}
 use Rattle.office_rules.specs.Acts.{after}
 use Rattle.office_rules.specs.Rows.{rows_of}
@@ -12,10 +10,11 @@ use Rattle.office_rules.specs.declared.answer.Answer.{Answer}
 use Rattle.office_store.specs.Stands.{HoldsRows}
 use Rattle.office_store.specs.declared.fault.Fault.{Fault}
 use Rattle.office_store.specs.declared.fault.Fault.TheVariants as fault
-use Rattle.office_desk.specs.Calling.{AreStopped, EndActs}
+use Rattle.office_desk.specs.Calling.{AreStopped, Called, EndActs, Performed}
 use Rattle.office_desk.specs.Desk.{DeskState}
 use Rattle.office_desk.specs.Leaving.{IsFrontAnswered, StandsAt, StopsAt, StopsLeaving}
 use Rattle.office_desk.proofs.LeftFates.{one_left}
+use Rattle.office_wire.specs.Connections.{IsKept}
 
 -- no acts
 abbrev pub none : List Act
@@ -38,10 +37,20 @@ stands_stopped g old new t fault.Damaged n front given it stops leaves stands = 
 stands_stopped g old new t fault.Version n front given it stops leaves stands = absurd stops
 
 -- whether it was done or not
-pub stands_kept : {S : Type 0} (g : Ghosts S) (old new : DeskState S) (t : State) (done : Result (Unit {0}) Fault) (front given : List Answer) (At : Type 0)
+stands_kept : {S : Type 0} (g : Ghosts S) (old new : DeskState S) (t : State) (done : Result (Unit {0}) Fault) (front given : List Answer) (At : Type 0)
     → EndActs g t none front given done new At → At → StandsAt g t old → StandsAt g t new
 stands_kept g old new t (Ok it) front given At end at stands = end.stands at
 stands_kept g old new t (Err f) front given At end at stands = stands_stopped g old new t f end.count front given end.front end.stops (end.left at) stands
+
+pub asked_none : {S : Type 0} (g : Ghosts S) (old new : DeskState S) (done : Result (Unit {0}) Fault) (front given : List Answer) → Called g old new (λ s At. Performed g s none front given done new At)
+    → (IsTrue old.is_given_up → new ≡ old) → IsKept g old new
+asked_none g old new done front given it kept =
+    record {
+      call = record { clean = it.clean; did = λ t clean at. stands_kept g old new t done front given _ (it.did t at.is_open (sym at.office)).ends (clean, at) at };
+      kept = kept;
+      gone = λ was. tt;
+      told = λ still was. tt;
+    }
 
 -- where it answers 32, it was given up
 pub told_gone : {S : Type 0} (g : Ghosts S) (t : State) (new : DeskState S) (front given : List Answer) (At : Type 0) (b : Bool)

@@ -1,4 +1,5 @@
 pub mod AnyAnswer
+pub mod Calls
 pub mod Connected
 pub mod Imported
 pub mod Kept

@@ -1,19 +1,28 @@
 -- The answer to a request that was received.
-use Rattle.std.proofs.Common.{◌≡◌, ◌∙◌, subst, inl, inr, ℕ, Bool, List, Option, Some, None}
-use Rattle.std.specs.Prelude.{IfSome}
+use Rattle.std.proofs.Common.{◌≡◌, ◌⊎◌, ◌∙◌, ap, refl, subst, inl, inr, ℕ, Bool, false, List, Option, Some, None, Result, Ok, Err}
+use Rattle.std.specs.Prelude.{IfOk, IfSome, IsSome, OnErr}
+use Rattle.std.proofs.lemmas.Result.{IfOk-weaker}
 use Rattle.httparse.specs.Grammar.{RequestHead}
 use Rattle.sqlite_trees.specs.declared.store.Store.{Ghosts}
 use Rattle.office_rules.specs.State.{State}
 use Rattle.office_desk.specs.Desk.{DeskState}
 use Rattle.office_desk.specs.Leaving.{StandsAt}
 use Rattle.office_http.specs.Plans.{is_head_method}
-use Rattle.office_http.specs.Replies.{Response, response}
-use Rattle.office_http.specs.Requests.{IsRequest, asks}
+use Rattle.office_http.specs.Replies.{Response, response, status_number}
+use Rattle.office_http.specs.Requests.{IsRequest, asks, headless}
 use Rattle.office_http.specs.declared.failure.Failure.TheVariants as failure
-use Rattle.office_wire.specs.Receiving.{IsAskedBy, Wanted, asked_for}
-use Rattle.office_wire.specs.Serving.{IsFailed, IsGoneReply, IsGoneServed, IsGoneToSend, IsReply, IsSent, IsServed, IsToSend, Replies}
+use Rattle.office_http.specs.declared.status.Status.{Status}
+use Rattle.office_plan.specs.declared.output.Io.{Io}
+use Rattle.office_wire.specs.Calling.{AnsweredAt, CalledAt}
+use Rattle.office_wire.specs.Connections.{IsVisited}
+use Rattle.office_wire.specs.Receiving.{IsAskedBy, IsReceived, IsStarved, Wanted, asked_for, cut}
+use Rattle.office_wire.specs.Serving.{AnswersNext, Breaks, GoneReplies, HasReply, InHalves, IsFailed, IsGoneReply, IsGoneServed, IsGoneToSend, IsNextReady, IsOneServed, IsReply, IsSent, IsServed, IsToSend, Replies, ServesOne, TellsUnavailable}
 use Rattle.office_wire.specs.declared.receiving.Asked.{Asked}
+use Rattle.office_wire.specs.declared.receiving.Received.TheVariants as received
+use Rattle.office_wire.specs.declared.receiving.ReceiveStop.TheVariants as stop
 use Rattle.office_wire.specs.declared.serving.Sending.{Sending}
+use Rattle.office_wire.proofs.AnyAnswer.{served_leaves}
+use Rattle.office_wire.proofs.Calls.{answered, called, not_answered}
 
 pub some_more : {A : Type 0} (o : Option A) (P Q : A → Type 0) → IfSome o P → ((a : A) → P a → Q a) → IfSome o Q
 some_more None P Q it more = tt
@@ -43,7 +52,143 @@ starved_gone bytes unread h rest is_head (Some it) request same failed =
     inl (asks h rest, request, (failed.1 ∙ same, inr failed.0))
 
 -- what was to be written is written
-pub sent_reply : {S : Type 0} (g : Ghosts S) (t : State) (bytes : List ℕ) (unread : Type 0) (it : Option Sending) (status : ℕ) (written after : Option (List ℕ)) (desk : DeskState S)
+sent_reply : {S : Type 0} (g : Ghosts S) (t : State) (bytes : List ℕ) (unread : Type 0) (it : Option Sending) (status : ℕ) (written after : Option (List ℕ)) (desk : DeskState S)
     → IsToSend g t bytes unread it desk → IsSent it status written after → Replies g t bytes unread status written after desk
 sent_reply g t bytes unread None status written after desk asked sent = inl (asked.0, sent.0, sent.1, asked.1)
 sent_reply g t bytes unread (Some it) status written after desk asked sent = inr (it.is_head, response it.reply, asked, sent)
+
+sent_gone : (bytes : List ℕ) (unread : Type 0) (it : Option Sending) (status : ℕ) (written after : Option (List ℕ)) → IsGoneToSend bytes unread it → IsSent it status written after → GoneReplies bytes unread status written after
+sent_gone bytes unread None status written after asked sent = inl (asked, sent.0, sent.1)
+sent_gone bytes unread (Some it) status written after asked sent = inr (it.is_head, response it.reply, asked, sent)
+
+sent_unavailable : (it : Option Sending) (status : ℕ) (written after : Option (List ℕ)) → TellsUnavailable it → IsSent it status written after → status ≡ 503
+sent_unavailable None status written after told sent = absurd told
+sent_unavailable (Some it) status written after told sent = sent.1 ∙ ap (λ (s : Status). status_number s) told
+
+-- ---- the half before it
+
+module _ {S : Type 0} (g : Ghosts S) (all : Option (List ℕ)) (unread : Type 0) where
+  -- nothing was asked of the desk, and this is to be written
+  unasked : (desk : DeskState S) (next : Option Sending) (Came : List ℕ → Type 0) → IfSome all Came → ((t : State) (bytes : List ℕ) → StandsAt g t desk → Came bytes → IsToSend g t bytes unread next desk)
+      → ((bytes : List ℕ) → Came bytes → IsGoneToSend bytes unread next)
+      → AnsweredAt g desk desk (λ t. IsNextReady g t all unread (Ok next) desk) (IfSome all (λ bytes. IsGoneToSend bytes unread next)) (TellsUnavailable next)
+  unasked desk next Came came to gone =
+      not_answered g desk (λ t. IsNextReady g t all unread (Ok next) desk) (IfSome all (λ bytes. IsGoneToSend bytes unread next)) (TellsUnavailable next)
+      (λ t at. record { ok = some_more all Came (λ bytes. IsToSend g t bytes unread next desk) came (λ bytes it. to t bytes at it); leaves = (cut, inl at) })
+      (some_more all Came (λ bytes. IsGoneToSend bytes unread next) came gone)
+
+  pub silent_next : (desk : DeskState S) → IfSome all (λ bytes. IsReceived received.Nothing bytes)
+      → AnsweredAt g desk desk (λ t. IsNextReady g t all unread (Ok None) desk) (IfSome all (λ bytes. IsGoneToSend bytes unread None)) (TellsUnavailable None)
+  silent_next desk came = unasked desk None (λ bytes. IsReceived received.Nothing bytes) came (λ t bytes at it. (it, at)) (λ bytes it. it)
+
+  headless_to : (t : State) (desk : DeskState S) (next : Option Sending) (bytes : List ℕ) → IsFailed failure.Head false next → StandsAt g t desk → IsRequest headless bytes → IsToSend g t bytes unread next desk
+  headless_to t desk None bytes failed at it = absurd failed
+  headless_to t desk (Some sent) bytes failed at it = inl (headless, it, (failed.1, failed.0, at))
+
+  headless_gone : (next : Option Sending) (bytes : List ℕ) → IsFailed failure.Head false next → IsRequest headless bytes → IsGoneToSend bytes unread next
+  headless_gone None bytes failed it = absurd failed
+  headless_gone (Some sent) bytes failed it = inl (headless, it, (failed.1, failed.0))
+
+  pub headless_next : (desk : DeskState S) (next : Option Sending) → IsFailed failure.Head false next → IfSome all (λ bytes. IsReceived received.Headless bytes)
+      → AnsweredAt g desk desk (λ t. IsNextReady g t all unread (Ok next) desk) (IfSome all (λ bytes. IsGoneToSend bytes unread next)) (TellsUnavailable next)
+  headless_next desk next failed came =
+      unasked desk next (λ bytes. IsReceived received.Headless bytes) came (λ t bytes at it. headless_to t desk next bytes failed at it) (λ bytes it. headless_gone next bytes failed it)
+
+  unread_to : (t : State) (desk : DeskState S) (next : Option Sending) (bytes : List ℕ) → unread → IsFailed failure.Memory false next → StandsAt g t desk → IsToSend g t bytes unread next desk
+  unread_to t desk None bytes is failed at = absurd failed
+  unread_to t desk (Some sent) bytes is failed at = inr (is, failed.1, failed.0, at)
+
+  unread_gone : (next : Option Sending) (bytes : List ℕ) → unread → IsFailed failure.Memory false next → IsGoneToSend bytes unread next
+  unread_gone None bytes is failed = absurd failed
+  unread_gone (Some sent) bytes is failed = inr (is, failed.1, failed.0)
+
+  -- memory was wanting before a byte was read
+  pub unread_next : (desk : DeskState S) (next : Option Sending) → unread → IsFailed failure.Memory false next → IfSome all (λ bytes. IsStarved stop.Memory bytes)
+      → AnsweredAt g desk desk (λ t. IsNextReady g t all unread (Ok next) desk) (IfSome all (λ bytes. IsGoneToSend bytes unread next)) (TellsUnavailable next)
+  unread_next desk next is failed came =
+      unasked desk next (λ bytes. IsStarved stop.Memory bytes) came (λ t bytes at it. unread_to t desk next bytes is failed at) (λ bytes it. unread_gone next bytes is failed)
+
+  -- or after the head
+  pub starved_next : (desk : DeskState S) (is_head : Bool) (next : Option Sending) → IsFailed failure.Memory is_head next → IfSome all (λ bytes. IsStarved (stop.MemoryFor is_head) bytes)
+      → AnsweredAt g desk desk (λ t. IsNextReady g t all unread (Ok next) desk) (IfSome all (λ bytes. IsGoneToSend bytes unread next)) (TellsUnavailable next)
+  starved_next desk is_head next failed came =
+      unasked desk next (λ bytes. IsStarved (stop.MemoryFor is_head) bytes) came
+      (λ t bytes at it. starved_reply g t bytes unread it.0 it.1 is_head next desk it.2 it.3 failed at) (λ bytes it. starved_gone bytes unread it.0 it.1 is_head next it.2 it.3 failed)
+
+  -- a request was answered
+  pub asked_next : (old new : DeskState S) (asked : Asked) (sent : Sending) → IfSome all (λ bytes. IsReceived (received.Request asked) bytes) → sent.is_head ≡ asked.is_head → HasReply g (asked_for asked.asking) (response sent.reply) old new
+      → AnsweredAt g old new (λ t. IsNextReady g t all unread (Ok (Some sent)) new) (IfSome all (λ bytes. IsGoneToSend bytes unread (Some sent))) (TellsUnavailable (Some sent))
+  asked_next old new asked sent came same it =
+      let r = response sent.reply in
+      answered g old new (λ t. IsServed g t (asked_for asked.asking) r new) (λ t. IsNextReady g t all unread (Ok (Some sent)) new) _ _ _ _ it
+      (λ t served.
+      record {
+        ok = some_more all (λ bytes. IsReceived (received.Request asked) bytes) (λ bytes. IsToSend g t bytes unread (Some sent) new) came
+            (λ bytes is. asked_reply g t bytes unread is.0 is.1 asked sent.is_head r new is.2 is.3 same served);
+        leaves = (asked_for asked.asking, served_leaves g t (asked_for asked.asking) r new served);
+      })
+      (λ gone. some_more all (λ bytes. IsReceived (received.Request asked) bytes) (λ bytes. IsGoneToSend bytes unread (Some sent)) came
+      (λ bytes is. asked_gone bytes unread is.0 is.1 asked sent.is_head r is.2 is.3 same gone))
+      (λ told. told)
+
+  -- the reader failed
+  pub failed_next : (desk : DeskState S) (e : Io) → AnsweredAt g desk desk (λ t. IsNextReady g t all unread (Err e) desk) (Unit {0}) (Unit {0})
+  failed_next desk e = not_answered g desk (λ t. IsNextReady g t all unread (Err e) desk) (Unit {0}) (Unit {0}) (λ t at. record { ok = tt; leaves = (cut, inl at) }) tt
+
+-- ---- both halves
+
+module _ {R W S : Type 0} (g : Ghosts S) (all : R → Option (List ℕ)) (reader left : R) (contents : W → Option (List ℕ)) (writer after : W) (old new : DeskState S) where
+  pub one_failed : (e : Io) → AnswersNext g all reader left (Err e) old new → ServesOne g all reader left contents writer after (Err e) old new
+  one_failed e it =
+      answered g old new (λ t. IsNextReady g t (all reader) (left ≡ reader) (Err e) new) (λ t. IsOneServed g t (all reader) (left ≡ reader) (Err e) (contents writer) (contents after) new) _ _ _ _ it
+      (λ t next. record { ok = tt; leaves = next.leaves }) (λ gone. gone) (λ told. told)
+
+  pub one_sent : (it : Option Sending) (status : Result ℕ Io) → AnswersNext g all reader left (Ok it) old new → IfOk status (λ code. IsSent it code (contents writer) (contents after)) → ServesOne g all reader left contents writer after status old new
+  one_sent it status next sent =
+      let unread : Type 0 = left ≡ reader in
+      answered g old new (λ t. IsNextReady g t (all reader) unread (Ok it) new) (λ t. IsOneServed g t (all reader) unread status (contents writer) (contents after) new) _ _ _ _ next
+      (λ t ready.
+      record {
+        ok = IfOk-weaker status _ _
+            (λ code is. some_more (all reader) (λ bytes. IsToSend g t bytes unread it new) (λ bytes. Replies g t bytes unread code (contents writer) (contents after) new) ready.ok
+            (λ bytes asked. sent_reply g t bytes unread it code (contents writer) (contents after) new asked is)) sent;
+        leaves = ready.leaves;
+      })
+      (λ gone. IfOk-weaker status _ _
+      (λ code is. some_more (all reader) (λ bytes. IsGoneToSend bytes unread it) (λ bytes. GoneReplies bytes unread code (contents writer) (contents after)) gone
+      (λ bytes asked. sent_gone bytes unread it code (contents writer) (contents after) asked is)) sent)
+      (λ told. IfOk-weaker status _ _ (λ code is. sent_unavailable it code (contents writer) (contents after) told is) sent)
+
+  undone : (bytes : Option (List ℕ)) (P : List ℕ → Type 0) → new ≡ old → after ≡ writer → IfSome bytes (λ it. ((new ≡ old) × (after ≡ writer)) ⊎ P it)
+  undone None P same untouched = tt
+  undone (Some it) P same untouched = inl (same, untouched)
+
+  broken : (bytes : Option (List ℕ)) (it : Option Sending) → IsSome it → CalledAt g old new (λ t. IsNextReady g t bytes (left ≡ reader) (Ok it) new)
+      → IfSome bytes (λ b. ((new ≡ old) × (after ≡ writer)) ⊎ CalledAt g old new (λ t. Breaks g t b (left ≡ reader) new))
+  broken None it some first = tt
+  broken (Some b) None some first = absurd (let wrong = some in cc)
+  broken (Some b) (Some sent) some first =
+      inr (called g old new (λ t. IsNextReady g t (Some b) (left ≡ reader) (Ok (Some sent)) new) (λ t. Breaks g t b (left ≡ reader) new) first (λ t ready. (sent.is_head, response sent.reply, ready.ok)))
+
+  pub halves_failed : (e : Io) → AnswersNext g all reader left (Err e) old new → new ≡ old → after ≡ writer → InHalves g all reader left contents writer after (Err e) old new
+  halves_failed e next same untouched =
+      record {
+        next = Err e;
+        first = next;
+        unserved = (refl, same, untouched);
+        second = tt;
+        err = undone (all reader) (λ bytes. CalledAt g old new (λ t. Breaks g t bytes (left ≡ reader) new)) same untouched;
+      }
+
+  pub halves_sent : (it : Option Sending) (status : Result ℕ Io) → AnswersNext g all reader left (Ok it) old new → IfOk status (λ code. IsSent it code (contents writer) (contents after)) → OnErr status (IsSome it)
+      → InHalves g all reader left contents writer after status old new
+  halves_sent it (Ok code) next sent some = record { next = Ok it; first = next; unserved = tt; second = (sent, tt); err = tt }
+  halves_sent it (Err e) next sent some = record { next = Ok it; first = next; unserved = tt; second = (tt, some); err = broken (all reader) it some next.call }
+
+  -- a request was served
+  pub visited : (status : Result ℕ Io) → ServesOne g all reader left contents writer after status old new → IsVisited g status old new
+  visited status it = answered g old new _ _ _ _ _ _ it (λ t one. one.leaves) (λ gone. tt) (λ told. told)
+
+  -- and its answer was not flushed
+  pub unflushed : (status : Result ℕ Io) (e : Io) → ServesOne g all reader left contents writer after status old new → IsVisited g (Err e) old new
+  unflushed status e it = answered g old new _ _ _ _ _ _ it (λ t one. one.leaves) (λ gone. tt) (λ told. tt)

@@ -1,6 +1,6 @@
 -- What is answered to what is asked of the office, and where the desk stands then. Source: own.
 use Rattle.std.specs.FinMap.{get}
-use Rattle.std.specs.Prelude.{◌≡◌, ◌≢◌, ◌⊎◌, ◌+◌, ◌<◌, ◌≤◌, ℕ, ℤ, suc, IsTrue, List, [], length, map, take, Option, Some, None, Result, Ok, Err}
+use Rattle.std.specs.Prelude.{◌≡◌, ◌≢◌, ◌⊎◌, ◌+◌, ◌≤◌, ℕ, ℤ, suc, IfOk, IsTrue, List, MatchResult, [], length, map, take, Option, Some, None, Result, Ok, Err}
 use Rattle.sqlite.specs.Held.{state}
 use Rattle.sqlite_trees.specs.declared.store.Store.{Ghosts}
 use Rattle.office_days.specs.declared.refusal.Refusal.TheVariants as refusal
@@ -11,6 +11,7 @@ use Rattle.office_rules.specs.Runs.{IsMidway, after_steps, open_run, whole}
 use Rattle.office_rules.specs.State.{Office, State}
 use Rattle.office_rules.specs.declared.act.Act.{Act}
 use Rattle.office_rules.specs.declared.answer.Answer.TheVariants.{Refused, RunClosed}
+use Rattle.office_tree.specs.declared.memory.Memory.{Memory}
 use Rattle.office_store.specs.Stands.{LeavesOffices}
 use Rattle.office_store.specs.declared.fault.Fault.{Fault}
 use Rattle.office_store.specs.declared.fault.Fault.TheVariants as fault
@@ -21,10 +22,12 @@ use Rattle.office_desk.specs.Leaving.{IsContentTold, IsOtherContent, LeavesOne, 
 use Rattle.office_desk.specs.Resuming.{LeavesMidway}
 use Rattle.office_json.specs.Acts.{Asked, asked}
 use Rattle.office_json.specs.Lists.{NoActs, not_json, bad_act, acts_in}
-use Rattle.office_http.specs.Replies.{Response, check_response, failure_response}
+use Rattle.office_http.specs.Replies.{Response, check_response, failure_response, response}
 use Rattle.office_http.specs.declared.failure.Failure.{Failure}
 use Rattle.office_http.specs.declared.failure.Failure.TheVariants as failure
+use Rattle.office_http.specs.declared.reply.Reply.{Reply}
 use Rattle.office_http.specs.declared.status.Status.TheVariants as status
+use Rattle.office_wire.specs.Calling.{AnsweredAt}
 use Rattle.office_wire.specs.declared.answering.Told.{Told}
 use Rattle.office_wire.specs.Receiving.{Wanted, refused, cut, acts, resumption, record_told, content_told, due_told, overdue_told, certificate_told}
 use Rattle.office_wire.specs.Replies.{acts_response, answer_response, bad_act_response, certificate_response, content_response, due_response, fault_response, overdue_response, record_response, stopped_response}
@@ -193,3 +196,33 @@ IsUnavailable r = r.status ≡ status.ServiceUnavailable
 -- memory was wanting for its answer: nothing was done, or it was served and no answer given
 abbrev pub Starves : {S : Type 0} → Ghosts S → State → Wanted → DeskState S → Type 0
 Starves g t wanted desk = StandsAt g t desk ⊎ Serves (λ told. Unit {0}) g t wanted desk
+
+-- ---- calls at a desk
+
+-- the answer that was given; any where memory was wanting for it
+abbrev pub IsGiven : Result Reply Memory → Response → Type 0
+IsGiven given it = IfOk given (λ reply. response reply ≡ it)
+
+-- the answer that was given tells a fault, or want of memory
+abbrev pub IsGivenUnavailable : Result Reply Memory → Type 0
+IsGivenUnavailable given = IfOk given (λ reply. IsUnavailable (response reply))
+
+-- acts were done and answered
+abbrev pub ArePerformedBy : {S : Type 0} → Ghosts S → List Act → Result Reply Memory → DeskState S → DeskState S → Type 0
+ArePerformedBy g done given old new =
+    AnsweredAt g old new (λ t. ArePerformed (IsGiven given) g t done new) (IsGiven given (stopped_response [] fault.Reopen)) (IsGivenUnavailable given)
+
+-- what is wanted was done and answered
+abbrev pub IsPerformed : {S : Type 0} → Ghosts S → Wanted → Result Reply Memory → DeskState S → DeskState S → Type 0
+IsPerformed g wanted given old new = AnsweredAt g old new (λ t. Serves (IsGiven given) g t wanted new) (IsGiven given (gone_response wanted)) (IsGivenUnavailable given)
+
+-- where memory was wanting for the answer, perhaps it was not done
+abbrev pub IsAnswered : {S : Type 0} → Ghosts S → Wanted → Result Reply Memory → DeskState S → DeskState S → Type 0
+IsAnswered g wanted given old new =
+    AnsweredAt g old new (λ t. MatchResult given (λ reply. Answers g t wanted (response reply) new) (λ _. Starves g t wanted new))
+    (IsGiven given (gone_response wanted)) (IsGivenUnavailable given)
+
+-- what is wanted was read of a desk, which stays as it is, and answered
+pub record IsRead {S : Type 0} (g : Ghosts S) (wanted : Wanted) (given : Result Reply Memory) (desk : DeskState S) : Type 0 where
+  pub ok : (t : State) → StandsAt g t desk → IfOk given (λ reply. Answers g t wanted (response reply) desk)
+  pub gone : IsTrue desk.is_given_up → IsGiven given (gone_response wanted)

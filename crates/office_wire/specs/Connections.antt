@@ -1,13 +1,12 @@
 -- Connections that are served one after another. Source: own.
-use Rattle.std.specs.Prelude.{◌≡◌, ◌≢◌, ◌⊎◌, ℕ, zero, suc, IfOk, IsTrue, Bool, true, false, ◌||◌, Result, Ok, Err}
-use Rattle.sqlite.specs.Held.{state}
-use Rattle.sqlite.specs.State.{HasCleanDisk}
+use Rattle.std.specs.Prelude.{◌≡◌, ◌≢◌, ◌⊎◌, ◌≤◌, ℕ, zero, suc, IfOk, Bool, true, false, ◌||◌, Result, Ok, Err}
 use Rattle.sqlite_trees.specs.declared.store.Store.{Ghosts}
 use Rattle.office_plan.specs.declared.output.Io.{Io}
-use Rattle.office_rules.specs.State.{State}
 use Rattle.office_desk.specs.Desk.{DeskState}
 use Rattle.office_desk.specs.Leaving.{StandsAt}
+use Rattle.office_wire.specs.Calling.{AnsweredAt}
 use Rattle.office_wire.specs.Serving.{LeavesServed}
+use Rattle.office_wire.specs.declared.connections.Service.{Service}
 
 -- a connection failed: it was not accepted, or not read or written
 abbrev pub has_failed : Result ℕ Io → Bool
@@ -15,17 +14,12 @@ has_failed (Ok status) = false
 has_failed (Err e) = true
 
 -- one request was served, whatever it was
-pub record IsVisited {S : Type 0} (g : Ghosts S) (status : Result ℕ Io) (old new : DeskState S) : Type 0 where
-  pub clean : HasCleanDisk (state g new.held) → HasCleanDisk (state g old.held)
-  pub leaves : (t : State) → HasCleanDisk (state g new.held) → StandsAt g t old → LeavesServed g t new
-  pub gone : IsTrue old.is_given_up → new ≡ old
-  pub told : old.is_given_up ≡ false → IsTrue new.is_given_up → IfOk status (λ code. code ≡ 503)
+abbrev pub IsVisited : {S : Type 0} → Ghosts S → Result ℕ Io → DeskState S → DeskState S → Type 0
+IsVisited g status old new = AnsweredAt g old new (λ t. LeavesServed g t new) (Unit {0}) (IfOk status (λ code. code ≡ 503))
 
 -- a desk was at most asked whether it was given up, by a list of no acts
-pub record IsKept {S : Type 0} (g : Ghosts S) (old new : DeskState S) : Type 0 where
-  pub clean : HasCleanDisk (state g new.held) → HasCleanDisk (state g old.held)
-  pub stands : (t : State) → HasCleanDisk (state g new.held) → StandsAt g t old → StandsAt g t new
-  pub gone : IsTrue old.is_given_up → new ≡ old
+abbrev pub IsKept : {S : Type 0} → Ghosts S → DeskState S → DeskState S → Type 0
+IsKept g old new = AnsweredAt g old new (λ t. StandsAt g t new) (Unit {0}) (Unit {0})
 
 -- one connection: it failed before the desk heard of it, or a request was served
 abbrev pub Turn : {S : Type 0} → Ghosts S → Result ℕ Io → DeskState S → DeskState S → Type 0
@@ -43,3 +37,9 @@ Turns {S} g (suc n) failed ended old new =
     (m : DeskState S) × (after : DeskState S) × (earlier : Bool) × (status : Result ℕ Io)
     × Turns g n earlier false old m × Turn g status m after × Ends status after.is_given_up ended × IsKept g after new
     × (failed ≡ (earlier || has_failed status))
+
+-- connections were served, as many as the count, and fewer only where the desk was given up
+pub record ServesAll {S : Type 0} (g : Ghosts S) (count : ℕ) (service : Service) (old new : DeskState S) : Type 0 where
+  pub turns : Turns g service.connections service.has_failed service.is_given_up old new
+  pub most : service.connections ≤ count
+  pub all : service.is_given_up ≡ false → service.connections ≡ count

@@ -1,7 +1,8 @@
 -- Records that are added by the rows of a text of CSV. Source: own; the text is that of RFC 4180.
-use Rattle.std.specs.Prelude.{◌≡◌, ◌≢◌, ◌⊎◌, ◌+◌, ℕ, ℤ, Bool, true, false, List, [], ◌∷◌, ◌++◌, codes, length, take, Option, Result, Ok, Err}
+use Rattle.std.specs.Prelude.{◌≡◌, ◌≢◌, ◌⊎◌, ◌+◌, ℕ, ℤ, Bool, true, false, IsTrue, List, MatchResult, [], ◌∷◌, ◌++◌, codes, length, option_map, Option, Result, Ok, Err}
 use Rattle.std.specs.Fmt.{decimal}
 use Rattle.std.specs.Io.KnownBytes.{Appends}
+use Rattle.csv.specs.Reading.{strip_bom}
 use Rattle.csv.specs.declared.parser.State.{State as Reading}
 use Rattle.csv.specs.declared.parser.State.TheVariants.{StartRecord}
 use Rattle.sqlite.specs.Held.{state}
@@ -23,6 +24,7 @@ use Rattle.office_csv.specs.ImportRows.{Fields, fields_in, record_asked}
 use Rattle.office_csv.specs.ImportText.{AreAtFront, HeadsText, IsBadNext, IsEnded, LacksHeader}
 use Rattle.office_csv.specs.declared.reading.RowStop.{RowStop}
 use Rattle.office_csv.specs.declared.reading.RowStop.TheVariants as row_stop
+use Rattle.office_wire.specs.Calling.{CalledAt}
 use Rattle.office_wire.specs.declared.importing.ImportStop.{ImportStop}
 use Rattle.office_wire.specs.declared.importing.ImportStop.TheVariants as stop
 
@@ -49,6 +51,14 @@ abbrev pub IsRowStopped : {S : Type 0} → Ghosts S → ℤ → State → Fields
 IsRowStopped g day s row f desk =
     ((f ≡ fault.Memory) × StandsAt g s desk)
     ⊎ ((new : AskedRecord) × (act : Act) × (record_asked row ≡ Ok new) × IsAdding day new act × IsActStopped g s act f desk)
+
+-- an act was done and answered, or stopped
+abbrev pub EndsAct : {S : Type 0} → Ghosts S → State → Act → Result Answer Fault → DeskState S → Type 0
+EndsAct g s act ended desk = MatchResult ended (λ answer. (answer ≡ (step s act).0) × StandsAt g (step s act).1 desk) (λ f. IsActStopped g s act f desk)
+
+-- a row was answered, or stopped
+abbrev pub EndsRow : {S : Type 0} → Ghosts S → ℤ → State → Fields → Result Answer Fault → DeskState S → Type 0
+EndsRow g day s row ended desk = MatchResult ended (λ answer. (t : State) × IsRowDone day s row answer t × StandsAt g t desk) (λ f. IsRowStopped g day s row f desk)
 
 -- what stopped a row of seven fields: a fault, or its line could not be written
 abbrev pub DoStops : {S : Type 0} → Ghosts S → ℤ → State → Fields → ImportStop → DeskState S → Option (List ℕ) → Option (List ℕ) → Type 0
@@ -94,6 +104,20 @@ is_refusal (kind.RunClosed n) = false
 abbrev pub one_if : Bool → ℕ
 one_if true = 1
 one_if false = 0
+
+-- a row was answered and its line written; whether it was refused
+abbrev pub IsRowWritten : {S : Type 0} → Ghosts S → ℤ → State → ℕ → Fields → Bool → DeskState S → Option (List ℕ) → Option (List ℕ) → Type 0
+IsRowWritten g day s number row refused desk old new =
+    (answer : Answer) × (t : State) × IsRowDone day s row answer t × StandsAt g t desk × Appends old new (line_of number answer) × (refused ≡ is_refusal answer)
+
+-- that, or what stopped it
+abbrev pub EndsLine : {S : Type 0} → Ghosts S → ℤ → State → ℕ → Fields → Result Bool ImportStop → DeskState S → Option (List ℕ) → Option (List ℕ) → Type 0
+EndsLine g day s number row ended desk old new = MatchResult ended (λ refused. IsRowWritten g day s number row refused desk old new) (λ why. DoStops g day s row why desk old new)
+
+-- the same of a row of any number of fields
+abbrev pub EndsTaking : {S : Type 0} → Ghosts S → ℤ → State → ℕ → List (List ℕ) → Result Bool ImportStop → DeskState S → Option (List ℕ) → Option (List ℕ) → Type 0
+EndsTaking g day s number fields ended desk old new =
+    MatchResult ended (λ refused. (row : Fields) × (fields ≡ fields_in row) × IsRowWritten g day s number row refused desk old new) (λ why. TakeStops g day s number fields why desk old new)
 
 -- how many answers are refusals
 abbrev pub refused_count : List Answer → ℕ
@@ -168,6 +192,10 @@ RowsStop g day s headed behind (stop.Row number) desk old new = RowsStopAtRow g 
 RowsStop g day s headed behind (stop.Fault f) desk old new = RowsStopAtFault g day s headed behind f desk old new
 RowsStop g day s headed behind stop.Io desk old new = RowsStopAtIo g day s headed behind desk
 
+-- all of them were done, or what stopped them
+abbrev pub EndsRows : {S : Type 0} → Ghosts S → ℤ → State → Reading → Option (List ℕ) → Result ℕ ImportStop → DeskState S → Option (List ℕ) → Option (List ℕ) → Type 0
+EndsRows g day s headed behind ended desk old new = MatchResult ended (λ refused. RowsImport g day s headed behind refused desk old new) (λ why. RowsStop g day s headed behind why desk old new)
+
 -- why an import stops where no row was read in a place
 abbrev pub stop_at : RowStop → ℕ → ImportStop
 stop_at row_stop.NotText number = stop.Row number
@@ -202,3 +230,12 @@ Stops g day s text stop.Header desk old new = LacksHeader StartRecord text × St
 Stops g day s text (stop.Row number) desk old new = StopsAtRow g day s text number desk old new
 Stops g day s text (stop.Fault f) desk old new = StopsAtFault g day s text f desk old new
 Stops g day s text stop.Io desk old new = StopsAtIo g day s text desk
+
+-- all rows were done, or what stopped it
+abbrev pub EndsImport : {S : Type 0} → Ghosts S → ℤ → State → Option (List ℕ) → Result ℕ ImportStop → DeskState S → Option (List ℕ) → Option (List ℕ) → Type 0
+EndsImport g day s text ended desk old new = MatchResult ended (λ refused. Imports g day s text refused desk old new) (λ why. Stops g day s text why desk old new)
+
+-- the records of a text were added at a desk; a byte order mark at its start is passed over, and a desk that was given up stays as it was
+pub record ImportsText {S W : Type 0} (g : Ghosts S) (day : ℤ) (text : Option (List ℕ)) (contents : W → Option (List ℕ)) (out after : W) (ended : Result ℕ ImportStop) (old new : DeskState S) : Type 0 where
+  pub call : CalledAt g old new (λ s. EndsImport g day s (option_map strip_bom text) ended new (contents out) (contents after))
+  pub gone : IsTrue old.is_given_up → (ended ≡ Err (stop.Fault fault.Reopen)) × (new ≡ old) × (after ≡ out)

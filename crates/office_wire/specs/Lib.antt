@@ -1,5 +1,7 @@
 pub mod Answering
+pub mod Calling
 pub mod Connections
+pub mod Exporting
 pub mod Importing
 pub mod Receiving
 pub mod Replies

@@ -1,5 +1,5 @@
 -- What a connection asks for, by all its bytes. Source: RFC 9112 for the request, as `office_http` reads it; the rest is own.
-use Rattle.std.specs.Prelude.{◌≡◌, ℕ, ℤ, List, length, take, nat_lt, if◌then◌else◌, Option}
+use Rattle.std.specs.Prelude.{◌≡◌, ℕ, ℤ, List, MatchResult, length, take, nat_lt, if◌then◌else◌, Option, Result}
 use Rattle.httparse.specs.Grammar.{RequestHead}
 use Rattle.office_http.specs.Plans.{is_head_method, plan_at}
 use Rattle.office_http.specs.Requests.{IsRequest, nothing, headless, asks}
@@ -85,3 +85,7 @@ abbrev pub IsStarved : ReceiveStop → List ℕ → Type 0
 IsStarved stop.Io bytes = Unit {0}
 IsStarved stop.Memory bytes = Unit {0}
 IsStarved (stop.MemoryFor is_head) bytes = (h : RequestHead) × (rest : List ℕ) × IsRequest (asks h rest) bytes × (is_head ≡ is_head_method h.method)
+
+-- what came of all bytes: what was received, or why nothing was
+abbrev pub Receives : Result Received ReceiveStop → List ℕ → Type 0
+Receives came bytes = MatchResult came (λ it. IsReceived it bytes) (λ why. IsStarved why bytes)

@@ -1,8 +1,6 @@
 -- One request and its answer. Source: own; requests and the form of answers are those of RFC 9112.
-use Rattle.std.specs.Prelude.{◌≡◌, ◌⊎◌, ℕ, Bool, false, List, IfOk, IfSome, IsSome, OnErr, Option, Some, None, Result, Ok, Err}
+use Rattle.std.specs.Prelude.{◌≡◌, ◌⊎◌, ℕ, Bool, false, List, IfErr, IfOk, IfSome, IsSome, OnErr, Option, Some, None, Result, Err}
 use Rattle.std.specs.Io.KnownBytes.{Appends}
-use Rattle.sqlite.specs.Held.{state}
-use Rattle.sqlite.specs.State.{HasCleanDisk}
 use Rattle.sqlite_trees.specs.declared.store.Store.{Ghosts}
 use Rattle.office_plan.specs.declared.output.Io.{Io}
 use Rattle.office_rules.specs.State.{State}
@@ -15,6 +13,7 @@ use Rattle.office_http.specs.Replies.{Response, response, failure_response, resp
 use Rattle.office_http.specs.Requests.{Request, IsRequest, nothing, headless, asks}
 use Rattle.office_http.specs.declared.failure.Failure.TheVariants as failure
 use Rattle.office_wire.specs.Answering.{Answers, IsUnavailable, Starves, gone_response}
+use Rattle.office_wire.specs.Calling.{AnsweredAt, CalledAt}
 use Rattle.office_wire.specs.Receiving.{Wanted, wanted}
 
 -- an answer is written, to HEAD its head alone, and the status is its
@@ -107,10 +106,42 @@ abbrev pub IsSent : Option Sending → ℕ → Option (List ℕ) → Option (Lis
 IsSent None status written after = (status ≡ 0) × (after ≡ written)
 IsSent (Some it) status written after = Writes it.is_head (response it.reply) status written after
 
--- a request is served in two halves: where the first fails, nothing was done and nothing written; else it gives what is to be written, for which the desk stands already, and the second writes that or fails
-abbrev pub IsInHalves : {S : Type 0} → Ghosts S → Option (List ℕ) → (unread untouched : Type 0) → Result (Option Sending) Io → Result ℕ Io → Option (List ℕ) → Option (List ℕ) → DeskState S → DeskState S → Type 0
-IsInHalves g all unread untouched (Err e) status written after old new = (status ≡ Err e) × (new ≡ old) × untouched
-IsInHalves g all unread untouched (Ok it) status written after old new =
-    IfSome all (λ bytes. (t : State) → HasCleanDisk (state g new.held) → StandsAt g t old → IsToSend g t bytes unread it new)
-    × IfOk status (λ code. IsSent it code written after)
-    × OnErr status (IsSome it)
+-- ---- calls at a desk
+
+-- what is wanted was done, and this is the answer
+abbrev pub HasReply : {S : Type 0} → Ghosts S → Wanted → Response → DeskState S → DeskState S → Type 0
+HasReply g wanted r old new = AnsweredAt g old new (λ t. IsServed g t wanted r new) (IsGoneServed wanted r) (IsUnavailable r)
+
+-- from a state: where the reader tells its bytes, what is to be written is the answer to all of them; and the desk stands where serving may leave it
+pub record IsNextReady {S : Type 0} (g : Ghosts S) (t : State) (all : Option (List ℕ)) (unread : Type 0) (next : Result (Option Sending) Io) (desk : DeskState S) : Type 0 where
+  pub ok : IfOk next (λ it. IfSome all (λ bytes. IsToSend g t bytes unread it desk))
+  pub leaves : LeavesServed g t desk
+
+-- the half of serving before a byte is written; at 503 alone the desk may be given up by it
+abbrev pub AnswersNext : {R S : Type 0} → Ghosts S → (R → Option (List ℕ)) → (reader left : R) → Result (Option Sending) Io → (old new : DeskState S) → Type 0
+AnswersNext g all reader left next old new =
+    AnsweredAt g old new (λ t. IsNextReady g t (all reader) (left ≡ reader) next new)
+    (IfOk next (λ it. IfSome (all reader) (λ bytes. IsGoneToSend bytes (left ≡ reader) it))) (IfOk next (λ it. TellsUnavailable it))
+
+-- from a state: where the reader tells its bytes, the answer to all of them was written; and the desk stands where serving may leave it
+pub record IsOneServed {S : Type 0} (g : Ghosts S) (t : State) (all : Option (List ℕ)) (unread : Type 0) (status : Result ℕ Io) (written after : Option (List ℕ)) (desk : DeskState S) : Type 0 where
+  pub ok : IfOk status (λ code. IfSome all (λ bytes. Replies g t bytes unread code written after desk))
+  pub leaves : LeavesServed g t desk
+
+-- one request was served; at 503 alone the desk may be given up by it
+abbrev pub ServesOne : {R W S : Type 0} → Ghosts S → (R → Option (List ℕ)) → (reader left : R) → (W → Option (List ℕ)) → (writer after : W) → Result ℕ Io → (old new : DeskState S) → Type 0
+ServesOne g all reader left contents writer after status old new =
+    AnsweredAt g old new (λ t. IsOneServed g t (all reader) (left ≡ reader) status (contents writer) (contents after) new)
+    (IfOk status (λ code. IfSome (all reader) (λ bytes. GoneReplies bytes (left ≡ reader) code (contents writer) (contents after)))) (IfOk status (λ code. code ≡ 503))
+
+-- and it was served in two halves
+pub record InHalves {R W S : Type 0} (g : Ghosts S) (all : R → Option (List ℕ)) (reader left : R) (contents : W → Option (List ℕ)) (writer after : W) (status : Result ℕ Io) (old new : DeskState S) : Type 0 where
+  -- the first gives what is to be written, for which the desk stands already
+  pub next : Result (Option Sending) Io
+  pub first : AnswersNext g all reader left next old new
+  -- where it fails, nothing was done and nothing written
+  pub unserved : IfErr next (λ e. (status ≡ Err e) × (new ≡ old) × (after ≡ writer))
+  -- the second writes that, or fails
+  pub second : IfOk next (λ it. IfOk status (λ code. IsSent it code (contents writer) (contents after)) × OnErr status (IsSome it))
+  -- so at an error nothing was done and nothing written, or the desk stands as if the answer had been written
+  pub err : OnErr status (IfSome (all reader) (λ bytes. ((new ≡ old) × (after ≡ writer)) ⊎ CalledAt g old new (λ t. Breaks g t bytes (left ≡ reader) new)))

@@ -1,16 +1,9 @@
 //! What is asked is done at the desk, and answered.
 ghost use Rattle.std.specs.FinMap.{get};
-ghost use Rattle.std.specs.Prelude.{◌≡◌, ◌⊎◌, IfErr, IfOk, IsTrue, [], OnErr, false, option_map, string_bytes};
-ghost use Rattle.sqlite.specs.Held.{state};
-ghost use Rattle.sqlite.specs.State.{HasCleanDisk};
+ghost use Rattle.std.specs.Prelude.{◌≡◌, ◌⊎◌, IfErr, IfOk, IsTrue, false, option_map, string_bytes};
 ghost use Rattle.office_rules.specs.Readings.{ending_entry, record_view};
-ghost use Rattle.office_rules.specs.State.{State};
-ghost use Rattle.office_desk.specs.Leaving.{StandsAt};
-ghost use Rattle.office_json.specs.Lists.{acts_in};
-ghost use Rattle.office_http.specs.Replies.{response};
-ghost use Rattle.office_wire.specs.Answering.{Answers, ArePerformed, IsToldOf, IsUnavailable, PerformsAsked, Resumes, Starves, TellsCertificate, TellsContent, TellsDue, TellsOverdue, TellsRecord, gone_acts, gone_overdue, gone_reading, gone_response};
-ghost use Rattle.office_wire.specs.Replies.{fault_response, stopped_response};
-ghost use Rattle.office_wire.specs.Receiving.{asked_for};
+ghost use Rattle.office_wire.specs.Answering.{ArePerformedBy, IsAnswered, IsPerformed, IsRead, IsToldOf};
+ghost use Rattle.office_wire.specs.Receiving.{acts, asked_for, certificate_told, content_told, due_told, overdue_told, record_told, resumption};
 
 use crate::receiving::Asking;
 use crate::replies::{
@@ -31,11 +24,7 @@ use std::alloc::Global;
 
 /// Does acts, and answers them.
 fn perform<S: Alter>(alloc: Global, desk: &mut Desk<S>, acts: &[Act]) -> Result<Reply, Memory>
-    ensures clean { HasCleanDisk (state S.Store desk.new.held) → HasCleanDisk (state S.Store desk.old.held) }
-    ensures ok { IfOk result (λ reply. (t : State) → HasCleanDisk (state S.Store desk.new.held) → StandsAt S.Store t desk.old → ArePerformed (λ told. response reply ≡ told) S.Store t acts.now desk.new) }
-    ensures err { OnErr result ((t : State) → HasCleanDisk (state S.Store desk.new.held) → StandsAt S.Store t desk.old → ArePerformed (λ told. Unit {0}) S.Store t acts.now desk.new) }
-    ensures gone { IsTrue desk.old.is_given_up → (desk.new ≡ desk.old) × IfOk result (λ reply. response reply ≡ stopped_response [] Fault.Reopen) }
-    ensures told { desk.old.is_given_up ≡ false → IsTrue desk.new.is_given_up → IfOk result (λ reply. IsUnavailable (response reply)) }
+    ensures { ArePerformedBy S.Store acts.now result desk.old desk.new }
 {
     let mut answers = Vec::new(alloc);
     match desk.perform_all(acts, &mut answers) {
@@ -46,11 +35,7 @@ fn perform<S: Alter>(alloc: Global, desk: &mut Desk<S>, acts: &[Act]) -> Result<
 
 /// Does the acts of a body, and answers them.
 fn perform_body<S: Alter>(alloc: Global, desk: &mut Desk<S>, body: &[u8]) -> Result<Reply, Memory>
-    ensures clean { HasCleanDisk (state S.Store desk.new.held) → HasCleanDisk (state S.Store desk.old.held) }
-    ensures ok { IfOk result (λ reply. (t : State) → HasCleanDisk (state S.Store desk.new.held) → StandsAt S.Store t desk.old → PerformsAsked (λ told. response reply ≡ told) S.Store t (acts_in body.now) desk.new) }
-    ensures err { OnErr result ((t : State) → HasCleanDisk (state S.Store desk.new.held) → StandsAt S.Store t desk.old → StandsAt S.Store t desk.new ⊎ PerformsAsked (λ told. Unit {0}) S.Store t (acts_in body.now) desk.new) }
-    ensures gone { IsTrue desk.old.is_given_up → (desk.new ≡ desk.old) × IfOk result (λ reply. response reply ≡ gone_acts (acts_in body.now)) }
-    ensures told { desk.old.is_given_up ≡ false → IsTrue desk.new.is_given_up → IfOk result (λ reply. IsUnavailable (response reply)) }
+    ensures { IsAnswered S.Store (acts body.now) result desk.old desk.new }
 {
     match read_acts(alloc, body) {
         Ok(acts) => perform(alloc, desk, acts.as_slice()),
@@ -62,11 +47,7 @@ fn perform_body<S: Alter>(alloc: Global, desk: &mut Desk<S>, body: &[u8]) -> Res
 
 /// Takes up the open run, and answers.
 fn resume<S: Alter>(alloc: Global, desk: &mut Desk<S>) -> Result<Reply, Memory>
-    ensures clean { HasCleanDisk (state S.Store desk.new.held) → HasCleanDisk (state S.Store desk.old.held) }
-    ensures ok { IfOk result (λ reply. (t : State) → HasCleanDisk (state S.Store desk.new.held) → StandsAt S.Store t desk.old → Resumes (λ told. response reply ≡ told) S.Store t desk.new) }
-    ensures err { OnErr result ((t : State) → HasCleanDisk (state S.Store desk.new.held) → StandsAt S.Store t desk.old → Resumes (λ told. Unit {0}) S.Store t desk.new) }
-    ensures gone { IsTrue desk.old.is_given_up → (desk.new ≡ desk.old) × IfOk result (λ reply. response reply ≡ fault_response Fault.Reopen) }
-    ensures told { desk.old.is_given_up ≡ false → IsTrue desk.new.is_given_up → IfOk result (λ reply. IsUnavailable (response reply)) }
+    ensures { IsPerformed S.Store resumption result desk.old desk.new }
 {
     law_of_resumption();
     match desk.resume() {
@@ -103,8 +84,7 @@ fn tell_record<S: Alter>(
     desk: &Desk<S>,
     number: Option<u32>,
 ) -> Result<Reply, Memory>
-    ensures ok { IfOk result (λ reply. (t : State) → StandsAt S.Store t desk.now → TellsRecord (λ told. response reply ≡ told) S.Store t number desk.now) }
-    ensures gone { IsTrue desk.now.is_given_up → IfOk result (λ reply. response reply ≡ gone_reading Failure.Record number) }
+    ensures { IsRead S.Store (record_told number) result desk.now }
 {
     let Some(record_no) = number else {
         return Ok(failure_reply(Failure::Record));
@@ -122,11 +102,7 @@ fn tell_content<S: Alter>(
     desk: &mut Desk<S>,
     number: Option<u32>,
 ) -> Result<Reply, Memory>
-    ensures clean { HasCleanDisk (state S.Store desk.new.held) → HasCleanDisk (state S.Store desk.old.held) }
-    ensures ok { IfOk result (λ reply. (t : State) → HasCleanDisk (state S.Store desk.new.held) → StandsAt S.Store t desk.old → TellsContent (λ told. response reply ≡ told) S.Store t number desk.new) }
-    ensures err { OnErr result ((t : State) → HasCleanDisk (state S.Store desk.new.held) → StandsAt S.Store t desk.old → TellsContent (λ told. Unit {0}) S.Store t number desk.new) }
-    ensures gone { IsTrue desk.old.is_given_up → (desk.new ≡ desk.old) × IfOk result (λ reply. response reply ≡ gone_reading Failure.Content number) }
-    ensures told { desk.old.is_given_up ≡ false → IsTrue desk.new.is_given_up → IfOk result (λ reply. IsUnavailable (response reply)) }
+    ensures { IsPerformed S.Store (content_told number) result desk.old desk.new }
 {
     let Some(record_no) = number else {
         return Ok(failure_reply(Failure::Content));
@@ -139,8 +115,7 @@ fn tell_content<S: Alter>(
 
 /// Tells what is due on a day.
 fn tell_due<S: Alter>(alloc: Global, desk: &Desk<S>, day: Option<Day>) -> Result<Reply, Memory>
-    ensures ok { IfOk result (λ reply. (t : State) → StandsAt S.Store t desk.now → TellsDue (λ told. response reply ≡ told) S.Store t day desk.now) }
-    ensures gone { IsTrue desk.now.is_given_up → IfOk result (λ reply. response reply ≡ gone_reading Failure.Day day) }
+    ensures { IsRead S.Store (due_told day) result desk.now }
 {
     let Some(day) = day else {
         return Ok(failure_reply(Failure::Day));
@@ -158,8 +133,7 @@ fn tell_overdue<S: Alter>(
     day: Option<Day>,
     days: Option<ConfirmDays>,
 ) -> Result<Reply, Memory>
-    ensures ok { IfOk result (λ reply. (t : State) → StandsAt S.Store t desk.now → TellsOverdue (λ told. response reply ≡ told) S.Store t day days desk.now) }
-    ensures gone { IsTrue desk.now.is_given_up → IfOk result (λ reply. response reply ≡ gone_overdue day days) }
+    ensures { IsRead S.Store (overdue_told day days) result desk.now }
 {
     let Some(day) = day else {
         return Ok(failure_reply(Failure::Day));
@@ -179,8 +153,7 @@ fn tell_certificate<S: Alter>(
     desk: &Desk<S>,
     number: Option<u32>,
 ) -> Result<Reply, Memory>
-    ensures ok { IfOk result (λ reply. (t : State) → StandsAt S.Store t desk.now → TellsCertificate (λ told. response reply ≡ told) S.Store t number desk.now) }
-    ensures gone { IsTrue desk.now.is_given_up → IfOk result (λ reply. response reply ≡ gone_reading Failure.Certificate number) }
+    ensures { IsRead S.Store (certificate_told number) result desk.now }
 {
     let Some(run) = number else {
         return Ok(failure_reply(Failure::Certificate));
@@ -194,11 +167,7 @@ fn tell_certificate<S: Alter>(
 /// Does at the desk what is asked, and gives the answer. `Memory` comes where memory was refused for the
 /// answer; what was done stands then.
 pub fn answer<S: Alter>(alloc: Global, desk: &mut Desk<S>, asking: &Asking) -> Result<Reply, Memory>
-    ensures clean { HasCleanDisk (state S.Store desk.new.held) → HasCleanDisk (state S.Store desk.old.held) }
-    ensures ok { IfOk result (λ reply. (t : State) → HasCleanDisk (state S.Store desk.new.held) → StandsAt S.Store t desk.old → Answers S.Store t (asked_for asking.now) (response reply) desk.new) }
-    ensures err { OnErr result ((t : State) → HasCleanDisk (state S.Store desk.new.held) → StandsAt S.Store t desk.old → Starves S.Store t (asked_for asking.now) desk.new) }
-    ensures gone { IsTrue desk.old.is_given_up → (desk.new ≡ desk.old) × IfOk result (λ reply. response reply ≡ gone_response (asked_for asking.now)) }
-    ensures told { desk.old.is_given_up ≡ false → IsTrue desk.new.is_given_up → IfOk result (λ reply. IsUnavailable (response reply)) }
+    ensures { IsAnswered S.Store (asked_for asking.now) result desk.old desk.new }
 {
     match asking {
         Asking::Refused(check) => Ok(check_reply(*check)),

@@ -1,6 +1,6 @@
 //! Connections over TCP, served one after another.
-ghost use Rattle.std.specs.Prelude.{◌≡◌, ◌≤◌, ◌||◌, false};
-ghost use Rattle.office_wire.specs.Connections.{Ends, IsKept, Turn, Turns, has_failed};
+ghost use Rattle.std.specs.Prelude.{◌≡◌, ◌||◌};
+ghost use Rattle.office_wire.specs.Connections.{Ends, IsKept, ServesAll, Turn, has_failed};
 
 use crate::deadline::{Timed, is_interrupted};
 use crate::serving::serve_one;
@@ -164,9 +164,7 @@ pub fn serve_all<L: OpenListener, K: Clock, E: Write, S: Alter>(
 ) -> Service
 where
     L::Stream: Read + Write + OpenStream,
-    ensures served { Turns S.Store result.connections result.has_failed result.is_given_up desk.old desk.new }
-    ensures most { result.connections ≤ count }
-    ensures all { result.is_given_up ≡ false → result.connections ≡ count }
+    ensures { ServesAll S.Store count result desk.old desk.new }
 {
     let mut has_failed = false;
     for before in 0..count {

@@ -1,17 +1,13 @@
 //! Records that are added by the rows of a text of CSV.
-ghost use Rattle.std.specs.Prelude.{◌≡◌, ◌+◌, ◌-◌, ◌^◌, ◌<◌, Err, IfErr, IfOk, IsTrue, OnOk, option_map};
+ghost use Rattle.std.specs.Prelude.{◌≡◌, ◌+◌, ◌-◌, ◌^◌, ◌<◌, OnOk, option_map};
 ghost use Rattle.std.specs.Io.KnownBytes.{Appends};
 ghost use Rattle.csv.specs.Reading.{reader_state, source_of, strip_bom};
 ghost use Rattle.csv.specs.declared.parser.State.TheVariants.{StartRecord};
 ghost use Rattle.csv.specs.Records.{fields_of};
-ghost use Rattle.sqlite.specs.Held.{state};
-ghost use Rattle.sqlite.specs.State.{HasCleanDisk};
-ghost use Rattle.office_rules.specs.Acts.{step};
-ghost use Rattle.office_rules.specs.State.{State};
-ghost use Rattle.office_desk.specs.Leaving.{StandsAt};
-ghost use Rattle.office_csv.specs.ImportRows.{Fields, fields_in, named};
+ghost use Rattle.office_csv.specs.ImportRows.{named};
 ghost use Rattle.office_csv.specs.ImportText.{IsPlain};
-ghost use Rattle.office_wire.specs.Importing.{DoStops, Imports, IsActStopped, IsRowDone, IsRowStopped, RowsImport, RowsStop, Stops, TakeStops, is_refusal, line_of, one_if, stop_at};
+ghost use Rattle.office_wire.specs.Calling.{CalledAt};
+ghost use Rattle.office_wire.specs.Importing.{EndsAct, EndsImport, EndsLine, EndsRow, EndsRows, EndsTaking, ImportsText, is_refusal, line_of, one_if, stop_at};
 
 use crate::connections::is_given_up;
 use csv::{Reader, StringRecord};
@@ -42,9 +38,7 @@ pub enum ImportStop {
 
 /// Does an act, and gives its answer.
 fn add<S: Alter>(alloc: Global, desk: &mut Desk<S>, act: Act) -> Result<Answer, Fault>
-    ensures clean { HasCleanDisk (state S.Store desk.new.held) → HasCleanDisk (state S.Store desk.old.held) }
-    ensures ok { IfOk result (λ answer. (s : State) → HasCleanDisk (state S.Store desk.new.held) → StandsAt S.Store s desk.old → (answer ≡ (step s act).0) × StandsAt S.Store (step s act).1 desk.new) }
-    ensures err { IfErr result (λ fault. (s : State) → HasCleanDisk (state S.Store desk.new.held) → StandsAt S.Store s desk.old → IsActStopped S.Store s act fault desk.new) }
+    ensures { CalledAt S.Store desk.old desk.new (λ s. EndsAct S.Store s act result desk.new) }
 {
     let acts = [act];
     let mut answers = Vec::new(alloc);
@@ -62,9 +56,7 @@ fn answer_row<S: Alter>(
     day: Day,
     row: &ImportRow<'_>,
 ) -> Result<Answer, Fault>
-    ensures clean { HasCleanDisk (state S.Store desk.new.held) → HasCleanDisk (state S.Store desk.old.held) }
-    ensures ok { IfOk result (λ answer. (s : State) → HasCleanDisk (state S.Store desk.new.held) → StandsAt S.Store s desk.old → (t : State) × IsRowDone day s (named row.now) answer t × StandsAt S.Store t desk.new) }
-    ensures err { IfErr result (λ fault. (s : State) → HasCleanDisk (state S.Store desk.new.held) → StandsAt S.Store s desk.old → IsRowStopped S.Store day s (named row.now) fault desk.new) }
+    ensures { CalledAt S.Store desk.old desk.new (λ s. EndsRow S.Store day s (named row.now) result desk.new) }
 {
     match read_import_row(alloc, row) {
         Ok(record) => {
@@ -110,10 +102,7 @@ fn do_row<S: Alter, W: Write>(
     row: &ImportRow<'_>,
     out: &mut W,
 ) -> Result<bool, ImportStop>
-    ensures clean { HasCleanDisk (state S.Store desk.new.held) → HasCleanDisk (state S.Store desk.old.held) }
-    ensures ok { IfOk result (λ refused. (s : State) → HasCleanDisk (state S.Store desk.new.held) → StandsAt S.Store s desk.old → (answer : _) × (t : State) × IsRowDone day s (named row.now) answer t × StandsAt S.Store t desk.new
-        × Appends (W.contents out.old) (W.contents out.new) (line_of number answer) × (refused ≡ is_refusal answer)) }
-    ensures err { IfErr result (λ stop. (s : State) → HasCleanDisk (state S.Store desk.new.held) → StandsAt S.Store s desk.old → DoStops S.Store day s (named row.now) stop desk.new (W.contents out.old) (W.contents out.new)) }
+    ensures { CalledAt S.Store desk.old desk.new (λ s. EndsLine S.Store day s number (named row.now) result desk.new (W.contents out.old) (W.contents out.new)) }
 {
     match answer_row(alloc, desk, day, row) {
         Ok(answer) => match write_line(number, answer, out) {
@@ -133,10 +122,7 @@ fn take_row<S: Alter, W: Write>(
     row: &StringRecord,
     out: &mut W,
 ) -> Result<bool, ImportStop>
-    ensures clean { HasCleanDisk (state S.Store desk.new.held) → HasCleanDisk (state S.Store desk.old.held) }
-    ensures ok { IfOk result (λ refused. (fields : Fields) × (fields_of row.now ≡ fields_in fields) × ((s : State) → HasCleanDisk (state S.Store desk.new.held) → StandsAt S.Store s desk.old → (answer : _) × (t : State) × IsRowDone day s fields answer t × StandsAt S.Store t desk.new
-        × Appends (W.contents out.old) (W.contents out.new) (line_of number answer) × (refused ≡ is_refusal answer))) }
-    ensures err { IfErr result (λ stop. (s : State) → HasCleanDisk (state S.Store desk.new.held) → StandsAt S.Store s desk.old → TakeStops S.Store day s number (fields_of row.now) stop desk.new (W.contents out.old) (W.contents out.new)) }
+    ensures { CalledAt S.Store desk.old desk.new (λ s. EndsTaking S.Store day s number (fields_of row.now) result desk.new (W.contents out.old) (W.contents out.new)) }
 {
     match row_in(row) {
         Some(it) => do_row(alloc, desk, day, number, &it, out),
@@ -172,11 +158,7 @@ fn import_rows<S: Alter, R: Read, W: Write>(
     out: &mut W,
 ) -> Result<u64, ImportStop>
     requires { IsPlain rdr.old }
-    ensures clean { HasCleanDisk (state S.Store desk.new.held) → HasCleanDisk (state S.Store desk.old.held) }
-    ensures ok { IfOk result (λ refused. (s : State) → HasCleanDisk (state S.Store desk.new.held) → StandsAt S.Store s desk.old
-        → RowsImport S.Store day s (reader_state rdr.old) (source_of R.remaining rdr.old) refused desk.new (W.contents out.old) (W.contents out.new)) }
-    ensures err { IfErr result (λ stop. (s : State) → HasCleanDisk (state S.Store desk.new.held) → StandsAt S.Store s desk.old
-        → RowsStop S.Store day s (reader_state rdr.old) (source_of R.remaining rdr.old) stop desk.new (W.contents out.old) (W.contents out.new)) }
+    ensures { CalledAt S.Store desk.old desk.new (λ s. EndsRows S.Store day s (reader_state rdr.old) (source_of R.remaining rdr.old) result desk.new (W.contents out.old) (W.contents out.new)) }
 {
     let mut row = StringRecord::new(alloc);
     let mut refused = 0;
@@ -204,11 +186,7 @@ fn import_text<S: Alter, R: Read, W: Write>(
 ) -> Result<u64, ImportStop>
     requires plain { IsPlain rdr.old }
     requires start { reader_state rdr.old ≡ StartRecord }
-    ensures clean { HasCleanDisk (state S.Store desk.new.held) → HasCleanDisk (state S.Store desk.old.held) }
-    ensures ok { IfOk result (λ refused. (s : State) → HasCleanDisk (state S.Store desk.new.held) → StandsAt S.Store s desk.old
-        → Imports S.Store day s (source_of R.remaining rdr.old) refused desk.new (W.contents out.old) (W.contents out.new)) }
-    ensures err { IfErr result (λ stop. (s : State) → HasCleanDisk (state S.Store desk.new.held) → StandsAt S.Store s desk.old
-        → Stops S.Store day s (source_of R.remaining rdr.old) stop desk.new (W.contents out.old) (W.contents out.new)) }
+    ensures { CalledAt S.Store desk.old desk.new (λ s. EndsImport S.Store day s (source_of R.remaining rdr.old) result desk.new (W.contents out.old) (W.contents out.new)) }
 {
     let mut row = StringRecord::new(alloc);
     match read_header(rdr, &mut row) {
@@ -228,11 +206,7 @@ fn import_open<S: Alter, R: Read, W: Write>(
     reader: &mut R,
     out: &mut W,
 ) -> Result<u64, ImportStop>
-    ensures clean { HasCleanDisk (state S.Store desk.new.held) → HasCleanDisk (state S.Store desk.old.held) }
-    ensures ok { IfOk result (λ refused. (s : State) → HasCleanDisk (state S.Store desk.new.held) → StandsAt S.Store s desk.old
-        → Imports S.Store day s (option_map strip_bom (R.remaining reader.old)) refused desk.new (W.contents out.old) (W.contents out.new)) }
-    ensures err { IfErr result (λ stop. (s : State) → HasCleanDisk (state S.Store desk.new.held) → StandsAt S.Store s desk.old
-        → Stops S.Store day s (option_map strip_bom (R.remaining reader.old)) stop desk.new (W.contents out.old) (W.contents out.new)) }
+    ensures { CalledAt S.Store desk.old desk.new (λ s. EndsImport S.Store day s (option_map strip_bom (R.remaining reader.old)) result desk.new (W.contents out.old) (W.contents out.new)) }
 {
     let mut rdr = import_reader(alloc, reader);
     match import_text(alloc, desk, day, &mut rdr, out) {
@@ -259,12 +233,7 @@ pub fn import_records<S: Alter, R: Read, W: Write>(
     reader: &mut R,
     out: &mut W,
 ) -> Result<u64, ImportStop>
-    ensures clean { HasCleanDisk (state S.Store desk.new.held) → HasCleanDisk (state S.Store desk.old.held) }
-    ensures ok { IfOk result (λ refused. (s : State) → HasCleanDisk (state S.Store desk.new.held) → StandsAt S.Store s desk.old
-        → Imports S.Store day s (option_map strip_bom (R.remaining reader.old)) refused desk.new (W.contents out.old) (W.contents out.new)) }
-    ensures err { IfErr result (λ stop. (s : State) → HasCleanDisk (state S.Store desk.new.held) → StandsAt S.Store s desk.old
-        → Stops S.Store day s (option_map strip_bom (R.remaining reader.old)) stop desk.new (W.contents out.old) (W.contents out.new)) }
-    ensures gone { IsTrue desk.old.is_given_up → (result ≡ Err (ImportStop.Fault Fault.Reopen)) × (desk.new ≡ desk.old) × (out.new ≡ out.old) }
+    ensures { ImportsText S.Store day (R.remaining reader.old) W.contents out.old out.new result desk.old desk.new }
 {
     if is_given_up(alloc, desk) {
         return Err(ImportStop::Fault(Fault::Reopen));

@@ -4,7 +4,7 @@ ghost use Rattle.httparse.specs.Grammar.{RequestHead};
 ghost use Rattle.httparse.specs.Spans.{IsRequestAt, IsRequestWithin};
 ghost use Rattle.office_http.specs.Plans.{IsSized, is_head_method, plan_at};
 ghost use Rattle.office_http.specs.Requests.{IsHeadAt};
-ghost use Rattle.office_wire.specs.Receiving.{IsAskedBy, IsReceived, IsStarved, IsStarvedFor, asked_for, body_wanted, plan_wanted, want_wanted};
+ghost use Rattle.office_wire.specs.Receiving.{IsAskedBy, IsStarvedFor, Receives, asked_for, body_wanted, plan_wanted, want_wanted};
 
 use crate::body::ActsBody;
 use httparse::spans::{HeaderSpan, RequestSpans};
@@ -180,8 +180,7 @@ fn receive_rest<R: Read>(
 /// of the head fails; no act is looked at yet. Nothing is known of the office here, so nothing is done
 /// where it stops.
 pub fn receive<R: Read>(alloc: Global, reader: &mut R) -> Result<Received, ReceiveStop>
-    ensures ok { IfOk result (λ received. IfSome (R.remaining reader.old) (λ bytes. IsReceived received bytes)) }
-    ensures err { IfErr result (λ stop. IfSome (R.remaining reader.old) (λ bytes. IsStarved stop bytes)) }
+    ensures came { IfSome (R.remaining reader.old) (λ bytes. Receives result bytes) }
     ensures unread { result ≡ Err ReceiveStop.Memory → reader.new ≡ reader.old }
 {
     let Ok(mut buf) = Vec::with_capacity(alloc, LONGEST_HEAD) else {

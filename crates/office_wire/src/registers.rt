@@ -1,8 +1,8 @@
 //! The registers of the office, written as CSV.
-ghost use Rattle.std.specs.Prelude.{◌≡◌, ◌⊎◌, Err, IfErr, IsTrue, List, [], OnOk};
+ghost use Rattle.std.specs.Prelude.{◌≡◌, ◌⊎◌, [], OnOk};
 ghost use Rattle.std.specs.Io.KnownBytes.{Appends};
-ghost use Rattle.office_rules.specs.Registers.{AreDueRows, AreOverdueRows, DueTold, entry_rows};
 ghost use Rattle.office_csv.specs.Registers.{due_lines, due_register, entry_lines, entry_register, overdue_lines, overdue_register};
+ghost use Rattle.office_wire.specs.Exporting.{Exports, IsDueRegister, IsEntryRegister, IsOverdueRegister};
 
 use office_csv::{
     RegisterStop, write_due_header, write_due_line, write_entry_header, write_entry_line,
@@ -141,10 +141,7 @@ pub fn export_due<S: Alter, W: Write>(
     day: Day,
     out: &mut W,
 ) -> Result<(), ExportStop>
-    ensures ok { OnOk result ((rows : List DueTold) × AreDueRows desk.old.office day rows × Appends (W.contents out.old) (W.contents out.new) (due_register rows)) }
-    ensures err { IfErr result (λ stop. (stop ≡ ExportStop.Io) ⊎ ((stop ≡ ExportStop.Fault Fault.Memory) ⊎ (stop ≡ ExportStop.Fault Fault.Reopen) × IsTrue desk.old.is_given_up)) }
-    ensures kept { desk.new ≡ desk.old }
-    ensures gone { IsTrue desk.old.is_given_up → (result ≡ Err (ExportStop.Fault Fault.Reopen)) × (out.new ≡ out.old) }
+    ensures { Exports (IsDueRegister day) W.contents out.old out.new result desk.old desk.new }
 {
     match desk.due_rows(day) {
         Ok(rows) => match write_due_register(alloc, rows, out) {
@@ -165,10 +162,7 @@ pub fn export_overdue<S: Alter, W: Write>(
     days: ConfirmDays,
     out: &mut W,
 ) -> Result<(), ExportStop>
-    ensures ok { OnOk result ((rows : List DueTold) × AreOverdueRows desk.old.office day days rows × Appends (W.contents out.old) (W.contents out.new) (overdue_register days rows)) }
-    ensures err { IfErr result (λ stop. (stop ≡ ExportStop.Io) ⊎ ((stop ≡ ExportStop.Fault Fault.Memory) ⊎ (stop ≡ ExportStop.Fault Fault.Reopen) × IsTrue desk.old.is_given_up)) }
-    ensures kept { desk.new ≡ desk.old }
-    ensures gone { IsTrue desk.old.is_given_up → (result ≡ Err (ExportStop.Fault Fault.Reopen)) × (out.new ≡ out.old) }
+    ensures { Exports (IsOverdueRegister day days) W.contents out.old out.new result desk.old desk.new }
 {
     match desk.overdue_rows(day, days) {
         Ok(rows) => match write_overdue_register(alloc, rows, days, out) {
@@ -187,10 +181,7 @@ pub fn export_entries<S: Alter, W: Write>(
     desk: &mut Desk<S>,
     out: &mut W,
 ) -> Result<(), ExportStop>
-    ensures ok { OnOk result (Appends (W.contents out.old) (W.contents out.new) (entry_register (entry_rows desk.old.office))) }
-    ensures err { IfErr result (λ stop. (stop ≡ ExportStop.Io) ⊎ ((stop ≡ ExportStop.Fault Fault.Memory) ⊎ (stop ≡ ExportStop.Fault Fault.Reopen) × IsTrue desk.old.is_given_up)) }
-    ensures kept { desk.new ≡ desk.old }
-    ensures gone { IsTrue desk.old.is_given_up → (result ≡ Err (ExportStop.Fault Fault.Reopen)) × (out.new ≡ out.old) }
+    ensures { Exports IsEntryRegister W.contents out.old out.new result desk.old desk.new }
 {
     match desk.entry_rows() {
         Ok(rows) => match write_entry_register(alloc, rows, out) {

@@ -1,16 +1,9 @@
 //! One request is received, answered at the desk, and its answer written: in two halves, of which one has no
 //! writer and the other no desk.
-ghost use Rattle.std.specs.Prelude.{◌≡◌, ◌⊎◌, IfOk, IfSome, IsSome, IsTrue, OnErr, Option, Result, false};
-ghost use Rattle.sqlite.specs.Held.{state};
-ghost use Rattle.sqlite.specs.State.{HasCleanDisk};
-ghost use Rattle.office_rules.specs.State.{State};
-ghost use Rattle.office_desk.specs.Leaving.{StandsAt};
+ghost use Rattle.std.specs.Prelude.{◌≡◌, IfOk, IsSome, OnErr};
 ghost use Rattle.office_http.specs.Replies.{response};
-ghost use Rattle.office_plan.specs.declared.output.Io.{Io as AnyIo};
-ghost use Rattle.office_wire.specs.declared.serving.Sending.{Sending as AnySending};
 ghost use Rattle.office_wire.specs.Receiving.{asked_for};
-ghost use Rattle.office_wire.specs.Answering.{IsUnavailable};
-ghost use Rattle.office_wire.specs.Serving.{Breaks, GoneReplies, IsFailed, IsGoneServed, IsGoneToSend, IsInHalves, IsSent, IsServed, IsToSend, LeavesServed, Replies, TellsUnavailable};
+ghost use Rattle.office_wire.specs.Serving.{AnswersNext, HasReply, InHalves, IsFailed, IsSent, ServesOne};
 
 use crate::answering::answer;
 use crate::receiving::{Asked, Asking, ReceiveStop, Received, receive};
@@ -24,10 +17,7 @@ use std::io::{Read, Write};
 /// Does what is asked, and gives an answer in any case: where memory is refused for it, that is told from
 /// fixed bytes.
 fn served<S: Alter>(alloc: Global, desk: &mut Desk<S>, asking: &Asking) -> Reply
-    ensures clean { HasCleanDisk (state S.Store desk.new.held) → HasCleanDisk (state S.Store desk.old.held) }
-    ensures served { (t : State) → HasCleanDisk (state S.Store desk.new.held) → StandsAt S.Store t desk.old → IsServed S.Store t (asked_for asking.now) (response result) desk.new }
-    ensures gone { IsTrue desk.old.is_given_up → (desk.new ≡ desk.old) × IsGoneServed (asked_for asking.now) (response result) }
-    ensures told { desk.old.is_given_up ≡ false → IsTrue desk.new.is_given_up → IsUnavailable (response result) }
+    ensures { HasReply S.Store (asked_for asking.now) (response result) desk.old desk.new }
 {
     match answer(alloc, desk, asking) {
         Ok(reply) => reply,
@@ -54,12 +44,8 @@ fn failed(failure: Failure, is_head: bool) -> Option<Sending>
 
 /// Does what a request asks for, and gives its answer.
 fn answered<S: Alter>(alloc: Global, desk: &mut Desk<S>, asked: Asked) -> Sending
-    ensures clean { HasCleanDisk (state S.Store desk.new.held) → HasCleanDisk (state S.Store desk.old.held) }
     ensures is_head { result.is_head ≡ asked.is_head }
-    ensures served { (t : State) → HasCleanDisk (state S.Store desk.new.held) → StandsAt S.Store t desk.old → IsServed S.Store t (asked_for asked.asking) (response result.reply) desk.new }
-    ensures leaves { (t : State) → HasCleanDisk (state S.Store desk.new.held) → StandsAt S.Store t desk.old → LeavesServed S.Store t desk.new }
-    ensures gone { IsTrue desk.old.is_given_up → (desk.new ≡ desk.old) × IsGoneServed (asked_for asked.asking) (response result.reply) }
-    ensures told { desk.old.is_given_up ≡ false → IsTrue desk.new.is_given_up → IsUnavailable (response result.reply) }
+    ensures served { HasReply S.Store (asked_for asked.asking) (response result.reply) desk.old desk.new }
 {
     let reply = served(alloc, desk, &asked.asking);
     Sending {
@@ -76,13 +62,8 @@ pub fn answer_next<R: Read, S: Alter>(
     desk: &mut Desk<S>,
     reader: &mut R,
 ) -> Result<Option<Sending>, Io>
-    ensures clean { HasCleanDisk (state S.Store desk.new.held) → HasCleanDisk (state S.Store desk.old.held) }
-    ensures ok { IfOk result (λ it. IfSome (R.remaining reader.old) (λ bytes. (t : State) → HasCleanDisk (state S.Store desk.new.held) → StandsAt S.Store t desk.old → IsToSend S.Store t bytes (reader.new ≡ reader.old) it desk.new)) }
-    ensures leaves { (t : State) → HasCleanDisk (state S.Store desk.new.held) → StandsAt S.Store t desk.old → LeavesServed S.Store t desk.new }
+    ensures next { AnswersNext S.Store R.remaining reader.old reader.new result desk.old desk.new }
     ensures err { OnErr result (desk.new ≡ desk.old) }
-    ensures kept { IsTrue desk.old.is_given_up → desk.new ≡ desk.old }
-    ensures gone { IfOk result (λ it. IfSome (R.remaining reader.old) (λ bytes. IsTrue desk.old.is_given_up → IsGoneToSend bytes (reader.new ≡ reader.old) it)) }
-    ensures told { desk.old.is_given_up ≡ false → IsTrue desk.new.is_given_up → IfOk result (λ it. TellsUnavailable it) }
 {
     match receive(alloc, reader) {
         Ok(Received::Nothing) => Ok(None),
@@ -123,14 +104,8 @@ pub fn serve_one<R: Read, W: Write, S: Alter>(
     reader: &mut R,
     writer: &mut W,
 ) -> Result<u16, Io>
-    ensures clean { HasCleanDisk (state S.Store desk.new.held) → HasCleanDisk (state S.Store desk.old.held) }
-    ensures ok { IfOk result (λ status. IfSome (R.remaining reader.old) (λ bytes. (t : State) → HasCleanDisk (state S.Store desk.new.held) → StandsAt S.Store t desk.old → Replies S.Store t bytes (reader.new ≡ reader.old) status (W.contents writer.old) (W.contents writer.new) desk.new)) }
-    ensures leaves { (t : State) → HasCleanDisk (state S.Store desk.new.held) → StandsAt S.Store t desk.old → LeavesServed S.Store t desk.new }
-    ensures halves { (next : Result (Option AnySending) AnyIo) × IsInHalves S.Store (R.remaining reader.old) (reader.new ≡ reader.old) (writer.new ≡ writer.old) next result (W.contents writer.old) (W.contents writer.new) desk.old desk.new }
-    ensures err { OnErr result (IfSome (R.remaining reader.old) (λ bytes. ((desk.new ≡ desk.old) × (writer.new ≡ writer.old)) ⊎ ((t : State) → HasCleanDisk (state S.Store desk.new.held) → StandsAt S.Store t desk.old → Breaks S.Store t bytes (reader.new ≡ reader.old) desk.new))) }
-    ensures kept { IsTrue desk.old.is_given_up → desk.new ≡ desk.old }
-    ensures gone { IfOk result (λ status. IfSome (R.remaining reader.old) (λ bytes. IsTrue desk.old.is_given_up → GoneReplies bytes (reader.new ≡ reader.old) status (W.contents writer.old) (W.contents writer.new))) }
-    ensures told { desk.old.is_given_up ≡ false → IsTrue desk.new.is_given_up → IfOk result (λ status. status ≡ 503) }
+    ensures one { ServesOne S.Store R.remaining reader.old reader.new W.contents writer.old writer.new result desk.old desk.new }
+    ensures halves { InHalves S.Store R.remaining reader.old reader.new W.contents writer.old writer.new result desk.old desk.new }
 {
     let sending = answer_next(alloc, desk, reader)?;
     send(sending, writer)

@@ -1,4 +1,4 @@
-use Rattle.std.proofs.Common.{sym, subst}
+use Rattle.std.proofs.Common.{subst}
 use Rattle.std.proofs.lemmas.List.{take_all}
 use Rattle.office_desk.specs.Headline.{AreFormed}
 use Rattle.office_desk.proofs.Fronts.{formed_next}

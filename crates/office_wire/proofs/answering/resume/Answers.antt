@@ -1,57 +1,42 @@
-use Rattle.std.proofs.Common.{refl, sym, ap, rules}
-use Rattle.std.specs.FinMap.{empty}
-use Rattle.sqlite.specs.Held.{state}
-use Rattle.sqlite.specs.State.{HasCleanDisk}
+use Rattle.std.proofs.Common.{sym, ap, rules}
 use Rattle.office_rules.specs.Runs.{open_run}
-use Rattle.office_rules.specs.State.{State, with_contents}
-use Rattle.office_desk.specs.Leaving.{StandsAt}
-use Rattle.office_http.specs.Replies.{Response}
-use Rattle.office_wire.specs.Answering.{Resumes}
-use Rattle.office_wire.proofs.Resumed.{resumed, run_stopped}
-use Rattle.office_wire.proofs.Told.{told_err, told_ok}
 use Rattle.office_http.specs.Replies.{response}
+use Rattle.office_wire.specs.Answering.{IsGiven}
+use Rattle.office_wire.proofs.Resumed.{resumed, run_stopped}
 use Rattle.office_wire.proofs.Unavailable.{fault_unavailable}
 use Rattle.office_wire.proofs.answering.resume.Goals as goal
 
-pub returns-in-Ok-clause-ok : goal.returns-in-Ok-clause-ok
-returns-in-Ok-clause-ok g c =
-    let old = c.args.desk.now in
+pub returns-in-Ok : goal.returns-in-Ok
+returns-in-Ok g c =
     let desk = c.resume.new.self in
     let it = c.in-Ok.ensures in
-    told_ok c.answer_reply.result _ (λ (Told : Response → Type 0). (t : State) → HasCleanDisk (state g.S.Store desk.held) → StandsAt g.S.Store t old → Resumes Told g.S.Store t desk) c.answer_reply.ensures
-    (λ Told told t clean stands. let did = it.called.did t stands.is_open (sym stands.office) in resumed g.S.Store t desk c.in-Ok.answer (open_run old.office) (ap open_run (sym stands.office)) did.ends.answered
-    (λ s run first midway. did.ends.whole s run first midway (clean, stands)) (λ run is. c.law_of_resumption.ensures.on_the_way t run 0 is) (λ none. did.ends.none none (clean, stands)) (did.fates (clean, stands)) Told told)
+    record {
+      call = record {
+        clean = it.called.clean;
+        did = λ t clean at. let did = it.called.did t at.is_open (sym at.office) in
+            resumed g.S.Store t desk c.in-Ok.answer (open_run c.args.desk.now.office) (ap open_run (sym at.office)) did.ends.answered
+            (λ s run first midway. did.ends.whole s run first midway (clean, at)) (λ run is. c.law_of_resumption.ensures.on_the_way t run 0 is) (λ none. did.ends.none none (clean, at)) (did.fates (clean, at))
+            (IsGiven c.answer_reply.result) c.answer_reply.ensures;
+      };
+      kept = λ was. (it.gone was).0;
+      gone = λ was. absurd (let wrong = (it.gone was).1 in cc);
+      -- a desk that ended by an answer is open
+      told = λ is_open. let still = it.here is_open in search rules;
+    }
 
-pub returns-in-Ok-clause-err : goal.returns-in-Ok-clause-err
-returns-in-Ok-clause-err g c =
-    let old = c.args.desk.now in
-    let desk = c.resume.new.self in
-    let it = c.in-Ok.ensures in
-    told_err c.answer_reply.result _ (λ (Told : Response → Type 0). (t : State) → HasCleanDisk (state g.S.Store desk.held) → StandsAt g.S.Store t old → Resumes Told g.S.Store t desk)
-    (λ Told told t clean stands. let did = it.called.did t stands.is_open (sym stands.office) in resumed g.S.Store t desk c.in-Ok.answer (open_run old.office) (ap open_run (sym stands.office)) did.ends.answered
-    (λ s run first midway. did.ends.whole s run first midway (clean, stands)) (λ run is. c.law_of_resumption.ensures.on_the_way t run 0 is) (λ none. did.ends.none none (clean, stands)) (did.fates (clean, stands)) Told told)
-
-pub returns-in-Err-clause-ok : goal.returns-in-Err-clause-ok
-returns-in-Err-clause-ok g c =
-    let old = c.args.desk.now in
-    let desk = c.resume.new.self in
-    let it = c.in-Err.ensures in
-    told_ok c.fault_reply.result _ (λ (Told : Response → Type 0). (t : State) → HasCleanDisk (state g.S.Store desk.held) → StandsAt g.S.Store t old → Resumes Told g.S.Store t desk) c.fault_reply.ensures
-    (λ Told told t clean stands. let did = it.called.did t stands.is_open (sym stands.office) in run_stopped g.S.Store t old desk c.in-Err.fault (did.ends.count, did.ends.stops, λ x y. did.ends.left (x, y)) clean stands
-    (λ s run first midway. did.midway s run first midway (clean, stands)) (λ none. did.left none (clean, stands)) (did.fates (clean, stands)) Told told)
-
-pub returns-in-Err-clause-err : goal.returns-in-Err-clause-err
-returns-in-Err-clause-err g c =
-    let old = c.args.desk.now in
+pub returns-in-Err : goal.returns-in-Err
+returns-in-Err g c =
     let desk = c.resume.new.self in
     let it = c.in-Err.ensures in
-    told_err c.fault_reply.result _ (λ (Told : Response → Type 0). (t : State) → HasCleanDisk (state g.S.Store desk.held) → StandsAt g.S.Store t old → Resumes Told g.S.Store t desk)
-    (λ Told told t clean stands. let did = it.called.did t stands.is_open (sym stands.office) in run_stopped g.S.Store t old desk c.in-Err.fault (did.ends.count, did.ends.stops, λ x y. did.ends.left (x, y)) clean stands
-    (λ s run first midway. did.midway s run first midway (clean, stands)) (λ none. did.left none (clean, stands)) (did.fates (clean, stands)) Told told)
-
-pub returns-in-Err-clause-told : goal.returns-in-Err-clause-told
-returns-in-Err-clause-told g c = λ is_open gone. fault_unavailable response c.fault_reply.result _ c.fault_reply.ensures
-
--- a desk that ended by an answer is open
-pub returns-in-Ok-clause-told : goal.returns-in-Ok-clause-told
-returns-in-Ok-clause-told g c = λ is_open. let still = (c.in-Ok.ensures.called.did (with_contents c.args.desk.now.office empty) is_open refl).ends.is_open in search rules
+    record {
+      call = record {
+        clean = it.called.clean;
+        did = λ t clean at. let did = it.called.did t at.is_open (sym at.office) in
+            run_stopped g.S.Store t c.args.desk.now desk c.in-Err.fault (did.ends.count, did.ends.stops, λ x y. did.ends.left (x, y)) clean at
+            (λ s run first midway. did.midway s run first midway (clean, at)) (λ none. did.left none (clean, at)) (did.fates (clean, at))
+            (IsGiven c.fault_reply.result) c.fault_reply.ensures;
+      };
+      kept = λ was. (it.gone was).0;
+      gone = search rules;
+      told = λ is_open gone. fault_unavailable response c.fault_reply.result _ c.fault_reply.ensures;
+    }

@@ -1,33 +1,36 @@
-use Rattle.sqlite.specs.Held.{state}
-use Rattle.sqlite.specs.State.{HasCleanDisk}
-use Rattle.std.specs.Prelude.{Some}
-use Rattle.office_rules.specs.State.{State}
-use Rattle.office_desk.specs.Leaving.{StandsAt}
-use Rattle.office_http.specs.Replies.{Response}
-use Rattle.office_wire.specs.Answering.{TellsContent}
-use Rattle.office_wire.proofs.Told.{told_err, told_ok}
-use Rattle.office_wire.proofs.Untold.{untold}
+use Rattle.std.proofs.Common.{inl, sym, rules}
+use Rattle.std.specs.Prelude.{option_map}
 use Rattle.office_http.specs.Replies.{response}
+use Rattle.office_wire.specs.Answering.{IsGiven}
+use Rattle.office_wire.proofs.Untold.{untold}
 use Rattle.office_wire.proofs.Unavailable.{fault_unavailable}
 use Rattle.office_wire.proofs.answering.tell_content.Goals as goal
 
-pub returns-in-Err-clause-ok : goal.returns-in-Err-clause-ok
-returns-in-Err-clause-ok g c =
-    let old = c.args.desk.now in
-    let desk = c.content.new.self in
-    let it = c.content.ensures in
-    let seen = c.in-Err.ensures in
-    rw c.in-Some.is (told_ok c.fault_reply.result _ (λ (Told : Response → Type 0). (t : State) → HasCleanDisk (state g.S.Store desk.held) → StandsAt g.S.Store t old → TellsContent Told g.S.Store t (Some c.in-Some.record_no) desk) c.fault_reply.ensures
-    (λ Told told t clean stands. untold g.S.Store t c.in-Some.record_no c.in-Err.fault desk c.content.result c.in-Err.is (it.damaged t clean stands) (seen.kept t clean stands) it.given_up (it.leaves t clean stands) (it.offices t clean stands) (seen.faults stands.is_open) Told told))
+pub returns-in-Ok : goal.returns-in-Ok
+returns-in-Ok g c =
+    let it = c.in-Ok.ensures in
+    record {
+      call = record {
+        clean = it.called.clean;
+        did = λ t clean at. let read = (it.called.did t at.is_open (sym at.office)).ends in
+            rw c.in-Some.is (inl (option_map (λ bytes. bytes.items) c.in-Ok.content, read.told (clean, at), c.content_reply.ensures, read.stands (clean, at)));
+      };
+      kept = λ was. (it.gone was).0;
+      gone = λ was. absurd (let wrong = (it.gone was).1 in cc);
+      -- a desk that ended by a content is open
+      told = λ is_open. let still = it.here is_open in search rules;
+    }
 
-pub returns-in-Err-clause-err : goal.returns-in-Err-clause-err
-returns-in-Err-clause-err g c =
-    let old = c.args.desk.now in
-    let desk = c.content.new.self in
-    let it = c.content.ensures in
-    let seen = c.in-Err.ensures in
-    rw c.in-Some.is (told_err c.fault_reply.result _ (λ (Told : Response → Type 0). (t : State) → HasCleanDisk (state g.S.Store desk.held) → StandsAt g.S.Store t old → TellsContent Told g.S.Store t (Some c.in-Some.record_no) desk)
-    (λ Told told t clean stands. untold g.S.Store t c.in-Some.record_no c.in-Err.fault desk c.content.result c.in-Err.is (it.damaged t clean stands) (seen.kept t clean stands) it.given_up (it.leaves t clean stands) (it.offices t clean stands) (seen.faults stands.is_open) Told told))
-
-pub returns-in-Err-clause-told : goal.returns-in-Err-clause-told
-returns-in-Err-clause-told g c = λ is_open gone. fault_unavailable response c.fault_reply.result _ c.fault_reply.ensures
+pub returns-in-Err : goal.returns-in-Err
+returns-in-Err g c =
+    let it = c.in-Err.ensures in
+    record {
+      call = record {
+        clean = it.called.clean;
+        did = λ t clean at. let read = it.called.did t at.is_open (sym at.office) in
+            rw c.in-Some.is (untold g.S.Store t c.in-Some.record_no c.in-Err.fault c.content.new.self _ read.ends (clean, at) (read.leaves (clean, at)) (read.offices (clean, at)) (IsGiven c.fault_reply.result) c.fault_reply.ensures);
+      };
+      kept = λ was. (it.gone was).0;
+      gone = search rules;
+      told = λ is_open gone. fault_unavailable response c.fault_reply.result _ c.fault_reply.ensures;
+    }

@@ -1,25 +1,15 @@
-use Rattle.std.proofs.Common.{refl, sym}
+use Rattle.std.proofs.Common.{refl}
 use Rattle.office_rules.specs.State.{State, empty_state}
-use Rattle.office_wire.proofs.Kept.{stands_kept, told_gone}
+use Rattle.office_wire.proofs.Kept.{asked_none, told_gone}
 use Rattle.office_wire.proofs.connections.is_given_up.Goals as goal
 
 pub returns-in-Err-Reopen-clause-kept : goal.returns-in-Err-Reopen-clause-kept
 returns-in-Err-Reopen-clause-kept g c =
-    let it = c.perform_all.ensures in
-    record {
-      clean = it.called.clean;
-      stands = λ t clean stands. stands_kept g.S.Store c.args.desk.now c.perform_all.new.self t c.perform_all.result _ _ _ (it.called.did t stands.is_open (sym stands.office)).ends (clean, stands) stands;
-      gone = λ gone. (it.gone gone).2;
-    }
+    asked_none g.S.Store c.args.desk.now c.perform_all.new.self c.perform_all.result _ _ c.perform_all.ensures.called (λ was. (c.perform_all.ensures.gone was).0)
 
 pub returns-clause-kept : goal.returns-clause-kept
 returns-clause-kept g c =
-    let it = c.perform_all.ensures in
-    record {
-      clean = it.called.clean;
-      stands = λ t clean stands. stands_kept g.S.Store c.args.desk.now c.perform_all.new.self t c.perform_all.result _ _ _ (it.called.did t stands.is_open (sym stands.office)).ends (clean, stands) stands;
-      gone = λ gone. (it.gone gone).2;
-    }
+    asked_none g.S.Store c.args.desk.now c.perform_all.new.self c.perform_all.result _ _ c.perform_all.ensures.called (λ was. (c.perform_all.ensures.gone was).0)
 
 pub returns-in-Err-Reopen-clause-told : goal.returns-in-Err-Reopen-clause-told
 returns-in-Err-Reopen-clause-told g c =

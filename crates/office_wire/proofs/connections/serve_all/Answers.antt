@@ -1,3 +1,4 @@
+use Rattle.std.proofs.Common.{arith, rules}
 use Rattle.office_wire.proofs.Connected.{none_yet, one_more}
 use Rattle.office_wire.proofs.connections.serve_all.Goals as goal
 
@@ -9,7 +10,11 @@ loop-before-preserved g c =
     rw c.failed_by-has_failed.ensures
     (one_more _ _ _ _ _ _ _ _ _ c.loop-before.invariant c.serve_next-served.ensures (rw c.if-ends_after.false at c.ends_after.ensures.ends) c.ends_after.ensures.kept)
 
-pub returns-then-ends_after-clause-served : goal.returns-then-ends_after-clause-served
-returns-then-ends_after-clause-served g c =
-    rw c.failed_by-has_failed.ensures
-    (one_more _ _ _ _ _ _ _ _ _ c.loop-before.invariant c.serve_next-served.ensures (rw c.if-ends_after.true at c.ends_after.ensures.ends) c.ends_after.ensures.kept)
+pub returns-then-ends_after : goal.returns-then-ends_after
+returns-then-ends_after g c =
+    record {
+      turns = rw c.failed_by-has_failed.ensures
+          (one_more _ _ _ _ _ _ _ _ _ c.loop-before.invariant c.serve_next-served.ensures (rw c.if-ends_after.true at c.ends_after.ensures.ends) c.ends_after.ensures.kept);
+      most = omega arith;
+      all = search rules;
+    }

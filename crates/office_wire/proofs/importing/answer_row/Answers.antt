@@ -4,17 +4,17 @@ use Rattle.office_json.specs.Acts.{asked}
 use Rattle.office_days.specs.declared.refusal.Refusal.{Refusal}
 use Rattle.office_rules.specs.declared.act.Act.TheVariants.{AddRecord}
 use Rattle.office_rules.specs.declared.answer.Answer.TheVariants.{Refused}
-use Rattle.office_wire.proofs.Imported.{bad_row, row_done, row_stopped}
+use Rattle.office_wire.proofs.Calls.{called, not_called}
+use Rattle.office_wire.proofs.Imported.{bad_row, row_ended}
 use Rattle.office_wire.proofs.importing.answer_row.Goals as goal
 
-pub returns-in-Ok-clause-ok : goal.returns-in-Ok-clause-ok
+pub returns-in-Ok : goal.returns-in-Ok
 unfolding asked
-returns-in-Ok-clause-ok g c = row_done g.S.Store c.args.day (named c.args.row.now) _ (AddRecord c.args.day c.in-Ok.record) _ _ c.add.result c.in-Ok.ensures c.formed.ensures refl c.add.ensures.ok
+returns-in-Ok g c =
+    called g.S.Store _ _ _ _ c.add.ensures
+    (λ s it. row_ended g.S.Store c.args.day s (named c.args.row.now) _ (AddRecord c.args.day c.in-Ok.record) c.add.result _ c.in-Ok.ensures c.formed.ensures refl it)
 
-pub returns-in-Ok-clause-err : goal.returns-in-Ok-clause-err
-unfolding asked
-returns-in-Ok-clause-err g c = row_stopped g.S.Store c.args.day (named c.args.row.now) _ (AddRecord c.args.day c.in-Ok.record) _ _ c.add.result c.in-Ok.ensures c.formed.ensures refl c.add.ensures.err
-
-pub returns-in-Err-Refused-clause-ok : goal.returns-in-Err-Refused-clause-ok
-returns-in-Err-Refused-clause-ok g c =
-    λ s clean stands. (s, (rw (bad_row _ _ (rw c.in-Err-Refused.field-0-is at c.in-Err-Refused.ensures)) (ap (λ (why : Refusal). Refused why) c.in-Err-Refused.refusal-is, refl)), stands)
+pub returns-in-Err-Refused : goal.returns-in-Err-Refused
+returns-in-Err-Refused g c =
+    not_called g.S.Store _ _
+    (λ s stands. (s, (rw (bad_row _ _ (rw c.in-Err-Refused.field-0-is at c.in-Err-Refused.ensures)) (ap (λ (why : Refusal). Refused why) c.in-Err-Refused.refusal-is, refl)), stands))

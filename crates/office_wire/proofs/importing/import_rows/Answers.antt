@@ -6,24 +6,23 @@ use Rattle.office_wire.proofs.importing.import_rows.Goals as goal
 pub loop-before-init : goal.loop-before-init
 loop-before-init g c = (c.requires, front_start _ _ _ _ _ _)
 
-pub returns-in-Ok-false-clause-ok : goal.returns-in-Ok-false-clause-ok
-returns-in-Ok-false-clause-ok g c = front_end _ _ _ _ _ _ _ _ _ _ _ _ _ _ _ c.loop-before.invariant.1 (rw c.in-Ok-false.field-0-test at c.in-Ok-false.ensures.reads)
+pub returns-in-Ok-false : goal.returns-in-Ok-false
+returns-in-Ok-false g c = front_end _ _ _ _ _ _ _ _ _ _ _ _ c.loop-before.invariant.1 _ _ _ (rw c.in-Ok-false.field-0-test at c.in-Ok-false.ensures.reads)
 
-pub returns-in-Err-clause-err : goal.returns-in-Err-clause-err
-returns-in-Err-clause-err g c =
-    λ s clean stands. rw c.stopped.ensures (front_unread _ _ _ _ _ _ _ _ _ _ _ _ _ c.loop-before.invariant.1 (λ e. c.in-Err.ensures.bad (ap (λ (why : RowStop). Err why) e)) s clean stands)
+pub returns-in-Err : goal.returns-in-Err
+returns-in-Err g c =
+    rw c.stopped.ensures (front_unread _ _ _ _ _ _ _ _ _ _ _ _ c.loop-before.invariant.1 _ (λ e. c.in-Err.ensures.bad (ap (λ (why : RowStop). Err why) e)))
 
-pub returns-in-Err-take_row-clause-err : goal.returns-in-Err-take_row-clause-err
-returns-in-Err-take_row-clause-err g c =
-    front_stopped _ _ _ _ _ _ _ _ _ _ _ _ _ _ _ _ _ _ c.loop-before.invariant.1 (rw c.in-Ok-true.field-0-test at c.in-Ok-true.ensures.reads) c.in-Ok-true.ensures.text c.take_row.ensures.clean
-    c.in-Err-take_row.ensures.err
+pub returns-in-Err-take_row : goal.returns-in-Err-take_row
+returns-in-Err-take_row g c =
+    front_stopped _ _ _ _ _ _ _ _ _ _ _ _ _ _ _ _ _ (rw c.in-Ok-true.field-0-test at c.in-Ok-true.ensures.reads) c.in-Ok-true.ensures.text _ c.loop-before.invariant.1 c.in-Err-take_row.ensures
 
 pub loop-before-preserved : goal.loop-before-preserved
 loop-before-preserved g c = (
   c.in-Ok-true.ensures.plain c.in-Ok-true.field-0-test,
   rw c.counted-refused.ensures
-      (front_more _ _ _ _ _ _ _ _ _ _ _ _ _ _ _ _ _ _ c.loop-before.invariant.1 (rw c.in-Ok-true.field-0-test at c.in-Ok-true.ensures.reads) c.in-Ok-true.ensures.text c.take_row.ensures.clean c.in-Ok.ensures.ok),
+      (front_more _ _ _ _ _ _ _ _ _ _ _ _ _ _ _ _ _ (rw c.in-Ok-true.field-0-test at c.in-Ok-true.ensures.reads) c.in-Ok-true.ensures.text _ c.loop-before.invariant.1 c.in-Ok.ensures),
 )
 
-pub returns-clause-err : goal.returns-clause-err
-returns-clause-err g c = front_io _ _ _ _ _ _ _ _ _ _ _ _ c.loop-before.invariant.1
+pub returns : goal.returns
+returns g c = front_io _ _ _ _ _ _ _ _ _ _ _ _ c.loop-before.invariant.1

@@ -1,7 +1,5 @@
-use Rattle.std.proofs.Common.{◌∙◌, ap}
-use Rattle.office_http.specs.Replies.{Response}
-use Rattle.office_wire.proofs.Unavailable.{memory_unavailable}
+use Rattle.office_wire.proofs.Told.{starved}
 use Rattle.office_wire.proofs.serving.served.Goals as goal
 
-pub returns-in-Err-clause-told : goal.returns-in-Err-clause-told
-returns-in-Err-clause-told g c = λ is_open gone. ap (λ (r : Response). r.status) c.failure_reply.ensures ∙ memory_unavailable
+pub returns-in-Err : goal.returns-in-Err
+returns-in-Err g c = starved g.S.Store _ _ _ _ _ c.failure_reply.ensures c.in-Err.ensures

@@ -1,0 +1,145 @@
+-- What a call of a store does, and what it leaves of the tables. Source: own.
+use Rattle.std.specs.Prelude.{◌≡◌, ◌≢◌, ◌⊎◌, ℕ, Bool, codes, false, is_some, true, Vec, Option, Result, Err, IfErr, IfOk, IsTrue, OnErr, OnOk, option_map}
+use Rattle.std.specs.FinMap.{get}
+use Rattle.std.specs.Global.{Global}
+use Rattle.sqlite.specs.Held.{Held, state}
+use Rattle.sqlite.specs.State.{State, HasCleanDisk}
+use Rattle.sqlite_schema.specs.Names.{table_named}
+use Rattle.sqlite_trees.specs.declared.store.Store.{Ghosts}
+use Rattle.office_rules.specs.Acts.{CanBeMade}
+use Rattle.office_rules.specs.Rows.{TableRows, rows_of}
+use Rattle.office_rules.specs.Sound.{IsSound}
+use Rattle.office_rules.specs.State.{State as OfficeState, empty_state}
+use Rattle.office_rules.specs.Tables.{TableLists, no_rows}
+use Rattle.office_rules.specs.Writes.{all_writes}
+use Rattle.office_rules.specs.declared.change.Change.{Change}
+use Rattle.office_sql.specs.Names.{has_other_table}
+use Rattle.office_sql.specs.Office.{IsAtRest, IsAtRestOver, IsBlank, KeepsRest, Leaves, SparesRest}
+use Rattle.office_sql.specs.declared.editions.Edition.{Edition}
+use Rattle.office_store.specs.Adopted.{AreNumbersAndBytes, HoldNoOffice, IsOtherVersion, IsRead, LeavesLess}
+use Rattle.office_store.specs.Stands.{HoldsOldRows, HoldsRows, LeavesFirst, LeavesMoved, LeavesOffices, LeavesWithin}
+use Rattle.office_store.specs.Stored.{AllReadable}
+use Rattle.office_store.specs.declared.fault.Fault.{Fault}
+use Rattle.office_store.specs.declared.fault.Fault.TheVariants as fault
+
+-- whether there is a table `office`
+abbrev pub has_office_table : State → Bool
+has_office_table s = is_some (table_named s.now.schema (codes "office"))
+
+-- ---- a new office
+
+-- the tables are those of a new office, and whatever else was there is kept
+pub record AreNew (old new : State) : Type 0 where
+  pub rows : HoldsRows (rows_of empty_state) new
+  pub rest : Leaves (KeepsRest old.now) new
+
+-- what a crash leaves where a new office was not made
+pub record LeavesUnmade (old new : State) : Type 0 where
+  pub first : LeavesFirst old new
+  pub rest : Leaves (KeepsRest old.now) new
+  -- where no fault has shut the connection, nothing was done
+  pub undone : IsTrue new.is_open → IsBlank new × (new.now ≡ old.now)
+
+-- why a new office was not made: another of its tables is there, and then nothing was done, or the database failed
+pub record IsUnmadeBy {S : Type 0} (g : Ghosts S) (conn : Held S) (f : Fault) (back : Held S) : Type 0 where
+  pub faults : (f ≡ fault.Damaged) ⊎ (f ≡ fault.Store)
+  pub damaged : f ≡ fault.Damaged → (has_other_table (state g conn).now.schema ≡ true) × (back ≡ conn)
+
+-- a store of a new office over the connection
+pub record IsCreated {S : Type 0} (g : Ghosts S) (conn store : Held S) : Type 0 where
+  pub clean : HasCleanDisk (state g store) → HasCleanDisk (state g conn)
+  pub made : HasCleanDisk (state g store) → IsBlank (state g conn) → AreNew (state g conn) (state g store)
+
+-- the connection is given back with this fault, and there is no new office
+pub record IsNotCreated {S : Type 0} (g : Ghosts S) (conn : Held S) (f : Fault) (back : Held S) : Type 0 where
+  pub ended : back.in_transaction ≡ false
+  pub why : IsUnmadeBy g conn f back
+  pub clean : HasCleanDisk (state g back) → HasCleanDisk (state g conn)
+  pub left : HasCleanDisk (state g back) → IsBlank (state g conn) → LeavesUnmade (state g conn) (state g back)
+
+-- ---- an office that is there
+
+-- its tables came as these rows to what had those, and are as they were
+pub record AreTaken (ed : Edition) (old new : State) (had has : TableLists) : Type 0 where
+  -- each table is read whole, where no row had come before
+  pub read : had ≡ no_rows → IsRead ed has old.now.trees
+  pub bytes : AreNumbersAndBytes old.now.trees
+  pub rest : IsAtRestOver ed new
+  pub same : new.now ≡ old.now
+
+-- its tables were not taken over, by this fault
+pub record AreNotTaken (ed : Edition) (old new : State) (f : Fault) (had : TableLists) (Examines : Type 0) : Type 0 where
+  -- damaged tables are no office's; where each row is of its form, what takes them in examines them
+  pub damaged : f ≡ fault.Damaged → had ≡ no_rows → HoldNoOffice ed old.now.trees
+  pub form : f ≡ fault.Damaged → AllReadable ed old.now.trees → Examines
+  -- another version is reported as such, and never as damage
+  pub version : f ≡ fault.Version → IsOtherVersion old.now.trees
+  pub this_version : f ≡ fault.Damaged → IsOtherVersion old.now.trees → ⊥
+  pub leaves : LeavesLess old new
+
+-- a store over the connection, whose tables were taken over
+pub record IsAdopted {S : Type 0} (g : Ghosts S) (conn store : Held S) (had has : TableLists) : Type 0 where
+  pub clean : HasCleanDisk (state g store) → HasCleanDisk (state g conn)
+  pub taken : (ed : Edition) → HasCleanDisk (state g store) → IsAtRestOver ed (state g conn) → AreTaken ed (state g conn) (state g store) had has
+
+-- the connection is given back with this fault, and its tables were not taken over
+pub record IsNotAdopted {S : Type 0} (g : Ghosts S) (conn : Held S) (f : Fault) (back : Held S) (had : TableLists) (Examines : Type 0) : Type 0 where
+  pub ended : back.in_transaction ≡ false
+  pub faults : f ≢ fault.Reopen
+  pub clean : HasCleanDisk (state g back) → HasCleanDisk (state g conn)
+  pub left : (ed : Edition) → HasCleanDisk (state g back) → IsAtRestOver ed (state g conn) → AreNotTaken ed (state g conn) (state g back) f had Examines
+
+-- ---- version 1 made version 2
+
+-- how it ends over tables of version 1 that have these rows
+pub record AreMoved {X E : Type 0} (t : TableRows) (old new : State) (result : Result X E) : Type 0 where
+  pub ok : OnOk result (HoldsRows t new)
+  pub err : OnErr result (LeavesMoved t old new)
+  -- where no fault has shut the connection, the old tables are there
+  pub undone : IsTrue new.is_open → OnErr result (HoldsOldRows t new)
+  pub rest : Leaves (KeepsRest old.now) new
+
+-- how a migration ends
+pub record Migrated {X : Type 0} (old new : State) (result : Result X Fault) : Type 0 where
+  pub faults : IfErr result (λ f. f ≡ fault.Store)
+  pub clean : HasCleanDisk new → HasCleanDisk old
+  pub moved : (s : OfficeState) → HasCleanDisk new → HoldsOldRows (rows_of s) old → AreMoved (rows_of s) old new result
+
+-- ---- a change that is saved
+
+-- how it ends over tables that have the rows of a state
+pub record AreSaved {X E : Type 0} (s : OfficeState) (change : Change) (new : State) (result : Result X E) : Type 0 where
+  -- of a change that can be made of a sound state the next rows are there, or a crash leaves the old ones or the next
+  pub ok : IsSound s → CanBeMade s.office change → OnOk result (HoldsRows (rows_of (all_writes change.writes.items s)) new)
+  pub err : IsSound s → CanBeMade s.office change → OnErr result (LeavesWithin (rows_of s) (rows_of (all_writes change.writes.items s)) new)
+  -- where no fault has shut the connection, the old rows are there
+  pub undone : IsTrue new.is_open → OnErr result (HoldsRows (rows_of s) new)
+
+-- whatever a crash leaves is an office's tables again, and the rest of the file is as it was
+pub record LeavesOffice (old new : State) : Type 0 where
+  pub offices : LeavesOffices new
+  pub rest : Leaves (SparesRest old.now) new
+
+-- how the saving of a change ends
+pub record Saved {S X : Type 0} (g : Ghosts S) (change : Change) (old new : Held S) (result : Result X Fault) : Type 0 where
+  pub faults : IfErr result (λ f. (f ≡ fault.Memory) ⊎ (f ≡ fault.Store))
+  pub memory : result ≡ Err fault.Memory → new ≡ old
+  pub clean : HasCleanDisk (state g new) → HasCleanDisk (state g old)
+  pub left : HasCleanDisk (state g new) → IsAtRest (state g old) → LeavesOffice (state g old) (state g new)
+  pub rows : (s : OfficeState) → HasCleanDisk (state g new) → HoldsRows (rows_of s) (state g old) → AreSaved s change (state g new) result
+
+-- ---- a content that is read
+
+-- how it ends over tables that have the rows of a state
+pub record AreBytesRead (s : OfficeState) (number : ℕ) (new : State) (result : Result (Option (Vec ℕ Global)) Fault) : Type 0 where
+  pub read : IfOk result (λ bytes. option_map (λ it. it.items) bytes ≡ get s.contents number)
+  pub same : OnOk result (HoldsRows (rows_of s) new)
+  pub kept : IfErr result (λ f. f ≢ fault.Store → HoldsRows (rows_of s) new)
+  pub intact : result ≢ Err fault.Damaged
+
+-- how the reading of a content ends
+pub record ReadsBytes (number : ℕ) (old new : State) (result : Result (Option (Vec ℕ Global)) Fault) : Type 0 where
+  pub faults : IfErr result (λ f. (f ≢ fault.Reopen) × (f ≢ fault.Version))
+  pub clean : HasCleanDisk new → HasCleanDisk old
+  pub leaves : HasCleanDisk new → IsAtRest old → LeavesLess old new
+  pub content : (s : OfficeState) → HasCleanDisk new → HoldsRows (rows_of s) old → AreBytesRead s number new result
