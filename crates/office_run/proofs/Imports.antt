@@ -1,6 +1,5 @@
 -- How an import ends.
 use Rattle.std.proofs.Common.{◌≡◌, ◌⊎◌, inl, inr, ℕ, ℤ, Bool, true, false, List, [], ◌∷◌, ◌++◌, ◌==◌, Option, Result, Ok, Err, refl, sym, ap, subst, ◌∙◌, if◌then◌else◌}
-use Rattle.std.specs.Prelude.{IfErr, IfOk}
 use Rattle.sqlite.specs.Held.{Held, state}
 use Rattle.sqlite.specs.State.{State as FileState, HasCleanDisk}
 use Rattle.sqlite_trees.specs.declared.store.Store.{Ghosts}
@@ -12,7 +11,7 @@ use Rattle.office_store.specs.declared.fault.Fault.TheVariants as fault
 use Rattle.office_desk.specs.Desk.{DeskState}
 use Rattle.office_desk.specs.Leaving.{StandsAt}
 use Rattle.office_csv.specs.ImportRows.{Fields}
-use Rattle.office_wire.specs.Importing.{AreFrontRows, AreSomeRows, Imports, IsRowStopped, Stops}
+use Rattle.office_wire.specs.Importing.{AreFrontRows, AreSomeRows, EndsImport, Imports, IsRowStopped, Stops}
 use Rattle.office_wire.specs.declared.importing.ImportStop.{ImportStop}
 use Rattle.office_wire.specs.declared.importing.ImportStop.TheVariants as import
 use Rattle.office_run.specs.Endings.{ending_of_import}
@@ -70,8 +69,7 @@ stopped g day text old desk written after import.Io h = λ t clean stands. let i
 
 -- an import ends as it was done
 pub imported : {S : Type 0} (g : Ghosts S) (day : ℤ) (text : Option (List ℕ)) (old desk : DeskState S) (written after : Option (List ℕ)) (x : Result ℕ ImportStop) (e : Ending) → e ≡ ending_of_import x
-    → IfOk x (λ refused. (t : State) → HasCleanDisk (state g desk.held) → StandsAt g t old → Imports g day t text refused desk written after)
-    → IfErr x (λ why. (t : State) → HasCleanDisk (state g desk.held) → StandsAt g t old → Stops g day t text why desk written after)
+    → ((t : State) → HasCleanDisk (state g desk.held) → StandsAt g t old → EndsImport g day t text x desk written after)
     → ImportsAt (λ P. (t : State) → HasCleanDisk (state g desk.held) → StandsAt g t old → P t) day text (state g desk.held) written after e
-imported g day text old desk written after (Ok refused) e is ok err = rw is (all_done g day text refused old desk written after (refused == 0) refl ok)
-imported g day text old desk written after (Err why) e is ok err = rw is (stopped g day text old desk written after why err)
+imported g day text old desk written after (Ok refused) e is did = rw is (all_done g day text refused old desk written after (refused == 0) refl did)
+imported g day text old desk written after (Err why) e is did = rw is (stopped g day text old desk written after why did)

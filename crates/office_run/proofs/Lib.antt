@@ -2,6 +2,7 @@ pub mod Applications
 pub mod Callings
 pub mod Certificates
 pub mod DeskActs
+pub mod Desks
 pub mod Endings
 pub mod Exports
 pub mod Imports

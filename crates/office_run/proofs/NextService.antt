@@ -135,19 +135,19 @@ module _ (stay : StaySound) (ends : IsEnded) {S : Type 0} (g : Ghosts S) where
     turn_served : (status : Result ℕ Io) (old new : DeskState S) → Turn g status old new → HasCleanDisk (state g new.held) → ServedAt s old → ServedAt s new
     turn_served status old new (inl failed) clean at = subst (ServedAt s) (sym failed.1) at
     turn_served status old new (inr visited) clean (inl (t, to, stands)) =
-        let left = visited.leaves t clean stands in
+        let left = visited.call.did t clean stands in
         after_served t new to (starved_served t stands.sound new left.0 left.1)
-    turn_served status old new (inr visited) clean (inr (gone, leaves)) = subst (ServedAt s) (sym (visited.gone gone)) (inr (gone, leaves))
+    turn_served status old new (inr visited) clean (inr (gone, leaves)) = subst (ServedAt s) (sym (visited.kept gone)) (inr (gone, leaves))
 
     kept_served : (old new : DeskState S) → IsKept g old new → HasCleanDisk (state g new.held) → ServedAt s old → ServedAt s new
-    kept_served old new kept clean (inl (t, to, stands)) = inl (t, to, kept.stands t clean stands)
-    kept_served old new kept clean (inr (gone, leaves)) = subst (ServedAt s) (sym (kept.gone gone)) (inr (gone, leaves))
+    kept_served old new kept clean (inl (t, to, stands)) = inl (t, to, kept.call.did t clean stands)
+    kept_served old new kept clean (inr (gone, leaves)) = subst (ServedAt s) (sym (kept.kept gone)) (inr (gone, leaves))
 
     turns_served : (n : ℕ) (failed ended : Bool) (old new : DeskState S) → Turns g n failed ended old new → HasCleanDisk (state g new.held) → ServedAt s old → ServedAt s new
     unfolding Turns
     turns_served zero failed ended old new turns clean at = subst (ServedAt s) (sym turns.2) at
     turns_served (suc n) failed ended old new (m, after, earlier, status, turns, turn, ended_so, kept, is) clean at =
-        let clean_after = kept.clean clean in
+        let clean_after = kept.call.clean clean in
         let clean_m = clean_turn g status m after turn clean_after in
         kept_served after new kept clean (turn_served status m after turn clean_after (turns_served n earlier false old m turns clean_m at))
 

@@ -2,21 +2,24 @@
 use Rattle.std.specs.Prelude.{◌≡◌, ◌⊎◌, ℕ, List, Option, ⊤}
 use Rattle.std.specs.Io.KnownBytes.{Appends}
 use Rattle.sqlite.specs.State.{State as FileState}
-use Rattle.office_rules.specs.Registers.{AreDueRows, AreOverdueRows, DueTold, entry_rows}
 use Rattle.office_rules.specs.State.{Office, State}
 use Rattle.office_store.specs.declared.fault.Fault.TheVariants as fault
-use Rattle.office_csv.specs.Registers.{due_register, entry_register, overdue_register}
+use Rattle.office_wire.specs.Exporting.{IsDueRegister, IsEntryRegister, IsOverdueRegister}
 use Rattle.office_words.specs.declared.register.Register.{Register}
 use Rattle.office_words.specs.declared.register.Register.TheVariants as register
 use Rattle.office_run.specs.declared.ending.Ending.{Ending}
 use Rattle.office_run.specs.declared.ending.Ending.TheVariants as how
 use Rattle.office_run.specs.Opening.{IsNotOpened, IsOfOpened, IsOpened}
 
+-- the text of a register of the office
+abbrev pub IsRegisterText : Register → Office → List ℕ → Type 0
+IsRegisterText register.Entries = IsEntryRegister
+IsRegisterText (register.Due day) = IsDueRegister day
+IsRegisterText (register.Overdue day n) = IsOverdueRegister day n
+
 -- the register of the office was written
 abbrev pub IsRegister : Register → Option (List ℕ) → Option (List ℕ) → Office → Type 0
-IsRegister register.Entries written after s = Appends written after (entry_register (entry_rows s))
-IsRegister (register.Due day) written after s = (rows : List DueTold) × AreDueRows s day rows × Appends written after (due_register rows)
-IsRegister (register.Overdue day n) written after s = (rows : List DueTold) × AreOverdueRows s day n rows × Appends written after (overdue_register n rows)
+IsRegister it written after s = (text : List ℕ) × IsRegisterText it s text × Appends written after text
 
 -- the writing of a register at an open desk, by its ending; where it was not written to its end, some of it may have gone out. Of tells of which states it is so
 abbrev pub Exports : ((State → Type 0) → Type 0) → Register → Option (List ℕ) → Option (List ℕ) → Ending → Type 0

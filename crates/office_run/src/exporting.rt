@@ -1,12 +1,12 @@
 //! The registers of the office in a file.
-ghost use Rattle.std.specs.Prelude.{◌≡◌, ◌⊎◌, IfErr, IsTrue, OnOk, false};
+ghost use Rattle.std.specs.Prelude.{◌≡◌, false};
 ghost use Rattle.office_rules.specs.State.{State};
 ghost use Rattle.office_run.specs.Calling.{CarriedOut, Shown};
-ghost use Rattle.office_run.specs.Exporting.{ExportEnds, Exports, IsRegister};
+ghost use Rattle.office_wire.specs.Exporting.{Exports as WritesText};
+ghost use Rattle.office_run.specs.Exporting.{ExportEnds, Exports, IsRegisterText};
 
 use crate::ending::Ending;
 use office_desk::Desk;
-use office_store::Fault;
 use office_wire::{ExportStop, export_due, export_entries, export_overdue};
 use office_words::Register;
 use sqlite::{Alter, Connection};
@@ -20,9 +20,7 @@ fn write_register<W: Write, S: Alter>(
     register: Register,
     out: &mut W,
 ) -> Result<(), ExportStop>
-    ensures ok { OnOk result (IsRegister register (W.contents out.old) (W.contents out.new) desk.old.office) }
-    ensures err { IfErr result (λ stop. (stop ≡ ExportStop.Io) ⊎ ((stop ≡ ExportStop.Fault Fault.Memory) ⊎ (stop ≡ ExportStop.Fault Fault.Reopen) × IsTrue desk.old.is_given_up)) }
-    ensures kept { desk.new ≡ desk.old }
+    ensures { WritesText (IsRegisterText register) W.contents out.old out.new result desk.old desk.new }
 {
     match register {
         Register::Entries => export_entries(alloc, desk, out),
