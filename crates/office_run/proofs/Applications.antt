@@ -3,9 +3,7 @@ use Rattle.std.proofs.Common.{◌≡◌, ◌∙◌, inl, inr, ℕ, Bool, true, f
 use Rattle.std.specs.List.{list_any}
 use Rattle.std.specs.Prelude.{IfErr, OnOk}
 use Rattle.std.specs.Io.KnownBytes.{Appends}
-use Rattle.sqlite.specs.Held.{Held, state}
 use Rattle.sqlite.specs.State.{State as FileState}
-use Rattle.sqlite_trees.specs.declared.store.Store.{Ghosts}
 use Rattle.office_rules.specs.Acts.{answers}
 use Rattle.office_rules.specs.State.{State}
 use Rattle.office_rules.specs.declared.act.Act.{Act}
@@ -14,9 +12,8 @@ use Rattle.office_store.specs.declared.fault.Fault.{Fault}
 use Rattle.office_json.specs.Acts.{asked}
 use Rattle.office_json.specs.Answers.{answer_lines}
 use Rattle.office_json.specs.Lists.{acts_in}
-use Rattle.office_run.specs.Applying.{AreDone, AreStopped, Applies, Performs, TextEnds}
+use Rattle.office_run.specs.Applying.{AreDone, AreStopped, Applies, Performs}
 use Rattle.office_run.specs.Endings.{ending_of_acts, is_refusal}
-use Rattle.office_run.specs.Opening.{IsOfOpened}
 use Rattle.office_run.specs.declared.ending.Ending.{Ending}
 use Rattle.office_run.specs.declared.ending.Ending.TheVariants as how
 

@@ -4,11 +4,7 @@ use Rattle.std.specs.Io.KnownBytes.{Appends}
 use Rattle.office_rules.specs.State.{State}
 use Rattle.office_store.specs.declared.fault.Fault.{Fault}
 use Rattle.office_store.specs.declared.fault.Fault.TheVariants as fault
-use Rattle.sqlite.specs.Held.{Held, state}
-use Rattle.sqlite.specs.State.{State as FileState}
-use Rattle.sqlite_trees.specs.declared.store.Store.{Ghosts}
-use Rattle.office_run.specs.Certifying.{CertificateEnds, Certifies, IsCertificate}
-use Rattle.office_run.specs.Opening.{IsOfOpened, IsOpened}
+use Rattle.office_run.specs.Certifying.{Certifies, IsCertificate}
 use Rattle.office_run.specs.declared.ending.Ending.{Ending}
 use Rattle.office_run.specs.declared.ending.Ending.TheVariants as how
 

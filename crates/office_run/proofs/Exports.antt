@@ -2,15 +2,11 @@
 use Rattle.std.proofs.Common.{◌≡◌, ◌⊎◌, inl, inr, ℕ, Bool, true, false, IsTrue, List, Option, Result, Ok, Err, IfErr, OnOk, refl, sym, subst}
 use Rattle.office_rules.specs.State.{Office, State}
 use Rattle.office_store.specs.declared.fault.Fault.TheVariants as fault
-use Rattle.sqlite.specs.Held.{Held, state}
-use Rattle.sqlite.specs.State.{State as FileState}
-use Rattle.sqlite_trees.specs.declared.store.Store.{Ghosts}
 use Rattle.office_wire.specs.declared.registers.ExportStop.{ExportStop}
 use Rattle.office_wire.specs.declared.registers.ExportStop.TheVariants as export
 use Rattle.office_words.specs.declared.register.Register.{Register}
 use Rattle.office_run.specs.Endings.{ending_of_export}
-use Rattle.office_run.specs.Exporting.{ExportEnds, Exports, IsRegister}
-use Rattle.office_run.specs.Opening.{IsOfOpened, IsOpened}
+use Rattle.office_run.specs.Exporting.{Exports, IsRegister}
 use Rattle.office_run.specs.declared.ending.Ending.{Ending}
 use Rattle.office_run.specs.declared.ending.Ending.TheVariants as how
 

@@ -1,6 +1,6 @@
 -- How an import ends.
-use Rattle.std.proofs.Common.{◌≡◌, ◌⊎◌, inl, inr, ℕ, ℤ, Bool, true, false, List, [], ◌∷◌, ◌++◌, ◌==◌, Option, Result, Ok, Err, refl, sym, ap, subst, ◌∙◌, if◌then◌else◌}
-use Rattle.sqlite.specs.Held.{Held, state}
+use Rattle.std.proofs.Common.{◌≡◌, ◌⊎◌, inl, inr, ℕ, ℤ, Bool, true, false, List, [], ◌∷◌, ◌++◌, ◌==◌, Option, Result, Ok, Err, refl, sym, ap, ◌∙◌, if◌then◌else◌}
+use Rattle.sqlite.specs.Held.{state}
 use Rattle.sqlite.specs.State.{State as FileState, HasCleanDisk}
 use Rattle.sqlite_trees.specs.declared.store.Store.{Ghosts}
 use Rattle.office_rules.specs.State.{State}
@@ -16,7 +16,6 @@ use Rattle.office_wire.specs.declared.importing.ImportStop.{ImportStop}
 use Rattle.office_wire.specs.declared.importing.ImportStop.TheVariants as import
 use Rattle.office_run.specs.Endings.{ending_of_import}
 use Rattle.office_run.specs.Importing.{AreAllSaved, ImportsAt, IsRowCut}
-use Rattle.office_run.specs.Opening.{IsOfOpened}
 use Rattle.office_run.specs.declared.ending.Ending.{Ending}
 use Rattle.office_run.specs.declared.ending.Ending.TheVariants as how
 

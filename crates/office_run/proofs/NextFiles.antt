@@ -1,17 +1,15 @@
 -- What the two files hold after a word, by what a crash leaves of its connection.
-use Rattle.std.proofs.Common.{◌≡◌, ◌≤◌, inl, inr, ℕ, IsTrue, List, Option, Some, sym, subst, arith}
+use Rattle.std.proofs.Common.{inl, inr, ℕ, IsTrue, List, Option, Some, sym, subst, arith}
 use Rattle.std.proofs.Math.Logic.{∥∥₁_map}
 use Rattle.sqlite_disk.specs.declared.Disk.{Ghosts}
 use Rattle.sqlite_disk.specs.declared.Files.{Files}
-use Rattle.sqlite_store.specs.FileStore.{recovers, state as store_state, view}
+use Rattle.sqlite_store.specs.FileStore.{recovers}
 use Rattle.sqlite_store.specs.declared.store.FileStore.{FileStore}
 use Rattle.sqlite_trees.specs.Tree.{Trees}
-use Rattle.sqlite_trees.specs.View.{IsClean, doubt}
-use Rattle.sqlite_wal.specs.Files.{outcomes}
 use Rattle.sqlite_wal.specs.Reads.{AreClean}
 use Rattle.sqlite_wal.specs.Recovery.{Image}
 use Rattle.sqlite.specs.Closing.{IsCopied}
-use Rattle.sqlite.specs.Files.{HoldsDatabase, IsClosed, file_state, image_of, over_files}
+use Rattle.sqlite.specs.Files.{HoldsDatabase, IsClosed, file_state, over_files}
 use Rattle.sqlite.specs.Held.{AreDatabases, Held}
 use Rattle.sqlite.specs.State.{HasCleanDisk}
 use Rattle.sqlite.proofs.Theorems.{opens_again}

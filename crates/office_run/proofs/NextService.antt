@@ -1,15 +1,14 @@
 -- At which state a service leaves an office, whatever a crash leaves of it.
-use Rattle.std.proofs.Common.{◌≡◌, ◌≢◌, ◌⊎◌, inl, inr, ℕ, zero, suc, ◌+◌, IsTrue, Bool, false, List, [], ◌∷◌, ◌++◌, length, take, Option, Some, None, Result, Ok, Err, refl, sym, ap, subst, ◌∙◌}
+use Rattle.std.proofs.Common.{◌⊎◌, inl, inr, ℕ, zero, suc, ◌+◌, IsTrue, Bool, false, List, [], ◌∷◌, ◌++◌, length, take, Option, Some, None, Result, Ok, Err, refl, sym, ap, subst, ◌∙◌}
 use Rattle.sqlite.specs.Held.{Held, state}
 use Rattle.sqlite.specs.State.{HasCleanDisk}
-use Rattle.sqlite_trees.specs.Tree.{Trees}
 use Rattle.sqlite_trees.specs.declared.store.Store.{Ghosts}
 use Rattle.office_plan.specs.declared.output.Io.{Io}
 use Rattle.office_rules.specs.Acts.{after as after_acts}
 use Rattle.office_rules.specs.Rows.{rows_of}
 use Rattle.office_rules.specs.Runs.{after_steps, candidates, whole}
 use Rattle.office_rules.specs.Sound.{IsSound}
-use Rattle.office_rules.specs.State.{Office, State}
+use Rattle.office_rules.specs.State.{State}
 use Rattle.office_rules.specs.declared.act.Act.{Act}
 use Rattle.office_sql.specs.declared.editions.Edition.{Edition}
 use Rattle.office_sql.specs.declared.editions.Edition.TheVariants as edition
@@ -28,8 +27,8 @@ use Rattle.office_http.specs.Replies.{Response}
 use Rattle.office_wire.specs.Answering.{IsUntold, PerformsAsked, Resumes, Serves, Starves}
 use Rattle.office_wire.specs.Connections.{IsKept, Turn, Turns}
 use Rattle.office_wire.specs.Receiving.{Wanted, acts, certificate_told, content_told, cut, due_told, overdue_told, record_told, refused, resumption}
-use Rattle.office_run.specs.NextWord.{IsOfficeAt, IsServedTo, LeavesAt}
-use Rattle.office_run.specs.Serving.{IsDeskOf, ServesAt, ServiceEnds}
+use Rattle.office_run.specs.NextWord.{IsServedTo, LeavesAt}
+use Rattle.office_run.specs.Serving.{IsDeskOf, ServiceEnds}
 use Rattle.office_run.specs.declared.ending.Ending.{Ending}
 use Rattle.office_run.proofs.NextStates.{IsEnded, IsOneDatabase, StaySound, at_rows, at_stop, at_unopened, formed_front, found_same, sound_acts, sound_steps}
 use Rattle.office_run.proofs.Services.{clean_turn, clean_turns}

@@ -1,5 +1,5 @@
 -- At which state a word leaves an office, whatever a crash leaves of it.
-use Rattle.std.proofs.Common.{◌≡◌, ◌⊎◌, inl, inr, ℕ, ℤ, zero, suc, ◌+◌, ◌≤◌, List, [], ◌∷◌, ◌++◌, length, map, take, Option, Some, Result, Ok, Err, refl, sym, ap, subst, ◌∙◌, append-nil, arith}
+use Rattle.std.proofs.Common.{◌≡◌, ◌⊎◌, inl, inr, ℕ, ℤ, zero, suc, ◌+◌, List, [], ◌∷◌, ◌++◌, length, map, take, Option, Some, Result, Ok, Err, refl, sym, ap, subst, ◌∙◌, append-nil, arith}
 use Rattle.std.proofs.Math.Seq.{take-length}
 use Rattle.std.specs.Prelude.{option_map}
 use Rattle.std.specs.Io.KnownBytes.{Appends}
@@ -32,14 +32,14 @@ use Rattle.office_json.specs.Acts.{AskedRecord, asked}
 use Rattle.office_json.specs.Answers.{answer_lines}
 use Rattle.office_json.specs.Lists.{acts_in}
 use Rattle.office_csv.specs.ImportRows.{Fields, record_asked}
-use Rattle.office_wire.specs.Importing.{AreFrontRows, AreRowsDone, AreSomeRows, IsAnsweredBy, IsRowDone, lines_from}
+use Rattle.office_wire.specs.Importing.{AreFrontRows, AreRowsDone, AreSomeRows, IsAnsweredBy, lines_from}
 use Rattle.office_words.specs.Orders.{Ordered, application_ordered, certificate_ordered, due_day_ordered, exportation_ordered, importation_ordered, init_file_ordered, nothing_ordered, overdue_ordered, plan_file_ordered, resumption_ordered, service_ordered}
 use Rattle.office_words.specs.declared.register.Register.{Register}
 use Rattle.office_words.specs.declared.register.Register.TheVariants as register
-use Rattle.office_run.specs.Applying.{ApplyEnds, AreStopped, Applies, Performs}
+use Rattle.office_run.specs.Applying.{AreStopped, Applies, Performs}
 use Rattle.office_run.specs.Certifying.{CertificateEnds}
 use Rattle.office_run.specs.Exporting.{ExportEnds}
-use Rattle.office_run.specs.Importing.{ImportEnds, ImportsAt, IsRowCut}
+use Rattle.office_run.specs.Importing.{ImportsAt, IsRowCut}
 use Rattle.office_run.specs.NextWord.{AreActsDone, AreRowsAdded, AreStepsTaken, IsLeftBy, IsOfficeAt, IsUntouched, LeavesAt}
 use Rattle.office_run.specs.Opening.{IsNotOpened, IsOfOpened, IsOpened, IsUnopened}
 use Rattle.office_run.specs.Resuming.{ResumeEnds, Resumes}

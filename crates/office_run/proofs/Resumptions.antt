@@ -1,11 +1,8 @@
 -- How a resumption ends.
 use Rattle.std.proofs.Common.{◌≡◌, inl, inr, ℕ, List, Option, Some, None, refl, sym, subst}
-use Rattle.sqlite.specs.Held.{Held, state}
 use Rattle.sqlite.specs.State.{State as FileState}
-use Rattle.sqlite_trees.specs.declared.store.Store.{Ghosts}
 use Rattle.office_rules.specs.State.{State}
-use Rattle.office_run.specs.Opening.{IsOfOpened}
-use Rattle.office_run.specs.Resuming.{IsAnswerTold, IsNoRun, IsResumed, ResumeEnds, Resumes}
+use Rattle.office_run.specs.Resuming.{IsAnswerTold, IsNoRun, IsResumed, Resumes}
 use Rattle.office_run.specs.declared.ending.Ending.{Ending}
 use Rattle.office_run.specs.declared.ending.Ending.TheVariants as how
 
