@@ -1,4 +1,4 @@
-//! The checks of the head of a request.
+//! The checks that the head of a request must pass.
 
 /// A check that the head of a request does not pass.
 #[derive(Clone, Copy, PartialEq, Eq, Debug)]

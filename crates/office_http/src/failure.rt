@@ -1,4 +1,4 @@
-//! What fails of a request apart from the checks of its head.
+//! Failures with a fixed reply of their own, besides the failed checks of a head.
 
 /// Why a request is not served, apart from the checks of its head.
 #[derive(Clone, Copy, PartialEq, Eq, Debug)]

@@ -1,4 +1,4 @@
-//! The field lines of a head, by their name.
+//! The field lines of a head by their name, in any case of letters (RFC 9110, section 5).
 ghost use Rattle.std.specs.Prelude.{◌≡◌, ℕ, List, length, map, All};
 ghost use Rattle.httparse.specs.Spans.{header_bytes, span_bytes, IsHeaderWithin, IsWithin};
 ghost use Rattle.office_http.specs.Fields.{and_value, same_name, found_bytes, found_named, IsFoundWithin};

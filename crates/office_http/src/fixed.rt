@@ -1,4 +1,4 @@
-//! The answers whose bytes are fixed.
+//! Replies of fixed bytes, for failed checks and for the other kinds of failure.
 ghost use Rattle.std.specs.Prelude.{◌≡◌};
 ghost use Rattle.office_http.specs.Replies.{check_response, failure_response, response, Response};
 ghost use Rattle.office_http.specs.declared.reply.Kind.TheVariants.{Json};

@@ -1,4 +1,4 @@
-//! The numbers in a head: the length of a body, and the number that a path names.
+//! Numbers in a head: the length of a body, and the number of a thing in a path.
 ghost use Rattle.std.specs.Prelude.{◌≡◌, min};
 ghost use Rattle.std.specs.Option.{option_map};
 ghost use Rattle.office_days.specs.Numerals.{number_named};

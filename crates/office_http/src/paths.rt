@@ -1,4 +1,4 @@
-//! What a path names, by routes of the crate `matchit`, and the segments of a path.
+//! The paths of the office: their routes, and what each names.
 ghost use Rattle.std.specs.Prelude.{◌≡◌, ◌==◌, IfOk, true, false, MatchOption};
 ghost use Rattle.std.specs.List.{list_any};
 ghost use Rattle.office_http.specs.Paths.{RouteList, is_path, office_routes, path_segment, resource_at, with_route};

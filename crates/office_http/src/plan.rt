@@ -1,4 +1,4 @@
-//! What is done for the head of a request: the checks one after another, and then what it asks for.
+//! What is done for the head of a request: the first check that fails, or what it asks for.
 ghost use Rattle.std.specs.Prelude.{◌≡◌, ℕ, ◌≤◌, List, length, map, take, codes, All};
 ghost use Rattle.httparse.specs.Spans.{header_bytes, span_bytes, IsHeaderWithin, IsRequestWithin};
 ghost use Rattle.office_http.specs.Fields.{found_named};

@@ -1,4 +1,4 @@
-//! An answer: its status, its body, and what that is.
+//! A reply before it is written: status, media type, allowed method and body.
 ghost use Rattle.std.specs.Prelude.{◌≡◌};
 ghost use Rattle.office_http.specs.Replies.{body_bytes};
 

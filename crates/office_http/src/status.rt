@@ -1,4 +1,4 @@
-//! The status of an answer, by the crate `http`.
+//! The status codes of replies (RFC 9110, section 15).
 ghost use Rattle.std.specs.Prelude.{◌≡◌};
 ghost use Rattle.http.specs.StatusCode.{status_text};
 ghost use Rattle.office_http.specs.Replies.{status_number, status_words};

@@ -1,4 +1,4 @@
-//! What the head of a request asks for.
+//! What a request can ask for, with the numbers and days of its path.
 use office_days::{ConfirmDays, Day};
 
 /// What the head of a request asks for. What its path does not write is `None`: a number is 1 to

@@ -1,4 +1,4 @@
-//! The bytes of an answer: the lines of its head by two writes, and its body by a third.
+//! A reply written part by part, from its status line to its body.
 ghost use Rattle.std.specs.Prelude.{◌≡◌, ◌<◌, ◌^◌, IfOk, OnOk, [], false, length, true};
 ghost use Rattle.std.specs.Io.KnownBytes.{Appends};
 ghost use Rattle.httparse.specs.Grammar.{ReadsResponse};
