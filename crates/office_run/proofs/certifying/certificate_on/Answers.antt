@@ -15,9 +15,11 @@ returns-in-Ok g c =
     let it = c.in-Ok.ensures.ok in
     let desk = c.in-Ok.desk in
     carried g.S.Store c.args.conn desk.held _ g.W.Write.contents _ _ (Shown g.S.Store (CertificateEnds c.args.run)) c.certificate_at-ending.result c.close.ensures.same it.clean
-    (inr (opened g.S.Store c.args.conn desk it,
-    certifies_of (λ (P : State → Type 0). (s : State) → s.office ≡ desk.office → P s) (IsOfOpened (state g.S.Store c.args.conn) (state g.S.Store desk.held)) (of_office g.S.Store c.args.conn desk it)
-    c.args.run _ _ _ c.certificate_at-ending.ensures))
+    (inr (
+      opened g.S.Store c.args.conn desk it,
+      certifies_of (λ (P : State → Type 0). (s : State) → s.office ≡ desk.office → P s) (IsOfOpened (state g.S.Store c.args.conn) (state g.S.Store desk.held)) (of_office g.S.Store c.args.conn desk it)
+          c.args.run _ _ _ c.certificate_at-ending.ensures,
+    ))
 
 pub returns-in-Err : goal.returns-in-Err
 returns-in-Err g c =

@@ -17,9 +17,11 @@ returns-in-Ok g c =
     let desk = c.in-Ok.desk in
     carried g.S.Store c.args.conn desk.held _ g.W.Write.contents _ _ (Shown g.S.Store (ExportEnds c.args.register)) c.export_at-ending.result
     (c.close.ensures.same ∙ ap (λ (d : DeskState _). d.held) c.export_at-ending.ensures.kept) it.clean
-    (inr (opened g.S.Store c.args.conn desk it,
-    exports_of (λ (P : State → Type 0). (s : State) → s.office ≡ desk.office → P s) (IsOfOpened (state g.S.Store c.args.conn) (state g.S.Store desk.held)) (of_office g.S.Store c.args.conn desk it)
-    c.args.register _ _ _ c.export_at-ending.ensures.exports))
+    (inr (
+      opened g.S.Store c.args.conn desk it,
+      exports_of (λ (P : State → Type 0). (s : State) → s.office ≡ desk.office → P s) (IsOfOpened (state g.S.Store c.args.conn) (state g.S.Store desk.held)) (of_office g.S.Store c.args.conn desk it)
+          c.args.register _ _ _ c.export_at-ending.ensures.exports,
+    ))
 
 pub returns-in-Err : goal.returns-in-Err
 returns-in-Err g c =
