@@ -30,7 +30,7 @@ CITED = re.compile(r"\buse Rattle\.(\w+)\.specs\.([\w.]+)")
 
 
 class Mutant(NamedTuple):
-    """A mutant: its crate, its name, and its edits, each the path of a file, the text that goes and the one that comes."""
+    """A mutant: its crate, its name, and its edits, each the path of a file, the text that goes and the new one."""
 
     crate: str
     name: str
@@ -42,7 +42,7 @@ class Mutant(NamedTuple):
 
 
 class Tried(NamedTuple):
-    """What is on record of a mutant that was refused: its sum then, and where, which is empty if nobody wrote it down."""
+    """What is on record of a mutant that was refused: its sum then, and where, which is empty if it is not known."""
 
     sum: str
     where: str

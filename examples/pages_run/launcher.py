@@ -94,6 +94,17 @@ def line_of_preview() -> str:
     return next(line for line in blocks("README.md")[0] if line.startswith("office: ")) + "\n"
 
 
+def judge_help(trial: Trial) -> None:
+    """Without a program the help is that of .ci/help.txt, and needs no kit."""
+    wanted = (2, "", (TOP / ".ci/help.txt").read_text())
+    for words in ("", "help", "-h", "--help"):
+        done = trial.run(f"clone/office {words}", PATH="/usr/bin:/bin")
+        judge(f"office {words} shows the help at once", done == wanted, f"{done}")
+    done = trial.run("clone/office help due", PRINTS="", SAYS=ended(2, "the words of due\n"), STATUS="2")
+    wanted = (2, "", line_of_preview() + "the words of due\n")
+    judge("the help of one word is the program's own", done == wanted, f"{done}")
+
+
 def judge_previews(trial: Trial) -> None:
     done = trial.run("clone/office due years 7 from-month-4 2017-06-30", PRINTS="2025-04-01\n", SAYS=ended(0))
     judge("a preview prints what the program prints, and README's line", done == (0, "2025-04-01\n", line_of_preview()),
@@ -225,6 +236,7 @@ def preview_for_real(shell: Shell) -> None:
 
 def judge_launcher(shell: Shell) -> None:
     trial = Trial(shell)
+    judge_help(trial)
     judge_previews(trial)
     judge_build(trial)
     judge_stopped(trial)

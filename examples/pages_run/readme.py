@@ -21,6 +21,8 @@ def is_installed(shell: Shell) -> None:
     """The program is there, and works; a launcher without a program, or with one of other sources, says what to do."""
     done = shell.run("DIR/office due days 1 none 2024-02-28")
     judge("the installed program works", done.out == "2024-02-29\n", done.out + done.err)
+    done = shell.run("DIR/office help")
+    judge("its help is that of .ci/help.txt", done == (2, "", (TOP / ".ci/help.txt").read_text()), f"{done}")
     other = shell.path("other")
     other.mkdir()
     shutil.copy(shell.path("office"), other / "office")
