@@ -335,7 +335,7 @@ class Story:
         sent = self.posted()
         it.press("#due-submit")
         told, row = it.seen("#due-answer"), TEXTS["faults"]["31"]
-        says("a fault that stops the acts is a 503 that is told in words", told, "503 ", "Fault 31", row["meaning"], row["do"], "A fault stopped it.", "is unknown", "were not begun")
+        says("a fault that stops the acts is a 503 that is told in words", told, "503 ", "Fault 31", row["meaning"], row["do"], "A fault stopped it.", "is unknown", "those after it were not.")
         says("then the office has ended, which the list tells", it.seen("#due-outcome"), "The server said: 502", TEXTS["proxy"]["502"]["meaning"])
         judge("and that without a page of nginx", "<" not in it.text("#due-outcome"), it.text("#due-outcome"))
         says("and that the list is older", told, TEXTS["due"]["stale"])

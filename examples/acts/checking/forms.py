@@ -40,15 +40,15 @@ def shown(value: object) -> str:
 
 def day_why(value: str) -> str:
     if re.fullmatch("[0-9]{4}-[0-9]{2}-[0-9]{2}", value):
-        return "is no day of the calendar from 0001-01-01 to 2999-12-31"
-    return 'is no day: write it as "2017-06-30"'
+        return "is not a day of the calendar from 0001-01-01 to 2999-12-31"
+    return 'is not a day: write it as "2017-06-30"'
 
 
 def code_why(value: str) -> str:
     if re.fullmatch("[A-Za-z0-9-]+", value):
         return f"has {len(value)} characters, and a code has at most {LONGEST_CODE}"
     strange = next((it for it in value if not re.fullmatch("[A-Za-z0-9-]", it)), None)
-    return f"has {shown(strange)}, and a code has ASCII letters, digits and hyphens alone" if strange else "is empty"
+    return f"has {shown(strange)}, and a code has only ASCII letters, digits and hyphens" if strange else "is empty"
 
 
 def text_why(value: str) -> str:
@@ -63,7 +63,7 @@ def words_why(name: str) -> Callable[[str], str]:
 
 def digest_why(value: str) -> str:
     if re.fullmatch("[0-9A-Fa-f]{64}", value):
-        return "has capitals: write its letters small"
+        return "has capital letters: write them in lower case"
     return f"is no digest: it has {len(value)} characters, and a digest has 64, of 0 to 9 and a to f"
 
 
@@ -90,7 +90,7 @@ def content_why(value: str) -> str:
         return "is base64 with wrong padding: its length must be a multiple of 4, with = at the end"
     if re.search("[-_]", value) and is_base64(joined.replace("-", "+").replace("_", "/")):
         return "is base64 for addresses: write + and / in place of - and _"
-    return "is no base64 with padding, exactly as encoding writes it"
+    return "is not base64 with padding, exactly as encoding writes it"
 
 
 def is_base64(text: str) -> bool:
@@ -108,7 +108,7 @@ TEXT_WHYS: dict[str, Callable[[str], str]] = {
 
 def number_why(value: object) -> str:
     if isinstance(value, float) or not is_count(value):
-        return "is no whole number in digits alone"
+        return "is not a whole number in digits alone"
     return f"is not from 1 to {LARGEST}"
 
 
@@ -123,7 +123,7 @@ def is_count(value: object) -> bool:
 
 def count_why(value: object, unit: object) -> str:
     """Why a number is no count of a unit."""
-    return f"is more than {limit_of(unit):,} {unit}" if is_count(value) else "is no whole number in digits alone"
+    return f"is more than {limit_of(unit):,} {unit}" if is_count(value) else "is not a whole number in digits alone"
 
 
 def why(act: dict[str, object], name: str) -> str:

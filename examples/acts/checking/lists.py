@@ -138,7 +138,7 @@ def unknown_why(value: dict[str, object]) -> str:
 def strange_why(name: str, value: dict[str, object], parts: dict[str, Part]) -> str:
     missing = [it for it in parts if it not in value]
     names = ", ".join(["act", *parts])
-    return f"member {shown(name)} is strange{guess(name, missing)}; there are {names}"
+    return f"member {shown(name)} is unknown{guess(name, missing)}; there are {names}"
 
 
 def guess(word: object, words: Iterable[str]) -> str:

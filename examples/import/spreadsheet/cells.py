@@ -63,17 +63,17 @@ def number_of(cell: str) -> str:
         why = "the cell is empty: write the number of the aggregation, which `office apply` printed"
         raise Wrong("numberless", why)
     if not re.fullmatch("[0-9]+", cell):
-        why = "is no whole number in digits: give the column the form of a number without decimals"
+        why = "is not a whole number in digits: give the column the form of a number without decimals"
         raise Wrong("number", why)
     if not 1 <= int(cell) <= LARGEST_NUMBER:
-        raise Wrong("range", f"is no number from 1 to {LARGEST_NUMBER:,}")
+        raise Wrong("range", f"is not a number from 1 to {LARGEST_NUMBER:,}")
     return cell
 
 
 def code_of(cell: str) -> str:
     """The code of a class or of a schedule, or none."""
     if cell and not re.fullmatch("[A-Za-z0-9-]+", cell):
-        raise Wrong("code", "is no code: a code has ASCII letters, digits and hyphens alone")
+        raise Wrong("code", "is not a code: a code has only ASCII letters, digits and hyphens")
     if len(cell) > LONGEST_CODE:
         raise Wrong("longCode", f"has {len(cell)} characters, and a code has at most {LONGEST_CODE}")
     return cell
@@ -95,7 +95,7 @@ def content_of(cell: str) -> str:
     if content is None or base64.b64encode(content).decode() != joined:
         is_cut = len(cell) == LONGEST_CELL
         why_cut = ": Excel cut it at 32,767 characters, say --files" if is_cut else ""
-        raise Wrong("cut" if is_cut else "base64", f"is no base64 with padding{why_cut}")
+        raise Wrong("cut" if is_cut else "base64", f"is not base64 with padding{why_cut}")
     if len(content) > LONGEST_CONTENT:
         raise too_long("represents", len(content))
     return joined

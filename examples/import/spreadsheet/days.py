@@ -99,17 +99,17 @@ def day_read(text: str, order: str, first_year: int | None) -> datetime.date | N
 
 
 def why_no_day(text: str, order: str, first_year: int | None) -> tuple[str, str]:
-    """What is wrong with a text that is no day in a column of that order: its kind, and a text."""
+    """What is wrong with a text that is not a day in a column of that order: its kind, and a text."""
     if not text:
-        return "dayless", "there is no day"
+        return "dayless", "there is not a day"
     if readings(text, first_year):
-        return "order", f"is no day in the order {ORDERS[order]}"
+        return "order", f"is not a day in the order {ORDERS[order]}"
     if YEAR_FIRST.fullmatch(text) or YEAR_LAST.fullmatch(text) or (first_year and SHORT_YEAR.fullmatch(text)):
-        return "calendar", f"is no day of the calendar from 0001-01-01 to {LAST_YEAR}-12-31"
+        return "calendar", f"is not a day of the calendar from 0001-01-01 to {LAST_YEAR}-12-31"
     if SHORT_YEAR.fullmatch(text):
         why = "has two digits of the year: give the column a form with four, or say --years 1930 for 1930 to 2029"
         return "short", why
     if it := SERIAL.fullmatch(text):
         meant = FIRST_SERIAL + datetime.timedelta(days=int(it[1]))
         return "serial", f"is the number by which a sheet stores {meant}: give the column the form of a day"
-    return "day", "is no day: write it as 2020-12-31"
+    return "day", "is not a day: write it as 2020-12-31"
