@@ -5,6 +5,7 @@ Where PAGES_PREVIEW is set, one preview is done with the kit itself, which takes
 import json
 import os
 import pathlib
+import re
 import shutil
 import signal
 import subprocess
@@ -53,7 +54,8 @@ class Trial:
         self.top.mkdir()
         shutil.copy(TOP / "office", self.top)
         shutil.copytree(TOP / ".ci", self.top / ".ci", ignore=shutil.ignore_patterns("__pycache__"))
-        shutil.copy(TOP / "HANDLES", self.top)
+        for name in ("HANDLES", "CHANGELOG.md"):
+            shutil.copy(TOP / name, self.top)
         (self.top / "crates.txt").write_text(CRATES)
         for line in CRATES.splitlines():
             source = self.top / "crates" / line.partition(":")[0] / "src"
@@ -95,11 +97,15 @@ def line_of_preview() -> str:
 
 
 def judge_help(trial: Trial) -> None:
-    """Without a program the help is that of .ci/help.txt, and needs no kit."""
+    """Without a program the help is that of .ci/help.txt, and neither it nor the version needs the kit."""
     wanted = (2, "", (TOP / ".ci/help.txt").read_text())
     for words in ("", "help", "-h", "--help"):
         done = trial.run(f"clone/office {words}", PATH="/usr/bin:/bin")
         judge(f"office {words} shows the help at once", done == wanted, f"{done}")
+    last = re.findall(r"^## (\S+) \((\S+)\)$", (TOP / "CHANGELOG.md").read_text(), re.M)[0]
+    for words in ("version", "--version"):
+        done = trial.run(f"clone/office {words}", PATH="/usr/bin:/bin")
+        judge(f"office {words} is that of CHANGELOG", done.out.startswith(f"office {last[0]} of {last[1]}"), f"{done}")
     done = trial.run("clone/office help due", PRINTS="", SAYS=ended(2, "the words of due\n"), STATUS="2")
     wanted = (2, "", line_of_preview() + "the words of due\n")
     judge("the help of one word is the program's own", done == wanted, f"{done}")
