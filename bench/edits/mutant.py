@@ -2,7 +2,7 @@
 
 The sum of a mutant is over its own texts, the files that it edits, and the definitions that these cite: the modules of
 the crate's own `specs` that their `use Rattle.CRATE.specs.X` lines name, and those that these modules name in turn.
-Comments, layout, and the order of `use` and `mod` lines are left out.
+Comments, layout, and the order and grouping of `use` and `mod` lines are left out.
 """
 import functools
 import hashlib
@@ -11,20 +11,20 @@ import pathlib
 import re
 import subprocess
 import tarfile
-from typing import Callable, Iterator, NamedTuple
+from typing import Iterator, NamedTuple
 
 TOP = pathlib.Path(__file__).resolve().parent.parent.parent
 ENDINGS = (".rt", ".antt", ".edit", "/tried")
 
 Texts = dict[str, str]
-Rename = Callable[[str], str]
 
 # a literal, which is one token; a comment; a word; any other letter
 RUST = re.compile(r'''b?r(?P<m>#*)".*?"(?P=m)|b?"(?:\\.|[^"\\])*"|b?'(?:\\[^']*|[^'\\])'|(?P<note>//[^\n]*|/\*.*?\*/)'''
                   r"""|\w+'*|\S""", re.S)
 ANTT = re.compile(r'"(?:\\.|[^"\\])*"|(?P<note>(?<!\S)--[^\n]*|\{-.*?-\})' r"""|\w+'*|\S""", re.S)
+WORD = r"\w+'*"
 # the lines of names at the head of a file; what is cited of a crate's definitions
-NAMES = re.compile(r"^[ \t]*(?:pub(?:\([a-z ]+\))? )?(?:(?:ghost )?use\b|mod\b)[^;{]*(?:\{[^;]*\})?;", re.M)
+HEADS = re.compile(r"^[ \t]*(?:pub(?:\([a-z ]+\))? )?(?:(?:ghost )?use\b|mod\b)[^;{]*(?:\{[^;]*\})?;", re.M)
 USES = re.compile(r"^use [^\n]*(?:\n[ \t]+[^\n]+)*", re.M)
 CITED = re.compile(r"\buse Rattle\.(\w+)\.specs\.([\w.]+)")
 
@@ -117,35 +117,66 @@ def write_tried(tried: dict[str, Tried]) -> None:
         (TOP / "bench/edits" / crate / "tried").write_text("".join(lines))
 
 
-def same(word: str) -> str:
-    return word
+class Names:
+    """What a tree's names are in another one: here each is what it is."""
+
+    def word(self, word: str) -> str:
+        """An identifier."""
+        return word
+
+    def path(self, path: str) -> str:
+        """A name with its modules, at the head of a file."""
+        return re.sub(WORD, lambda it: self.word(it[0]), path)
 
 
-def tokens(pattern: re.Pattern[str], text: str, rename: Rename) -> list[str]:
+SAME = Names()
+
+
+def tokens(pattern: re.Pattern[str], text: str, names: Names) -> list[str]:
     """The tokens of a text without its comments; words are renamed, and literals are not."""
     found = [it[0] for it in pattern.finditer(text) if not it["note"]]
-    return [rename(it) if re.fullmatch(r"\w+'*", it) else it for it in found]
+    return [names.word(it) if re.fullmatch(WORD, it) else it for it in found]
 
 
-def head_line(pattern: re.Pattern[str], text: str, rename: Rename) -> str:
-    """A line of names, those between its braces in their order by letters where none of them has braces of its own."""
-    line = " ".join(tokens(pattern, text, rename))
-    braces = re.fullmatch(r"([^{]*\{)([^{}]*)(\}.*)", line)
-    if not braces:
-        return line
-    return braces[1] + " , ".join(sorted(it.strip() for it in braces[2].split(",") if it.strip())) + braces[3]
+def split(text: str) -> list[str]:
+    """The parts between commas that no braces enclose."""
+    found, depth = [""], 0
+    for letter in text:
+        depth += {"{": 1, "}": -1}.get(letter, 0)
+        if letter == "," and depth == 0:
+            found.append("")
+        else:
+            found[-1] += letter
+    return [it.strip() for it in found if it.strip()]
 
 
-def plain(path: str, text: str, rename: Rename = same) -> str:
+def single(line: str) -> list[str]:
+    """A line of names as lines of one name each."""
+    line = " ".join(line.split()).rstrip("; ")
+    before, brace, rest = line.partition("{")
+    if not brace or not rest.endswith("}"):
+        return [line]
+    return [one for part in split(rest[:-1]) for one in single(before + part)]
+
+
+def head_lines(lines: Iterator[str], names: Names) -> list[str]:
+    """The lines of names at the head of a file, a name each, in their order by letters."""
+    found = set()
+    for one in (it for line in lines for it in single(line)):
+        before, use, path = one.rpartition("use ")
+        found.add(before + use + names.path(re.sub(r"(?<=[.:]) | (?=[.:])", "", path)))
+    return sorted(found)
+
+
+def plain(path: str, text: str, names: Names = SAME) -> str:
     """A source without comments and layout: its lines of names in their order by letters, then all other tokens."""
     is_rust = path.endswith(".rt")
     pattern = RUST if is_rust else ANTT
     bare = pattern.sub(lambda it: " " if it["note"] else it[0], text)
-    heads = NAMES if is_rust else USES
-    names = sorted(head_line(pattern, it[0], rename) for it in heads.finditer(bare))
+    heads = HEADS if is_rust else USES
     # a comma at the end of a line before a closing bracket is layout
     rest = re.sub(r",(?=\s*\n\s*[)\]}])", "", heads.sub("", bare))
-    return "\n".join([*names, *tokens(pattern, rest, rename)])
+    return "\n".join([*head_lines((it[0] for it in heads.finditer(bare)), names), *tokens(pattern, rest, names)])
 
 
 def cited_by(texts: Texts, crate: str, paths: list[str]) -> list[str]:
@@ -166,9 +197,9 @@ def parts_of(texts: Texts, mutant: Mutant) -> tuple[list[str], list[str]]:
     return edited, cited_by(texts, mutant.crate, edited)
 
 
-def plain_edits(mutant: Mutant, rename: Rename = same) -> str:
-    """A mutant's own texts, without layout."""
-    return "\n".join(" ".join(tokens(RUST, text, rename)) for _, *both in mutant.edits for text in both)
+def plain_edit(path: str, text: str, names: Names = SAME) -> str:
+    """A text of a mutant, of a file of that path, without layout."""
+    return " ".join(tokens(RUST if path.endswith(".rt") else ANTT, text, names))
 
 
 class Sums:
@@ -180,6 +211,6 @@ class Sums:
 
     def of(self, mutant: Mutant) -> str:
         edited, cited = parts_of(self.texts, mutant)
-        paths = [path for path, _, _ in mutant.edits]
-        whole = [*paths, plain_edits(mutant), *(self.plain(it) for it in [*edited, *cited])]
+        texts = [plain_edit(path, text) for path, *both in mutant.edits for text in both]
+        whole = [*(path for path, _, _ in mutant.edits), *texts, *(self.plain(it) for it in [*edited, *cited])]
         return hashlib.sha256("\0".join(whole).encode()).hexdigest()[:16]
