@@ -109,12 +109,16 @@ def tried_of(texts: Texts) -> dict[str, Tried]:
 
 
 def write_tried(tried: dict[str, Tried]) -> None:
-    """Writes `NAME/tried` of each crate, a line a mutant that is still there."""
+    """Writes `NAME/tried` of each crate, a line a mutant that is still there; where none was tried there is no file."""
     there = [it.key for it in mutants_of(texts_of_folder(TOP))]
     for crate in sorted({key.partition("/")[0] for key in there}):
         lines = [f"{key.partition('/')[2]} {tried[key].sum} {tried[key].where}".rstrip() + "\n"
                  for key in there if key.startswith(f"{crate}/") and key in tried]
-        (TOP / "bench/edits" / crate / "tried").write_text("".join(lines))
+        file = TOP / "bench/edits" / crate / "tried"
+        if lines:
+            file.write_text("".join(lines))
+        else:
+            file.unlink(missing_ok=True)
 
 
 class Names:
