@@ -125,10 +125,16 @@ def judge_previews(trial: Trial) -> None:
     judge("the program gets a copy of FILE", plan in words, words)
     done = trial.run("clone/office plan <(echo one) && cat words", SAYS=ended(0))
     judge("FILE may be a pipe", done.out.endswith("-- plan office.plan\none\n"), f"{done}")
-    done = trial.run("clone/office plan crates/none", SAYS=ended(3, "office: file\n"), STATUS="3")
-    judge("a FILE that is not there is the program's own error", (done.status, trial.words.read_text()) ==
-          (3, "try -- plan office.plan\n"), f"{done}")
-    done = trial.run("clone/office due years", SAYS="rt: the sources do not compile\nrun=none proved=no\n", STATUS="2")
+    words = trial.words.read_text()
+    done = trial.run("clone/office plan crates/none")
+    judge("a FILE that is not there is named at once", done == (3, "", "office: crates/none cannot be read: "
+          "check its name and its permissions\n") and trial.words.read_text() == words, f"{done}")
+    for few, usage in (("due years", "due UNIT COUNT OFFSET DAY"), ("plan", "plan FILE")):
+        done = trial.run(f"clone/office {few}")
+        judge(f"too few words, {few}, are seen at once", done == (2, "", f"usage: ./office {usage}\n")
+              and trial.words.read_text() == words, f"{done}")
+    said = "rt: the sources do not compile\nrun=none proved=no\n"
+    done = trial.run("clone/office due years 7 none 2017-06-30", SAYS=said, STATUS="2")
     judge("a preview that does not end says so", done.status == 2 and "rt: the sources" in done.err
           and done.err.endswith("./office build makes the program\n"), f"{done}")
     done = trial.run("clone/office package")
@@ -210,11 +216,12 @@ def with_mount(words: list[object], place: pathlib.Path, trial: Callable[[], Non
 
 
 def judge_lacks(trial: Trial) -> None:
-    for command in ("clone/office build", "clone/office due days"):
+    preview = "clone/office due days 1 none 2024-02-28"
+    for command in ("clone/office build", preview):
         lacks(trial, f"no rt, {command}", "put its folder 'bin' there", command, PATH="/usr/bin:/bin")
     memory = trial.shell.path("meminfo")
     memory.write_text("MemAvailable:    2000000 kB\nSwapFree:        1000000 kB\n")
-    for command, needed in (("clone/office build", "6 GB"), ("clone/office due days", "5 GB")):
+    for command, needed in (("clone/office build", "6 GB"), (preview, "5 GB")):
         with_mount(["--bind", memory], pathlib.Path("/proc/meminfo"), lambda: lacks(
             trial, f"little memory, {command}", f"needs {needed} of free memory, and 3.1 GB are free", command))
     out = trial.top / "crates/office/out"
