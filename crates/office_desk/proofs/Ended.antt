@@ -1,15 +1,16 @@
 -- What a crash leaves where acts and steps end.
-use Rattle.std.proofs.Common.{◌≡◌, ℕ, suc, ◌+◌, false, take, List, None, Some, Result, Ok, Err, OnOk, arith, sym, ap, subst, ◌∙◌, append-nil}
+use Rattle.std.proofs.Common.{◌≡◌, ℕ, suc, ◌+◌, false, take, List, [], ◌∷◌, None, Some, Result, Ok, Err, OnOk, arith, sym, ap, subst, ◌∙◌, append-nil}
 use Rattle.sqlite.specs.Held.{state}
 use Rattle.sqlite_trees.specs.declared.store.Store.{Ghosts}
-use Rattle.office_rules.specs.Acts.{after}
+use Rattle.office_rules.specs.Acts.{after, step}
+use Rattle.office_rules.specs.Forms.{IsFormedAct}
 use Rattle.office_rules.specs.Runs.{IsMidway, after_steps, open_run, whole}
 use Rattle.office_rules.specs.State.{State}
 use Rattle.office_rules.specs.declared.act.Act.{Act}
 use Rattle.office_rules.specs.declared.answer.Answer.{Answer}
 use Rattle.office_store.specs.declared.fault.Fault.{Fault}
 use Rattle.office_store.specs.declared.fault.Fault.TheVariants as fault
-use Rattle.office_desk.specs.Calling.{EndActs, EndSteps, Performed, Resumed}
+use Rattle.office_desk.specs.Calling.{EndAct, EndActs, EndSteps, Performed, PerformedOne, Resumed}
 use Rattle.office_desk.specs.Desk.{DeskState}
 use Rattle.office_desk.specs.Headline.{AreFormed}
 use Rattle.office_desk.specs.Leaving.{StandsAt}
@@ -58,6 +59,28 @@ module _ (told : AreFatesTold) {S : Type 0} (g : Ghosts S) (s : State) (acts : L
         midway = λ begun run all is_run m a. midway_left g r begun s run acts new on all is_run m tt (it.count, it.left a);
       }
 
+-- what is so of one act is so of the list of it alone
+module _ (told : AreFatesTold) (on : GoesOn) {S : Type 0} (g : Ghosts S) (s : State) (a : Act) (At : Type 0) where
+  pub performed_one : (result : Result Answer Fault) (old new : DeskState S) → IsFormedAct a → (At → StandsAt g s old) → EndAct g s a result old new At → PerformedOne g s a result old new At
+  performed_one (Ok answer) old new formed at it =
+      let r : Result Answer Fault = Ok answer in
+      record {
+        formed = formed;
+        ends = it;
+        offices = λ x. offices_standing g (step s a).1 new (it.stands x);
+        fates = λ x. fates_done told s (a ∷ []) (at x).sound (state g new.held) (it.stands x).rows;
+        midway = λ begun run is is_run m x. midway_left g r begun s run (a ∷ []) new on (is, tt) is_run m (it.stands x) tt;
+      }
+  performed_one (Err f) old new formed at it =
+      let r : Result Answer Fault = Err f in
+      record {
+        formed = formed;
+        ends = it;
+        offices = λ x. offices_stopped s (step s a).1 f (state g new.held) (it.left x);
+        fates = λ x. fates_at told s (a ∷ []) (at x).sound 0 f (state g new.held) (omega arith) (λ _. omega arith) (it.left x);
+        midway = λ begun run is is_run m x. midway_left g r begun s run (a ∷ []) new on (is, tt) is_run m tt (0, it.left x);
+      }
+
 module _ (told : AreFatesTold) (on : GoesOn) (closes : Closes) {S : Type 0} (g : Ghosts S) (s : State) (At : Type 0) where
   pub resumed : (result : Result Answer Fault) (old new : DeskState S) → s.office ≡ old.office → (At → StandsAt g s old) → EndSteps g s result old new At → Resumed g s result old new At
   resumed (Ok answer) old new same at it =
@@ -93,6 +116,10 @@ module _ (told : AreFatesTold) (on : GoesOn) (closes : Closes) {S : Type 0} (g :
 pub still_after : {S T : Type 0} (g : Ghosts S) (s : State) (acts : List Act) (given found : List Answer) (result : Result T Fault) (new : DeskState S) (At : Type 0) → EndActs g s acts given found result new At → OnOk result (new.is_given_up ≡ false)
 still_after g s acts given found (Ok x) new At it = it.is_open
 still_after g s acts given found (Err f) new At it = tt
+
+pub still_after_one : {S : Type 0} (g : Ghosts S) (s : State) (a : Act) (result : Result Answer Fault) (old new : DeskState S) (At : Type 0) → EndAct g s a result old new At → OnOk result (new.is_given_up ≡ false)
+still_after_one g s a (Ok answer) old new At it = it.is_open
+still_after_one g s a (Err f) old new At it = tt
 
 pub still_after_steps : {S : Type 0} (g : Ghosts S) (s : State) (result : Result Answer Fault) (old new : DeskState S) (At : Type 0) → EndSteps g s result old new At → OnOk result (new.is_given_up ≡ false)
 still_after_steps g s (Ok answer) old new At it = it.is_open

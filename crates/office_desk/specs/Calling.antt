@@ -1,15 +1,17 @@
 -- What a call of a desk does, from each state with its office, and what it leaves of the tables. Source: own.
-use Rattle.std.specs.Prelude.{◌≡◌, ◌≢◌, ◌⊎◌, ◌+◌, ℕ, suc, false, List, ◌++◌, take, Vec, Result, Err, MatchResult, IfErr, IfOk, IsTrue, OnOk, Option, Some, None, option_map}
+use Rattle.std.specs.Prelude.{◌≡◌, ◌≢◌, ◌⊎◌, ◌+◌, ℕ, suc, false, List, [], ◌∷◌, ◌++◌, take, Vec, Result, Err, MatchResult, IfErr, IfOk, IsTrue, OnOk, Option, Some, None, option_map}
 use Rattle.std.specs.Global.{Global}
 use Rattle.sqlite.specs.Held.{state}
 use Rattle.sqlite.specs.State.{HasCleanDisk}
 use Rattle.sqlite_trees.specs.declared.store.Store.{Ghosts}
 use Rattle.office_rules.specs.Acts.{after, answers, step}
+use Rattle.office_rules.specs.Forms.{IsFormedAct}
 use Rattle.office_rules.specs.Rows.{rows_of}
 use Rattle.office_rules.specs.Runs.{IsMidway, after_steps, open_run, whole}
 use Rattle.office_rules.specs.State.{State}
 use Rattle.office_rules.specs.Writes.{all_office_writes, all_writes}
 use Rattle.office_rules.specs.declared.act.Act.{Act}
+use Rattle.office_rules.specs.declared.act.Act.TheVariants as act
 use Rattle.office_rules.specs.declared.answer.Answer.{Answer}
 use Rattle.office_rules.specs.declared.change.Change.{Change}
 use Rattle.office_sql.specs.Office.{Leaves, SparesRest}
@@ -82,6 +84,14 @@ pub record IsDone {S : Type 0} (g : Ghosts S) (s : State) (a : Act) (answer : An
 -- so an act ends
 abbrev pub EndAct : {S : Type 0} (g : Ghosts S) (s : State) (a : Act) (result : Result Answer Fault) (old new : DeskState S) (At : Type 0) → Type 0
 EndAct g s a result old new At = MatchResult result (λ answer. IsDone g s a answer new At) (λ f. IsFaulted g s (step s a).1 f old new At)
+
+-- and what a crash leaves at each end
+pub record PerformedOne {S : Type 0} (g : Ghosts S) (s : State) (a : Act) (result : Result Answer Fault) (old new : DeskState S) (At : Type 0) : Type 0 where
+  pub formed : IsFormedAct a
+  pub ends : EndAct g s a result old new At
+  pub offices : At → LeavesOffices (state g new.held)
+  pub fates : At → LeavesFates s (a ∷ []) (state g new.held)
+  pub midway : (begun : State) (run : ℕ) → a ≡ act.RunStep → open_run begun.office ≡ Some run → IsMidway begun run s → At → LeavesMidway begun run (state g new.held)
 
 -- acts were done, and are answered behind those that were given
 pub record AreDone {S : Type 0} (g : Ghosts S) (s : State) (acts : List Act) (given found : List Answer) (new : DeskState S) (At : Type 0) : Type 0 where
@@ -170,6 +180,10 @@ pub record IsContentRead {S : Type 0} (g : Ghosts S) (s : State) (r : ℕ) (resu
   pub offices : At → LeavesOffices (state g new.held)
 
 -- ---- the public calls
+
+-- one act is performed
+abbrev pub PerformsOne : {S : Type 0} (g : Ghosts S) (a : Act) (result : Result Answer Fault) (old new : DeskState S) → Type 0
+PerformsOne g a result old new = Asked g old new (result ≡ Err fault.Reopen) (OnOk result (new.is_given_up ≡ false)) (λ s At. PerformedOne g s a result old new At)
 
 -- a list of acts is performed
 abbrev pub PerformsAll : {S T : Type 0} (g : Ghosts S) (acts : List Act) (given found : List Answer) (result : Result T Fault) (old new : DeskState S) → Type 0

@@ -25,7 +25,7 @@ use Rattle.office_json.specs.Acts.{Asked}
 use Rattle.office_json.specs.Lists.{NoActs, acts_in, bad_act, not_json}
 use Rattle.office_http.specs.Replies.{Response}
 use Rattle.office_wire.specs.Answering.{IsUntold, PerformsAsked, Resumes, Serves, Starves}
-use Rattle.office_wire.specs.Connections.{IsKept, Turn, Turns}
+use Rattle.office_wire.specs.Connections.{Turn, Turns}
 use Rattle.office_wire.specs.Receiving.{Wanted, acts, certificate_told, content_told, cut, due_told, overdue_told, record_told, refused, resumption}
 use Rattle.office_run.specs.NextWord.{IsServedTo, LeavesAt}
 use Rattle.office_run.specs.Serving.{IsDeskOf, ServiceEnds}
@@ -138,17 +138,11 @@ module _ (stay : StaySound) (ends : IsEnded) {S : Type 0} (g : Ghosts S) where
         after_served t new to (starved_served t stands.sound new left.0 left.1)
     turn_served status old new (inr visited) clean (inr (gone, leaves)) = subst (ServedAt s) (sym (visited.kept gone)) (inr (gone, leaves))
 
-    kept_served : (old new : DeskState S) → IsKept g old new → HasCleanDisk (state g new.held) → ServedAt s old → ServedAt s new
-    kept_served old new kept clean (inl (t, to, stands)) = inl (t, to, kept.call.did t clean stands)
-    kept_served old new kept clean (inr (gone, leaves)) = subst (ServedAt s) (sym (kept.kept gone)) (inr (gone, leaves))
-
     turns_served : (n : ℕ) (failed ended : Bool) (old new : DeskState S) → Turns g n failed ended old new → HasCleanDisk (state g new.held) → ServedAt s old → ServedAt s new
     unfolding Turns
     turns_served zero failed ended old new turns clean at = subst (ServedAt s) (sym turns.2) at
-    turns_served (suc n) failed ended old new (m, after, earlier, status, turns, turn, ended_so, kept, is) clean at =
-        let clean_after = kept.call.clean clean in
-        let clean_m = clean_turn g status m after turn clean_after in
-        kept_served after new kept clean (turn_served status m after turn clean_after (turns_served n earlier false old m turns clean_m at))
+    turns_served (suc n) failed ended old new (m, earlier, status, turns, turn, ended_so, is) clean at =
+        turn_served status m new turn clean (turns_served n earlier false old m turns (clean_turn g status m new turn clean) at)
 
     left_at : (d : DeskState S) → ServedAt s d → LeavesAt (IsServedTo s) (state g d.held)
     left_at d (inl (u, to, stands)) db may = (u, to, at_rows (state g d.held) u stands.sound stands.rows db may)

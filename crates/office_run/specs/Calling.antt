@@ -19,6 +19,10 @@ pub record CarriedOut {S O : Type 0} (g : Ghosts S) (old : Held S) (result : End
 abbrev pub Shown : {S : Type 0} → Ghosts S → (FileState → FileState → Option (List ℕ) → Option (List ℕ) → Ending → Type 0) → Held S → Held S → Option (List ℕ) → Option (List ℕ) → Ending → Type 0
 Shown g Ends old new written after ending = Ends (state g old) (state g new) written after ending
 
+-- a word was carried out, and ends so by what the connections show
+abbrev pub EndsShown : {S O : Type 0} → Ghosts S → Held S → Ending × Held S → (O → Option (List ℕ)) → O → O → (FileState → FileState → Option (List ℕ) → Option (List ℕ) → Ending → Type 0) → Type 0
+EndsShown g old result contents out after Ends = CarriedOut g old result contents out after (Shown g Ends)
+
 -- the exit status is that of an ending, and so it ended
 pub record Exits (status : ℕ) (Ends : Ending → Type 0) : Type 0 where
   pub ending : Ending
@@ -28,3 +32,9 @@ pub record Exits (status : ℕ) (Ends : Ending → Type 0) : Type 0 where
 -- so it is of each state at which the desk stood, where the disk is clean then
 abbrev pub AtDesk : {S : Type 0} → Ghosts S → DeskState S → DeskState S → (State → Type 0) → Type 0
 AtDesk g old new P = (t : State) → HasCleanDisk (state g new.held) → StandsAt g t old → P t
+
+-- something was done at a desk, and ends so, by what its tables show and what the writer has before and after; where the disk is clean then, it was clean before
+pub record DoneAt {S O : Type 0} (g : Ghosts S) (old new : DeskState S) (contents : O → Option (List ℕ)) (out after : O) (ending : Ending)
+    (Ends : ((State → Type 0) → Type 0) → FileState → Option (List ℕ) → Option (List ℕ) → Ending → Type 0) : Type 0 where
+  pub ends : Ends (AtDesk g old new) (state g new.held) (contents out) (contents after) ending
+  pub clean : HasCleanDisk (state g new.held) → HasCleanDisk (state g old.held)

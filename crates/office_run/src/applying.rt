@@ -1,8 +1,6 @@
 //! The acts of a JSON array, at the office in a file.
 ghost use Rattle.std.specs.Prelude.{◌≡◌, false};
-ghost use Rattle.sqlite.specs.Held.{state};
-ghost use Rattle.sqlite.specs.State.{HasCleanDisk};
-ghost use Rattle.office_run.specs.Calling.{AtDesk, CarriedOut, Shown};
+ghost use Rattle.office_run.specs.Calling.{CarriedOut, DoneAt, EndsShown};
 ghost use Rattle.office_run.specs.Applying.{Applies, ApplyEnds, Performs, TextEnds};
 ghost use Rattle.office_run.specs.Endings.{ending_of_acts};
 
@@ -24,8 +22,7 @@ fn perform_at<W: Write, S: Alter>(
     out: &mut W,
 ) -> Ending
     requires { desk.old.is_given_up ≡ false }
-    ensures clean { HasCleanDisk (state S.Store desk.new.held) → HasCleanDisk (state S.Store desk.old.held) }
-    ensures performs { Performs (AtDesk S.Store desk.old desk.new) acts.now (state S.Store desk.new.held) (W.contents out.old) (W.contents out.new) result }
+    ensures { DoneAt S.Store desk.old desk.new W.contents out.old out.new result (λ Of. Performs Of acts.now) }
 {
     let mut answers = Vec::new(alloc);
     let done = desk.perform_all(acts, &mut answers);
@@ -43,8 +40,7 @@ fn apply_at<W: Write, S: Alter>(
     out: &mut W,
 ) -> Ending
     requires { desk.old.is_given_up ≡ false }
-    ensures clean { HasCleanDisk (state S.Store desk.new.held) → HasCleanDisk (state S.Store desk.old.held) }
-    ensures applies { Applies (AtDesk S.Store desk.old desk.new) text.now (state S.Store desk.new.held) (W.contents out.old) (W.contents out.new) result }
+    ensures { DoneAt S.Store desk.old desk.new W.contents out.old out.new result (λ Of. Applies Of text.now) }
 {
     match read_acts(alloc, text) {
         Ok(acts) => perform_at(alloc, desk, acts.as_slice(), out),
@@ -62,7 +58,7 @@ fn apply_text<W: Write, S: Alter>(
     out: &mut W,
 ) -> (Ending, Connection<S>)
     requires { conn.in_transaction ≡ false }
-    ensures { CarriedOut S.Store conn result W.contents out.old out.new (Shown S.Store (TextEnds text.now)) }
+    ensures { EndsShown S.Store conn result W.contents out.old out.new (TextEnds text.now) }
 {
     match Desk::open(alloc, conn) {
         Ok(mut desk) => {

@@ -2,7 +2,7 @@
 ghost use Rattle.std.specs.Prelude.{◌≡◌, ◌⊎◌, false};
 ghost use Rattle.std.specs.Io.KnownBytes.{Appends};
 ghost use Rattle.office_rules.specs.State.{State};
-ghost use Rattle.office_run.specs.Calling.{CarriedOut, Shown};
+ghost use Rattle.office_run.specs.Calling.{EndsShown};
 ghost use Rattle.office_run.specs.Certifying.{CertificateEnds, Certifies};
 
 use crate::ending::Ending;
@@ -44,7 +44,7 @@ pub fn certificate_on<W: Write, S: Alter>(
     out: &mut W,
 ) -> (Ending, Connection<S>)
     requires { conn.in_transaction ≡ false }
-    ensures { CarriedOut S.Store conn result W.contents out.old out.new (Shown S.Store (CertificateEnds run)) }
+    ensures { EndsShown S.Store conn result W.contents out.old out.new (CertificateEnds run) }
 {
     match Desk::open(alloc, conn) {
         Ok(desk) => {

@@ -1,7 +1,7 @@
 //! The registers of the office in a file.
 ghost use Rattle.std.specs.Prelude.{◌≡◌, false};
 ghost use Rattle.office_rules.specs.State.{State};
-ghost use Rattle.office_run.specs.Calling.{CarriedOut, Shown};
+ghost use Rattle.office_run.specs.Calling.{EndsShown};
 ghost use Rattle.office_wire.specs.Exporting.{Exports as WritesText};
 ghost use Rattle.office_run.specs.Exporting.{ExportEnds, Exports, IsRegisterText};
 
@@ -52,7 +52,7 @@ pub fn export_on<W: Write, S: Alter>(
     out: &mut W,
 ) -> (Ending, Connection<S>)
     requires { conn.in_transaction ≡ false }
-    ensures { CarriedOut S.Store conn result W.contents out.old out.new (Shown S.Store (ExportEnds register)) }
+    ensures { EndsShown S.Store conn result W.contents out.old out.new (ExportEnds register) }
 {
     match Desk::open(alloc, conn) {
         Ok(mut desk) => {

@@ -1,9 +1,7 @@
 //! The records of a CSV file, at the office in a file.
 ghost use Rattle.std.specs.Prelude.{◌≡◌, false, option_map};
 ghost use Rattle.csv.specs.Reading.{strip_bom};
-ghost use Rattle.sqlite.specs.Held.{state};
-ghost use Rattle.sqlite.specs.State.{HasCleanDisk};
-ghost use Rattle.office_run.specs.Calling.{AtDesk, CarriedOut, Shown};
+ghost use Rattle.office_run.specs.Calling.{DoneAt, EndsShown};
 ghost use Rattle.office_run.specs.Importing.{ImportEnds, ImportsAt};
 
 use crate::ending::Ending;
@@ -22,8 +20,7 @@ fn import_at<R: Read, W: Write, S: Alter>(
     input: &mut R,
     out: &mut W,
 ) -> Ending
-    ensures clean { HasCleanDisk (state S.Store desk.new.held) → HasCleanDisk (state S.Store desk.old.held) }
-    ensures imports { ImportsAt (AtDesk S.Store desk.old desk.new) day (option_map strip_bom (R.remaining input.old)) (state S.Store desk.new.held) (W.contents out.old) (W.contents out.new) result }
+    ensures { DoneAt S.Store desk.old desk.new W.contents out.old out.new result (λ Of. ImportsAt Of day (option_map strip_bom (R.remaining input.old))) }
 {
     Ending::of_import(import_records(alloc, desk, day, input, out))
 }
@@ -37,7 +34,7 @@ pub fn import_on<R: Read, W: Write, S: Alter>(
     out: &mut W,
 ) -> (Ending, Connection<S>)
     requires { conn.in_transaction ≡ false }
-    ensures { CarriedOut S.Store conn result W.contents out.old out.new (Shown S.Store (ImportEnds day (R.remaining input.old))) }
+    ensures { EndsShown S.Store conn result W.contents out.old out.new (ImportEnds day (R.remaining input.old)) }
 {
     match Desk::open(alloc, conn) {
         Ok(mut desk) => {

@@ -1,10 +1,8 @@
 //! The open run of the office in a file, taken up again to its end.
 ghost use Rattle.std.specs.Prelude.{◌≡◌, ℕ, Option, Some, false, OnOk};
 ghost use Rattle.std.specs.Io.KnownBytes.{Appends};
-ghost use Rattle.sqlite.specs.Held.{state};
-ghost use Rattle.sqlite.specs.State.{HasCleanDisk};
 ghost use Rattle.office_desk.specs.Resuming.{resumed_answer};
-ghost use Rattle.office_run.specs.Calling.{AtDesk, CarriedOut, Shown};
+ghost use Rattle.office_run.specs.Calling.{DoneAt, EndsShown};
 ghost use Rattle.office_run.specs.Resuming.{IsAnswerTold, ResumeEnds, Resumes, certificate_line};
 
 use crate::ending::Ending;
@@ -49,8 +47,7 @@ fn tell_answer<W: Write>(answer: Answer, out: &mut W) -> Ending
 /// Resumes the open run at a desk that is open.
 fn resume_at<W: Write, S: Alter>(desk: &mut Desk<S>, out: &mut W) -> Ending
     requires { desk.old.is_given_up ≡ false }
-    ensures clean { HasCleanDisk (state S.Store desk.new.held) → HasCleanDisk (state S.Store desk.old.held) }
-    ensures resumes { Resumes (AtDesk S.Store desk.old desk.new) (state S.Store desk.new.held) (W.contents out.old) (W.contents out.new) result }
+    ensures { DoneAt S.Store desk.old desk.new W.contents out.old out.new result Resumes }
 {
     law_of_resumption();
     match desk.resume() {
@@ -66,7 +63,7 @@ pub fn resume_on<W: Write, S: Alter>(
     out: &mut W,
 ) -> (Ending, Connection<S>)
     requires { conn.in_transaction ≡ false }
-    ensures { CarriedOut S.Store conn result W.contents out.old out.new (Shown S.Store ResumeEnds) }
+    ensures { EndsShown S.Store conn result W.contents out.old out.new ResumeEnds }
 {
     match Desk::open(alloc, conn) {
         Ok(mut desk) => {

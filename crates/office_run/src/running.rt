@@ -3,7 +3,7 @@ ghost use Rattle.std.specs.Prelude.{◌≡◌, ◌⊎◌, false, OnOk};
 ghost use Rattle.std.specs.Io.KnownBytes.{Appends};
 ghost use Rattle.office_store.specs.declared.fault.Fault.{Fault as AnyFault};
 ghost use Rattle.office_words.specs.Orders.{ordered};
-ghost use Rattle.office_run.specs.Calling.{CarriedOut, Shown};
+ghost use Rattle.office_run.specs.Calling.{CarriedOut, EndsShown};
 ghost use Rattle.office_run.specs.Endings.{line_said};
 ghost use Rattle.office_run.specs.Running.{InitEnds, RunEnds, Runs, listening_line, version_line};
 ghost use Rattle.office_run.specs.declared.ending.Ending.{Ending as AnyEnding};
@@ -39,7 +39,7 @@ fn init_on<W: Write, S: Alter>(
     out: &mut W,
 ) -> (Ending, Connection<S>)
     requires { conn.in_transaction ≡ false }
-    ensures ends { CarriedOut S.Store conn result W.contents out.old out.new (Shown S.Store InitEnds) }
+    ensures ends { EndsShown S.Store conn result W.contents out.old out.new InitEnds }
     ensures untouched { (fault : AnyFault) → result.0 ≡ Ending.Fault fault → out.new ≡ out.old }
 {
     match Desk::open(alloc, conn) {

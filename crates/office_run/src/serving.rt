@@ -1,8 +1,6 @@
 //! The office in a file, served over TCP.
 ghost use Rattle.std.specs.Prelude.{◌≡◌, false};
 ghost use Rattle.sqlite_wal.specs.Files.{image_at};
-ghost use Rattle.sqlite.specs.Held.{state};
-ghost use Rattle.sqlite.specs.State.{HasCleanDisk};
 ghost use Rattle.office_run.specs.Calling.{CarriedOut};
 ghost use Rattle.office_run.specs.Files.{ServesInFiles};
 ghost use Rattle.office_run.specs.Serving.{ServesAt, ServiceEnds};
@@ -30,8 +28,7 @@ fn serve_at<L: OpenListener, W: Write, E: Write, S: Alter>(
 ) -> Ending
 where
     L::Stream: Read + Write + OpenStream,
-    ensures serves { ServesAt S.Store port count desk.old desk.new (W.contents out.old) (W.contents out.new) result }
-    ensures clean { HasCleanDisk (state S.Store desk.new.held) → HasCleanDisk (state S.Store desk.old.held) }
+    ensures { ServesAt S.Store port count desk.old desk.new (W.contents out.old) (W.contents out.new) result }
 {
     match tell_listening(port, out) {
         Ok(()) => {

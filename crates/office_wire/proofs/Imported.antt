@@ -8,15 +8,15 @@ use Rattle.csv.specs.declared.parser.State.{State as Reading}
 use Rattle.csv.specs.declared.parser.State.TheVariants.{StartRecord}
 use Rattle.sqlite_trees.specs.declared.store.Store.{Ghosts}
 use Rattle.office_days.specs.declared.refusal.Refusal.{Refusal}
-use Rattle.office_rules.specs.Forms.{IsFormedAct}
 use Rattle.office_rules.specs.Acts.{step}
-use Rattle.office_rules.specs.State.{State}
+use Rattle.office_rules.specs.State.{State, Office}
 use Rattle.office_rules.specs.declared.act.Act.{Act}
 use Rattle.office_rules.specs.declared.answer.Answer.{Answer}
 use Rattle.office_store.specs.declared.fault.Fault.{Fault}
 use Rattle.office_store.specs.declared.fault.Fault.TheVariants as fault
+use Rattle.office_desk.specs.Calling.{PerformedOne}
 use Rattle.office_desk.specs.Desk.{DeskState}
-use Rattle.office_desk.specs.Leaving.{StandsAt}
+use Rattle.office_desk.specs.Leaving.{StandsAt, StopsAt}
 use Rattle.office_json.specs.Acts.{AskedRecord, adds, asked}
 use Rattle.office_json.specs.Parts.{fault_of}
 use Rattle.office_json.specs.declared.read_fault.ReadFault.TheVariants.{Refused, Memory}
@@ -27,7 +27,7 @@ use Rattle.office_csv.specs.declared.reading.RowStop.{RowStop}
 use Rattle.office_csv.specs.declared.reading.RowStop.TheVariants as row_stop
 use Rattle.office_csv.proofs.Front.{bad_next, bad_text, no_more, none_yet, one_more}
 use Rattle.office_wire.specs.Calling.{CalledAt}
-use Rattle.office_wire.specs.Importing.{AreFrontRows, AreImported, AreRowsBehind, AreRowsDone, AreSomeRows, EndsAct, EndsImport, EndsLine, EndsRow, EndsRows, EndsTaking, Imports, IsRowDone, IsRowStopped, RowsStop, Stops, StopsAtFault, StopsAtIo, TakeStops, is_refusal, line_of, lines_from, one_if, refused_count, stop_at}
+use Rattle.office_wire.specs.Importing.{AreFrontRows, AreImported, AreRowsBehind, AreRowsDone, AreSomeRows, EndsImport, EndsLine, EndsRow, EndsRows, EndsTaking, Imports, IsRowDone, IsRowStopped, RowsStop, Stops, StopsAtFault, StopsAtIo, TakeStops, is_refusal, line_of, lines_from, one_if, refused_count, stop_at}
 use Rattle.office_wire.specs.declared.importing.ImportStop.{ImportStop}
 use Rattle.office_wire.specs.declared.importing.ImportStop.TheVariants as stop
 use Rattle.office_wire.proofs.Calls.{called, called_on, not_called}
@@ -35,10 +35,10 @@ use Rattle.office_wire.proofs.Calls.{called, called_on, not_called}
 -- ---- one row
 
 -- a record was read, and its act was done or stopped
-pub row_ended : {S : Type 0} (g : Ghosts S) (day : ℤ) (s : State) (row : Fields) (new : AskedRecord) (act : Act) (x : Result Answer Fault) (desk : DeskState S) → record_asked row ≡ Ok new → IsFormedAct act → asked act ≡ adds day new
-    → EndsAct g s act x desk → EndsRow g day s row x desk
-row_ended g day s row new act (Ok answer) desk read formed is it = ((step s act).1, (rw read (act, (formed, is), it.0, refl)), it.1)
-row_ended g day s row new act (Err f) desk read formed is it = inr (new, act, read, (formed, is), it)
+pub row_ended : {S : Type 0} (g : Ghosts S) (day : ℤ) (s : State) (row : Fields) (new : AskedRecord) (act : Act) (x : Result Answer Fault) (old desk : DeskState S) (At : Type 0) → record_asked row ≡ Ok new → asked act ≡ adds day new
+    → old.office ≡ s.office → PerformedOne g s act x old desk At → At → EndsRow g day s row x desk
+row_ended g day s row new act (Ok answer) old desk At read is same it at = ((step s act).1, (rw read (act, (it.formed, is), it.ends.answered, refl)), it.ends.stands at)
+row_ended g day s row new act (Err f) old desk At read is same it at = inr (new, act, read, (it.formed, is), (subst (λ (o : Office). StopsAt o f desk) same it.ends.stops, it.ends.left at))
 
 -- no record was read, since a field is not of its form or out of its range
 pub bad_row : (x : Result AskedRecord Refusal) (why : Refusal) → (Refused why ≡ Memory) ⊎ (Refused why ≡ fault_of x) → x ≡ Err why

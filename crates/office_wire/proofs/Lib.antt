@@ -2,7 +2,6 @@ pub mod AnyAnswer
 pub mod Calls
 pub mod Connected
 pub mod Imported
-pub mod Kept
 pub mod Performed
 pub mod Replied
 pub mod Resumed

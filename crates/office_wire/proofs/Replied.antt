@@ -1,6 +1,6 @@
 -- The answer to a request that was received.
 use Rattle.std.proofs.Common.{◌≡◌, ◌⊎◌, ◌∙◌, ap, refl, subst, inl, inr, ℕ, Bool, false, List, Option, Some, None, Result, Ok, Err}
-use Rattle.std.specs.Prelude.{IfOk, IfSome, IsSome, OnErr}
+use Rattle.std.specs.Prelude.{IfSome, IsSome}
 use Rattle.std.proofs.lemmas.Result.{IfOk-weaker}
 use Rattle.httparse.specs.Grammar.{RequestHead}
 use Rattle.sqlite_trees.specs.declared.store.Store.{Ghosts}
@@ -16,7 +16,7 @@ use Rattle.office_plan.specs.declared.output.Io.{Io}
 use Rattle.office_wire.specs.Calling.{AnsweredAt, CalledAt}
 use Rattle.office_wire.specs.Connections.{IsVisited}
 use Rattle.office_wire.specs.Receiving.{IsAskedBy, IsReceived, IsStarved, Wanted, asked_for, cut}
-use Rattle.office_wire.specs.Serving.{AnswersNext, Breaks, GoneReplies, HasReply, InHalves, IsFailed, IsGoneReply, IsGoneServed, IsGoneToSend, IsNextReady, IsOneServed, IsReply, IsSent, IsServed, IsToSend, Replies, ServesOne, TellsUnavailable}
+use Rattle.office_wire.specs.Serving.{AnswersNext, Breaks, GoneReplies, HasReply, InHalves, IsFailed, IsGoneReply, IsGoneServed, IsGoneToSend, IsNextReady, IsOneServed, IsReply, IsSent, IsServed, IsToSend, Replies, Sends, ServesOne, TellsUnavailable}
 use Rattle.office_wire.specs.declared.receiving.Asked.{Asked}
 use Rattle.office_wire.specs.declared.receiving.Received.TheVariants as received
 use Rattle.office_wire.specs.declared.receiving.ReceiveStop.TheVariants as stop
@@ -143,7 +143,7 @@ module _ {R W S : Type 0} (g : Ghosts S) (all : R → Option (List ℕ)) (reader
       answered g old new (λ t. IsNextReady g t (all reader) (left ≡ reader) (Err e) new) (λ t. IsOneServed g t (all reader) (left ≡ reader) (Err e) (contents writer) (contents after) new) _ _ _ _ it
       (λ t next. record { ok = tt; leaves = next.leaves }) (λ gone. gone) (λ told. told)
 
-  pub one_sent : (it : Option Sending) (status : Result ℕ Io) → AnswersNext g all reader left (Ok it) old new → IfOk status (λ code. IsSent it code (contents writer) (contents after)) → ServesOne g all reader left contents writer after status old new
+  pub one_sent : (it : Option Sending) (status : Result ℕ Io) → AnswersNext g all reader left (Ok it) old new → Sends it status (contents writer) (contents after) → ServesOne g all reader left contents writer after status old new
   one_sent it status next sent =
       let unread : Type 0 = left ≡ reader in
       answered g old new (λ t. IsNextReady g t (all reader) unread (Ok it) new) (λ t. IsOneServed g t (all reader) unread status (contents writer) (contents after) new) _ _ _ _ next
@@ -151,13 +151,13 @@ module _ {R W S : Type 0} (g : Ghosts S) (all : R → Option (List ℕ)) (reader
       record {
         ok = IfOk-weaker status _ _
             (λ code is. some_more (all reader) (λ bytes. IsToSend g t bytes unread it new) (λ bytes. Replies g t bytes unread code (contents writer) (contents after) new) ready.ok
-            (λ bytes asked. sent_reply g t bytes unread it code (contents writer) (contents after) new asked is)) sent;
+            (λ bytes asked. sent_reply g t bytes unread it code (contents writer) (contents after) new asked is)) sent.ok;
         leaves = ready.leaves;
       })
       (λ gone. IfOk-weaker status _ _
       (λ code is. some_more (all reader) (λ bytes. IsGoneToSend bytes unread it) (λ bytes. GoneReplies bytes unread code (contents writer) (contents after)) gone
-      (λ bytes asked. sent_gone bytes unread it code (contents writer) (contents after) asked is)) sent)
-      (λ told. IfOk-weaker status _ _ (λ code is. sent_unavailable it code (contents writer) (contents after) told is) sent)
+      (λ bytes asked. sent_gone bytes unread it code (contents writer) (contents after) asked is)) sent.ok)
+      (λ told. IfOk-weaker status _ _ (λ code is. sent_unavailable it code (contents writer) (contents after) told is) sent.ok)
 
   undone : (bytes : Option (List ℕ)) (P : List ℕ → Type 0) → new ≡ old → after ≡ writer → IfSome bytes (λ it. ((new ≡ old) × (after ≡ writer)) ⊎ P it)
   undone None P same untouched = tt
@@ -180,10 +180,10 @@ module _ {R W S : Type 0} (g : Ghosts S) (all : R → Option (List ℕ)) (reader
         err = undone (all reader) (λ bytes. CalledAt g old new (λ t. Breaks g t bytes (left ≡ reader) new)) same untouched;
       }
 
-  pub halves_sent : (it : Option Sending) (status : Result ℕ Io) → AnswersNext g all reader left (Ok it) old new → IfOk status (λ code. IsSent it code (contents writer) (contents after)) → OnErr status (IsSome it)
+  pub halves_sent : (it : Option Sending) (status : Result ℕ Io) → AnswersNext g all reader left (Ok it) old new → Sends it status (contents writer) (contents after)
       → InHalves g all reader left contents writer after status old new
-  halves_sent it (Ok code) next sent some = record { next = Ok it; first = next; unserved = tt; second = (sent, tt); err = tt }
-  halves_sent it (Err e) next sent some = record { next = Ok it; first = next; unserved = tt; second = (tt, some); err = broken (all reader) it some next.call }
+  halves_sent it (Ok code) next sent = record { next = Ok it; first = next; unserved = tt; second = sent; err = tt }
+  halves_sent it (Err e) next sent = record { next = Ok it; first = next; unserved = tt; second = sent; err = broken (all reader) it sent.err next.call }
 
   -- a request was served
   pub visited : (status : Result ℕ Io) → ServesOne g all reader left contents writer after status old new → IsVisited g status old new

@@ -3,7 +3,6 @@ use Rattle.std.specs.Prelude.{◌≡◌, ◌≢◌, ◌⊎◌, ◌≤◌, ℕ, z
 use Rattle.sqlite_trees.specs.declared.store.Store.{Ghosts}
 use Rattle.office_plan.specs.declared.output.Io.{Io}
 use Rattle.office_desk.specs.Desk.{DeskState}
-use Rattle.office_desk.specs.Leaving.{StandsAt}
 use Rattle.office_wire.specs.Calling.{AnsweredAt}
 use Rattle.office_wire.specs.Serving.{LeavesServed}
 use Rattle.office_wire.specs.declared.connections.Service.{Service}
@@ -16,10 +15,6 @@ has_failed (Err e) = true
 -- one request was served, whatever it was
 abbrev pub IsVisited : {S : Type 0} → Ghosts S → Result ℕ Io → DeskState S → DeskState S → Type 0
 IsVisited g status old new = AnsweredAt g old new (λ t. LeavesServed g t new) (Unit {0}) (IfOk status (λ code. code ≡ 503))
-
--- a desk was at most asked whether it was given up, by a list of no acts
-abbrev pub IsKept : {S : Type 0} → Ghosts S → DeskState S → DeskState S → Type 0
-IsKept g old new = AnsweredAt g old new (λ t. StandsAt g t new) (Unit {0}) (Unit {0})
 
 -- one connection: it failed before the desk heard of it, or a request was served
 abbrev pub Turn : {S : Type 0} → Ghosts S → Result ℕ Io → DeskState S → DeskState S → Type 0
@@ -34,9 +29,8 @@ pub record Ends (status : Result ℕ Io) (is_given_up ended : Bool) : Type 0 whe
 unfoldable pub Turns : {S : Type 0} → Ghosts S → ℕ → Bool → Bool → DeskState S → DeskState S → Type 0
 Turns g zero failed ended old new = (failed ≡ false) × (ended ≡ false) × (new ≡ old)
 Turns {S} g (suc n) failed ended old new =
-    (m : DeskState S) × (after : DeskState S) × (earlier : Bool) × (status : Result ℕ Io)
-    × Turns g n earlier false old m × Turn g status m after × Ends status after.is_given_up ended × IsKept g after new
-    × (failed ≡ (earlier || has_failed status))
+    (m : DeskState S) × (earlier : Bool) × (status : Result ℕ Io)
+    × Turns g n earlier false old m × Turn g status m new × Ends status new.is_given_up ended × (failed ≡ (earlier || has_failed status))
 
 -- connections were served, as many as the count, and fewer only where the desk was given up
 pub record ServesAll {S : Type 0} (g : Ghosts S) (count : ℕ) (service : Service) (old new : DeskState S) : Type 0 where

@@ -52,10 +52,6 @@ IsRowStopped g day s row f desk =
     ((f ≡ fault.Memory) × StandsAt g s desk)
     ⊎ ((new : AskedRecord) × (act : Act) × (record_asked row ≡ Ok new) × IsAdding day new act × IsActStopped g s act f desk)
 
--- an act was done and answered, or stopped
-abbrev pub EndsAct : {S : Type 0} → Ghosts S → State → Act → Result Answer Fault → DeskState S → Type 0
-EndsAct g s act ended desk = MatchResult ended (λ answer. (answer ≡ (step s act).0) × StandsAt g (step s act).1 desk) (λ f. IsActStopped g s act f desk)
-
 -- a row was answered, or stopped
 abbrev pub EndsRow : {S : Type 0} → Ghosts S → ℤ → State → Fields → Result Answer Fault → DeskState S → Type 0
 EndsRow g day s row ended desk = MatchResult ended (λ answer. (t : State) × IsRowDone day s row answer t × StandsAt g t desk) (λ f. IsRowStopped g day s row f desk)

@@ -1,5 +1,5 @@
 -- What a connection asks for, by all its bytes. Source: RFC 9112 for the request, as `office_http` reads it; the rest is own.
-use Rattle.std.specs.Prelude.{◌≡◌, ℕ, ℤ, List, MatchResult, length, take, nat_lt, if◌then◌else◌, Option, Result}
+use Rattle.std.specs.Prelude.{◌≡◌, ◌++◌, ℕ, ℤ, List, IfOk, IfSome, MatchResult, length, take, nat_lt, if◌then◌else◌, Option, Result}
 use Rattle.httparse.specs.Grammar.{RequestHead}
 use Rattle.office_http.specs.Plans.{is_head_method, plan_at}
 use Rattle.office_http.specs.Requests.{IsRequest, nothing, headless, asks}
@@ -62,6 +62,10 @@ asked_for (asking.Content n) = content_told n
 asked_for (asking.Due day) = due_told day
 asked_for (asking.Overdue day n) = overdue_told day n
 asked_for (asking.Certificate n) = certificate_told n
+
+-- what was received is what these bytes and all that the reader had left ask for
+abbrev pub AsksFor : {E : Type 0} → (List ℕ → Wanted) → List ℕ → Option (List ℕ) → Result Asking E → Type 0
+AsksFor wanted_of read left result = IfOk result (λ it. IfSome left (λ rest. asked_for it ≡ wanted_of (read ++ rest)))
 
 -- of a head and the bytes after it: what they ask for, and whether the head of the answer alone is written
 pub record IsAskedBy (h : RequestHead) (rest : List ℕ) (it : Asked) : Type 0 where

@@ -106,6 +106,12 @@ abbrev pub IsSent : Option Sending → ℕ → Option (List ℕ) → Option (Lis
 IsSent None status written after = (status ≡ 0) × (after ≡ written)
 IsSent (Some it) status written after = Writes it.is_head (response it.reply) status written after
 
+-- so the half of serving after it ends
+pub record Sends (sending : Option Sending) (status : Result ℕ Io) (written after : Option (List ℕ)) : Type 0 where
+  pub ok : IfOk status (λ code. IsSent sending code written after)
+  -- nothing is written where nothing is to be, so nothing fails
+  pub err : OnErr status (IsSome sending)
+
 -- ---- calls at a desk
 
 -- what is wanted was done, and this is the answer
@@ -142,6 +148,6 @@ pub record InHalves {R W S : Type 0} (g : Ghosts S) (all : R → Option (List �
   -- where it fails, nothing was done and nothing written
   pub unserved : IfErr next (λ e. (status ≡ Err e) × (new ≡ old) × (after ≡ writer))
   -- the second writes that, or fails
-  pub second : IfOk next (λ it. IfOk status (λ code. IsSent it code (contents writer) (contents after)) × OnErr status (IsSome it))
+  pub second : IfOk next (λ it. Sends it status (contents writer) (contents after))
   -- so at an error nothing was done and nothing written, or the desk stands as if the answer had been written
   pub err : OnErr status (IfSome (all reader) (λ bytes. ((new ≡ old) × (after ≡ writer)) ⊎ CalledAt g old new (λ t. Breaks g t bytes (left ≡ reader) new)))

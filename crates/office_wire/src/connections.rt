@@ -1,13 +1,12 @@
 //! Connections over TCP, served one after another.
 ghost use Rattle.std.specs.Prelude.{◌≡◌, ◌||◌};
-ghost use Rattle.office_wire.specs.Connections.{Ends, IsKept, ServesAll, Turn, has_failed};
+ghost use Rattle.office_wire.specs.Connections.{Ends, ServesAll, Turn, has_failed};
 
 use crate::deadline::{Timed, is_interrupted};
 use crate::serving::serve_one;
 use office_desk::Desk;
 use office_http::Routes;
 use office_json::Io;
-use office_store::Fault;
 use sqlite::Alter;
 use std::alloc::Global;
 use std::io::{BufWriter, Read, Write};
@@ -115,25 +114,12 @@ where
     }
 }
 
-/// Whether the desk was given up: it is asked for no acts.
-pub(crate) fn is_given_up<S: Alter>(alloc: Global, desk: &mut Desk<S>) -> bool
-    ensures kept { IsKept S.Store desk.old desk.new }
-    ensures told { result ≡ desk.old.is_given_up }
-{
-    let mut none = Vec::new(alloc);
-    match desk.perform_all(&[], &mut none) {
-        Err(Fault::Reopen) => true,
-        _ => false,
-    }
-}
-
 /// Whether serving ends after a connection: its answer was 503, and the desk was given up.
-fn ends_after<S: Alter>(alloc: Global, desk: &mut Desk<S>, served: Result<u16, Io>) -> bool
-    ensures kept { IsKept S.Store desk.old desk.new }
-    ensures ends { Ends served desk.old.is_given_up result }
+fn ends_after<S: Alter>(desk: &Desk<S>, served: Result<u16, Io>) -> bool
+    ensures { Ends served desk.now.is_given_up result }
 {
     match served {
-        Ok(503) => is_given_up(alloc, desk),
+        Ok(503) => desk.is_given_up(),
         _ => false,
     }
 }
@@ -175,7 +161,7 @@ where
         let served = serve_next(alloc, routes, listener, clock, desk);
         tell_failure(served, err);
         has_failed = failed_by(has_failed, served);
-        if ends_after(alloc, desk, served) {
+        if ends_after(desk, served) {
             return Service {
                 connections: before + 1,
                 has_failed,

@@ -1,15 +1,14 @@
 //! Records that are added by the rows of a text of CSV.
-ghost use Rattle.std.specs.Prelude.{◌≡◌, ◌+◌, ◌-◌, ◌^◌, ◌<◌, OnOk, option_map};
+ghost use Rattle.std.specs.Prelude.{◌≡◌, ◌+◌, ◌-◌, ◌^◌, ◌<◌, OnOk};
 ghost use Rattle.std.specs.Io.KnownBytes.{Appends};
-ghost use Rattle.csv.specs.Reading.{reader_state, source_of, strip_bom};
+ghost use Rattle.csv.specs.Reading.{reader_state, source_of};
 ghost use Rattle.csv.specs.declared.parser.State.TheVariants.{StartRecord};
 ghost use Rattle.csv.specs.Records.{fields_of};
 ghost use Rattle.office_csv.specs.ImportRows.{named};
 ghost use Rattle.office_csv.specs.ImportText.{IsPlain};
 ghost use Rattle.office_wire.specs.Calling.{CalledAt};
-ghost use Rattle.office_wire.specs.Importing.{EndsAct, EndsImport, EndsLine, EndsRow, EndsRows, EndsTaking, ImportsText, is_refusal, line_of, one_if, stop_at};
+ghost use Rattle.office_wire.specs.Importing.{EndsImport, EndsLine, EndsRow, EndsRows, EndsTaking, ImportsText, is_refusal, line_of, one_if, stop_at};
 
-use crate::connections::is_given_up;
 use csv::{Reader, StringRecord};
 use office_csv::{
     ImportRow, RowStop, import_reader, next_row, read_header, read_import_row, row_in,
@@ -36,19 +35,6 @@ pub enum ImportStop {
     Io,
 }
 
-/// Does an act, and gives its answer.
-fn add<S: Alter>(alloc: Global, desk: &mut Desk<S>, act: Act) -> Result<Answer, Fault>
-    ensures { CalledAt S.Store desk.old desk.new (λ s. EndsAct S.Store s act result desk.new) }
-{
-    let acts = [act];
-    let mut answers = Vec::new(alloc);
-    match desk.perform_all(&acts, &mut answers) {
-        // of an act that is done there is an answer
-        Ok(()) => answers.pop().ok_or(Fault::Reopen),
-        Err(fault) => Err(fault),
-    }
-}
-
 /// Does what a row asks for, and gives the answer.
 fn answer_row<S: Alter>(
     alloc: Global,
@@ -59,11 +45,7 @@ fn answer_row<S: Alter>(
     ensures { CalledAt S.Store desk.old desk.new (λ s. EndsRow S.Store day s (named row.now) result desk.new) }
 {
     match read_import_row(alloc, row) {
-        Ok(record) => {
-            let act = Act::AddRecord { day, record };
-            act.formed();
-            add(alloc, desk, act)
-        }
+        Ok(record) => desk.perform(&Act::AddRecord { day, record }),
         Err(ReadFault::Refused(refusal)) => Ok(Answer::Refused(refusal)),
         Err(ReadFault::Memory) => Err(Fault::Memory),
     }
@@ -198,26 +180,6 @@ fn import_text<S: Alter, R: Read, W: Write>(
     }
 }
 
-/// Does what a text asks for, and sends the lines out. How many rows were refused.
-fn import_open<S: Alter, R: Read, W: Write>(
-    alloc: Global,
-    desk: &mut Desk<S>,
-    day: Day,
-    reader: &mut R,
-    out: &mut W,
-) -> Result<u64, ImportStop>
-    ensures { CalledAt S.Store desk.old desk.new (λ s. EndsImport S.Store day s (option_map strip_bom (R.remaining reader.old)) result desk.new (W.contents out.old) (W.contents out.new)) }
-{
-    let mut rdr = import_reader(alloc, reader);
-    match import_text(alloc, desk, day, &mut rdr, out) {
-        Ok(refused) => match out.flush() {
-            Ok(()) => Ok(refused),
-            Err(_) => Err(ImportStop::Io),
-        },
-        Err(stop) => Err(stop),
-    }
-}
-
 /// Adds, on that day, the records that the rows of a text of CSV ask for, one after another, each before the next
 /// row is read, and writes a line for each: its number, from 1, and `number N`, `same N` or `refused N`. Gives how
 /// many were refused. The first row names the columns `ref,title,originated,aggregation,class,schedule,content`.
@@ -235,8 +197,15 @@ pub fn import_records<S: Alter, R: Read, W: Write>(
 ) -> Result<u64, ImportStop>
     ensures { ImportsText S.Store day (R.remaining reader.old) W.contents out.old out.new result desk.old desk.new }
 {
-    if is_given_up(alloc, desk) {
+    if desk.is_given_up() {
         return Err(ImportStop::Fault(Fault::Reopen));
     }
-    import_open(alloc, desk, day, reader, out)
+    let mut rdr = import_reader(alloc, reader);
+    match import_text(alloc, desk, day, &mut rdr, out) {
+        Ok(refused) => match out.flush() {
+            Ok(()) => Ok(refused),
+            Err(_) => Err(ImportStop::Io),
+        },
+        Err(stop) => Err(stop),
+    }
 }

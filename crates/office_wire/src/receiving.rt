@@ -4,7 +4,7 @@ ghost use Rattle.httparse.specs.Grammar.{RequestHead};
 ghost use Rattle.httparse.specs.Spans.{IsRequestAt};
 ghost use Rattle.office_http.specs.Plans.{IsSized};
 ghost use Rattle.office_http.specs.Requests.{IsHeadAt};
-ghost use Rattle.office_wire.specs.Receiving.{IsAskedBy, IsStarvedFor, Receives, asked_for, body_wanted, plan_wanted, want_wanted};
+ghost use Rattle.office_wire.specs.Receiving.{AsksFor, IsAskedBy, IsStarvedFor, Receives, body_wanted, plan_wanted, want_wanted};
 
 use crate::body::ActsBody;
 use httparse::spans::{HeaderSpan, RequestSpans};
@@ -81,7 +81,7 @@ fn receive_acts<R: Read>(
     requires start_in { start ≤ length buf.items }
     requires small { start ≤ 16_384 }
     requires limit { size ≤ 1_048_576 }
-    ensures { IfOk result (λ it. IfSome (R.remaining reader.old) (λ left. asked_for it ≡ body_wanted size (drop start buf.items ++ left))) }
+    ensures { AsksFor (body_wanted size) (drop start buf.items) (R.remaining reader.old) result }
 {
     let end = start + size as usize;
     if read_body(reader, &mut buf, start, end)? {
@@ -101,7 +101,7 @@ fn receive_wanted<R: Read>(
     requires start_in { start ≤ length buf.items }
     requires small { start ≤ 16_384 }
     requires sized { IsSized (Plan.Serve want) }
-    ensures { IfOk result (λ it. IfSome (R.remaining reader.old) (λ left. asked_for it ≡ want_wanted want (drop start buf.items ++ left))) }
+    ensures { AsksFor (want_wanted want) (drop start buf.items) (R.remaining reader.old) result }
 {
     match want {
         Want::Acts(size) => receive_acts(reader, buf, start, size),
@@ -124,7 +124,7 @@ fn receive_planned<R: Read>(
     requires start_in { start ≤ length buf.items }
     requires small { start ≤ 16_384 }
     requires sized { IsSized plan }
-    ensures { IfOk result (λ it. IfSome (R.remaining reader.old) (λ left. asked_for it ≡ plan_wanted plan (drop start buf.items ++ left))) }
+    ensures { AsksFor (plan_wanted plan) (drop start buf.items) (R.remaining reader.old) result }
 {
     match plan {
         Plan::Refuse(check) => Ok(Asking::Refused(check)),

@@ -1,9 +1,9 @@
 //! One request is received, answered at the desk, and its answer written: in two halves, of which one has no
 //! writer and the other no desk.
-ghost use Rattle.std.specs.Prelude.{◌≡◌, IfOk, IsSome, OnErr};
+ghost use Rattle.std.specs.Prelude.{◌≡◌, OnErr};
 ghost use Rattle.office_http.specs.Replies.{response};
 ghost use Rattle.office_wire.specs.Receiving.{asked_for};
-ghost use Rattle.office_wire.specs.Serving.{AnswersNext, HasReply, InHalves, IsFailed, IsSent, ServesOne};
+ghost use Rattle.office_wire.specs.Serving.{AnswersNext, HasReply, InHalves, IsFailed, Sends, ServesOne};
 
 use crate::answering::answer;
 use crate::receiving::{Asked, Asking, ReceiveStop, Received, receive};
@@ -45,7 +45,7 @@ fn failed(failure: Failure, is_head: bool) -> Option<Sending>
 /// Does what a request asks for, and gives its answer.
 fn answered<S: Alter>(alloc: Global, desk: &mut Desk<S>, asked: Asked) -> Sending
     ensures is_head { result.is_head ≡ asked.is_head }
-    ensures served { HasReply S.Store (asked_for asked.asking) (response result.reply) desk.old desk.new }
+    ensures has { HasReply S.Store (asked_for asked.asking) (response result.reply) desk.old desk.new }
 {
     let reply = served(alloc, desk, &asked.asking);
     Sending {
@@ -79,8 +79,7 @@ pub fn answer_next<R: Read, S: Alter>(
 /// The half of serving after it: writes an answer, if there is one, and gives its status, or 0. `Io` comes where the
 /// writer answered an error; no desk is here, so it stands as if the answer had been written.
 pub fn send<W: Write>(sending: Option<Sending>, writer: &mut W) -> Result<u16, Io>
-    ensures sent { IfOk result (λ status. IsSent sending status (W.contents writer.old) (W.contents writer.new)) }
-    ensures some { OnErr result (IsSome sending) }
+    ensures { Sends sending result (W.contents writer.old) (W.contents writer.new) }
 {
     match sending {
         None => Ok(0),

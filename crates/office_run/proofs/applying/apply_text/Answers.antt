@@ -17,7 +17,7 @@ returns-in-Ok g c =
     carried g.S.Store c.args.conn desk.held _ g.W.Write.contents _ _ (Shown g.S.Store (TextEnds c.args.text.now)) c.apply_at-ending.result c.close.ensures.same
     (λ clean. opened.clean (ended.clean clean))
     (inr (applies_of (AtDesk g.S.Store c.in-Ok.desk desk) (IsOfOpened (state g.S.Store c.args.conn) (state g.S.Store desk.held)) (of_desk g.S.Store c.args.conn c.in-Ok.desk opened desk ended.clean)
-    _ _ _ _ _ ended.applies))
+    _ _ _ _ _ ended.ends))
 
 pub returns-in-Err : goal.returns-in-Err
 returns-in-Err g c =

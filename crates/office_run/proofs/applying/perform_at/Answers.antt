@@ -7,23 +7,29 @@ use Rattle.office_run.proofs.Applications.{told_performs, untold_performs}
 use Rattle.office_run.proofs.DeskActs.{done_at, stopped_at}
 use Rattle.office_run.proofs.applying.perform_at.Goals as goal
 
-pub returns-in-Ok-clause-performs : goal.returns-in-Ok-clause-performs
-returns-in-Ok-clause-performs g c =
+pub returns-in-Ok : goal.returns-in-Ok
+returns-in-Ok g c =
     let old = c.args.desk.now in
     let desk = c.perform_all-done.new.self in
     let it = c.perform_all-done.ensures in
     let given = c.perform_all-done.new.answers.items in
-    told_performs (HasCleanDisk (state g.S.Store desk.held)) (λ (t : State). StandsAt g.S.Store t old) c.args.acts.now (state g.S.Store desk.held) _ _ c.perform_all-done.result given _
-    (rw c.as_slice-in-Ok.ensures.value at c.of_acts.ensures) (rw c.as_slice.ensures.value at c.in-Ok.ensures)
-    (λ t clean stands. done_at g.S.Store c.args.acts.now t desk c.perform_all-done.result _ given _ c.new-answers.ensures.items (it.called.did t c.requires (sym stands.office)) (clean, stands))
-    (λ t clean stands. stopped_at g.S.Store c.args.acts.now t desk c.perform_all-done.result _ given _ c.new-answers.ensures.items (it.called.did t c.requires (sym stands.office)) (clean, stands))
+    record {
+      ends = told_performs (HasCleanDisk (state g.S.Store desk.held)) (λ (t : State). StandsAt g.S.Store t old) c.args.acts.now (state g.S.Store desk.held) _ _ c.perform_all-done.result given _
+          (rw c.as_slice-in-Ok.ensures.value at c.of_acts.ensures) (rw c.as_slice.ensures.value at c.in-Ok.ensures)
+          (λ t clean stands. done_at g.S.Store c.args.acts.now t desk c.perform_all-done.result _ given _ c.new-answers.ensures.items (it.called.did t c.requires (sym stands.office)) (clean, stands))
+          (λ t clean stands. stopped_at g.S.Store c.args.acts.now t desk c.perform_all-done.result _ given _ c.new-answers.ensures.items (it.called.did t c.requires (sym stands.office)) (clean, stands));
+      clean = it.called.clean;
+    }
 
-pub returns-clause-performs : goal.returns-clause-performs
-returns-clause-performs g c =
+pub returns : goal.returns
+returns g c =
     let old = c.args.desk.now in
     let desk = c.perform_all-done.new.self in
     let it = c.perform_all-done.ensures in
     let given = c.perform_all-done.new.answers.items in
-    untold_performs (HasCleanDisk (state g.S.Store desk.held)) (λ (t : State). StandsAt g.S.Store t old) c.args.acts.now (state g.S.Store desk.held) (g.W.Write.contents c.args.out.now) (g.W.Write.contents c.write_answers.new.out) c.perform_all-done.result given
-    (λ t clean stands. done_at g.S.Store c.args.acts.now t desk c.perform_all-done.result _ given _ c.new-answers.ensures.items (it.called.did t c.requires (sym stands.office)) (clean, stands))
-    (λ t clean stands. stopped_at g.S.Store c.args.acts.now t desk c.perform_all-done.result _ given _ c.new-answers.ensures.items (it.called.did t c.requires (sym stands.office)) (clean, stands))
+    record {
+      ends = untold_performs (HasCleanDisk (state g.S.Store desk.held)) (λ (t : State). StandsAt g.S.Store t old) c.args.acts.now (state g.S.Store desk.held) (g.W.Write.contents c.args.out.now) (g.W.Write.contents c.write_answers.new.out) c.perform_all-done.result given
+          (λ t clean stands. done_at g.S.Store c.args.acts.now t desk c.perform_all-done.result _ given _ c.new-answers.ensures.items (it.called.did t c.requires (sym stands.office)) (clean, stands))
+          (λ t clean stands. stopped_at g.S.Store c.args.acts.now t desk c.perform_all-done.result _ given _ c.new-answers.ensures.items (it.called.did t c.requires (sym stands.office)) (clean, stands));
+      clean = it.called.clean;
+    }

@@ -1,5 +1,7 @@
 use Rattle.office_run.proofs.Imports.{imported}
 use Rattle.office_run.proofs.importing.import_at.Goals as goal
 
-pub returns-clause-imports : goal.returns-clause-imports
-returns-clause-imports g c = imported g.S.Store c.args.day _ _ _ _ _ c.import_records.result _ c.of_import.ensures c.import_records.ensures.call.did
+pub returns : goal.returns
+returns g c =
+    let it = c.import_records.ensures.call in
+    record { ends = imported g.S.Store c.args.day _ _ _ _ _ c.import_records.result _ c.of_import.ensures it.did; clean = it.clean }

@@ -2,6 +2,7 @@ use Rattle.std.proofs.Common.{inl, inr, refl}
 use Rattle.office_run.specs.Serving.{ServiceEnds}
 use Rattle.office_run.proofs.Callings.{carried}
 use Rattle.office_run.proofs.Desks.{desk_of}
+use Rattle.office_run.proofs.Services.{clean_served}
 use Rattle.office_run.proofs.Unopened.{unopened}
 use Rattle.office_run.proofs.serving.serve_on.Goals as goal
 
@@ -11,8 +12,8 @@ returns-in-Ok g c =
     let served = c.serve_at-ending.ensures in
     let desk = c.serve_at-ending.new.desk in
     carried g.S.Store c.args.conn desk.held _ g.W.Write.contents _ _ (ServiceEnds g.S.Store c.args.port c.args.count) c.serve_at-ending.result c.close.ensures.same
-    (λ clean. it.clean (served.clean clean))
-    (inr (c.in-Ok.desk, desk, desk_of g.S.Store c.args.conn c.in-Ok.desk it, served.serves, refl))
+    (λ clean. it.clean (clean_served g.S.Store c.args.port c.args.count c.in-Ok.desk desk _ _ _ served clean))
+    (inr (c.in-Ok.desk, desk, desk_of g.S.Store c.args.conn c.in-Ok.desk it, served, refl))
 
 pub returns-in-Err : goal.returns-in-Err
 returns-in-Err g c =

@@ -7,14 +7,12 @@ loop-before-init g c = none_yet _ _
 
 pub loop-before-preserved : goal.loop-before-preserved
 loop-before-preserved g c =
-    rw c.failed_by-has_failed.ensures
-    (one_more _ _ _ _ _ _ _ _ _ c.loop-before.invariant c.serve_next-served.ensures (rw c.if-ends_after.false at c.ends_after.ensures.ends) c.ends_after.ensures.kept)
+    rw c.failed_by-has_failed.ensures (one_more _ _ _ _ _ _ _ _ c.loop-before.invariant c.serve_next-served.ensures (rw c.if-ends_after.false at c.ends_after.ensures))
 
 pub returns-then-ends_after : goal.returns-then-ends_after
 returns-then-ends_after g c =
     record {
-      turns = rw c.failed_by-has_failed.ensures
-          (one_more _ _ _ _ _ _ _ _ _ c.loop-before.invariant c.serve_next-served.ensures (rw c.if-ends_after.true at c.ends_after.ensures.ends) c.ends_after.ensures.kept);
+      turns = rw c.failed_by-has_failed.ensures (one_more _ _ _ _ _ _ _ _ c.loop-before.invariant c.serve_next-served.ensures (rw c.if-ends_after.true at c.ends_after.ensures));
       most = omega arith;
       all = search rules;
     }

@@ -11,7 +11,7 @@ returns-in-Ok-Headless-clause-next g c = headless_next g.S.Store _ _ _ _ c.faile
 
 pub returns-in-Ok-Request-clause-next : goal.returns-in-Ok-Request-clause-next
 returns-in-Ok-Request-clause-next g c =
-    asked_next g.S.Store _ _ _ _ c.in-Ok-Request.asked _ (rw c.in-Ok-Request.field-0-is at c.in-Ok-Request.ensures.came) c.answered.ensures.is_head c.answered.ensures.served
+    asked_next g.S.Store _ _ _ _ c.in-Ok-Request.asked _ (rw c.in-Ok-Request.field-0-is at c.in-Ok-Request.ensures.came) c.answered.ensures.is_head c.answered.ensures.has
 
 pub returns-in-Err-Memory-clause-next : goal.returns-in-Err-Memory-clause-next
 returns-in-Err-Memory-clause-next g c =

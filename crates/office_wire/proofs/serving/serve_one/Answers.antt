@@ -4,11 +4,11 @@ use Rattle.office_wire.proofs.Replied.{halves_failed, halves_sent, one_failed, o
 use Rattle.office_wire.proofs.serving.serve_one.Goals as goal
 
 pub returns-clause-one : goal.returns-clause-one
-returns-clause-one g c = one_sent g.S.Store g.R.Read.remaining _ _ g.W.Write.contents _ _ _ _ c.in_ok-sending.sending c.send.result c.in_ok-sending.ensures.next c.send.ensures.sent
+returns-clause-one g c = one_sent g.S.Store g.R.Read.remaining _ _ g.W.Write.contents _ _ _ _ c.in_ok-sending.sending c.send.result c.in_ok-sending.ensures.next c.send.ensures
 
 pub returns-clause-halves : goal.returns-clause-halves
 returns-clause-halves g c =
-    halves_sent g.S.Store g.R.Read.remaining _ _ g.W.Write.contents _ _ _ _ c.in_ok-sending.sending c.send.result c.in_ok-sending.ensures.next c.send.ensures.sent c.send.ensures.some
+    halves_sent g.S.Store g.R.Read.remaining _ _ g.W.Write.contents _ _ _ _ c.in_ok-sending.sending c.send.result c.in_ok-sending.ensures.next c.send.ensures
 
 pub returns-in_err-sending-clause-one : goal.returns-in_err-sending-clause-one
 returns-in_err-sending-clause-one g c =
