@@ -2,61 +2,32 @@
 //! to it.
 ghost use Rattle.std.specs.Prelude.{◌≤◌, ◌<◌, IfSome};
 ghost use Rattle.std.specs.List.{All};
-ghost use Rattle.office_days.specs.Limits.{IsDayNumber, IsDueNumber};
+ghost use Rattle.office_days.specs.Limits.{IsDayNumber};
 ghost use Rattle.office_tree.specs.Examined.{AreContentsShort};
-ghost use Rattle.office_tree.specs.Forms.{IsCode, IsDigest, IsFormedAggregation, IsFormedClass, IsFormedConfirmation, IsFormedEvent, IsFormedReceipt, IsFormedRecord, IsFormedReview, IsFormedSchedule, IsText};
+ghost use Rattle.office_tree.specs.Forms.{IsCode, IsDigest, IsFormedAggregation, IsFormedClass, IsFormedConfirmation, IsFormedEvent, IsFormedReceipt, IsFormedRecord, IsFormedReview, IsFormedSchedule};
 
 use crate::{
     Aggregation, Class, Code, Confirmation, Event, Receipt, Record, RecordNo, Review, Schedule,
-    Text,
 };
-use office_days::{Day, DueDay};
+use office_days::Day;
 use std::collections::BTreeMap;
 
-/// A code is of its form.
-fn formed_code(code: &Code)
-    ensures { IsCode code.now }
-{
-    let _ = code.text();
-}
-
-/// And so is one where there may be none.
+/// A code, if there is one, is of its form.
 fn formed_code_or_none(code: &Option<Code>)
     ensures { IfSome code.now IsCode }
 {
     if let Some(code) = code {
-        formed_code(code);
+        let _ = code.text();
     }
 }
 
-/// A text is of its form.
-fn formed_text(text: &Text)
-    ensures { IsText text.now }
-{
-    let _ = text.text();
-}
-
-/// A day is one that may be handed in.
-fn formed_day(day: Day)
-    ensures { IsDayNumber day }
-{
-    let _ = day.number();
-}
-
-/// And so is one where there may be none.
+/// A day, if there is one, is one that may be handed in.
 fn formed_day_or_none(day: Option<Day>)
     ensures { IfSome day IsDayNumber }
 {
     if let Some(day) = day {
-        formed_day(day);
+        let _ = day.number();
     }
-}
-
-/// A due day is one that there is.
-fn formed_due_day(due: DueDay)
-    ensures { IsDueNumber due }
-{
-    let _ = due.number();
 }
 
 /// Each byte is below 256.
@@ -84,16 +55,16 @@ fn formed_schedule(it: &Schedule)
 fn formed_class(it: &Class)
     ensures { IsFormedClass it.now }
 {
-    formed_text(&it.title);
-    formed_code(&it.schedule);
+    let _ = it.title.text();
+    let _ = it.schedule.text();
 }
 
 /// An aggregation is of its form.
 fn formed_aggregation(it: &Aggregation)
     ensures { IsFormedAggregation it.now }
 {
-    formed_text(&it.ref_text);
-    formed_text(&it.title);
+    let _ = it.ref_text.text();
+    let _ = it.title.text();
     formed_code_or_none(&it.class);
     formed_day_or_none(it.closed);
 }
@@ -103,8 +74,8 @@ fn formed_review(review: &Option<Review>)
     ensures { IfSome review.now IsFormedReview }
 {
     if let Some(review) = review {
-        formed_day(review.day);
-        formed_text(&review.by);
+        let _ = review.day.number();
+        let _ = review.by.text();
     }
 }
 
@@ -113,9 +84,9 @@ fn formed_confirmation(confirmation: &Option<Confirmation>)
     ensures { IfSome confirmation.now IsFormedConfirmation }
 {
     if let Some(confirmation) = confirmation {
-        formed_due_day(confirmation.due);
-        formed_day(confirmation.day);
-        formed_text(&confirmation.by);
+        let _ = confirmation.due.number();
+        let _ = confirmation.day.number();
+        let _ = confirmation.by.text();
     }
 }
 
@@ -124,8 +95,8 @@ fn formed_receipt(receipt: &Option<Receipt>)
     ensures { IfSome receipt.now IsFormedReceipt }
 {
     if let Some(receipt) = receipt {
-        formed_day(receipt.day);
-        formed_text(&receipt.by);
+        let _ = receipt.day.number();
+        let _ = receipt.by.text();
     }
 }
 
@@ -134,10 +105,10 @@ fn formed_record(head: &Record)
     requires { head.now.length ≤ 262_144 }
     ensures { IsFormedRecord head.now }
 {
-    formed_text(&head.ref_text);
-    formed_text(&head.title);
-    formed_day(head.originated);
-    formed_day(head.added);
+    let _ = head.ref_text.text();
+    let _ = head.title.text();
+    let _ = head.originated.number();
+    let _ = head.added.number();
     formed_code_or_none(&head.class);
     formed_code_or_none(&head.schedule);
     formed_digest(&head.digest);
@@ -151,7 +122,7 @@ pub(crate) fn formed_schedules(schedules: &BTreeMap<Code, Schedule>)
     ensures { All (λ e. IsCode e.0 × IsFormedSchedule e.1) schedules.now.entries }
 {
     for (code, it) in schedules {
-        formed_code(code);
+        let _ = code.text();
         formed_schedule(it);
     }
 }
@@ -161,7 +132,7 @@ pub(crate) fn formed_classes(classes: &BTreeMap<Code, Class>)
     ensures { All (λ e. IsCode e.0 × IsFormedClass e.1) classes.now.entries }
 {
     for (code, it) in classes {
-        formed_code(code);
+        let _ = code.text();
         formed_class(it);
     }
 }
@@ -189,9 +160,9 @@ pub(crate) fn formed_records(records: &[Record])
 fn formed_event(it: &Event)
     ensures { IsFormedEvent it.now }
 {
-    formed_day(it.occurred);
-    formed_day(it.day);
-    formed_text(&it.by);
+    let _ = it.occurred.number();
+    let _ = it.day.number();
+    let _ = it.by.text();
 }
 
 /// The events are of their forms.

@@ -7,8 +7,7 @@ ghost use Rattle.office_tree.specs.Rows.{put_aggregation, put_class, put_event, 
 ghost use Rattle.office_tree.specs.Sound.{IsSound};
 ghost use Rattle.office_tree.specs.Tree.{has_record};
 
-use crate::renewing::renew;
-use crate::rows::Rows;
+use crate::rows::rows_of;
 use crate::{
     AggNo, Aggregation, Class, Code, Event, Memory, Record, RecordNo, Schedule, Status, Tree,
 };
@@ -59,21 +58,9 @@ impl Tree {
         ensures err { OnErr result (self.new ≡ self.old) }
     {
         self.events.insert(record_no, event)?;
-        let rows = Rows {
-            schedules: &self.schedules,
-            classes: &self.classes,
-            aggregations: &self.aggregations,
-            records: &self.records,
-            statuses: &self.statuses,
-            events: &self.events,
-        };
-        renew(
-            &mut self.outlooks,
-            &rows,
-            &self.plans,
-            &self.tallies,
-            record_no,
-        );
+        let rows = rows_of!(self);
+        self.outlooks
+            .renew(&rows, &self.plans, &self.tallies, record_no);
         Ok(())
     }
 

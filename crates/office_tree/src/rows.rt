@@ -55,6 +55,22 @@ impl<'a> Model for Rows<'a> {
     } };
 }
 
+/// The rows of a tree, each borrowed by itself, so that what is derived from them can be written meanwhile.
+macro_rules! rows_of {
+    ($tree:expr) => {
+        $crate::rows::Rows {
+            schedules: &$tree.schedules,
+            classes: &$tree.classes,
+            aggregations: &$tree.aggregations,
+            records: &$tree.records,
+            statuses: &$tree.statuses,
+            events: &$tree.events,
+        }
+    };
+}
+
+pub(crate) use rows_of;
+
 /// Whether a run does that action.
 fn is_disposal(action: Action) -> bool
     ensures { result ≡ is_disposal action }

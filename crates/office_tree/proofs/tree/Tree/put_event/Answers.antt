@@ -29,7 +29,7 @@ invariant_of-self-2 c =
     let by_aggregation_ref = from_entries {R = code_cmp} c.self.inside.by_aggregation_ref.entries in
     let by_record_ref = from_entries {R = code_cmp} c.self.inside.by_record_ref.entries in
     let new = event_inserted c.self.inside.events.entries c.insert.new.self.entries r event c.in_ok-insert.ensures.updates.0 in
-    let here = λ (it : Outlook) (e : numbered c.renew.new.outlooks.rows.items r ≡ Some it). subst (λ (t : TreeState). IsOutlook c.self.inside.plans t r it) (λ i. record tree { aggregations = c.deref.ensures.value i; records = c.deref-2.ensures.value i; statuses = c.deref-3.ensures.value i; events = new i }) (c.renew.ensures.here it e) in
-    let kept = event_stored tree by_aggregation_ref by_record_ref c.self.inside.plans c.self.inside.outlooks.rows.items c.renew.new.outlooks.rows.items c.self.inside.tallies.items c.self.inside.homes.last.items c.self.inside.homes.before.items r event
+    let here = λ (it : Outlook) (e : numbered c.renew.new.self.rows.items r ≡ Some it). subst (λ (t : TreeState). IsOutlook c.self.inside.plans t r it) (λ i. record tree { aggregations = c.deref.ensures.value i; records = c.deref-2.ensures.value i; statuses = c.deref-3.ensures.value i; events = new i }) (c.renew.ensures.here it e) in
+    let kept = event_stored tree by_aggregation_ref by_record_ref c.self.inside.plans c.self.inside.outlooks.rows.items c.renew.new.self.rows.items c.self.inside.tallies.items c.self.inside.homes.last.items c.self.inside.homes.before.items r event
     c.self.invariant.0 c.renew.ensures.count here c.renew.ensures.others in
-    (subst (λ (t : TreeState). IsStored t by_aggregation_ref by_record_ref c.self.inside.plans c.renew.new.outlooks.rows.items c.self.inside.tallies.items c.self.inside.homes.last.items c.self.inside.homes.before.items) (sym (ap (λ events. record tree { events = events }) new)) kept, c.self.invariant.1, c.self.invariant.2)
+    (subst (λ (t : TreeState). IsStored t by_aggregation_ref by_record_ref c.self.inside.plans c.renew.new.self.rows.items c.self.inside.tallies.items c.self.inside.homes.last.items c.self.inside.homes.before.items) (sym (ap (λ events. record tree { events = events }) new)) kept, c.self.invariant.1, c.self.invariant.2)
