@@ -15,31 +15,16 @@ import csv
 import datetime
 import hashlib
 import json
+import pathlib
+import re
 import sqlite3
 import sys
 
-TABLES = [
-    "CREATE TABLE office(one INTEGER PRIMARY KEY, version INTEGER NOT NULL, day INTEGER NOT NULL) STRICT",
-    "CREATE TABLE schedules(code TEXT PRIMARY KEY, start_at TEXT NOT NULL CHECK (start_at IN ('origin', 'added', 'closed', 'last-addition', 'review')), unit TEXT NOT NULL, span INTEGER NOT NULL, roll TEXT NOT NULL, disposal TEXT NOT NULL) STRICT",
-    "CREATE TABLE classes(code TEXT PRIMARY KEY, title TEXT NOT NULL, schedule TEXT NOT NULL) STRICT",
-    "CREATE TABLE aggregations(num INTEGER PRIMARY KEY, ref TEXT NOT NULL UNIQUE, title TEXT NOT NULL, parent INTEGER, class TEXT, closed INTEGER) STRICT",
-    "CREATE TABLE records(num INTEGER PRIMARY KEY, ref TEXT NOT NULL UNIQUE, title TEXT NOT NULL, originated INTEGER NOT NULL, added INTEGER NOT NULL, aggregation INTEGER NOT NULL, size INTEGER NOT NULL, digest TEXT NOT NULL, status TEXT NOT NULL, class TEXT, schedule TEXT, reviewed INTEGER, reviewed_by TEXT, conf_action TEXT, conf_due INTEGER, conf_day INTEGER, conf_by TEXT, receipt_day INTEGER, receipt_by TEXT) STRICT",
-    "CREATE TABLE contents(record INTEGER PRIMARY KEY, bytes BLOB NOT NULL) STRICT",
-    "CREATE TABLE holds(code TEXT PRIMARY KEY, reason TEXT NOT NULL, placed INTEGER NOT NULL, placed_by TEXT NOT NULL, lifted INTEGER) STRICT",
-    "CREATE TABLE targets(hold TEXT NOT NULL, kind TEXT NOT NULL, target TEXT NOT NULL, PRIMARY KEY (hold, kind, target)) STRICT",
-    "CREATE TABLE runs(num INTEGER PRIMARY KEY, day INTEGER NOT NULL, opened_by TEXT NOT NULL, place INTEGER NOT NULL, closed INTEGER NOT NULL) STRICT",
-    "CREATE TABLE entries(run INTEGER, record INTEGER, outcome TEXT NOT NULL, class TEXT NOT NULL, schedule TEXT NOT NULL, due INTEGER NOT NULL, confirmed_by TEXT NOT NULL, hold TEXT, PRIMARY KEY (run, record)) STRICT",
-    "CREATE TABLE certificates(run INTEGER PRIMARY KEY, body TEXT NOT NULL) STRICT",
-    "CREATE TABLE schedules2(code TEXT PRIMARY KEY, start_at TEXT NOT NULL CHECK (start_at IN ('origin', 'added', 'closed', 'last-addition', 'review', 'event')), unit TEXT NOT NULL, span INTEGER NOT NULL, roll TEXT NOT NULL, disposal TEXT NOT NULL) STRICT",
-    "CREATE TABLE events(record INTEGER PRIMARY KEY, occurred INTEGER NOT NULL, day INTEGER NOT NULL, told_by TEXT NOT NULL) STRICT",
-]
+SOURCE = (pathlib.Path(__file__).resolve().parent.parent / "crates/office_sql/src/tables.rt").read_text()
+TABLES = re.findall(r'const CREATE_\w+: &str =\s*"([^"]*)";', SOURCE)
 # those of a file of version 1
 OLD_TABLES = TABLES[:11]
-KEYS = {
-    "office": "one", "schedules": "code", "classes": "code", "aggregations": "num", "records": "num", "contents": "record",
-    "holds": "code", "targets": "hold, kind, target", "runs": "num", "entries": "run, record", "certificates": "run",
-    "schedules2": "code", "events": "record",
-}
+KEYS = dict(re.findall(r'FROM (\w+) ORDER BY ([^"]*)"', SOURCE))
 DAY = 19724
 DIGEST = hashlib.sha256(b"abc").hexdigest()
 

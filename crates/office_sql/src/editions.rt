@@ -4,7 +4,7 @@ ghost use Rattle.sqlite.specs.Held.{state};
 ghost use Rattle.office_sql.specs.Editions.{schedules_table, version_of};
 ghost use Rattle.office_sql.specs.Names.{layout_of};
 
-use crate::reading::OfficeTable;
+use crate::tables::OfficeTable;
 use sqlite::{Alter, Connection};
 
 /// The version of an office's tables. Version 2 has `schedules2` and `events` beside the tables of version 1,

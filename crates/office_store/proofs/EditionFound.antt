@@ -9,7 +9,7 @@ use Rattle.sqlite.specs.State.{State}
 use Rattle.office_sql.specs.declared.editions.Edition.{Edition}
 use Rattle.office_sql.specs.declared.editions.Edition.TheVariants as edition
 use Rattle.office_sql.specs.Office.{IsAtRestOver}
-use Rattle.office_sql.specs.declared.reading.OfficeTable.TheVariants as table
+use Rattle.office_sql.specs.declared.tables.OfficeTable.TheVariants as table
 use Rattle.office_store.specs.Adopted.{ConfirmsEdition, FindsNone}
 use Rattle.office_store.specs.declared.fault.Fault.{Fault}
 

@@ -7,7 +7,7 @@ use Rattle.office_sql.specs.Bags.{rows_of}
 use Rattle.office_sql.specs.Editions.{IsTableOf, schedules_of, schedules_table}
 use Rattle.office_sql.specs.declared.editions.Edition.{Edition}
 use Rattle.office_sql.specs.declared.editions.Edition.TheVariants as edition
-use Rattle.office_sql.specs.declared.reading.OfficeTable.TheVariants as table
+use Rattle.office_sql.specs.declared.tables.OfficeTable.TheVariants as table
 use Rattle.office_sql.specs.Reads.{IsByKey, bag_of, key_of}
 use Rattle.office_store.specs.Stands.{events_in}
 use Rattle.office_store.specs.Taken.{HaveEventsCome}

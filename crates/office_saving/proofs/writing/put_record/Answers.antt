@@ -1,15 +1,16 @@
-use Rattle.std.proofs.Common.{◌≡◌, ◌∷◌, [], subst, rules}
-use Rattle.sqlite.specs.Held.{state}
-use Rattle.office_rules.specs.Rows.{record_row as row_of}
+use Rattle.std.proofs.Common.{◌≡◌, refl, rules}
+use Rattle.hex.specs.Hex.{encode_lower}
+use Rattle.office_rules.specs.Rows.{record_row}
 use Rattle.office_sql.specs.Editions.{version_2}
-use Rattle.office_sql.specs.Office.{GoesInside, Wrote}
-use Rattle.office_sql.specs.Schema.{records}
-use Rattle.office_sql.specs.Shown.{record_row}
+use Rattle.office_sql.specs.declared.tables.OfficeTable.TheVariants as table
+use Rattle.office_sql.proofs.Columns.{given_columns, one_more}
 use Rattle.office_sql.proofs.OfTwo.{has_records}
-use Rattle.office_saving.specs.Encoded.{record_shown}
+use Rattle.office_sql.proofs.SuitedShown.{puts_as}
+use Rattle.office_saving.proofs.SuitedRecords.{record_suits}
 use Rattle.office_saving.proofs.writing.put_record.Goals as goal
 
 pub returns-clause-written : goal.returns-clause-written
 returns-clause-written g c =
-    let same : record_row c.fixed_columns-fixed.result c.optional_columns.result ≡ record_shown c.args.number (row_of c.args.head.now c.args.status) = search rules in
-    subst (λ row. GoesInside {X = Unit {0}} version_2 (Wrote version_2 records ((0 ∷ []) ∷ (1 ∷ []) ∷ []) row) (state g.S.Store c.args.tx.now.conn.now) (state g.S.Store c.put_records.new.tx.conn.now) c.put_records.result) same (c.put_records.ensures.put version_2 has_records)
+    let digest : c.args.digest.now ≡ encode_lower c.args.head.now.digest = c.requires in
+    puts_as table.Records (record_suits c.args.number (record_row c.args.head.now c.args.status))
+    (one_more _ _ _ _ (search (given_columns, rules, digest)) (one_more _ _ _ _ (search (given_columns, rules, digest)) (one_more _ _ _ _ (search (given_columns, rules, digest)) (one_more _ _ _ _ (search (given_columns, rules, digest)) (one_more _ _ _ _ (search (given_columns, rules, digest)) (one_more _ _ _ _ (search (given_columns, rules, digest)) (one_more _ _ _ _ (search (given_columns, rules, digest)) (one_more _ _ _ _ (search (given_columns, rules, digest)) (one_more _ _ _ _ (search (given_columns, rules, digest)) (one_more _ _ _ _ (search (given_columns, rules, digest)) (one_more _ _ _ _ (search (given_columns, rules, digest)) (one_more _ _ _ _ (search (given_columns, rules, digest)) (one_more _ _ _ _ (search (given_columns, rules, digest)) (one_more _ _ _ _ (search (given_columns, rules, digest)) (one_more _ _ _ _ (search (given_columns, rules, digest)) (one_more _ _ _ _ (search (given_columns, rules, digest)) (one_more _ _ _ _ (search (given_columns, rules, digest)) (one_more _ _ _ _ (search (given_columns, rules, digest)) (one_more _ _ _ _ (search (given_columns, rules, digest)) (refl)))))))))))))))))))) c.put.ensures.put version_2 has_records

@@ -1,7 +1,7 @@
 use Rattle.std.proofs.Common.{Ok, arith, sym, subst}
 use Rattle.sqlite.specs.Held.{state}
 use Rattle.office_sql.specs.declared.editions.Edition.TheVariants as edition
-use Rattle.office_sql.specs.declared.reading.OfficeTable.TheVariants as table
+use Rattle.office_sql.specs.declared.tables.OfficeTable.TheVariants as table
 use Rattle.office_store.specs.Stored.{IsEventPair, IsRowOf, event_handed, event_pair}
 use Rattle.office_store.specs.Taken.{TakesIn}
 use Rattle.office_store.proofs.TablesCome.{events_begun, events_whole}
