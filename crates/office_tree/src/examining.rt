@@ -1,5 +1,5 @@
 //! What is examined of a tree before it is taken over with the rest of an office.
-ghost use Rattle.std.specs.Prelude.{◌≡◌, ◌≤◌, ◌↔◌, IsTrue, false, length, true};
+ghost use Rattle.std.specs.Prelude.{◌≡◌, ◌↔◌, IsTrue, false, length, true};
 ghost use Rattle.std.specs.BTreeMap as map;
 ghost use Rattle.std.specs.FinMap.{from_entries};
 ghost use Rattle.std.specs.List.{All};
@@ -15,7 +15,6 @@ ghost use Rattle.office_tree.specs.Tree.{code_cmp};
 use crate::formed::{
     formed_aggregations, formed_classes, formed_events, formed_records, formed_schedules,
 };
-use crate::indexing::number_of;
 use crate::{
     Action, AggNo, Aggregation, Confirmation, Event, Receipt, Record, RecordNo, Review, Status,
     Text, Tree,
@@ -133,34 +132,22 @@ fn ascending(events: &BTreeMap<RecordNo, Event>)
     let _ = events.len();
 }
 
-/// Whether each aggregation's number is the one under its ref, so that no two have one ref.
+/// Whether no two aggregations have one ref: the index has as many refs as there are aggregations.
 fn do_aggregation_refs_differ(index: &BTreeMap<Text, AggNo>, aggregations: &[Aggregation]) -> bool
-    requires indexed { Indexes (from_entries {R = code_cmp} index.now.entries) (aggregation_refs aggregations.now) }
-    requires few { length aggregations.now ≤ 50_000 }
+    requires { Indexes (from_entries {R = code_cmp} index.now.entries) (aggregation_refs aggregations.now) }
     ensures yes { IsTrue result → Differ (λ it. it.ref_text) aggregations.now }
     ensures no { result ≡ false → Differ (λ it. it.ref_text) aggregations.now → ⊥ }
 {
-    for (i, it) in aggregations.iter().enumerate() {
-        if number_of(index, &it.ref_text) != Some(i as AggNo + 1) {
-            return false;
-        }
-    }
-    true
+    index.len() == aggregations.len()
 }
 
-/// Whether each record's number is the one under its ref, so that no two have one ref.
+/// Whether no two records have one ref: the index has as many refs as there are records.
 fn do_record_refs_differ(index: &BTreeMap<Text, RecordNo>, records: &[Record]) -> bool
-    requires indexed { Indexes (from_entries {R = code_cmp} index.now.entries) (record_refs records.now) }
-    requires few { length records.now ≤ 200_000 }
+    requires { Indexes (from_entries {R = code_cmp} index.now.entries) (record_refs records.now) }
     ensures yes { IsTrue result → Differ (λ head. head.ref_text) records.now }
     ensures no { result ≡ false → Differ (λ head. head.ref_text) records.now → ⊥ }
 {
-    for (i, head) in records.iter().enumerate() {
-        if number_of(index, &head.ref_text) != Some(i as RecordNo + 1) {
-            return false;
-        }
-    }
-    true
+    index.len() == records.len()
 }
 
 impl Tree {
