@@ -17,7 +17,7 @@ from pages_run.judging import judge
 from pages_run.shell import Done, Shell
 
 # crates enough for a build: one below another
-CRATES = "office_days:\noffice_rows:\noffice_tree: office_days office_rows\noffice: office_tree\n"
+CRATES = "office_days:\noffice_base:\noffice_tree: office_days office_base\noffice: office_tree\n"
 # what `rt` does for the launcher. It says what the kit's own says; WORDS has the words that it was called with
 STUB = """#!/bin/sh
 name=$(basename "$PWD")
@@ -153,14 +153,14 @@ def judge_build(trial: Trial) -> None:
           any(" of 3 functions)" in line and " left, by" in line for line in told), done.err)
     judge("then the program's functions", any("the program (" in line for line in lines), done.err)
     figures = json.loads((trial.top / "crates/office/out/build.json").read_text())
-    judge("its figures are kept", set(figures) == {"office", "office_days", "office_rows", "office_tree"}, f"{figures}")
+    judge("its figures are kept", set(figures) == {"office", "office_days", "office_base", "office_tree"}, f"{figures}")
     done = trial.run("clone/office build && clone/office due days")
     judge("a second build has nothing to do, and the program runs", done == (0, "built: due days\n", ""), f"{done}")
     (trial.top / "crates/office_tree/src/lib.rt").write_text("// changed\n")
     done = trial.run("clone/office build")
     judge("after a change it guesses by the last build", done.status == 0 and "by the last build" in done.err, done.err)
     trial.unbuilt()
-    done = trial.run("clone/office build", FAILS="office_rows")
+    done = trial.run("clone/office build", FAILS="office_base")
     judge("a refused library ends it, with what rt said", done.status == 2 and "rattle: refused" in done.err
           and done.err.endswith("could not be proved and built, as said above\n"), done.err)
     done = trial.run("clone/office init archive.db")

@@ -9,7 +9,8 @@ mod disks;
 
 use crate::disks::{Place, disk_of_process, run_from, serve_in};
 use clap::error::ErrorKind;
-use office_plan::{PlanStop, due_to, plan_to, read_whole};
+use office_base::{Stop, read_whole};
+use office_plan::{due_to, plan_to};
 use office_run::{Ending, tell};
 use office_store::Fault;
 use office_words::{Disk, Order, Words, order_of, read_words};
@@ -27,7 +28,7 @@ fn ended(rt: &HostRuntime, ending: Ending) -> u8 {
 fn plan_in(rt: &HostRuntime, file: &str) -> Ending {
     match File::open(rt, file) {
         Ok(mut reader) => Ending::of_plan(plan_to(rt.alloc(), &mut reader, &mut io::writer(rt))),
-        Err(error) => Ending::of_plan(Err(PlanStop::of(&error))),
+        Err(error) => Ending::of_plan(Err(Stop::from(error))),
     }
 }
 
@@ -35,7 +36,7 @@ fn plan_in(rt: &HostRuntime, file: &str) -> Ending {
 fn bytes_of(rt: &HostRuntime, file: &str) -> Result<Vec<u8>, Ending> {
     let read = match File::open(rt, file) {
         Ok(mut reader) => read_whole(rt.alloc(), &mut reader),
-        Err(error) => Err(PlanStop::of(&error)),
+        Err(error) => Err(Stop::from(error)),
     };
     match read {
         Ok(bytes) => Ok(bytes),
@@ -61,7 +62,7 @@ fn apply_in(rt: &HostRuntime, place: Place<'_>, acts: &str, order: &Order<'_>) -
 fn import_in(rt: &HostRuntime, place: Place<'_>, csv: &str, order: &Order<'_>) -> u8 {
     match File::open(rt, csv) {
         Ok(mut reader) => run_from(rt, place, order, &mut reader),
-        Err(error) => ended(rt, Ending::of_plan(Err(PlanStop::of(&error)))),
+        Err(error) => ended(rt, Ending::of_plan(Err(Stop::from(error)))),
     }
 }
 

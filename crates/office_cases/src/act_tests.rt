@@ -2,10 +2,9 @@
 use crate::answering::push_refused;
 use crate::written::push;
 use office_days::Day;
-use office_holds::Target;
 use office_json::{ListFault, ReadFault, read_act, read_acts};
 use office_rules::{Act, NewRecord};
-use office_tree::{Code, RecordNo, Text};
+use office_terms::{Code, RecordNo, Target, Text};
 use serde_json::Value;
 use std::io::Write;
 

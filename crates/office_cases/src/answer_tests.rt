@@ -5,14 +5,12 @@ ghost use Rattle.serde_json.specs.Written.{has_float};
 
 use crate::streams::Narrow;
 use crate::written::push;
-use office_days::Refusal;
+use office_base::{Io, Memory, Refusal};
 use office_json::{
-    Io, answer_value, answers_value, bad_act_value, fault_value, stopped_value, text_of,
-    write_answers,
+    answer_value, answers_value, bad_act_value, fault_value, stopped_value, text_of, write_answers,
 };
 use office_proof::Outcome;
 use office_rules::Answer;
-use office_tree::Memory;
 use serde_json::Value;
 use std::alloc::Global;
 

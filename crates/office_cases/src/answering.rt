@@ -1,5 +1,5 @@
 //! Answers of the office as rows write them.
-use office_days::Refusal;
+use office_base::Refusal;
 use office_rules::Answer;
 use std::io::Write;
 

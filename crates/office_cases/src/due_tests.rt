@@ -3,8 +3,9 @@ use crate::answering::push_refused;
 use crate::rows::word;
 use crate::streams::Narrow;
 use crate::written::push;
-use office_days::{Day, Deadline, DueDay, Refusal, deadline, read_confirm_days};
-use office_plan::{Io, due_to};
+use office_base::{Io, Refusal};
+use office_days::{Day, Deadline, DueDay, deadline, read_confirm_days};
+use office_plan::due_to;
 use std::io::Write;
 
 pub(crate) const ROWS: &str = r"

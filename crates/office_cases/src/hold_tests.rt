@@ -3,10 +3,11 @@ use crate::answering::push_refused;
 use crate::offices::{act_of, perform};
 use crate::written::push;
 use office_days::Day;
-use office_holds::{Holds, Target};
+use office_holds::Holds;
 use office_machine::Machine;
 use office_rules::Act;
-use office_tree::{Classified, Code, Text, Tree};
+use office_terms::{Classified, Code, Target, Text};
+use office_tree::Tree;
 use std::alloc::Global;
 use std::io::Write;
 

@@ -5,12 +5,13 @@ ghost use Rattle.office_json.specs.DueJson.{due_row_data};
 
 use crate::offices::{act_of, perform};
 use crate::written::push;
+use office_base::Memory;
 use office_days::Day;
 use office_json::{due_row_value, due_value, record_value, text_of};
 use office_machine::{DueRows, Machine};
 use office_proof::{Entry, RunNo, entry_line};
 use office_rules::{Act, NewRecord, RecordView};
-use office_tree::{Memory, RecordNo, Status, Text};
+use office_terms::{RecordNo, Status, Text};
 use serde_json::Value;
 use std::alloc::Global;
 use std::io::Write;

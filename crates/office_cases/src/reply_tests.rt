@@ -1,8 +1,9 @@
 //! Whole answers, with their status and their length, and what a failing writer leaves.
 use crate::streams::{Narrow, Sent};
 use httparse::spans::HeaderSpan;
+use office_base::Io;
 use office_http::{
-    Allow, Body, Failure, Head, Io, Kind, LONGEST_HEAD, Plan, Reply, Routes, Status, check_reply,
+    Allow, Body, Failure, Head, Kind, LONGEST_HEAD, Plan, Reply, Routes, Status, check_reply,
     failure_reply, is_head_in, plan_in, read_head, write_reply,
 };
 use std::io::Write;

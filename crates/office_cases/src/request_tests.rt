@@ -4,7 +4,8 @@ ghost use Rattle.std.specs.Prelude.{◌≤◌, vec_capacity};
 use crate::streams::Sent;
 use crate::written::push;
 use httparse::spans::HeaderSpan;
-use office_http::{Head, Io, LONGEST_HEAD, Plan, ReadStop, Routes, plan_in, read_body, read_head};
+use office_base::{Io, Stop};
+use office_http::{Head, LONGEST_HEAD, Plan, Routes, plan_in, read_body, read_head};
 use std::io::Write;
 
 /// What is done for a head; a day is told by its number, and 19782 is that of 2024-02-29.
@@ -168,7 +169,7 @@ fn is_told_as_broken(bytes: &[u8], buf: &mut Vec<u8>) -> bool
     buf.clear();
     let head = read_head(&mut Sent::breaking(bytes), buf, &mut headers);
     let body = read_body(&mut Sent::breaking(bytes), buf, 0, 4_096);
-    matches!(head, Err(Io)) && body == Err(ReadStop::Io)
+    matches!(head, Err(Io)) && body == Err(Stop::Io)
 }
 
 /// A reader that breaks before each of these bytes.

@@ -2,11 +2,11 @@
 use Rattle.std.specs.Prelude.{◌≡◌, ◌==◌, ◌⊎◌, ◌&&◌, ◌||◌, Bool, if◌then◌else◌, ℕ, ℤ, List, [], ◌∷◌, length, codes, Option, Some, None, Result, Ok, MatchResult, ok_or}
 use Rattle.std.specs.Str.{bytes_eq}
 use Rattle.office_days.specs.Texts.{day_named}
-use Rattle.office_days.specs.ThingNumbers.{thing_number}
-use Rattle.office_days.specs.declared.refusal.Refusal.{Refusal}
-use Rattle.office_days.specs.declared.refusal.Refusal.TheVariants.{BadText}
-use Rattle.office_tree.specs.Codes.{code_named}
-use Rattle.office_tree.specs.TextForms.{text_named}
+use Rattle.office_base.specs.ThingNumbers.{thing_number}
+use Rattle.office_base.specs.declared.refusal.Refusal.{Refusal}
+use Rattle.office_base.specs.declared.refusal.Refusal.TheVariants.{BadText}
+use Rattle.office_terms.specs.Codes.{code_named}
+use Rattle.office_terms.specs.TextForms.{text_named}
 use Rattle.office_rules.specs.declared.new_record.NewRecord.{NewRecord}
 use Rattle.office_json.specs.Acts.{AskedRecord, told}
 use Rattle.office_json.specs.Contents.{content_named, content_of}

@@ -4,14 +4,13 @@ ghost use Rattle.std.specs.Fmt.{decimal};
 ghost use Rattle.std.specs.Io.KnownBytes.{Appends};
 ghost use Rattle.std.specs.Option.{option_copied, unwrap_or};
 ghost use Rattle.std.specs.String.{string_bytes};
-ghost use Rattle.office_tree.specs.Words.{action_word};
+ghost use Rattle.office_terms.specs.Words.{action_word};
 ghost use Rattle.office_rules.specs.Registers.{due_told};
 ghost use Rattle.office_csv.specs.Registers.{day_field, due_columns, due_line, row_of, yes_or_no};
 
-use crate::RegisterStop;
 use crate::fields::{code_field, due_field, number_field, put_row, row_of};
+use office_base::{Memory, Stop};
 use office_rules::DueRow;
-use office_tree::Memory;
 use std::alloc::Global;
 use std::io::Write;
 
@@ -101,7 +100,7 @@ fn due_line(alloc: Global, told: &DueRow<'_>) -> Result<Vec<u8>, Memory>
 }
 
 /// Writes the header of the due register.
-pub fn write_due_header<W: Write>(alloc: Global, out: &mut W) -> Result<(), RegisterStop>
+pub fn write_due_header<W: Write>(alloc: Global, out: &mut W) -> Result<(), Stop>
     ensures { OnOk result (Appends (W.contents out.old) (W.contents out.new) (row_of due_columns)) }
 {
     let header = due_header(alloc)?;
@@ -109,11 +108,7 @@ pub fn write_due_header<W: Write>(alloc: Global, out: &mut W) -> Result<(), Regi
 }
 
 /// Writes the line of a record that is due.
-pub fn write_due_line<W: Write>(
-    alloc: Global,
-    told: &DueRow<'_>,
-    out: &mut W,
-) -> Result<(), RegisterStop>
+pub fn write_due_line<W: Write>(alloc: Global, told: &DueRow<'_>, out: &mut W) -> Result<(), Stop>
     ensures { OnOk result (Appends (W.contents out.old) (W.contents out.new) (due_line (due_told told.now))) }
 {
     let line = due_line(alloc, told)?;

@@ -9,11 +9,10 @@ ghost use Rattle.office_proof.specs.Outcomes.{outcome_word};
 ghost use Rattle.office_rules.specs.Registers.{entry_told};
 ghost use Rattle.office_csv.specs.Registers.{day_field, entry_columns, entry_line, row_of};
 
-use crate::RegisterStop;
 use crate::fields::{code_field, due_field, number_field, put_row, row_of};
+use office_base::{Memory, Stop};
 use office_proof::Entry;
 use office_rules::EntryRow;
-use office_tree::Memory;
 use std::alloc::Global;
 use std::io::Write;
 
@@ -111,7 +110,7 @@ fn entry_line(alloc: Global, told: &EntryRow<'_>) -> Result<Vec<u8>, Memory>
 }
 
 /// Writes the header of the register of entries.
-pub fn write_entry_header<W: Write>(alloc: Global, out: &mut W) -> Result<(), RegisterStop>
+pub fn write_entry_header<W: Write>(alloc: Global, out: &mut W) -> Result<(), Stop>
     ensures { OnOk result (Appends (W.contents out.old) (W.contents out.new) (row_of entry_columns)) }
 {
     let header = entry_header(alloc)?;
@@ -123,7 +122,7 @@ pub fn write_entry_line<W: Write>(
     alloc: Global,
     told: &EntryRow<'_>,
     out: &mut W,
-) -> Result<(), RegisterStop>
+) -> Result<(), Stop>
     ensures { OnOk result (Appends (W.contents out.old) (W.contents out.new) (entry_line (entry_told told.now))) }
 {
     let line = entry_line(alloc, told)?;

@@ -6,10 +6,10 @@ ghost use Rattle.std.specs.Option.{option_copied, unwrap_or};
 ghost use Rattle.std.specs.String.{string_bytes};
 ghost use Rattle.office_csv.specs.Registers.{day_field, row_of};
 
-use crate::RegisterStop;
 use csv::WriterBuilder;
+use office_base::{Memory, Stop};
 use office_days::{Deadline, DueDay};
-use office_tree::{Code, Memory};
+use office_terms::Code;
 use std::alloc::Global;
 use std::io::Write;
 
@@ -61,8 +61,8 @@ pub(crate) fn row_of(alloc: Global, fields: &[&[u8]]) -> Result<Vec<u8>, Memory>
 }
 
 /// Writes a row, as it stands.
-pub(crate) fn put_row<W: Write>(out: &mut W, row: &[u8]) -> Result<(), RegisterStop>
+pub(crate) fn put_row<W: Write>(out: &mut W, row: &[u8]) -> Result<(), Stop>
     ensures { OnOk result (Appends (W.contents out.old) (W.contents out.new) row.now) }
 {
-    out.write_all(row).or(Err(RegisterStop::Io))
+    out.write_all(row).or(Err(Stop::Io))
 }

@@ -1,14 +1,15 @@
 //! A row of an import as the record that it asks to add.
 ghost use Rattle.std.specs.Prelude.{◌≡◌, ◌≤◌, IfOk, Ok, length};
-ghost use Rattle.office_days.specs.ThingNumbers.{thing_number};
+ghost use Rattle.office_base.specs.ThingNumbers.{thing_number};
 ghost use Rattle.office_json.specs.Acts.{told};
 ghost use Rattle.office_json.specs.Parts.{IsReadAs};
 ghost use Rattle.office_csv.specs.ImportRows.{IsRowRead, asked_record, code_field, day_field, is_first_column, is_header, named};
 
-use office_days::{Day, Refusal, read_thing_number};
+use office_base::{Refusal, read_thing_number};
+use office_days::Day;
 use office_json::{Content, ReadFault, both, read_code, read_content, read_words};
 use office_rules::NewRecord;
-use office_tree::{AggNo, Code, Text};
+use office_terms::{AggNo, Code, Text};
 use std::alloc::Global;
 
 /// The fields of a row of an import, as texts.

@@ -13,11 +13,9 @@ mod fields;
 mod import_row;
 mod overdue_register;
 mod reading;
-mod register_stop;
 
 pub use due_register::{write_due_header, write_due_line};
 pub use entry_register::{write_entry_header, write_entry_line};
 pub use import_row::{ImportRow, read_import_row};
 pub use overdue_register::{write_overdue_header, write_overdue_line};
 pub use reading::{RowStop, import_reader, next_row, read_header, row_in};
-pub use register_stop::RegisterStop;

@@ -5,16 +5,15 @@ ghost use Rattle.std.specs.Io.KnownBytes.{Appends};
 ghost use Rattle.std.specs.Option.{option_copied, unwrap_or};
 ghost use Rattle.std.specs.String.{string_bytes};
 ghost use Rattle.office_days.specs.Due.{deadline_from};
-ghost use Rattle.office_tree.specs.Words.{action_word};
+ghost use Rattle.office_terms.specs.Words.{action_word};
 ghost use Rattle.office_rules.specs.Registers.{due_told};
 ghost use Rattle.office_csv.specs.Registers.{day_field, overdue_columns, overdue_line, row_of};
 
-use crate::RegisterStop;
 use crate::due_register::action_of;
 use crate::fields::{code_field, deadline_field, due_field, number_field, put_row, row_of};
+use office_base::{Memory, Stop};
 use office_days::{ConfirmDays, deadline};
 use office_rules::DueRow;
-use office_tree::Memory;
 use std::alloc::Global;
 use std::io::Write;
 
@@ -93,7 +92,7 @@ fn overdue_line(alloc: Global, row: &DueRow<'_>, days: ConfirmDays) -> Result<Ve
 }
 
 /// Writes the header of the overdue register.
-pub fn write_overdue_header<W: Write>(alloc: Global, out: &mut W) -> Result<(), RegisterStop>
+pub fn write_overdue_header<W: Write>(alloc: Global, out: &mut W) -> Result<(), Stop>
     ensures { OnOk result (Appends (W.contents out.old) (W.contents out.new) (row_of overdue_columns)) }
 {
     let header = overdue_header(alloc)?;
@@ -106,7 +105,7 @@ pub fn write_overdue_line<W: Write>(
     row: &DueRow<'_>,
     days: ConfirmDays,
     out: &mut W,
-) -> Result<(), RegisterStop>
+) -> Result<(), Stop>
     ensures { OnOk result (Appends (W.contents out.old) (W.contents out.new) (overdue_line days (due_told row.now))) }
 {
     let line = overdue_line(alloc, row, days)?;

@@ -5,6 +5,5 @@ pub mod FirstPassing
 pub mod Moves
 pub mod MonthLengths
 pub mod Numbers
-pub mod Numerals
 pub mod Naming
 pub mod Spans

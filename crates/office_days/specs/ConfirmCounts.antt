@@ -1,8 +1,8 @@
 -- How many days after its due day a record is to be confirmed, as people write it. Source: own.
 use Rattle.std.specs.Prelude.{ℕ, List, nat_le, Option, Some, None, Result, Ok, Err, if◌then◌else◌}
-use Rattle.office_days.specs.declared.refusal.Refusal.{Refusal}
-use Rattle.office_days.specs.declared.refusal.Refusal.TheVariants.{BadText, BadNumber}
-use Rattle.office_days.specs.Numerals.{number_named}
+use Rattle.office_base.specs.declared.refusal.Refusal.{Refusal}
+use Rattle.office_base.specs.declared.refusal.Refusal.TheVariants.{BadText, BadNumber}
+use Rattle.office_base.specs.Numerals.{number_named}
 
 -- that many days, at most 3,650, where a text was read as a number
 abbrev pub confirm_days_numbered : Option ℕ → Result ℕ Refusal

@@ -2,12 +2,9 @@ pub mod Calendar
 pub mod ConfirmCounts
 pub mod Due
 pub mod Limits
-pub mod Numerals
 pub mod Offsets
 pub mod Periods
-pub mod Refusals
 pub mod Search
 pub mod Spans
 pub mod Texts
-pub mod ThingNumbers
 pub mod Words

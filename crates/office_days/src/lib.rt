@@ -7,7 +7,7 @@
 //!
 //! Days are civil days of the Gregorian calendar, with no clock and no time zone, and contracts
 //! see each as its day number, where 1970-01-01 is 0. No call here takes memory, and [`due_day`]
-//! never refuses. The crate also has the twenty-one reasons for which the office refuses an act.
+//! never refuses.
 #![tactic(auto)]
 
 mod confirm_days;
@@ -16,13 +16,10 @@ mod day;
 mod due;
 mod last_day;
 mod month;
-mod numeral;
 mod offset;
 mod offset_day;
 mod period;
-mod refusal;
 mod text;
-mod thing_number;
 mod unit;
 
 pub use confirm_days::{ConfirmDays, deadline, read_confirm_days};
@@ -30,9 +27,7 @@ pub use day::Day;
 pub use due::{DueDay, due_day};
 pub use last_day::Deadline;
 pub use month::Month;
-pub use numeral::read_numeral;
+pub use office_base::Refusal;
 pub use offset::Offset;
 pub use period::Period;
-pub use refusal::Refusal;
-pub use thing_number::read_thing_number;
 pub use unit::Unit;

@@ -5,8 +5,8 @@ use Rattle.std.specs.FinMap.{entries, from_entries}
 use Rattle.std.specs.List.Sorted.{IsStrictlySortedBy}
 use Rattle.std.specs.Map.{keys_of}
 use Rattle.std.specs.Ordering.{nat_cmp}
-use Rattle.office_rows.specs.Rows.{numbered_rows}
-use Rattle.office_rows.proofs.Maps.{entries_of_ordered}
+use Rattle.office_base.specs.Rows.{numbered_rows}
+use Rattle.office_base.proofs.Maps.{entries_of_ordered}
 use Rattle.office_holds.specs.Founding.{AreRowsOf}
 use Rattle.office_rules.specs.Founding.{AreTablesOf, HaveKeys, entry_rows}
 use Rattle.office_rules.specs.Rows.{rows_of}

@@ -6,17 +6,17 @@ use Rattle.std.specs.FinMap.{same_entries_map}
 use Rattle.std.specs.List.Sorted.{IsStrictlySortedBy}
 use Rattle.std.specs.Map.{keys_of}
 use Rattle.std.specs.Ordering.{nat_cmp}
-use Rattle.office_rows.specs.Rows.{numbered_rows}
-use Rattle.office_rows.proofs.Maps.{entries_of_ordered}
-use Rattle.office_tree.specs.Founding.{tree_of}
-use Rattle.office_tree.specs.Sound.{IsSound}
-use Rattle.office_tree.specs.Tree.{TreeState, code_cmp}
-use Rattle.office_tree.specs.declared.aggregation.Aggregation.{Aggregation}
-use Rattle.office_tree.specs.declared.class.Class.{Class}
-use Rattle.office_tree.specs.declared.event.Event.{Event}
-use Rattle.office_tree.specs.declared.head.Record.{Record}
-use Rattle.office_tree.specs.declared.schedule.Schedule.{Schedule}
-use Rattle.office_tree.specs.declared.status.Status.{Status}
+use Rattle.office_base.specs.Rows.{numbered_rows}
+use Rattle.office_base.proofs.Maps.{entries_of_ordered}
+use Rattle.office_terms.specs.Founding.{tree_of}
+use Rattle.office_terms.specs.Sound.{IsSound}
+use Rattle.office_terms.specs.Tree.{TreeState, code_cmp}
+use Rattle.office_terms.specs.declared.aggregation.Aggregation.{Aggregation}
+use Rattle.office_terms.specs.declared.class.Class.{Class}
+use Rattle.office_terms.specs.declared.event.Event.{Event}
+use Rattle.office_terms.specs.declared.head.Record.{Record}
+use Rattle.office_terms.specs.declared.schedule.Schedule.{Schedule}
+use Rattle.office_terms.specs.declared.status.Status.{Status}
 use Rattle.office_rules.specs.Rows.{record_rows}
 use Rattle.office_founding.specs.TreeRows.{AreTreeRows}
 use Rattle.office_rules.specs.declared.rows.RecordRow.{RecordRow}

@@ -5,18 +5,18 @@ use Rattle.std.specs.List.Sorted.{IsStrictlySortedBy}
 use Rattle.std.specs.Map.{keys_of}
 use Rattle.std.specs.Ordering.{nat_cmp}
 use Rattle.std.specs.declared.cmp.Ordering.TheVariants.{Less}
-use Rattle.office_rows.specs.Rows.{numbered_rows}
-use Rattle.office_rows.proofs.Counted.{next_number_of}
-use Rattle.office_rows.proofs.Maps.{keys_ascend}
-use Rattle.office_rows.proofs.Ascending.{keyed_next}
-use Rattle.office_tree.specs.Tree.{code_cmp}
-use Rattle.office_tree.specs.declared.aggregation.Aggregation.{Aggregation}
-use Rattle.office_tree.specs.declared.class.Class.{Class}
-use Rattle.office_tree.specs.declared.event.Event.{Event}
-use Rattle.office_tree.specs.declared.schedule.Schedule.{Schedule}
+use Rattle.office_base.specs.Rows.{numbered_rows}
+use Rattle.office_base.proofs.Counted.{next_number_of}
+use Rattle.office_base.proofs.Maps.{keys_ascend}
+use Rattle.office_base.proofs.Ascending.{keyed_next}
+use Rattle.office_terms.specs.Tree.{code_cmp}
+use Rattle.office_terms.specs.declared.aggregation.Aggregation.{Aggregation}
+use Rattle.office_terms.specs.declared.class.Class.{Class}
+use Rattle.office_terms.specs.declared.event.Event.{Event}
+use Rattle.office_terms.specs.declared.schedule.Schedule.{Schedule}
 use Rattle.office_holds.specs.Founding.{AreRowsOf, hold_rows}
-use Rattle.office_holds.specs.declared.row.HoldRow.{HoldRow}
-use Rattle.office_holds.specs.declared.target.Target.{Target}
+use Rattle.office_terms.specs.declared.hold_row.HoldRow.{HoldRow}
+use Rattle.office_terms.specs.declared.target.Target.{Target}
 use Rattle.office_proof.specs.declared.entry.Entry.{Entry}
 use Rattle.office_rules.specs.Founding.{entry_rows}
 use Rattle.office_rules.specs.Rows.{record_rows, rows_of}

@@ -4,7 +4,8 @@ use office_days::Day;
 use office_holds::Holds;
 use office_proof::{Entry, RunNo};
 use office_rules::Run;
-use office_tree::{RecordNo, Tree};
+use office_terms::RecordNo;
+use office_tree::Tree;
 use std::collections::BTreeMap;
 use std::marker::Model;
 

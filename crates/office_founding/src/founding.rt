@@ -2,9 +2,9 @@
 ghost use Rattle.std.specs.Prelude.{◌≡◌, IfOk, length, map};
 ghost use Rattle.std.specs.BTreeMap.{IsOrdered};
 ghost use Rattle.std.specs.Ordering.{nat_cmp};
-ghost use Rattle.office_rows.specs.Rows.{OnDamaged, numbered_rows};
-ghost use Rattle.office_tree.specs.Sound as sound_tree;
-ghost use Rattle.office_tree.specs.Tree.{TreeState};
+ghost use Rattle.office_base.specs.Rows.{OnDamaged, numbered_rows};
+ghost use Rattle.office_terms.specs.Sound as sound_tree;
+ghost use Rattle.office_terms.specs.Tree.{TreeState};
 ghost use Rattle.office_rules.specs.Founding.{AreTablesOf, HaveKeys};
 ghost use Rattle.office_rules.specs.Rows.{record_rows};
 ghost use Rattle.office_rules.specs.Sound.{IsSound};
@@ -18,8 +18,9 @@ pub(crate) mod records;
 mod runs;
 
 use crate::{Founded, Gathering};
-use office_rows::{Rebuild, ordered};
-use office_tree::{Aggregation, Class, Code, Event, Record, RecordNo, Schedule, Status, Tree};
+use office_base::{Rebuild, ordered};
+use office_terms::{Aggregation, Class, Code, Event, Record, RecordNo, Schedule, Status};
+use office_tree::Tree;
 use std::alloc::Global;
 use std::collections::BTreeMap;
 

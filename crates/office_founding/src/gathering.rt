@@ -8,12 +8,12 @@ mod recording;
 
 use crate::Certificate;
 use http_server::Log;
+use office_base::Rebuild;
 use office_days::Day;
-use office_holds::{Holds, Target};
+use office_holds::Holds;
 use office_proof::{Entry, RunNo};
-use office_rows::Rebuild;
 use office_rules::{Intake, Row, Run};
-use office_tree::{Aggregation, Class, Code, Event, Record, RecordNo, Schedule, Status};
+use office_terms::{Aggregation, Class, Code, Event, Record, RecordNo, Schedule, Status, Target};
 use std::alloc::Global;
 use std::collections::BTreeMap;
 use std::marker::Model;
@@ -46,7 +46,7 @@ impl Model for Gathering {
     ghost use Rattle.std.specs.Prelude.{map};
     ghost use Rattle.std.specs.Coded.{codes};
     ghost use Rattle.std.specs.FinMap as fin_map;
-    ghost use Rattle.office_rows.specs.Rows.{numbered_rows};
+    ghost use Rattle.office_base.specs.Rows.{numbered_rows};
     ghost use Rattle.office_holds.specs.Founding.{hold_rows};
     ghost use Rattle.office_rules.specs.Rows.{record_rows};
     ghost use Rattle.office_rules.specs.Tables.{TableLists};

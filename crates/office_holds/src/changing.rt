@@ -1,16 +1,17 @@
 //! Acts on holds, and stored rows put in: placing, lifting, and targets put on and taken off.
 ghost use Rattle.std.specs.Prelude.{◌≡◌, OnOk, OnErr, IsOk, IsTrue, None};
 ghost use Rattle.std.specs.FinMap.{contains_key};
-ghost use Rattle.office_tree.specs.Conditions.{first_of};
+ghost use Rattle.office_terms.specs.Conditions.{first_of};
 ghost use Rattle.office_holds.specs.Conditions.{conditions_of_hold_off, conditions_of_hold_on, conditions_of_lift_hold, conditions_of_place_hold};
 ghost use Rattle.office_holds.specs.Effects.{held_off, held_on, lifted_hold, placed_hold};
 ghost use Rattle.office_holds.specs.Forms.{FitsHoldLimits};
 ghost use Rattle.office_holds.specs.Rows.{StaysLifted, put_hold};
 
+use crate::Holds;
 use crate::storing::{put_target_in, take_target_in};
-use crate::{HoldRow, Holds, Target};
+use office_base::Memory;
 use office_days::Day;
-use office_tree::{Code, Memory, Text};
+use office_terms::{Code, HoldRow, Target, Text};
 
 impl Holds {
     /// Places a hold of a new code on that day, without targets.

@@ -2,15 +2,16 @@
 ghost use Rattle.std.specs.Prelude.{◌≡◌, ◌↔◌, ◌≤ℤ◌, IfSome, IsTrue, false, length};
 ghost use Rattle.std.specs.BTreeMap as map;
 ghost use Rattle.std.specs.List.{All};
-ghost use Rattle.office_tree.specs.Forms.{IsCode};
-ghost use Rattle.office_tree.specs.Tree.{code_cmp};
+ghost use Rattle.office_terms.specs.Forms.{IsCode};
+ghost use Rattle.office_terms.specs.Tree.{code_cmp};
 ghost use Rattle.office_holds.specs.Forms.{AreFormedHolds, IsFormedHold};
 ghost use Rattle.office_holds.specs.Holds.{HoldState};
 ghost use Rattle.office_holds.specs.Sound.{NoHoldIsAfter, TargetsAreThere, TargetsStand};
 
 use crate::{Hold, Holds};
 use office_days::Day;
-use office_tree::{Code, Tree};
+use office_terms::Code;
+use office_tree::Tree;
 use std::collections::BTreeMap;
 
 /// Whether every target of each hold is in the tree.

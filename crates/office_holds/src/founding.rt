@@ -1,16 +1,16 @@
 //! Holds loaded from their rows: columns and targets, appended in the order of their keys.
 ghost use Rattle.std.specs.Prelude.{◌≡◌, ◌++◌, ◌∷◌, [], true, false, ℕ, List, IsTrue, OnErr, OnOk};
-ghost use Rattle.office_rows.specs.Rows.{OnDamaged};
+ghost use Rattle.office_base.specs.Rows.{OnDamaged};
 ghost use Rattle.office_holds.specs.Effects.{held_on};
 ghost use Rattle.office_holds.specs.Forms.{FitsHoldLimits};
 ghost use Rattle.office_holds.specs.Founding.{AreRowsOf, IsAbove, hold_rows, takes_target};
 ghost use Rattle.office_holds.specs.Holds.{HoldMap};
-ghost use Rattle.office_holds.specs.declared.row.HoldRow.{HoldRow};
-ghost use Rattle.office_holds.specs.declared.target.Target.{Target};
+ghost use Rattle.office_terms.specs.declared.hold_row.HoldRow.{HoldRow};
+ghost use Rattle.office_terms.specs.declared.target.Target.{Target};
 
-use crate::{HoldRow, Holds, Target};
-use office_rows::{Rebuild, follows};
-use office_tree::Code;
+use crate::Holds;
+use office_base::{Rebuild, follows};
+use office_terms::{Code, HoldRow, Target};
 
 impl Holds {
     /// Puts a hold of these columns after the others, without targets; damaged only where no holds within

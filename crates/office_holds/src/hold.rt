@@ -16,9 +16,10 @@ use crate::sets::{
     are_aggregations, are_classes, are_records, count_codes, count_numbers, formed_codes, has_any,
     has_code, has_number, put_code, put_number, take_code, take_number,
 };
-use crate::{HoldRow, Target};
+use office_base::Memory;
 use office_days::Day;
-use office_tree::{AggNo, Code, Memory, RecordNo, Tree};
+use office_terms::{AggNo, Code, HoldRow, RecordNo, Target};
+use office_tree::Tree;
 use std::alloc::Global;
 use std::collections::BTreeSet;
 use std::marker::Model;

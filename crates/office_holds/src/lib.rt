@@ -22,12 +22,9 @@ mod holds;
 pub mod laws;
 mod leaving;
 mod numbers;
-mod row;
 mod sets;
 mod storing;
-mod target;
 
 pub use hold::Hold;
 pub use holds::Holds;
-pub use row::HoldRow;
-pub use target::Target;
+pub use office_terms::{HoldRow, Target};

@@ -10,7 +10,7 @@ use Rattle.std.specs.List.{list_all}
 use Rattle.std.specs.Option.{option_map}
 use Rattle.std.specs.Str.{IsAscii, IsUtf8}
 use Rattle.std.specs.Str.Parse.{digits_value}
-use Rattle.office_days.specs.Numerals.{number_named}
+use Rattle.office_base.specs.Numerals.{number_named}
 use Rattle.office_http.specs.Numbers.{content_length}
 
 pub both_true : (a b : Bool) → (a && b) ≡ true → (a ≡ true) × (b ≡ true)

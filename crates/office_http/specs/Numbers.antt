@@ -1,8 +1,8 @@
 -- The numbers in a head: the length of a body, and the number of a thing in a path.
 use Rattle.std.specs.Prelude.{ℕ, ◌==◌, Bool, false, List, [], ◌∷◌, length, nat_lt, Option, None, if◌then◌else◌}
 use Rattle.std.specs.Result.{result_ok}
-use Rattle.office_days.specs.Numerals.{number_named}
-use Rattle.office_days.specs.ThingNumbers.{thing_number}
+use Rattle.office_base.specs.Numerals.{number_named}
+use Rattle.office_base.specs.ThingNumbers.{thing_number}
 
 -- the length that a field value says: 1 to 19 ASCII digits. Source: RFC 9110 section 8.6; the greatest number of digits is own
 abbrev pub content_length : List ℕ → Option ℕ

@@ -1,21 +1,12 @@
-//! The body of a request, read after its head, and why it could not be read.
+//! The body of a request, read after its head.
 ghost use Rattle.std.specs.Prelude.{◌≡◌, ℕ, ◌≤◌, ◌<◌, List, ◌++◌, length, IfOk, OnOk, IsTrue, IsFalse};
 ghost use Rattle.std.specs.Io.KnownBytes.{Consumes, IsAtEnd};
 ghost use Rattle.std.specs.Vec.{vec_capacity};
 ghost use Rattle.office_http.specs.Bodies.{ReadsBody};
 
 use crate::reading::read_piece;
-use office_plan::Io;
+use office_base::{Io, Stop};
 use std::io::Read;
-
-/// Why a body was not read.
-#[derive(Clone, Copy, PartialEq, Eq, Debug)]
-pub enum ReadStop {
-    /// The reader answered an error.
-    Io,
-    /// An allocation was refused.
-    Memory,
-}
 
 /// Reads until a buffer has so many bytes, for which it has room. Whether it came to that.
 fn fill<R: Read>(reader: &mut R, buf: &mut Vec<u8>, end: usize) -> Result<bool, Io>
@@ -56,7 +47,7 @@ pub fn read_body<R: Read>(
     buf: &mut Vec<u8>,
     start: usize,
     end: usize,
-) -> Result<bool, ReadStop>
+) -> Result<bool, Stop>
     requires ordered { start ≤ end }
     requires start_in { start ≤ length buf.old.items }
     ensures { IfOk result (λ whole. ReadsBody start end whole buf.old.items buf.new.items
@@ -64,10 +55,10 @@ pub fn read_body<R: Read>(
 {
     let missing = end.saturating_sub(buf.len());
     if buf.try_reserve(missing).is_err() {
-        return Err(ReadStop::Memory);
+        return Err(Stop::Memory);
     }
     match read_rest(reader, buf, start, end) {
         Ok(whole) => Ok(whole),
-        Err(Io) => Err(ReadStop::Io),
+        Err(Io) => Err(Stop::Io),
     }
 }

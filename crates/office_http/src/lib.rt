@@ -24,11 +24,10 @@ mod status;
 mod want;
 mod writing;
 
-pub use body::{ReadStop, read_body};
+pub use body::read_body;
 pub use check::Check;
 pub use failure::Failure;
 pub use fixed::{check_reply, failure_reply};
-pub use office_plan::Io;
 pub use paths::Routes;
 pub use plan::{Plan, is_head_in, plan_in};
 pub use reading::{Head, LONGEST_HEAD, MOST_FIELDS, law_of_requests, read_head};

@@ -1,10 +1,10 @@
 //! Numbers in a head: the length of a body, and the number of a thing in a path.
 ghost use Rattle.std.specs.Prelude.{◌≡◌, min};
 ghost use Rattle.std.specs.Option.{option_map};
-ghost use Rattle.office_days.specs.Numerals.{number_named};
+ghost use Rattle.office_base.specs.Numerals.{number_named};
 ghost use Rattle.office_http.specs.Numbers.{begins_with_zero, content_length, segment_number};
 
-use office_days::{read_numeral, read_thing_number};
+use office_base::{read_numeral, read_thing_number};
 
 /// The number that the bytes write as digits; one above `u64::MAX` counts as `u64::MAX`.
 fn numeral_in(bytes: &[u8]) -> Option<u64>

@@ -6,7 +6,7 @@ ghost use Rattle.office_http.specs.Requests.{IsSeen, ReadsHead, Request, IsReque
 
 use httparse::Status;
 use httparse::spans::{HeaderSpan, RequestSpans, parse_request};
-use office_plan::Io;
+use office_base::Io;
 use std::io::Read;
 
 /// What a buffer tells of the head of a request.

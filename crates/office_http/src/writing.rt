@@ -7,7 +7,7 @@ ghost use Rattle.office_http.specs.Replies.{Response, allow_line, head_end, head
 
 use crate::reply::{Allow, Kind, Reply};
 use crate::status::Status;
-use office_plan::Io;
+use office_base::Io;
 use std::io::Write;
 
 /// The line of the media type.

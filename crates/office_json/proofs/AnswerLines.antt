@@ -1,8 +1,8 @@
 -- The line of each kind of answer, letter by letter.
 use Rattle.std.proofs.Common.{◌≡◌, refl, ℕ, ◌++◌, append_assoc, codes, decimal}
 use Rattle.serde_json.proofs.OnLiterals.{serde_json_on_literals}
-use Rattle.office_days.specs.Refusals.{refusal_number}
-use Rattle.office_days.specs.declared.refusal.Refusal.{Refusal}
+use Rattle.office_base.specs.Refusals.{refusal_number}
+use Rattle.office_base.specs.declared.refusal.Refusal.{Refusal}
 use Rattle.office_proof.specs.Outcomes.{outcome_word}
 use Rattle.office_proof.specs.declared.outcome.Outcome.{Outcome}
 use Rattle.office_proof.specs.declared.outcome.Outcome.TheVariants.{Destroyed, Transferred, Sent, Skipped}

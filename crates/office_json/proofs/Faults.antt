@@ -1,8 +1,8 @@
 -- What is told of an act: what is told of its parts.
 use Rattle.std.proofs.Common.{◌≡◌, ◌∙◌, Bool, true, cond, Result, Ok, Err, IfErr, IfOk, refl, sym, inl}
 use Rattle.serde_json.specs.Data.{Data}
-use Rattle.office_days.specs.declared.refusal.Refusal.{Refusal}
-use Rattle.office_days.specs.declared.refusal.Refusal.TheVariants.{BadText}
+use Rattle.office_base.specs.declared.refusal.Refusal.{Refusal}
+use Rattle.office_base.specs.declared.refusal.Refusal.TheVariants.{BadText}
 use Rattle.office_rules.specs.declared.act.Act.{Act}
 use Rattle.office_json.specs.Acts.{Asked, asked, IsActRead, IsReadFault}
 use Rattle.office_json.specs.Parts.{fault_of, made}

@@ -1,6 +1,6 @@
 -- What is told of two parts together.
 use Rattle.std.proofs.Common.{◌≡◌, Result, Ok, Err, refl}
-use Rattle.office_days.specs.declared.refusal.Refusal.{Refusal}
+use Rattle.office_base.specs.declared.refusal.Refusal.{Refusal}
 use Rattle.office_json.specs.Parts.{both, fault_of, lesser, IsReadAs}
 use Rattle.office_json.specs.declared.read_fault.ReadFault.{ReadFault}
 

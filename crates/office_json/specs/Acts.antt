@@ -3,8 +3,8 @@ use Rattle.std.specs.Prelude.{◌≡◌, ◌⊎◌, ◌∷◌, [], ℕ, ℤ, Lis
 use Rattle.std.specs.Str.{bytes_eq}
 use Rattle.serde_json.specs.Data.{Data}
 use Rattle.serde_json.specs.Find.{get, as_str}
-use Rattle.office_days.specs.declared.refusal.Refusal.{Refusal}
-use Rattle.office_days.specs.declared.refusal.Refusal.TheVariants.{BadText}
+use Rattle.office_base.specs.declared.refusal.Refusal.{Refusal}
+use Rattle.office_base.specs.declared.refusal.Refusal.TheVariants.{BadText}
 use Rattle.office_rules.specs.declared.act.Act.{Act}
 use Rattle.office_rules.specs.declared.act.Act.TheVariants as act
 use Rattle.office_rules.specs.declared.new_record.NewRecord.{NewRecord}

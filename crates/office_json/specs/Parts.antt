@@ -4,19 +4,19 @@ use Rattle.std.specs.Prelude.{◌≡◌, ℕ, ℤ, ◌&&◌, Bool, List, nat_le,
 use Rattle.serde_json.specs.Data.{Data, Num}
 use Rattle.serde_json.specs.Find.{as_number, as_str, as_u64}
 use Rattle.office_days.specs.declared.offset.Offset.{Offset}
-use Rattle.office_days.specs.declared.refusal.Refusal.{Refusal}
-use Rattle.office_days.specs.declared.refusal.Refusal.TheVariants.{BadText, BadNumber}
+use Rattle.office_base.specs.declared.refusal.Refusal.{Refusal}
+use Rattle.office_base.specs.declared.refusal.Refusal.TheVariants.{BadText, BadNumber}
 use Rattle.office_days.specs.declared.unit.Unit.{Unit}
 use Rattle.office_days.specs.Limits.{longest}
 use Rattle.office_days.specs.Periods.{RetentionPeriod}
-use Rattle.office_days.specs.Refusals.{refusal_number}
+use Rattle.office_base.specs.Refusals.{refusal_number}
 use Rattle.office_days.specs.Texts.{day_named}
 use Rattle.office_days.specs.Words.{offset_named, unit_named}
-use Rattle.office_tree.specs.declared.action.Action.{Action}
-use Rattle.office_tree.specs.declared.trigger.Trigger.{Trigger}
-use Rattle.office_tree.specs.Codes.{code_named}
-use Rattle.office_tree.specs.TextForms.{text_named}
-use Rattle.office_tree.specs.Words.{action_named, trigger_named}
+use Rattle.office_terms.specs.declared.action.Action.{Action}
+use Rattle.office_terms.specs.declared.trigger.Trigger.{Trigger}
+use Rattle.office_terms.specs.Codes.{code_named}
+use Rattle.office_terms.specs.TextForms.{text_named}
+use Rattle.office_terms.specs.Words.{action_named, trigger_named}
 use Rattle.office_proof.specs.Digits.{digest_named}
 use Rattle.office_json.specs.Members.{is_given}
 use Rattle.office_json.specs.declared.read_fault.ReadFault.{ReadFault}

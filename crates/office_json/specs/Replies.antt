@@ -2,8 +2,8 @@
 use Rattle.std.specs.Prelude.{ℕ, List, map, codes}
 use Rattle.serde_json.specs.Data.{Data, number, unsigned, string, array, object, no_members, member}
 use Rattle.serde_json.specs.View.{items_of}
-use Rattle.office_days.specs.Refusals.{refusal_number}
-use Rattle.office_days.specs.declared.refusal.Refusal.{Refusal}
+use Rattle.office_base.specs.Refusals.{refusal_number}
+use Rattle.office_base.specs.declared.refusal.Refusal.{Refusal}
 use Rattle.office_rules.specs.declared.answer.Answer.{Answer}
 use Rattle.office_json.specs.Answers.{answer_data, numbered_data}
 

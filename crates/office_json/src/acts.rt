@@ -15,7 +15,7 @@ use crate::members::text_at;
 use aggregations::{add_aggregation, close_aggregation, reclassify};
 use holds::{hold_off, hold_on, lift_hold, place_hold};
 use new_record::add_record;
-use office_days::Refusal;
+use office_base::Refusal;
 use office_rules::Act;
 use records::{confirm, event, receipt, review, set_record_schedule};
 use runs::{open_run, run_step};

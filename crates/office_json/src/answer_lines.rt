@@ -2,13 +2,13 @@
 ghost use Rattle.std.specs.Prelude.{◌≡◌, ℕ, ◌++◌, codes, OnOk};
 ghost use Rattle.std.specs.Fmt.{decimal};
 ghost use Rattle.std.specs.Io.KnownBytes.{Appends};
-ghost use Rattle.office_days.specs.Refusals.{refusal_number};
-ghost use Rattle.office_days.specs.declared.refusal.Refusal.{Refusal};
+ghost use Rattle.office_base.specs.Refusals.{refusal_number};
+ghost use Rattle.office_base.specs.declared.refusal.Refusal.{Refusal};
 ghost use Rattle.office_proof.specs.Outcomes.{outcome_word};
 ghost use Rattle.office_proof.specs.declared.outcome.Outcome.{Outcome};
 ghost use Rattle.office_json.specs.Answers.{answer_line, answer_lines, answer_text};
 
-use office_plan::Io;
+use office_base::Io;
 use office_rules::Answer;
 use std::io;
 use std::io::Write;

@@ -5,8 +5,8 @@ ghost use Rattle.serde_json.specs.Written.{has_float};
 ghost use Rattle.office_json.specs.Answers.{answer_data, numbered_data, same_data, step_data};
 
 use crate::told::{Told, object_of};
+use office_base::Memory;
 use office_rules::Answer;
-use office_tree::Memory;
 use serde_json::Value;
 use std::alloc::{AllocError, Global};
 

@@ -7,8 +7,7 @@ ghost use Rattle.office_json.specs.Contents.{TakesEncodings, content_named, cont
 use crate::members::text_at;
 use base64::DecodeAllocError;
 use base64::engine::general_purpose::STANDARD;
-use office_days::Refusal;
-use office_tree::Memory;
+use office_base::{Memory, Refusal};
 use serde_json::Value;
 use std::alloc::Global;
 use std::marker::Model;

@@ -6,8 +6,8 @@ ghost use Rattle.office_rules.specs.Registers.{DueTold, due_told};
 ghost use Rattle.office_json.specs.DueJson.{due_data, due_row_data, put_plan, put_rest};
 
 use crate::told::{Told, put_all, told_code};
+use office_base::Memory;
 use office_rules::DueRow;
-use office_tree::Memory;
 use serde_json::{Map, Value};
 use std::alloc::{AllocError, Global};
 

@@ -34,7 +34,6 @@ pub use answers::answer_value;
 pub use content::{Content, law_of_contents, read_content};
 pub use due_json::{due_row_value, due_value};
 pub use lists::{ListFault, read_acts};
-pub use office_plan::Io;
 pub use overdue_json::{overdue_row_value, overdue_value};
 pub use parts::{both, read_code, read_words};
 pub use read_fault::ReadFault;

@@ -6,9 +6,8 @@ ghost use Rattle.office_json.specs.Lists.{IsListFault, acts_from, acts_in, json_
 
 use crate::ReadFault;
 use crate::acts::read_act;
-use office_days::Refusal;
+use office_base::{Memory, Refusal};
 use office_rules::Act;
-use office_tree::Memory;
 use serde_json::Value;
 use std::alloc::Global;
 

@@ -7,9 +7,9 @@ ghost use Rattle.office_json.specs.OverdueJson.{overdue_data, overdue_row_data, 
 
 use crate::due_json::put_rest;
 use crate::told::{Told, put_all};
+use office_base::Memory;
 use office_days::{ConfirmDays, deadline};
 use office_rules::DueRow;
-use office_tree::Memory;
 use serde_json::{Map, Value};
 use std::alloc::{AllocError, Global};
 

@@ -2,18 +2,19 @@
 ghost use Rattle.std.specs.Prelude.{◌≡◌, ◌↔◌, ◌≤◌, IfSome, IsSome, Result, codes, ok_or};
 ghost use Rattle.serde_json.specs.Find.{get};
 ghost use Rattle.serde_json.specs.View.{view};
-ghost use Rattle.office_days.specs.declared.refusal.Refusal.{Refusal};
-ghost use Rattle.office_days.specs.declared.refusal.Refusal.TheVariants.{BadText};
+ghost use Rattle.office_base.specs.declared.refusal.Refusal.{Refusal};
+ghost use Rattle.office_base.specs.declared.refusal.Refusal.TheVariants.{BadText};
 ghost use Rattle.office_days.specs.Limits.{longest};
-ghost use Rattle.office_tree.specs.Codes.{code_named};
-ghost use Rattle.office_tree.specs.TextForms.{text_named};
+ghost use Rattle.office_terms.specs.Codes.{code_named};
+ghost use Rattle.office_terms.specs.TextForms.{text_named};
 ghost use Rattle.office_json.specs.Parts.{both, IsReadAs, action_part, code_part, count_part, day_part, digest_part, number_part, offset_part, optional, period_part, text_part, trigger_part};
 
 use crate::ReadFault;
 use crate::members::{is_given, text_at};
-use office_days::{Day, Offset, Period, Refusal, Unit};
+use office_base::{Memory, Refusal};
+use office_days::{Day, Offset, Period, Unit};
 use office_proof::read_digest;
-use office_tree::{Action, AggNo, Code, Memory, Text, Trigger};
+use office_terms::{Action, AggNo, Code, Text, Trigger};
 use serde_json::Value;
 use std::alloc::Global;
 

@@ -1,6 +1,5 @@
 //! Why a value of JSON is read as no act, and which of two such reasons is answered.
-use office_days::Refusal;
-use office_tree::Memory;
+use office_base::{Memory, Refusal};
 
 /// Why no act was read.
 #[derive(Clone, Copy, PartialEq, Eq, Debug)]

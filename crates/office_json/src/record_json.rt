@@ -5,9 +5,10 @@ ghost use Rattle.serde_json.specs.Written.{has_float};
 ghost use Rattle.office_json.specs.RecordJson.{confirmed_data, ended_data, or_null, put_first, put_last, put_second, put_third, record_data};
 
 use crate::told::{Told, object_of, put_all, told_code, told_day, told_due};
+use office_base::Memory;
 use office_proof::Entry;
 use office_rules::RecordView;
-use office_tree::{Confirmation, Memory};
+use office_terms::Confirmation;
 use serde_json::{Map, Value};
 use std::alloc::{AllocError, Global};
 

@@ -7,9 +7,8 @@ ghost use Rattle.office_json.specs.Replies.{answers_data, bad_act_data, fault_da
 
 use crate::answers::{answer_value, numbered_value};
 use crate::told::{Told, object_of, put_all};
-use office_days::Refusal;
+use office_base::{Memory, Refusal};
 use office_rules::Answer;
-use office_tree::Memory;
 use serde_json::{Map, Value};
 use std::alloc::{AllocError, Global};
 

@@ -2,16 +2,15 @@
 ghost use Rattle.std.specs.Prelude.{◌≡◌, option_map};
 ghost use Rattle.serde_json.specs.Find.{get};
 ghost use Rattle.serde_json.specs.View.{view};
-ghost use Rattle.office_tree.specs.declared.classified.Classified.TheVariants as classified;
+ghost use Rattle.office_terms.specs.declared.classified.Classified.TheVariants as classified;
 ghost use Rattle.office_json.specs.Parts.{IsReadAs, made};
 ghost use Rattle.office_json.specs.Targets.{after, classified_named, classified_part, is_plain, target_named, target_part, targeted, thing_named};
 
 use crate::ReadFault;
 use crate::members::text_at;
 use crate::parts::read_code;
-use office_days::{Refusal, read_numeral};
-use office_holds::Target;
-use office_tree::Classified;
+use office_base::{Refusal, read_numeral};
+use office_terms::{Classified, Target};
 use serde_json::Value;
 use std::alloc::Global;
 

@@ -8,7 +8,7 @@ ghost use Rattle.office_json.specs.Told.{told_data, with_told};
 use crate::digits::digest_value;
 use crate::told_parts::{day_value, deadline_value, due_day_value};
 use office_days::{Day, Deadline, DueDay};
-use office_tree::Code;
+use office_terms::Code;
 use serde_json::{Map, Value};
 use std::alloc::{AllocError, Global};
 

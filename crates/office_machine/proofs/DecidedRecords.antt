@@ -2,24 +2,24 @@
 use Rattle.std.proofs.Common.{◌≡◌, ◌≤◌, ◌+◌, ℕ, Bool, true, List, ◌∷◌, length, Option, Some, None, ℤ, refl, sym, ap, ◌∙◌, subst, arith}
 use Rattle.std.specs.Prelude.{not}
 use Rattle.std.specs.Option.{option_map}
-use Rattle.office_days.specs.declared.refusal.Refusal.{Refusal}
-use Rattle.office_tree.specs.Conditions.{first_of, conditions_of_confirm, conditions_of_receipt, conditions_of_review, conditions_of_set_record_schedule, lacks_schedule}
-use Rattle.office_tree.specs.Effects.{receipted, with_head}
-use Rattle.office_tree.specs.Lasting.{HeadStays}
-use Rattle.office_tree.specs.Lists.{numbered, or_else, put}
-use Rattle.office_tree.specs.Rows.{put_record}
-use Rattle.office_tree.specs.Sound as tree
-use Rattle.office_tree.specs.Tree.{TreeState, due_of, has_record}
-use Rattle.office_tree.specs.declared.action.Action.{Action}
-use Rattle.office_tree.specs.declared.head.Confirmation.{Confirmation}
-use Rattle.office_tree.specs.declared.head.Record.{Record}
-use Rattle.office_tree.specs.declared.status.Status.{Status}
-use Rattle.office_tree.specs.declared.status.Status.TheVariants.{Received}
-use Rattle.office_tree.proofs.Accepting.{none_holds, neither, not_false}
-use Rattle.office_tree.proofs.Amending.{IsSound-confirm, IsSound-receipt, IsSound-review, IsSound-set_record_schedule}
-use Rattle.office_tree.proofs.LastingRows.{keeps_head}
-use Rattle.office_tree.proofs.Places.{numbered_within}
-use Rattle.office_tree.proofs.Putting.{put-edited, put_edited_to, put_same}
+use Rattle.office_base.specs.declared.refusal.Refusal.{Refusal}
+use Rattle.office_terms.specs.Conditions.{first_of, conditions_of_confirm, conditions_of_receipt, conditions_of_review, conditions_of_set_record_schedule, lacks_schedule}
+use Rattle.office_terms.specs.Effects.{receipted, with_head}
+use Rattle.office_terms.specs.Lasting.{HeadStays}
+use Rattle.office_terms.specs.Lists.{numbered, or_else, put}
+use Rattle.office_terms.specs.Rows.{put_record}
+use Rattle.office_terms.specs.Sound as tree
+use Rattle.office_terms.specs.Tree.{TreeState, due_of, has_record}
+use Rattle.office_terms.specs.declared.action.Action.{Action}
+use Rattle.office_terms.specs.declared.head.Confirmation.{Confirmation}
+use Rattle.office_terms.specs.declared.head.Record.{Record}
+use Rattle.office_terms.specs.declared.status.Status.{Status}
+use Rattle.office_terms.specs.declared.status.Status.TheVariants.{Received}
+use Rattle.office_terms.proofs.Accepting.{none_holds, neither, not_false}
+use Rattle.office_terms.proofs.Amending.{IsSound-confirm, IsSound-receipt, IsSound-review, IsSound-set_record_schedule}
+use Rattle.office_terms.proofs.LastingRows.{keeps_head}
+use Rattle.office_terms.proofs.Places.{numbered_within}
+use Rattle.office_terms.proofs.Putting.{put-edited, put_edited_to, put_same}
 use Rattle.office_rules.specs.Acts.{IsChangeTo}
 use Rattle.office_rules.specs.Conditions.{dated, refusals_of_confirm, refusals_of_receipt, refusals_of_review, refusals_of_set_record_schedule}
 use Rattle.office_rules.specs.Effects.{with_tree}

@@ -3,23 +3,23 @@ use Rattle.std.proofs.Common.{◌≡◌, ◌<◌, ◌≤◌, ◌+◌, ℕ, suc, 
 use Rattle.std.specs.FinMap.{FinMap, get, insert, contains_key}
 use Rattle.std.specs.Option.{is_some}
 use Rattle.std.specs.Prelude.{not}
-use Rattle.office_days.specs.declared.refusal.Refusal.{Refusal}
-use Rattle.office_tree.specs.Conditions.{first_of, conditions_of_add_schedule, conditions_of_add_class, conditions_of_set_class_schedule, conditions_of_add_aggregation, conditions_of_close_aggregation}
-use Rattle.office_tree.specs.Effects.{added_schedule, added_class, with_class_schedule}
-use Rattle.office_tree.specs.Lasting.{KeepsAggregation}
-use Rattle.office_tree.specs.Lists.{numbered, edited, put, amended, amended_by}
-use Rattle.office_tree.specs.Sound as tree
-use Rattle.office_tree.specs.Tree.{TreeState, code_cmp}
-use Rattle.office_tree.specs.declared.aggregation.Aggregation.{Aggregation}
-use Rattle.office_tree.specs.declared.class.Class.{Class}
-use Rattle.office_tree.specs.declared.schedule.Schedule.{Schedule}
-use Rattle.office_tree.proofs.Accepting.{none_holds, not_false, neither}
-use Rattle.office_tree.proofs.Amending.{IsSound-set_class_schedule, as_scheduled}
-use Rattle.office_tree.proofs.Adding.{adds_schedule}
-use Rattle.office_tree.proofs.LastingRows.{keeps_aggregation, keeps_next_aggregation}
-use Rattle.office_tree.proofs.Keeping.{IsSound-add_schedule, IsSound-add_class, IsSound-add_aggregation, IsSound-close_aggregation, as_closed}
-use Rattle.office_tree.proofs.Places.{numbered_within}
-use Rattle.office_tree.proofs.Putting.{put_next, put-edited}
+use Rattle.office_base.specs.declared.refusal.Refusal.{Refusal}
+use Rattle.office_terms.specs.Conditions.{first_of, conditions_of_add_schedule, conditions_of_add_class, conditions_of_set_class_schedule, conditions_of_add_aggregation, conditions_of_close_aggregation}
+use Rattle.office_terms.specs.Effects.{added_schedule, added_class, with_class_schedule}
+use Rattle.office_terms.specs.Lasting.{KeepsAggregation}
+use Rattle.office_terms.specs.Lists.{numbered, edited, put, amended, amended_by}
+use Rattle.office_terms.specs.Sound as tree
+use Rattle.office_terms.specs.Tree.{TreeState, code_cmp}
+use Rattle.office_terms.specs.declared.aggregation.Aggregation.{Aggregation}
+use Rattle.office_terms.specs.declared.class.Class.{Class}
+use Rattle.office_terms.specs.declared.schedule.Schedule.{Schedule}
+use Rattle.office_terms.proofs.Accepting.{none_holds, not_false, neither}
+use Rattle.office_terms.proofs.Amending.{IsSound-set_class_schedule, as_scheduled}
+use Rattle.office_terms.proofs.Adding.{adds_schedule}
+use Rattle.office_terms.proofs.LastingRows.{keeps_aggregation, keeps_next_aggregation}
+use Rattle.office_terms.proofs.Keeping.{IsSound-add_schedule, IsSound-add_class, IsSound-add_aggregation, IsSound-close_aggregation, as_closed}
+use Rattle.office_terms.proofs.Places.{numbered_within}
+use Rattle.office_terms.proofs.Putting.{put_next, put-edited}
 use Rattle.office_rules.specs.Acts.{IsChangeTo, is_of_change}
 use Rattle.office_rules.specs.Conditions.{dated, refusals_of_add_schedule, refusals_of_add_class, refusals_of_set_class_schedule, refusals_of_add_aggregation, refusals_of_close_aggregation}
 use Rattle.office_rules.specs.Effects.{with_tree}

@@ -1,16 +1,18 @@
 //! The writes of a change, done to the office in memory.
 ghost use Rattle.std.specs.Prelude.{◌≡◌, ◌<◌, ◌≤◌, length, OnOk, OnErr};
-ghost use Rattle.office_tree.specs.Lasting.{KeepsHead};
-ghost use Rattle.office_tree.specs.Rows.{put_record};
-ghost use Rattle.office_tree.specs.Lists.{put};
-ghost use Rattle.office_tree.specs.Sound.{IsSound};
+ghost use Rattle.office_terms.specs.Lasting.{KeepsHead};
+ghost use Rattle.office_terms.specs.Rows.{put_record};
+ghost use Rattle.office_terms.specs.Lists.{put};
+ghost use Rattle.office_terms.specs.Sound.{IsSound};
 ghost use Rattle.office_rules.specs.Writes.{all_office_writes, write_office, CanFollow, CanPut, CanWrite};
 
 use crate::parts::Parts;
 use crate::storing::{put_certificate, put_entry};
 use crate::{Change, RowWrite, Run};
+use office_base::Memory;
 use office_proof::RunNo;
-use office_tree::{Memory, Record, RecordNo, Status, Tree, put_row};
+use office_terms::{Record, RecordNo, Status};
+use office_tree::{Tree, put_row};
 
 /// Puts a record's head and status in place of those that are there.
 fn replace_record(tree: &mut Tree, record_no: RecordNo, head: Record, status: Status)

@@ -1,13 +1,14 @@
 //! The office in memory, made of rows as they come.
 ghost use Rattle.std.specs.Prelude.{◌≡◌, IfOk};
-ghost use Rattle.office_rows.specs.Rows.{OnDamaged};
+ghost use Rattle.office_base.specs.Rows.{OnDamaged};
 ghost use Rattle.office_rules.specs.Founding.{AreTablesOf, HaveKeys};
 ghost use Rattle.office_rules.specs.Sound.{IsSound};
 ghost use Rattle.office_rules.specs.State.{ByteMap, with_contents};
 ghost use Rattle.office_rules.specs.Tables.{StandForNone, no_rows};
 
 use crate::parts::Parts;
-use crate::{Intake, Machine, Rebuild, Row};
+use crate::{Intake, Machine, Row};
+use office_base::Rebuild;
 use office_founding::Gathering;
 use std::alloc::Global;
 use std::marker::Model;

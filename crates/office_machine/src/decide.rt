@@ -6,7 +6,8 @@ ghost use Rattle.office_rules.specs.State.{with_contents};
 
 use crate::parts::Parts;
 use crate::{Act, Decision};
-use office_tree::{Memory, Schedule};
+use office_base::Memory;
+use office_terms::Schedule;
 use std::alloc::Global;
 
 impl Parts {

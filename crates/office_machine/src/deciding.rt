@@ -1,8 +1,8 @@
 //! Decisions on schedules, classes and aggregations, and the write of the office's day.
 ghost use Rattle.std.specs.Prelude.{◌≡◌, List, [], ◌∷◌, ◌++◌, Bool, None, IfOk};
 ghost use Rattle.std.specs.Option.{option_copied};
-ghost use Rattle.office_days.specs.declared.refusal.Refusal.{Refusal};
-ghost use Rattle.office_tree.specs.Conditions.{first_of};
+ghost use Rattle.office_base.specs.declared.refusal.Refusal.{Refusal};
+ghost use Rattle.office_terms.specs.Conditions.{first_of};
 ghost use Rattle.office_rules.specs.Acts.{IsDecidedTo, IsGoing};
 ghost use Rattle.office_rules.specs.Conditions.{dated};
 ghost use Rattle.office_rules.specs.State.{with_contents};
@@ -11,9 +11,10 @@ ghost use Rattle.office_rules.specs.Steps.{step_add_aggregation, step_add_class,
 
 use crate::parts::Parts;
 use crate::{Answer, Change, Decision, RowWrite};
-use office_days::{Day, Refusal};
+use office_base::{Memory, Refusal};
+use office_days::Day;
 use office_rules::{copy_code, copy_codes, copy_texts};
-use office_tree::{AggNo, Aggregation, Class, Code, Memory, Schedule, Text};
+use office_terms::{AggNo, Aggregation, Class, Code, Schedule, Text};
 use std::alloc::Global;
 
 /// Two writes in this order.

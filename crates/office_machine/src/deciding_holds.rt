@@ -1,6 +1,6 @@
 //! Decisions on holds: placing, lifting, and targets put on and taken off.
 ghost use Rattle.std.specs.Prelude.{◌≡◌, IfOk};
-ghost use Rattle.office_tree.specs.Conditions.{first_of};
+ghost use Rattle.office_terms.specs.Conditions.{first_of};
 ghost use Rattle.office_rules.specs.Acts.{IsDecidedTo};
 ghost use Rattle.office_rules.specs.Conditions.{conditions_of_target, lacks_target, target_status};
 ghost use Rattle.office_rules.specs.State.{with_contents};
@@ -9,10 +9,11 @@ ghost use Rattle.office_rules.specs.Steps.{step_hold_off, step_hold_on, step_lif
 use crate::lesser::lesser;
 use crate::parts::Parts;
 use crate::{Answer, Decision, RowWrite};
-use office_days::{Day, Refusal};
-use office_holds::{HoldRow, Target};
+use office_base::{Memory, Refusal};
+use office_days::Day;
 use office_rules::copy_texts;
-use office_tree::{Code, Memory, Status, Text, Tree};
+use office_terms::{Code, HoldRow, Status, Target, Text};
+use office_tree::Tree;
 use std::alloc::Global;
 
 /// Whether there is no such target.

@@ -3,8 +3,10 @@ ghost use Rattle.std.specs.Prelude.{IfOk};
 ghost use Rattle.office_machine.specs.Selections.{AreSelectedPairs, IsSelectedList};
 
 use crate::selection::Selection;
+use office_base::Memory;
 use office_days::DueDay;
-use office_tree::{Memory, RecordNo, Tree};
+use office_terms::RecordNo;
+use office_tree::Tree;
 use std::alloc::Global;
 use std::collections::BTreeSet;
 

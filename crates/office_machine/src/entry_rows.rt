@@ -1,7 +1,7 @@
 //! The entries of all runs, row by row.
 ghost use Rattle.std.specs.Prelude.{◌≡◌, ◌∷◌, [], IfSome, IsNone, IsTrue, List};
-ghost use Rattle.office_tree.specs.Lists.{numbered};
-ghost use Rattle.office_tree.specs.Tree.{has_record};
+ghost use Rattle.office_terms.specs.Lists.{numbered};
+ghost use Rattle.office_terms.specs.Tree.{has_record};
 ghost use Rattle.office_rules.specs.Readings.{all_entries_of};
 ghost use Rattle.office_rules.specs.Registers.{EntryTold, and_entry, entry_rows, entry_told};
 ghost use Rattle.office_machine.specs.EntryPlaces.{AreOfRecords};
@@ -9,7 +9,8 @@ ghost use Rattle.office_machine.specs.EntryPlaces.{AreOfRecords};
 use crate::parts::Parts;
 use office_proof::{Entry, RunNo};
 use office_rules::EntryRow;
-use office_tree::{RecordNo, Tree};
+use office_terms::RecordNo;
+use office_tree::Tree;
 use std::collections::btree_map;
 use std::marker::Model;
 

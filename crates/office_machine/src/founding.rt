@@ -1,12 +1,13 @@
 //! The office that tables in memory represent.
 ghost use Rattle.std.specs.Prelude.{◌≡◌, IfOk};
-ghost use Rattle.office_rows.specs.Rows.{OnDamaged};
+ghost use Rattle.office_base.specs.Rows.{OnDamaged};
 ghost use Rattle.office_rules.specs.Founding.{AreTablesOf, HaveKeys};
 ghost use Rattle.office_rules.specs.Sound.{IsSound};
 ghost use Rattle.office_rules.specs.State.{ByteMap, with_contents};
 ghost use Rattle.office_rules.specs.Tables.{StandForNone, lists_of};
 
-use crate::{Builder, Machine, Rebuild, Tables};
+use crate::{Builder, Machine, Tables};
+use office_base::Rebuild;
 use std::alloc::Global;
 
 impl Machine {

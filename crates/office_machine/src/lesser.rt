@@ -2,7 +2,7 @@
 ghost use Rattle.std.specs.Prelude.{◌≡◌};
 ghost use Rattle.office_machine.specs.Lesser.{lesser};
 
-use office_days::Refusal;
+use office_base::Refusal;
 
 /// Of two refusals, each where there is one, the one with the lesser number.
 pub(crate) fn lesser(one: Option<Refusal>, other: Option<Refusal>) -> Option<Refusal>

@@ -33,7 +33,7 @@ pub use builder::Builder;
 pub use due_rows::DueRows;
 pub use entry_rows::EntryRows;
 pub use machine::Machine;
-pub use office_rows::Rebuild;
+pub use office_base::Rebuild;
 pub use office_rules::{
     Act, Answer, Change, Decision, Intake, NewRecord, RecordRow, RecordView, Row, RowWrite, Run,
     Tables,

@@ -17,10 +17,12 @@ use crate::entry_rows::EntryRows;
 use crate::parts::Parts;
 use crate::selection::Selection;
 use crate::{Act, Change, Decision, RecordView};
+use office_base::Memory;
 use office_days::{ConfirmDays, Day};
 use office_holds::Holds;
 use office_proof::{Entry, RunNo};
-use office_tree::{Memory, RecordNo, Tree};
+use office_terms::RecordNo;
+use office_tree::Tree;
 use std::alloc::Global;
 use std::marker::Model;
 

@@ -4,8 +4,10 @@ ghost use Rattle.std.specs.List.{All, list_any};
 ghost use Rattle.office_rules.specs.Runs.{ended_below};
 ghost use Rattle.office_machine.specs.Marks.{AreMarks};
 
+use office_base::Memory;
 use office_proof::Entry;
-use office_tree::{AggNo, Memory, Tree};
+use office_terms::AggNo;
+use office_tree::Tree;
 use std::alloc::Global;
 
 /// Marks these aggregations.

@@ -3,18 +3,19 @@ ghost use Rattle.std.specs.Prelude.{◌≡◌, ◌↔◌, IfOk, IsTrue, Some};
 ghost use Rattle.std.specs.FinMap.{from_entries, get, values};
 ghost use Rattle.std.specs.Option.{option_copied, option_map};
 ghost use Rattle.std.specs.String.{string_bytes};
-ghost use Rattle.office_tree.specs.Lists.{numbered};
-ghost use Rattle.office_tree.specs.Tree.{has_record};
-ghost use Rattle.office_tree.specs.declared.status.Status.TheVariants.{Ended};
+ghost use Rattle.office_terms.specs.Lists.{numbered};
+ghost use Rattle.office_terms.specs.Tree.{has_record};
+ghost use Rattle.office_terms.specs.declared.status.Status.TheVariants.{Ended};
 ghost use Rattle.office_rules.specs.Readings.{all_entries_of, ending_entry, record_view};
 ghost use Rattle.office_rules.specs.Sound.{IsSoundOffice};
 ghost use Rattle.office_rules.specs.State.{entry_cmp};
 
 use crate::RecordView;
 use crate::parts::Parts;
+use office_base::Memory;
 use office_proof::{Entry, RunNo};
 use office_rules::{copy_code, copy_codes, copy_entry, copy_texts};
-use office_tree::{Confirmation, Memory, RecordNo, Status};
+use office_terms::{Confirmation, RecordNo, Status};
 use std::alloc::Global;
 use std::collections::BTreeMap;
 

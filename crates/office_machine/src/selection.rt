@@ -1,10 +1,11 @@
 //! Which records a list of due records has.
 ghost use Rattle.std.specs.Prelude.{◌≡◌, IsTrue};
-ghost use Rattle.office_tree.specs.Tree.{has_record};
+ghost use Rattle.office_terms.specs.Tree.{has_record};
 ghost use Rattle.office_machine.specs.Selections.{due_selected, selects_due};
 
 use office_days::{ConfirmDays, Day, DueDay, deadline};
-use office_tree::{RecordNo, Status, Tree};
+use office_terms::{RecordNo, Status};
+use office_tree::Tree;
 
 /// What a list of due records is asked for. It has records that are here alone.
 #[derive(Clone, Copy)]

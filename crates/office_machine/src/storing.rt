@@ -5,9 +5,10 @@ ghost use Rattle.std.specs.Ordering.{nat_cmp};
 ghost use Rattle.std.specs.String.{string_bytes};
 ghost use Rattle.office_rules.specs.State.{entry_cmp};
 
+use office_base::Memory;
 use office_founding::Certificate;
 use office_proof::{Entry, RunNo};
-use office_tree::{Memory, RecordNo};
+use office_terms::RecordNo;
 use std::collections::BTreeMap;
 
 /// Puts an entry in under its run and record.

@@ -1,6 +1,6 @@
 -- What is made of two parts.
 use Rattle.std.proofs.Common.{◌≡◌, Result, sym, ap, ◌∙◌}
-use Rattle.office_days.specs.declared.refusal.Refusal.{Refusal}
+use Rattle.office_base.specs.declared.refusal.Refusal.{Refusal}
 use Rattle.office_plan.specs.Parts.{both, made}
 
 pub both-same : {A B : Type 0} (x x' : Result A Refusal) (y y' : Result B Refusal) → x ≡ x' → y ≡ y' → both x y ≡ both x' y'

@@ -1,7 +1,7 @@
 -- What `due UNIT COUNT OFFSET DAY` answers. Source: own.
 use Rattle.std.specs.Prelude.{ℕ, ℤ, List, [], ◌∷◌, ◌++◌, Option, Some, None, Result, Ok, Err}
 use Rattle.office_days.specs.declared.offset.Offset.{Offset}
-use Rattle.office_days.specs.declared.refusal.Refusal.{Refusal}
+use Rattle.office_base.specs.declared.refusal.Refusal.{Refusal}
 use Rattle.office_days.specs.Calendar.{civil}
 use Rattle.office_days.specs.Due.{due_from}
 use Rattle.office_days.specs.Periods.{RetentionPeriod}

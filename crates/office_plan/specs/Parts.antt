@@ -2,15 +2,15 @@
 -- where a number is out of range. Source: own.
 use Rattle.std.specs.Prelude.{ℕ, List, Option, Some, None, Result, Ok, Err, codes, nat_le, if◌then◌else◌}
 use Rattle.std.specs.Str.{bytes_eq}
-use Rattle.office_days.specs.declared.refusal.Refusal.{Refusal}
-use Rattle.office_days.specs.declared.refusal.Refusal.TheVariants.{BadText, BadNumber}
+use Rattle.office_base.specs.declared.refusal.Refusal.{Refusal}
+use Rattle.office_base.specs.declared.refusal.Refusal.TheVariants.{BadText, BadNumber}
 use Rattle.office_days.specs.declared.unit.Unit.{Unit}
 use Rattle.office_days.specs.Limits.{longest}
-use Rattle.office_days.specs.Numerals.{number_named}
+use Rattle.office_base.specs.Numerals.{number_named}
 use Rattle.office_days.specs.Periods.{RetentionPeriod}
-use Rattle.office_days.specs.Refusals.{refusal_number}
+use Rattle.office_base.specs.Refusals.{refusal_number}
 use Rattle.office_days.specs.Words.{unit_named}
-use Rattle.office_tree.specs.Codes.{code_named}
+use Rattle.office_terms.specs.Codes.{code_named}
 
 -- both parts, or the refusal with the least number
 abbrev pub both : {A B : Type 0} → Result A Refusal → Result B Refusal → Result (A × B) Refusal

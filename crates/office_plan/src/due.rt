@@ -3,9 +3,9 @@ ghost use Rattle.std.specs.Prelude.{◌≡◌, IsOk, IfOk, IfErr, OnOk, OnErr};
 ghost use Rattle.std.specs.Io.KnownBytes.{Appends};
 ghost use Rattle.office_plan.specs.DueCommand.{due_asked, due_line, due_made, move_asked, refusal_asked, written_line};
 
-use crate::output::{Io, write_out};
 use crate::parts::{both, read_day, read_period};
-use office_days::{Day, DueDay, Offset, Period, Refusal, due_day};
+use office_base::{Io, Refusal, write_out};
+use office_days::{Day, DueDay, Offset, Period, due_day};
 use std::io::Write;
 
 /// The offset and the start day.

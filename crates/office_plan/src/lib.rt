@@ -8,9 +8,7 @@
 #![tactic(auto)]
 
 mod due;
-mod input;
 mod lines;
-mod output;
 mod parting;
 mod parts;
 mod plan;
@@ -19,6 +17,5 @@ mod plan_step;
 mod text;
 
 pub use due::due_to;
-pub use input::{PlanStop, read_whole};
-pub use output::{Io, write_out};
+pub use office_base::Stop as PlanStop;
 pub use plan::plan_to;

@@ -2,11 +2,12 @@
 ghost use Rattle.std.specs.Prelude.{◌≡◌, ◌≤◌, ◌↔◌, IsSome, IfSome, IfOk};
 ghost use Rattle.office_days.specs.Limits.{longest};
 ghost use Rattle.office_days.specs.Texts.{day_named};
-ghost use Rattle.office_days.specs.ThingNumbers.{thing_number};
+ghost use Rattle.office_base.specs.ThingNumbers.{thing_number};
 ghost use Rattle.office_plan.specs.Parts.{both, code_part, named_part, optional_part, period_part};
 
-use office_days::{Day, Period, Refusal, Unit, read_numeral, read_thing_number};
-use office_tree::{AggNo, Code, Memory};
+use office_base::{Memory, Refusal, read_numeral, read_thing_number};
+use office_days::{Day, Period, Unit};
+use office_terms::{AggNo, Code};
 use std::alloc::Global;
 
 /// Both parts, or the refusal with the least number.

@@ -2,15 +2,15 @@
 ghost use Rattle.std.specs.Prelude.{◌≡◌, ◌++◌, length, Err, IfErr, IfOk, IfSome, IsSome, IsTrue, None, OnOk};
 ghost use Rattle.std.specs.Io.KnownBytes.{Appends};
 ghost use Rattle.std.specs.Str.Lines.{lines};
-ghost use Rattle.office_tree.specs.Tree.{has_record};
+ghost use Rattle.office_terms.specs.Tree.{has_record};
 ghost use Rattle.office_plan.specs.PlanFile.{due_line, due_lines, due_word, plan_asked, plan_from, plan_refusal, plan_written, plan_result};
 
-use crate::input::{PlanStop, read_whole};
 use crate::lines::next_line;
-use crate::output::{Io, write_out};
 use crate::plan_step::take_line;
-use office_days::{DueDay, Refusal};
-use office_tree::{Memory, RecordNo, Tree};
+use office_base::{Io, Memory, Refusal, Stop, read_whole, write_out};
+use office_days::DueDay;
+use office_terms::RecordNo;
+use office_tree::Tree;
 use std::alloc::{AllocError, Global};
 use std::io::{Read, Write};
 
@@ -97,21 +97,21 @@ pub fn plan_to<R: Read, W: Write>(
     alloc: Global,
     reader: &mut R,
     out: &mut W,
-) -> Result<Option<(u64, Refusal)>, PlanStop>
+) -> Result<Option<(u64, Refusal)>, Stop>
     ensures refusal { IfOk result (λ refused. IfSome (R.remaining reader.old) (λ bytes. refused ≡ plan_refusal (plan_asked bytes))) }
     ensures written { OnOk result (IfSome (R.remaining reader.old) (λ bytes. Appends (W.contents out.old) (W.contents out.new) (plan_written (plan_asked bytes)))) }
 
     // Where a line is refused, or memory, the writer is not touched.
     ensures untouched { IfOk result (λ refused. IsSome refused → out.new ≡ out.old) }
-    ensures unwritten { IfErr result (λ stop. stop ≡ PlanStop.Memory → out.new ≡ out.old) }
+    ensures unwritten { IfErr result (λ stop. stop ≡ Stop.Memory → out.new ≡ out.old) }
 {
     let bytes = read_whole(alloc, reader)?;
     match lines_asked(alloc, bytes.as_slice()) {
         Ok(Ok(lines)) => match write_out(lines.as_slice(), out) {
             Ok(()) => Ok(None),
-            Err(Io) => Err(PlanStop::Io),
+            Err(Io) => Err(Stop::Io),
         },
         Ok(Err(refused)) => Ok(Some(refused)),
-        Err(Memory) => Err(PlanStop::Memory),
+        Err(Memory) => Err(Stop::Memory),
     }
 }

@@ -6,8 +6,9 @@ use crate::parting::words_of;
 use crate::parts::{
     both, read_code, read_day, read_optional_code, read_optional_number, read_period,
 };
-use office_days::{Day, Offset, Period, Refusal, read_thing_number};
-use office_tree::{Action, AggNo, Code, Memory, RecordNo, Schedule, Trigger};
+use office_base::{Memory, Refusal, read_thing_number};
+use office_days::{Day, Offset, Period};
+use office_terms::{Action, AggNo, Code, RecordNo, Schedule, Trigger};
 use std::alloc::Global;
 
 /// What a line of a plan file asks for.

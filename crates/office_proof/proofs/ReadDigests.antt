@@ -7,7 +7,7 @@ use Rattle.std.proofs.lemmas.Slice.Eq.{bytes_eq-Decides}
 use Rattle.hex.specs.Hex.{IsBytes, decode_sized, encode_lower}
 use Rattle.hex.specs.declared.error.FromHexError.{FromHexError}
 use Rattle.hex.proofs.HexLemmas.{decode_sized-encode_lower}
-use Rattle.office_tree.specs.Forms.{IsDigest}
+use Rattle.office_terms.specs.Forms.{IsDigest}
 
 pub IsBytes-digest : (digest : List ℕ) → IsDigest digest → IsBytes digest
 IsBytes-digest digest formed k =

@@ -8,8 +8,10 @@ ghost use Rattle.office_proof.specs.Outcomes.{outcome_word};
 use crate::lines::{push_counts, push_entries, push_line, push_run, push_spent};
 use crate::words::{due_word, hold_word, line_of, number_word, outcome_of};
 use crate::{Entry, RunNo, digest_of};
+use office_base::Memory;
 use office_days::Day;
-use office_tree::{AggNo, Memory, Record, Text, Tree};
+use office_terms::{AggNo, Record, Text};
+use office_tree::Tree;
 use std::alloc::Global;
 
 /// The line of an entry and its record, where what is no text in them is written as one.

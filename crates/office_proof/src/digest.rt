@@ -3,7 +3,7 @@ ghost use Rattle.std.specs.Prelude.{◌≡◌, ℕ, List, Some, IfSome};
 ghost use Rattle.std.specs.Str.{bytes_eq};
 ghost use Rattle.hex.specs.Hex.{encode_lower};
 ghost use Rattle.sha2.specs.Sha256.{sha256};
-ghost use Rattle.office_tree.specs.Forms.{IsDigest};
+ghost use Rattle.office_terms.specs.Forms.{IsDigest};
 ghost use Rattle.office_proof.specs.Digits.{digest_named};
 
 use hex::FromHex;

@@ -3,15 +3,17 @@ ghost use Rattle.std.specs.Prelude.{◌≡◌, ℕ, ◌∷◌, ◌++◌, [], cod
 ghost use Rattle.std.specs.Fmt.{decimal};
 ghost use Rattle.std.specs.List.{flat_map};
 ghost use Rattle.std.specs.String.{string_bytes};
-ghost use Rattle.office_tree.specs.Lists.{numbered};
+ghost use Rattle.office_terms.specs.Lists.{numbered};
 ghost use Rattle.office_proof.specs.Certificates.{aggregation_words, counted, date_text, entry_words, lines_text, made_of};
 ghost use Rattle.office_proof.specs.Outcomes.{is_ending, is_sending, is_skipping};
 
 use crate::certificate::entry_line;
 use crate::words::{day_word, line_of, number_word};
 use crate::{Entry, RunNo};
+use office_base::Memory;
 use office_days::Day;
-use office_tree::{AggNo, Aggregation, Memory, Text, Tree};
+use office_terms::{AggNo, Aggregation, Text};
+use office_tree::Tree;
 use std::alloc::Global;
 
 /// Appends a line of its kind and what it tells.

@@ -8,8 +8,8 @@ ghost use Rattle.office_proof.specs.Certificates.{date_text, tabbed};
 ghost use Rattle.office_proof.specs.Outcomes.{outcome_word};
 
 use crate::Entry;
+use office_base::Memory;
 use office_days::{Day, DueDay};
-use office_tree::Memory;
 use std::alloc::Global;
 
 /// A number in decimal digits.

@@ -6,15 +6,15 @@ use Rattle.std.specs.Ordering.{nat_cmp}
 use Rattle.std.specs.Cmp.{nat_cmp_is}
 use Rattle.std.specs.FinMap.Entries.{put, by_order}
 use Rattle.std.specs.Prelude.{ℤ}
-use Rattle.office_tree.specs.Lists as lists
-use Rattle.office_tree.specs.declared.action.Action.{Action}
-use Rattle.office_tree.specs.declared.head.Confirmation.{Confirmation}
-use Rattle.office_tree.specs.declared.head.Receipt.{Receipt}
-use Rattle.office_tree.specs.declared.head.Record.{Record}
-use Rattle.office_tree.specs.declared.head.Review.{Review}
-use Rattle.office_tree.specs.declared.status.Status.{Status}
+use Rattle.office_terms.specs.Lists as lists
+use Rattle.office_terms.specs.declared.action.Action.{Action}
+use Rattle.office_terms.specs.declared.head.Confirmation.{Confirmation}
+use Rattle.office_terms.specs.declared.head.Receipt.{Receipt}
+use Rattle.office_terms.specs.declared.head.Record.{Record}
+use Rattle.office_terms.specs.declared.head.Review.{Review}
+use Rattle.office_terms.specs.declared.status.Status.{Status}
 use Rattle.office_rules.specs.Rows.{record_row, record_rows}
-use Rattle.office_rows.specs.Rows.{numbered_from, numbered_rows}
+use Rattle.office_base.specs.Rows.{numbered_from, numbered_rows}
 use Rattle.office_rules.specs.declared.rows.RecordRow.{RecordRow}
 
 -- ---- one is put in

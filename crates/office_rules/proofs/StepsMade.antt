@@ -1,7 +1,7 @@
 -- Steps of a run that are decided and made, one after another, are the steps of the definitions.
 use Rattle.std.proofs.Common.{◌≡◌, ℕ, zero, suc, Option, Some, None, [], ◌∷◌, refl, sym, ap, subst, ◌∙◌}
 use Rattle.std.specs.Option.{is_none}
-use Rattle.office_days.specs.declared.refusal.Refusal.TheVariants.{NoRun}
+use Rattle.office_base.specs.declared.refusal.Refusal.TheVariants.{NoRun}
 use Rattle.office_rules.specs.Acts.{AreStepsMade, step}
 use Rattle.office_rules.specs.Runs.{after_steps, open_run, step_of, whole}
 use Rattle.office_rules.specs.State.{Office, State}

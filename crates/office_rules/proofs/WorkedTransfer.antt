@@ -5,12 +5,12 @@ use Rattle.std.specs.Str.{bytes_eq}
 use Rattle.std.specs.Bool.{Decides}
 use Rattle.std.proofs.lemmas.Slice.Eq.{bytes_eq-Decides}
 use Rattle.sha2.specs.Sha256.{sha256}
-use Rattle.office_days.specs.declared.refusal.Refusal.{Refusal}
-use Rattle.office_days.specs.declared.refusal.Refusal.TheVariants.{DayBack, NoSuch, Ended, NotSent, WrongDigest}
-use Rattle.office_tree.specs.Conditions.{first_of}
-use Rattle.office_tree.specs.Tree.{status_of, action_of}
-use Rattle.office_tree.specs.declared.action.Action.TheVariants as action
-use Rattle.office_tree.specs.declared.status.Status.TheVariants as status
+use Rattle.office_base.specs.declared.refusal.Refusal.{Refusal}
+use Rattle.office_base.specs.declared.refusal.Refusal.TheVariants.{DayBack, NoSuch, Ended, NotSent, WrongDigest}
+use Rattle.office_terms.specs.Conditions.{first_of}
+use Rattle.office_terms.specs.Tree.{status_of, action_of}
+use Rattle.office_terms.specs.declared.action.Action.TheVariants as action
+use Rattle.office_terms.specs.declared.status.Status.TheVariants as status
 use Rattle.office_holds.specs.Holds.{is_held}
 use Rattle.office_proof.specs.declared.outcome.Outcome.TheVariants as outcome
 use Rattle.office_rules.specs.Conditions.{refusals_of_receipt}

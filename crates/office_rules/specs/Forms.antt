@@ -1,7 +1,7 @@
 -- When what an act asks for is of its form and within its limits; the types of the code see to it. Source: own.
 use Rattle.std.specs.Prelude.{◌≤◌, IfSome}
 use Rattle.office_days.specs.Limits.{IsDayNumber, longest}
-use Rattle.office_tree.specs.Forms.{IsCode, IsText}
+use Rattle.office_terms.specs.Forms.{IsCode, IsText}
 use Rattle.office_holds.specs.Forms.{IsFormedTarget}
 use Rattle.office_rules.specs.Meanings.{IsFormedNewRecord}
 use Rattle.office_rules.specs.declared.act.Act.{Act}

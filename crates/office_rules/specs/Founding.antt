@@ -5,16 +5,16 @@ use Rattle.std.specs.List.{All, Contains}
 use Rattle.std.specs.Option.{is_none, is_some}
 use Rattle.std.specs.Ordering.{nat_cmp}
 use Rattle.office_days.specs.Limits.{IsDayNumber}
-use Rattle.office_tree.specs.Disposal.{is_ended}
-use Rattle.office_tree.specs.Examined.{AllHavePapers, AreContentsShort, IsTreeBy}
-use Rattle.office_tree.specs.Forms.{IsFormedTree}
-use Rattle.office_tree.specs.Founding.{is_there}
-use Rattle.office_tree.specs.Lists.{holds_of, numbered}
-use Rattle.office_tree.specs.Sound as tree
-use Rattle.office_tree.specs.Sound.{AreEventsSound}
-use Rattle.office_tree.specs.Tree.{status_of}
-use Rattle.office_tree.specs.declared.status.Status.{Status}
-use Rattle.office_tree.specs.declared.status.Status.TheVariants.{Ended}
+use Rattle.office_terms.specs.Disposal.{is_ended}
+use Rattle.office_terms.specs.Examined.{AllHavePapers, AreContentsShort, IsTreeBy}
+use Rattle.office_terms.specs.Forms.{IsFormedTree}
+use Rattle.office_terms.specs.Founding.{is_there}
+use Rattle.office_terms.specs.Lists.{holds_of, numbered}
+use Rattle.office_terms.specs.Sound as tree
+use Rattle.office_terms.specs.Sound.{AreEventsSound}
+use Rattle.office_terms.specs.Tree.{status_of}
+use Rattle.office_terms.specs.declared.status.Status.{Status}
+use Rattle.office_terms.specs.declared.status.Status.TheVariants.{Ended}
 use Rattle.office_holds.specs.Forms.{AreFormedHolds, FitsHoldLimits}
 use Rattle.office_holds.specs.Sound.{NoHoldIsAfter, TargetsStand}
 use Rattle.office_proof.specs.Forms.{IsFormedEntry}

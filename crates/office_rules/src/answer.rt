@@ -1,7 +1,7 @@
 //! The answers to acts.
-use office_days::Refusal;
+use office_base::Refusal;
 use office_proof::{Outcome, RunNo};
-use office_tree::RecordNo;
+use office_terms::RecordNo;
 
 /// What the office answers to an act.
 #[derive(Clone, Copy, PartialEq, Eq, Debug)]

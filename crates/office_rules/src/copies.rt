@@ -3,8 +3,9 @@
 ghost use Rattle.std.specs.Prelude.{◌≡◌, IfOk};
 ghost use Rattle.std.specs.Option.{option_copied};
 
+use office_base::Memory;
 use office_proof::Entry;
-use office_tree::{Code, Memory, Text};
+use office_terms::{Code, Text};
 use std::alloc::Global;
 
 /// A second code that is equal to this one, if there is one.

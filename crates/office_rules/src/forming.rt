@@ -2,7 +2,7 @@
 //! types see to it.
 ghost use Rattle.std.specs.Prelude.{◌≤◌, IfSome};
 ghost use Rattle.office_days.specs.Limits.{IsDayNumber, longest};
-ghost use Rattle.office_tree.specs.Forms.{IsCode, IsText};
+ghost use Rattle.office_terms.specs.Forms.{IsCode, IsText};
 ghost use Rattle.office_holds.specs.Forms.{IsFormedTarget};
 ghost use Rattle.office_rules.specs.Acts.{IsOnAggregations, IsOnHolds, IsOnRecords, IsOnRuns, IsOnSchedules};
 ghost use Rattle.office_rules.specs.Forms.{IsFormedAct};
@@ -10,8 +10,7 @@ ghost use Rattle.office_rules.specs.Meanings.{IsFormedNewRecord};
 
 use crate::{Act, NewRecord};
 use office_days::{Day, Period};
-use office_holds::Target;
-use office_tree::{Code, Text};
+use office_terms::{Code, Target, Text};
 
 /// A code is of its form.
 fn formed_code(code: &Code)

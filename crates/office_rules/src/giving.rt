@@ -1,16 +1,15 @@
 //! The rows of tables that are in memory, given one after another to what takes rows in.
 ghost use Rattle.std.specs.Prelude.{◌≡◌, IfOk, OnOk, map};
-ghost use Rattle.office_rows.specs.Rows.{OnDamaged};
+ghost use Rattle.office_base.specs.Rows.{OnDamaged};
 ghost use Rattle.office_rules.specs.Giving.{IsSameRow, StandForNoneFrom, up_to_classes, up_to_contents, up_to_targets};
 ghost use Rattle.office_rules.specs.Tables.{Begins, StandForNone, TableLists, lists_of, no_rows, with_row, with_rows};
 ghost use Rattle.office_rules.specs.declared.table_row.Row.TheVariants as of_table;
 
 use crate::copies::copy_entry;
 use crate::{Intake, RecordRow, Row, Run, Tables};
-use office_holds::{HoldRow, Target};
+use office_base::{Memory, Rebuild};
 use office_proof::{Entry, RunNo};
-use office_rows::Rebuild;
-use office_tree::{AggNo, Aggregation, Class, Code, Event, Memory, RecordNo, Schedule};
+use office_terms::{AggNo, Aggregation, Class, Code, Event, HoldRow, RecordNo, Schedule, Target};
 use std::alloc::Global;
 
 /// What stands in a table that is in memory.

@@ -1,10 +1,10 @@
 //! What takes the rows of an office's tables in, one after another.
 ghost use Rattle.std.specs.Prelude.{◌≡◌, OnOk};
-ghost use Rattle.office_rows.specs.Rows.{OnDamaged};
+ghost use Rattle.office_base.specs.Rows.{OnDamaged};
 ghost use Rattle.office_rules.specs.Tables.{Begins, StandForNone, TableLists, with_row};
 
 use crate::Row;
-use office_rows::Rebuild;
+use office_base::Rebuild;
 
 /// What takes the rows of tables in, one after another. Contracts see the rows that have come.
 pub trait Intake {

@@ -2,7 +2,7 @@
 ghost use Rattle.std.specs.Prelude.{◌≡◌, ◌<◌, ◌≤◌, length, IfSome, MatchOption};
 
 use office_days::Day;
-use office_tree::{AggNo, Code, Text};
+use office_terms::{AggNo, Code, Text};
 
 /// A record that is asked to be added, with the bytes of its content, at most 262,144.
 #[derive(Drop)]

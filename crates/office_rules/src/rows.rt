@@ -3,12 +3,12 @@ ghost use Rattle.std.specs.Prelude.{◌≡◌, IfOk};
 
 use crate::Run;
 use crate::copies::{copy_plan, copy_text, copy_texts};
+use office_base::Memory;
 use office_days::{Day, DueDay};
-use office_holds::{HoldRow, Target};
 use office_proof::{Entry, RunNo};
-use office_tree::{
-    Action, AggNo, Aggregation, Class, Code, Event, Memory, Record, RecordNo, Schedule, Status,
-    Text,
+use office_terms::{
+    Action, AggNo, Aggregation, Class, Code, Event, HoldRow, Record, RecordNo, Schedule, Status,
+    Target, Text,
 };
 use std::alloc::Global;
 

@@ -1,8 +1,9 @@
 //! Disposal runs as the office stores them.
 ghost use Rattle.std.specs.Prelude.{◌≡◌, IfOk};
 
+use office_base::Memory;
 use office_days::Day;
-use office_tree::{Memory, RecordNo, Text};
+use office_terms::{RecordNo, Text};
 use std::alloc::Global;
 
 /// A disposal run: the day for which it looks at due days, who opened it, and the last record that

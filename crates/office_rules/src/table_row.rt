@@ -1,9 +1,8 @@
 //! A row of one of the office's tables.
 use crate::{RecordRow, Run};
 use office_days::Day;
-use office_holds::{HoldRow, Target};
 use office_proof::{Entry, RunNo};
-use office_tree::{AggNo, Aggregation, Class, Code, Event, RecordNo, Schedule};
+use office_terms::{AggNo, Aggregation, Class, Code, Event, HoldRow, RecordNo, Schedule, Target};
 
 /// A row of one of the office's tables, with its key. Of `contents` it is the key alone, of `office`, which has one row of this
 /// version, its day.

@@ -1,9 +1,8 @@
 //! The rows of all of the office's tables.
 use crate::{RecordRow, Run};
 use office_days::Day;
-use office_holds::{HoldRow, Target};
 use office_proof::{Entry, RunNo};
-use office_tree::{AggNo, Aggregation, Class, Code, Event, RecordNo, Schedule};
+use office_terms::{AggNo, Aggregation, Class, Code, Event, HoldRow, RecordNo, Schedule, Target};
 
 /// The rows of the office's tables, each row with its key before it, in the order of the keys; the
 /// targets of holds in any order. An entry holds its key itself. Of `contents` the keys stand here

@@ -3,7 +3,7 @@ use Rattle.std.specs.FinMap.{get}
 use Rattle.std.specs.Prelude.{◌≡◌, ◌⊎◌, ℕ, List, Option, Some, None}
 use Rattle.std.specs.Io.KnownBytes.{Appends}
 use Rattle.sqlite.specs.State.{State as FileState}
-use Rattle.office_days.specs.declared.refusal.Refusal.TheVariants as refused
+use Rattle.office_base.specs.declared.refusal.Refusal.TheVariants as refused
 use Rattle.office_rules.specs.State.{State}
 use Rattle.office_store.specs.declared.fault.Fault.TheVariants as fault
 use Rattle.office_run.specs.declared.ending.Ending.{Ending}

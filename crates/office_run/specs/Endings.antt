@@ -2,9 +2,9 @@
 use Rattle.std.specs.Prelude.{ℕ, List, [], ◌∷◌, ◌++◌, codes, Option, Some, None, Result, Ok, Err, if◌then◌else◌, ◌==◌, Bool, true, false}
 use Rattle.std.specs.Fmt.{decimal}
 use Rattle.std.specs.List.{list_any}
-use Rattle.office_days.specs.declared.refusal.Refusal.{Refusal}
-use Rattle.office_days.specs.Refusals.{refusal_number}
-use Rattle.office_plan.specs.declared.output.Io.{Io}
+use Rattle.office_base.specs.declared.refusal.Refusal.{Refusal}
+use Rattle.office_base.specs.Refusals.{refusal_number}
+use Rattle.office_base.specs.declared.output.Io.{Io}
 use Rattle.office_rules.specs.declared.answer.Answer.{Answer}
 use Rattle.office_rules.specs.declared.answer.Answer.TheVariants as answer
 use Rattle.office_store.specs.Faults.{fault_number}
@@ -16,8 +16,8 @@ use Rattle.office_wire.specs.declared.importing.ImportStop.{ImportStop}
 use Rattle.office_wire.specs.declared.importing.ImportStop.TheVariants as import
 use Rattle.office_wire.specs.declared.registers.ExportStop.{ExportStop}
 use Rattle.office_wire.specs.declared.registers.ExportStop.TheVariants as export
-use Rattle.office_plan.specs.declared.input.PlanStop.{PlanStop}
-use Rattle.office_plan.specs.declared.input.PlanStop.TheVariants as stop
+use Rattle.office_base.specs.declared.stop.Stop.{Stop}
+use Rattle.office_base.specs.declared.stop.Stop.TheVariants as stop
 
 -- a refusal is told as such, and a writer's error as that of a file
 abbrev pub ending_of : Result (Option Refusal) Io → Ending
@@ -26,7 +26,7 @@ ending_of (Ok (Some refusal)) = Refused refusal
 ending_of (Err failed) = File
 
 -- a line that is refused is told with its number, want of memory as fault 30
-abbrev pub ending_of_plan : Result (Option (ℕ × Refusal)) PlanStop → Ending
+abbrev pub ending_of_plan : Result (Option (ℕ × Refusal)) Stop → Ending
 ending_of_plan (Ok None) = Done
 ending_of_plan (Ok (Some p)) = LineRefused p.0 p.1
 ending_of_plan (Err stop.Io) = File

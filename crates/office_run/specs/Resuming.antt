@@ -3,7 +3,7 @@ use Rattle.std.specs.Fmt.{decimal}
 use Rattle.std.specs.Prelude.{◌≡◌, ◌⊎◌, ℕ, suc, List, ◌∷◌, [], ◌++◌, codes, Option, Some, None}
 use Rattle.std.specs.Io.KnownBytes.{Appends}
 use Rattle.sqlite.specs.State.{State as FileState}
-use Rattle.office_days.specs.declared.refusal.Refusal.TheVariants as refused
+use Rattle.office_base.specs.declared.refusal.Refusal.TheVariants as refused
 use Rattle.office_rules.specs.Rows.{rows_of}
 use Rattle.office_rules.specs.Runs.{IsMidway, after_steps, open_run, whole}
 use Rattle.office_rules.specs.State.{State}

@@ -5,9 +5,9 @@ ghost use Rattle.office_run.specs.Applying.{Applies, ApplyEnds, Performs, TextEn
 ghost use Rattle.office_run.specs.Endings.{ending_of_acts};
 
 use crate::ending::Ending;
+use office_base::{Stop, read_whole};
 use office_desk::Desk;
 use office_json::{ListFault, read_acts, write_answers};
-use office_plan::{PlanStop, read_whole};
 use office_rules::Act;
 use office_store::Fault;
 use sqlite::{Alter, Connection};
@@ -81,7 +81,7 @@ pub fn apply_on<R: Read, W: Write, S: Alter>(
 {
     match read_whole(alloc, input) {
         Ok(text) => apply_text(alloc, conn, text.as_slice(), out),
-        Err(PlanStop::Io) => (Ending::File, conn),
-        Err(PlanStop::Memory) => (Ending::Fault(Fault::Memory), conn),
+        Err(Stop::Io) => (Ending::File, conn),
+        Err(Stop::Memory) => (Ending::Fault(Fault::Memory), conn),
     }
 }

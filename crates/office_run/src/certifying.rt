@@ -6,9 +6,8 @@ ghost use Rattle.office_run.specs.Calling.{EndsShown};
 ghost use Rattle.office_run.specs.Certifying.{CertificateEnds, Certifies};
 
 use crate::ending::Ending;
-use office_days::Refusal;
+use office_base::{Io, Refusal, write_out};
 use office_desk::Desk;
-use office_plan::{Io, write_out};
 use sqlite::{Alter, Connection};
 use std::alloc::Global;
 use std::io::Write;

@@ -3,8 +3,7 @@ ghost use Rattle.std.specs.List.{list_any};
 ghost use Rattle.std.specs.Prelude.{◌≡◌};
 ghost use Rattle.office_run.specs.Endings.{is_refusal};
 
-use office_days::Refusal;
-use office_plan::{Io, PlanStop};
+use office_base::{Io, Refusal, Stop};
 use office_rules::Answer;
 use office_store::Fault;
 use office_wire::{ExportStop, ImportStop};
@@ -70,14 +69,14 @@ impl Ending {
     }
 
     /// The ending of a plan.
-    pub fn of_plan(answer: Result<Option<(u64, Refusal)>, PlanStop>) -> Ending
+    pub fn of_plan(answer: Result<Option<(u64, Refusal)>, Stop>) -> Ending
         ensures { result ≡ ending_of_plan answer }
     {
         match answer {
             Ok(None) => Ending::Done,
             Ok(Some((line, refusal))) => Ending::LineRefused(line, refusal),
-            Err(PlanStop::Io) => Ending::File,
-            Err(PlanStop::Memory) => Ending::Fault(Fault::Memory),
+            Err(Stop::Io) => Ending::File,
+            Err(Stop::Memory) => Ending::Fault(Fault::Memory),
         }
     }
 

@@ -6,8 +6,8 @@ ghost use Rattle.office_run.specs.Calling.{DoneAt, EndsShown};
 ghost use Rattle.office_run.specs.Resuming.{IsAnswerTold, ResumeEnds, Resumes, certificate_line};
 
 use crate::ending::Ending;
+use office_base::Io;
 use office_desk::Desk;
-use office_plan::Io;
 use office_rules::Answer;
 use office_rules::laws::resuming::law_of_resumption;
 use sqlite::{Alter, Connection};

@@ -2,8 +2,9 @@
 use crate::failures::failure;
 use crate::peer::{Paper, Pieces};
 use crate::requests::{Exchange, exchange_of};
+use office_base::Io;
 use office_desk::Desk;
-use office_wire::{Io, Routes, serve_one};
+use office_wire::{Routes, serve_one};
 use sqlite::Alter;
 use std::alloc::Global;
 use std::test::Fail;

@@ -1,7 +1,7 @@
 //! How the program ends: the status and the line on standard error, in its own letters.
 use crate::failures::must;
 use crate::repeating::unescaped;
-use office_days::Refusal;
+use office_base::Refusal;
 use office_run::Ending;
 use office_store::Fault;
 use std::alloc::Global;

@@ -2,7 +2,7 @@
 ghost use Rattle.std.specs.Prelude.{◌≡◌, ◌+◌, ◌*◌, ◌/◌, ◌<◌, ◌≤◌, ℕ, [], IfSome, IfNone, OnOk, false, length, max, slice_set, true};
 ghost use Rattle.office_tree.specs.Flags.{flag_at, HasNoneUpTo, IsFirstFrom};
 
-use crate::Memory;
+use office_base::Memory;
 use std::alloc::Global;
 use std::marker::Model;
 

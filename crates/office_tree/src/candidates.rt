@@ -4,7 +4,8 @@ ghost use Rattle.office_tree.specs.Flags.{HasNoneAbove, IsNextAbove, is_member};
 
 use crate::bits::Bits;
 use crate::groups::Groups;
-use crate::{Memory, RecordNo};
+use office_base::Memory;
+use office_terms::RecordNo;
 use std::alloc::Global;
 use std::marker::Model;
 

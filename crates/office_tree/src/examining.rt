@@ -4,22 +4,20 @@ ghost use Rattle.std.specs.BTreeMap as map;
 ghost use Rattle.std.specs.FinMap.{from_entries};
 ghost use Rattle.std.specs.List.{All};
 ghost use Rattle.std.specs.Ordering.{nat_cmp};
-ghost use Rattle.office_tree.specs.Disposal.{is_disposal};
-ghost use Rattle.office_tree.specs.Examined.{AllHavePapers, AreContentsShort, IsTreeBy, has_papers, is_by, is_confirmed_by, is_disposal_confirmed, is_receipted_by, is_record_by, is_reviewed_by, is_sound_event};
-ghost use Rattle.office_tree.specs.Forms.{IsFormedTree};
+ghost use Rattle.office_terms.specs.Disposal.{is_disposal};
+ghost use Rattle.office_terms.specs.Examined.{AllHavePapers, AreContentsShort, IsTreeBy, has_papers, is_by, is_confirmed_by, is_disposal_confirmed, is_receipted_by, is_record_by, is_reviewed_by, is_sound_event};
+ghost use Rattle.office_terms.specs.Forms.{IsFormedTree};
 ghost use Rattle.office_tree.specs.Indexes.{Indexes, aggregation_refs, record_refs};
-ghost use Rattle.office_tree.specs.Lists.{Differ};
-ghost use Rattle.office_tree.specs.Sound.{AreEventsSound, RefsDiffer};
-ghost use Rattle.office_tree.specs.Tree.{code_cmp};
+ghost use Rattle.office_terms.specs.Lists.{Differ};
+ghost use Rattle.office_terms.specs.Sound.{AreEventsSound, RefsDiffer};
+ghost use Rattle.office_terms.specs.Tree.{code_cmp};
 
-use crate::formed::{
-    formed_aggregations, formed_classes, formed_events, formed_records, formed_schedules,
-};
-use crate::{
-    Action, AggNo, Aggregation, Confirmation, Event, Receipt, Record, RecordNo, Review, Status,
-    Text, Tree,
-};
+use crate::Tree;
 use office_days::Day;
+use office_terms::{
+    Action, AggNo, Aggregation, Confirmation, Event, Receipt, Record, RecordNo, Review, Status,
+    Text, formed_aggregations, formed_classes, formed_events, formed_records, formed_schedules,
+};
 use std::collections::BTreeMap;
 
 /// Whether the action is one that a disposal run does.

@@ -4,15 +4,16 @@ ghost use Rattle.std.specs.BTreeMap as map;
 ghost use Rattle.std.specs.FinMap.{contains_key, from_entries, len};
 ghost use Rattle.std.specs.List.{All};
 ghost use Rattle.std.specs.Option.{unwrap_or};
-ghost use Rattle.office_tree.specs.Founding.{is_aggregation_named, is_placed, is_record_named, is_there, is_within_limits, tree_of};
-ghost use Rattle.office_tree.specs.Lists.{numbered};
-ghost use Rattle.office_tree.specs.Sound.{IsSound, NamesStand, RootsHaveClasses};
+ghost use Rattle.office_terms.specs.Founding.{is_aggregation_named, is_placed, is_record_named, is_there, is_within_limits, tree_of};
+ghost use Rattle.office_terms.specs.Lists.{numbered};
+ghost use Rattle.office_terms.specs.Sound.{IsSound, NamesStand, RootsHaveClasses};
 ghost use Rattle.office_tree.specs.Grouping.{AreGrouped};
 ghost use Rattle.office_tree.specs.Homes.{HasChildren};
 ghost use Rattle.office_tree.specs.Stored.{IsStored};
-ghost use Rattle.office_tree.specs.Tree.{chain, chain_of, code_cmp};
-ghost use Rattle.office_tree.specs.declared.aggregation.Aggregation.{Aggregation};
+ghost use Rattle.office_terms.specs.Tree.{chain, chain_of, code_cmp};
+ghost use Rattle.office_terms.specs.declared.aggregation.Aggregation.{Aggregation};
 
+use crate::Tree;
 use crate::grouping::{Grouping, grouping_of};
 use crate::homes::{Homes, children_of, homes_of};
 use crate::indexing::{index_of_aggregations, index_of_records};
@@ -21,8 +22,9 @@ use crate::plans::{Plans, plans_of};
 use crate::renewing::outlooks_of;
 use crate::rows::Rows;
 use crate::tally::{Tally, tallies_of};
-use crate::{
-    AggNo, Aggregation, Class, Code, Event, Memory, Record, RecordNo, Schedule, Status, Text, Tree,
+use office_base::Memory;
+use office_terms::{
+    AggNo, Aggregation, Class, Code, Event, Record, RecordNo, Schedule, Status, Text,
 };
 use std::alloc::Global;
 use std::collections::BTreeMap;

@@ -2,8 +2,8 @@
 ghost use Rattle.std.specs.Prelude.{◌≡◌, ◌+◌, ◌*◌, ◌/◌, ◌<◌, ◌≤◌, ℕ, [], IfSome, IfNone, OnOk, false, length, slice_set, true};
 ghost use Rattle.office_tree.specs.Flags.{flag_at, HasNoneFrom, IsFirstFrom};
 
-use crate::Memory;
 use crate::bits::Bits;
+use office_base::Memory;
 use std::alloc::Global;
 use std::marker::Model;
 

@@ -6,8 +6,9 @@ ghost use Rattle.office_tree.specs.declared.outlook.Outlook.{Outlook};
 use crate::candidates::CandidateSet;
 use crate::outlook::Outlook;
 use crate::pushing::push_row;
-use crate::{Memory, RecordNo};
+use office_base::Memory;
 use office_days::DueDay;
+use office_terms::RecordNo;
 use std::alloc::Global;
 
 /// What is kept of each record, and the set of those that are candidates for a disposal run.

@@ -2,25 +2,26 @@
 ghost use Rattle.std.specs.Prelude.{◌≡◌, ◌&&◌, IsTrue, Some, length};
 ghost use Rattle.std.specs.FinMap.{get};
 ghost use Rattle.std.specs.Ordering.{int_eq};
-ghost use Rattle.office_tree.specs.Disposal.{is_disposal, same_action};
+ghost use Rattle.office_terms.specs.Disposal.{is_disposal, same_action};
 ghost use Rattle.office_tree.specs.Inheriting.{has_own_class};
-ghost use Rattle.office_tree.specs.Lists.{holds_of};
-ghost use Rattle.office_tree.specs.Outlooks.{IsOutlook, candidate_by};
+ghost use Rattle.office_terms.specs.Lists.{holds_of};
+ghost use Rattle.office_terms.specs.Candidates.{candidate_by};
+ghost use Rattle.office_tree.specs.Outlooks.{IsOutlook};
 ghost use Rattle.office_tree.specs.Plans.{ArePlanned};
-ghost use Rattle.office_tree.specs.Sound.{IsSound};
+ghost use Rattle.office_terms.specs.Sound.{IsSound};
 ghost use Rattle.office_tree.specs.Tallies.{AreLastAdditions};
-ghost use Rattle.office_tree.specs.Tree.{has_aggregation, has_record, plan_of, schedule_of};
+ghost use Rattle.office_terms.specs.Tree.{has_aggregation, has_record, plan_of, schedule_of};
 
 use crate::classifying::class_in;
 use crate::outlook::Outlook;
 use crate::plans::Plans;
 use crate::scheduling::{due_by, start_in};
 use crate::tally::Tally;
-use crate::{
+use office_days::DueDay;
+use office_terms::{
     Action, AggNo, Aggregation, Class, Code, Confirmation, Event, Record, RecordNo, Schedule,
     Status,
 };
-use office_days::DueDay;
 use std::collections::BTreeMap;
 use std::marker::Model;
 
@@ -37,7 +38,7 @@ pub(crate) struct Rows<'a> {
 
 impl<'a> Model for Rows<'a> {
     ghost use Rattle.std.specs.FinMap.{from_entries};
-    ghost use Rattle.office_tree.specs.Tree.{TreeState};
+    ghost use Rattle.office_terms.specs.Tree.{TreeState};
     ghost use Rattle.std.specs.Coded.{codes};
     ghost use Rattle.std.specs.FinMap as map;
 

@@ -2,7 +2,7 @@
 use Rattle.std.proofs.Common.{ℕ, ◌+◌, Bool, false, ◌||◌, Result, refl}
 use native.Mathlib.Numerals.{unary_clauses}
 use Rattle.sqlite_trees.specs.declared.store.Store.{Ghosts}
-use Rattle.office_plan.specs.declared.output.Io.{Io}
+use Rattle.office_base.specs.declared.output.Io.{Io}
 use Rattle.office_desk.specs.Desk.{DeskState}
 use Rattle.office_wire.specs.Connections.{Ends, Turn, Turns, has_failed}
 

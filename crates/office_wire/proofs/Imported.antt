@@ -7,7 +7,7 @@ use Rattle.csv.specs.Records.{AllText}
 use Rattle.csv.specs.declared.parser.State.{State as Reading}
 use Rattle.csv.specs.declared.parser.State.TheVariants.{StartRecord}
 use Rattle.sqlite_trees.specs.declared.store.Store.{Ghosts}
-use Rattle.office_days.specs.declared.refusal.Refusal.{Refusal}
+use Rattle.office_base.specs.declared.refusal.Refusal.{Refusal}
 use Rattle.office_rules.specs.Acts.{step}
 use Rattle.office_rules.specs.State.{State, Office}
 use Rattle.office_rules.specs.declared.act.Act.{Act}

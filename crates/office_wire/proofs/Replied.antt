@@ -12,7 +12,7 @@ use Rattle.office_http.specs.Replies.{Response, response, status_number}
 use Rattle.office_http.specs.Requests.{IsRequest, asks, headless}
 use Rattle.office_http.specs.declared.failure.Failure.TheVariants as failure
 use Rattle.office_http.specs.declared.status.Status.{Status}
-use Rattle.office_plan.specs.declared.output.Io.{Io}
+use Rattle.office_base.specs.declared.output.Io.{Io}
 use Rattle.office_wire.specs.Calling.{AnsweredAt, CalledAt}
 use Rattle.office_wire.specs.Connections.{IsVisited}
 use Rattle.office_wire.specs.Receiving.{IsAskedBy, IsReceived, IsStarved, Wanted, asked_for, cut}

@@ -4,7 +4,7 @@ use Rattle.std.specs.Prelude.{MatchResult}
 use Rattle.sqlite_trees.specs.declared.store.Store.{Ghosts}
 use Rattle.office_rules.specs.State.{State}
 use Rattle.office_rules.specs.declared.act.Act.{Act}
-use Rattle.office_tree.specs.declared.memory.Memory.{Memory}
+use Rattle.office_base.specs.declared.memory.Memory.{Memory}
 use Rattle.office_desk.specs.Desk.{DeskState}
 use Rattle.office_json.specs.Acts.{Asked, asked}
 use Rattle.office_json.specs.Lists.{NoActs, acts_in}

@@ -3,7 +3,7 @@ use Rattle.std.specs.FinMap.{get}
 use Rattle.std.specs.Prelude.{◌≡◌, ◌≢◌, ◌⊎◌, ◌+◌, ◌≤◌, ℕ, ℤ, suc, IfOk, IsTrue, List, MatchResult, [], length, map, take, Option, Some, None, Result, Ok, Err}
 use Rattle.sqlite.specs.Held.{state}
 use Rattle.sqlite_trees.specs.declared.store.Store.{Ghosts}
-use Rattle.office_days.specs.declared.refusal.Refusal.TheVariants as refusal
+use Rattle.office_base.specs.declared.refusal.Refusal.TheVariants as refusal
 use Rattle.office_rules.specs.Acts.{after, answers}
 use Rattle.office_rules.specs.Readings.{ending_entry, record_view}
 use Rattle.office_rules.specs.Registers.{AreDueRows, AreOverdueRows, DueTold}
@@ -11,7 +11,7 @@ use Rattle.office_rules.specs.Runs.{IsMidway, after_steps, open_run, whole}
 use Rattle.office_rules.specs.State.{Office, State}
 use Rattle.office_rules.specs.declared.act.Act.{Act}
 use Rattle.office_rules.specs.declared.answer.Answer.TheVariants.{Refused, RunClosed}
-use Rattle.office_tree.specs.declared.memory.Memory.{Memory}
+use Rattle.office_base.specs.declared.memory.Memory.{Memory}
 use Rattle.office_store.specs.Stands.{LeavesOffices}
 use Rattle.office_store.specs.declared.fault.Fault.{Fault}
 use Rattle.office_store.specs.declared.fault.Fault.TheVariants as fault

@@ -1,7 +1,7 @@
 -- Connections that are served one after another. Source: own.
 use Rattle.std.specs.Prelude.{◌≡◌, ◌≢◌, ◌⊎◌, ◌≤◌, ℕ, zero, suc, IfOk, Bool, true, false, ◌||◌, Result, Ok, Err}
 use Rattle.sqlite_trees.specs.declared.store.Store.{Ghosts}
-use Rattle.office_plan.specs.declared.output.Io.{Io}
+use Rattle.office_base.specs.declared.output.Io.{Io}
 use Rattle.office_desk.specs.Desk.{DeskState}
 use Rattle.office_wire.specs.Calling.{AnsweredAt}
 use Rattle.office_wire.specs.Serving.{LeavesServed}

@@ -7,8 +7,8 @@ use Rattle.csv.specs.declared.parser.State.{State as Reading}
 use Rattle.csv.specs.declared.parser.State.TheVariants.{StartRecord}
 use Rattle.sqlite.specs.Held.{state}
 use Rattle.sqlite_trees.specs.declared.store.Store.{Ghosts}
-use Rattle.office_days.specs.Refusals.{refusal_number}
-use Rattle.office_days.specs.declared.refusal.Refusal.{Refusal}
+use Rattle.office_base.specs.Refusals.{refusal_number}
+use Rattle.office_base.specs.declared.refusal.Refusal.{Refusal}
 use Rattle.office_rules.specs.Acts.{step}
 use Rattle.office_rules.specs.Forms.{IsFormedAct}
 use Rattle.office_rules.specs.State.{State}

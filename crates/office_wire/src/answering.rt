@@ -10,6 +10,7 @@ use crate::replies::{
     acts_reply, answer_reply, bad_act_reply, certificate_reply, content_reply, due_reply,
     fault_reply, overdue_reply, record_reply, stopped_reply,
 };
+use office_base::Memory;
 use office_days::{ConfirmDays, Day};
 use office_desk::Desk;
 use office_http::{Failure, Reply, check_reply, failure_reply};
@@ -18,7 +19,7 @@ use office_proof::Entry;
 use office_rules::laws::resuming::law_of_resumption;
 use office_rules::{Act, RecordView};
 use office_store::Fault;
-use office_tree::{Memory, RecordNo};
+use office_terms::RecordNo;
 use sqlite::Alter;
 use std::alloc::Global;
 

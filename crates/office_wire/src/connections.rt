@@ -4,9 +4,9 @@ ghost use Rattle.office_wire.specs.Connections.{Ends, ServesAll, Turn, has_faile
 
 use crate::deadline::{Timed, is_interrupted};
 use crate::serving::serve_one;
+use office_base::Io;
 use office_desk::Desk;
 use office_http::Routes;
-use office_json::Io;
 use sqlite::Alter;
 use std::alloc::Global;
 use std::io::{BufWriter, Read, Write};

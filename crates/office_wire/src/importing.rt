@@ -10,12 +10,13 @@ ghost use Rattle.office_wire.specs.Calling.{CalledAt};
 ghost use Rattle.office_wire.specs.Importing.{EndsImport, EndsLine, EndsRow, EndsRows, EndsTaking, ImportsText, is_refusal, line_of, one_if, stop_at};
 
 use csv::{Reader, StringRecord};
+use office_base::Io;
 use office_csv::{
     ImportRow, RowStop, import_reader, next_row, read_header, read_import_row, row_in,
 };
 use office_days::Day;
 use office_desk::Desk;
-use office_json::{Io, ReadFault};
+use office_json::ReadFault;
 use office_rules::{Act, Answer};
 use office_store::Fault;
 use sqlite::Alter;

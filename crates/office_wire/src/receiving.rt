@@ -8,12 +8,12 @@ ghost use Rattle.office_wire.specs.Receiving.{AsksFor, IsAskedBy, IsStarvedFor, 
 
 use crate::body::ActsBody;
 use httparse::spans::{HeaderSpan, RequestSpans};
+use office_base::{Io, Stop};
 use office_days::{ConfirmDays, Day};
 use office_http::{
-    Check, Head, LONGEST_HEAD, MOST_FIELDS, Plan, ReadStop, Routes, Want, is_head_in, plan_in,
-    read_body, read_head,
+    Check, Head, LONGEST_HEAD, MOST_FIELDS, Plan, Routes, Want, is_head_in, plan_in, read_body,
+    read_head,
 };
-use office_json::Io;
 use std::alloc::Global;
 use std::io::Read;
 
@@ -77,7 +77,7 @@ fn receive_acts<R: Read>(
     mut buf: Vec<u8>,
     start: usize,
     size: u64,
-) -> Result<Asking, ReadStop>
+) -> Result<Asking, Stop>
     requires start_in { start ≤ length buf.items }
     requires small { start ≤ 16_384 }
     requires limit { size ≤ 1_048_576 }
@@ -97,7 +97,7 @@ fn receive_wanted<R: Read>(
     buf: Vec<u8>,
     start: usize,
     want: Want,
-) -> Result<Asking, ReadStop>
+) -> Result<Asking, Stop>
     requires start_in { start ≤ length buf.items }
     requires small { start ≤ 16_384 }
     requires sized { IsSized (Plan.Serve want) }
@@ -120,7 +120,7 @@ fn receive_planned<R: Read>(
     buf: Vec<u8>,
     start: usize,
     plan: Plan,
-) -> Result<Asking, ReadStop>
+) -> Result<Asking, Stop>
     requires start_in { start ≤ length buf.items }
     requires small { start ≤ 16_384 }
     requires sized { IsSized plan }
@@ -149,8 +149,8 @@ fn receive_rest<R: Read>(
     let plan = plan_in(routes, buf.as_slice(), head, headers);
     match receive_planned(reader, buf, head.len, plan) {
         Ok(asking) => Ok(Asked { asking, is_head }),
-        Err(ReadStop::Memory) => Err(ReceiveStop::MemoryFor(is_head)),
-        Err(ReadStop::Io) => Err(ReceiveStop::Io),
+        Err(Stop::Memory) => Err(ReceiveStop::MemoryFor(is_head)),
+        Err(Stop::Io) => Err(ReceiveStop::Io),
     }
 }
 

@@ -4,9 +4,10 @@ ghost use Rattle.std.specs.Io.KnownBytes.{Appends};
 ghost use Rattle.office_csv.specs.Registers.{due_lines, due_register, entry_lines, entry_register, overdue_lines, overdue_register};
 ghost use Rattle.office_wire.specs.Exporting.{Exports, IsDueRegister, IsEntryRegister, IsOverdueRegister};
 
+use office_base::Stop;
 use office_csv::{
-    RegisterStop, write_due_header, write_due_line, write_entry_header, write_entry_line,
-    write_overdue_header, write_overdue_line,
+    write_due_header, write_due_line, write_entry_header, write_entry_line, write_overdue_header,
+    write_overdue_line,
 };
 use office_days::{ConfirmDays, Day};
 use office_desk::{Desk, DueRows, EntryRows};
@@ -25,32 +26,28 @@ pub enum ExportStop {
 }
 
 /// Why an export stops where a register does.
-fn stopped(stop: RegisterStop) -> ExportStop
+fn stopped(stop: Stop) -> ExportStop
     ensures { (result ≡ ExportStop.Io) ⊎ (result ≡ ExportStop.Fault Fault.Memory) }
 {
     match stop {
-        RegisterStop::Memory => ExportStop::Fault(Fault::Memory),
-        RegisterStop::Io => ExportStop::Io,
+        Stop::Memory => ExportStop::Fault(Fault::Memory),
+        Stop::Io => ExportStop::Io,
     }
 }
 
 /// Sends out what was written.
-fn flush<W: Write>(out: &mut W) -> Result<(), RegisterStop>
+fn flush<W: Write>(out: &mut W) -> Result<(), Stop>
     ensures { OnOk result (Appends (W.contents out.old) (W.contents out.new) []) }
 {
     match out.flush() {
         Ok(()) => Ok(()),
-        Err(_) => Err(RegisterStop::Io),
+        Err(_) => Err(Stop::Io),
     }
 }
 
 /// Writes a line for each row that is left.
 #[tactic(auto, using(office_json::proofs::Appending::appends_both, office_json::proofs::Appending::appends_none))]
-fn write_due_lines<W: Write>(
-    alloc: Global,
-    mut rows: DueRows<'_>,
-    out: &mut W,
-) -> Result<(), RegisterStop>
+fn write_due_lines<W: Write>(alloc: Global, mut rows: DueRows<'_>, out: &mut W) -> Result<(), Stop>
     ensures { OnOk result (Appends (W.contents out.old) (W.contents out.new) (due_lines rows.entry)) }
 {
     while let Some(row) = rows.next_row() {
@@ -61,11 +58,7 @@ fn write_due_lines<W: Write>(
 
 /// Writes the due register.
 #[tactic(auto, using(office_json::proofs::Appending::appends_both))]
-fn write_due_register<W: Write>(
-    alloc: Global,
-    rows: DueRows<'_>,
-    out: &mut W,
-) -> Result<(), RegisterStop>
+fn write_due_register<W: Write>(alloc: Global, rows: DueRows<'_>, out: &mut W) -> Result<(), Stop>
     ensures { OnOk result (Appends (W.contents out.old) (W.contents out.new) (due_register rows.entry)) }
 {
     write_due_header(alloc, out)?;
@@ -79,7 +72,7 @@ fn write_overdue_lines<W: Write>(
     mut rows: DueRows<'_>,
     days: ConfirmDays,
     out: &mut W,
-) -> Result<(), RegisterStop>
+) -> Result<(), Stop>
     ensures { OnOk result (Appends (W.contents out.old) (W.contents out.new) (overdue_lines days rows.entry)) }
 {
     while let Some(row) = rows.next_row() {
@@ -95,7 +88,7 @@ fn write_overdue_register<W: Write>(
     rows: DueRows<'_>,
     days: ConfirmDays,
     out: &mut W,
-) -> Result<(), RegisterStop>
+) -> Result<(), Stop>
     ensures { OnOk result (Appends (W.contents out.old) (W.contents out.new) (overdue_register days rows.entry)) }
 {
     write_overdue_header(alloc, out)?;
@@ -108,7 +101,7 @@ fn write_entry_lines<W: Write>(
     alloc: Global,
     mut rows: EntryRows<'_>,
     out: &mut W,
-) -> Result<(), RegisterStop>
+) -> Result<(), Stop>
     ensures { OnOk result (Appends (W.contents out.old) (W.contents out.new) (entry_lines rows.entry)) }
 {
     while let Some(row) = rows.next_row() {
@@ -123,7 +116,7 @@ fn write_entry_register<W: Write>(
     alloc: Global,
     rows: EntryRows<'_>,
     out: &mut W,
-) -> Result<(), RegisterStop>
+) -> Result<(), Stop>
     ensures { OnOk result (Appends (W.contents out.old) (W.contents out.new) (entry_register rows.entry)) }
 {
     write_entry_header(alloc, out)?;

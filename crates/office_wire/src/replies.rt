@@ -9,7 +9,8 @@ ghost use Rattle.office_json.specs.OverdueJson.{overdue_row_data};
 ghost use Rattle.office_http.specs.Replies.{response};
 ghost use Rattle.office_wire.specs.Replies.{acts_response, answer_response, answers_status, bad_act_response, certificate_response, content_response, due_response, fault_response, is_refusal, json_response, overdue_response, record_response, stopped_response};
 
-use office_days::{ConfirmDays, Refusal};
+use office_base::{Memory, Refusal};
+use office_days::ConfirmDays;
 use office_desk::DueRows;
 use office_http::{Allow, Body, Failure, Kind, Reply, Status, failure_reply};
 use office_json::{
@@ -19,7 +20,6 @@ use office_json::{
 use office_proof::Entry;
 use office_rules::{Answer, RecordView};
 use office_store::Fault;
-use office_tree::Memory;
 use serde_json::Value;
 use std::alloc::Global;
 

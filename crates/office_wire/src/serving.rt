@@ -7,9 +7,9 @@ ghost use Rattle.office_wire.specs.Serving.{AnswersNext, HasReply, InHalves, IsF
 
 use crate::answering::answer;
 use crate::receiving::{Asked, Asking, ReceiveStop, Received, receive};
+use office_base::Io;
 use office_desk::Desk;
 use office_http::{Failure, Reply, Routes, failure_reply, write_reply};
-use office_json::Io;
 use sqlite::Alter;
 use std::alloc::Global;
 use std::io::{Read, Write};

@@ -3,10 +3,10 @@ use Rattle.std.specs.Prelude.{ℕ, ℤ, Option, Some, None, Result, Ok, Err, cod
 use Rattle.std.specs.Str.{bytes_eq}
 use Rattle.clap.specs.Words.{Text}
 use Rattle.office_days.specs.ConfirmCounts.{confirm_days_named}
-use Rattle.office_days.specs.ThingNumbers.{thing_number}
+use Rattle.office_base.specs.ThingNumbers.{thing_number}
 use Rattle.office_days.specs.Texts.{day_named}
-use Rattle.office_days.specs.declared.refusal.Refusal.{Refusal}
-use Rattle.office_days.specs.declared.refusal.Refusal.TheVariants.{BadText}
+use Rattle.office_base.specs.declared.refusal.Refusal.{Refusal}
+use Rattle.office_base.specs.declared.refusal.Refusal.TheVariants.{BadText}
 use Rattle.office_words.specs.Command.{Asked, nothing_asked, application_asked, due_day_asked, plan_file_asked, init_file_asked, resumption_asked, certificate_asked, importation_asked, exportation_asked, overdue_list_asked, service_asked}
 use Rattle.office_words.specs.Services.{service_numbers}
 use Rattle.office_words.specs.declared.register.Register.{Register}

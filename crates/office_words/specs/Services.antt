@@ -1,9 +1,9 @@
 -- The numbers of a service: the TCP port, and how many connections are served. Source: RFC 9293, section 3.1 (ports have 16 bits),
 -- and RFC 6335, section 6 (port 0 is reserved); the count and the reading are own.
 use Rattle.std.specs.Prelude.{ℕ, ◌&&◌, Bool, List, nat_le, Option, Some, None, Result, Ok, Err, if◌then◌else◌}
-use Rattle.office_days.specs.declared.refusal.Refusal.{Refusal}
-use Rattle.office_days.specs.declared.refusal.Refusal.TheVariants.{BadText, BadNumber}
-use Rattle.office_days.specs.Numerals.{number_named}
+use Rattle.office_base.specs.declared.refusal.Refusal.{Refusal}
+use Rattle.office_base.specs.declared.refusal.Refusal.TheVariants.{BadText, BadNumber}
+use Rattle.office_base.specs.Numerals.{number_named}
 
 abbrev pub is_port : ℕ → Bool
 is_port n = nat_le 1 n && nat_le n 65_535

@@ -6,7 +6,8 @@ ghost use Rattle.office_words.specs.Orders.{order_asked, ordered};
 use crate::register::{Register, read_register};
 use crate::service::read_service;
 use crate::words::Words;
-use office_days::{ConfirmDays, Day, Refusal, read_confirm_days, read_thing_number};
+use office_base::{Refusal, read_thing_number};
+use office_days::{ConfirmDays, Day, read_confirm_days};
 
 /// What the program is to do: its words, with the operands of those that name an office's file read.
 /// `due` and `plan`, which open no office, read theirs where they are done.

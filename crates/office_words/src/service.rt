@@ -2,7 +2,7 @@
 ghost use Rattle.std.specs.Prelude.{◌≡◌, None, Some, if◌then◌else◌};
 ghost use Rattle.office_words.specs.Services.{is_connection_count, is_port, service_numbered, service_numbers};
 
-use office_days::{Refusal, read_numeral};
+use office_base::{Refusal, read_numeral};
 
 /// The port of that number, where it is one; port 0 is none.
 fn port_of(number: u64) -> Option<u16>

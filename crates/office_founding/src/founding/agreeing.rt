@@ -3,13 +3,14 @@ ghost use Rattle.std.specs.Prelude.{◌≡◌, IsTrue, Ok, false, map, true};
 ghost use Rattle.std.specs.BTreeMap.{IsOrdered};
 ghost use Rattle.std.specs.FinMap.{from_entries};
 ghost use Rattle.std.specs.Ordering.{nat_cmp};
-ghost use Rattle.office_tree.specs.Examined.{AreContentsShort};
+ghost use Rattle.office_terms.specs.Examined.{AreContentsShort};
 ghost use Rattle.office_rules.specs.Founding.{AreEntriesKeyed, DoPartsAgree, DoPartsStand, HaveKeys, IsFormedOffice, IsOfficeBy};
 ghost use Rattle.office_rules.specs.Sound.{IsSound};
 ghost use Rattle.office_rules.specs.State.{ByteMap, with_contents};
 
 use crate::Founded;
-use office_tree::{Memory, RecordNo};
+use office_base::Memory;
+use office_terms::RecordNo;
 use std::alloc::Global;
 use std::collections::BTreeMap;
 

@@ -4,18 +4,19 @@ ghost use Rattle.std.specs.FinMap.{contains_key, from_entries, get, insert, valu
 ghost use Rattle.std.specs.List.{All};
 ghost use Rattle.std.specs.Option.{is_none, is_some};
 ghost use Rattle.std.specs.Ordering.{nat_cmp};
-ghost use Rattle.office_tree.specs.Disposal.{is_ended};
-ghost use Rattle.office_tree.specs.Founding.{is_there};
-ghost use Rattle.office_tree.specs.Lists.{holds_of, numbered};
-ghost use Rattle.office_tree.specs.Tree.{has_record, status_of};
-ghost use Rattle.office_tree.specs.declared.status.Status.TheVariants.{Ended};
+ghost use Rattle.office_terms.specs.Disposal.{is_ended};
+ghost use Rattle.office_terms.specs.Founding.{is_there};
+ghost use Rattle.office_terms.specs.Lists.{holds_of, numbered};
+ghost use Rattle.office_terms.specs.Tree.{has_record, status_of};
+ghost use Rattle.office_terms.specs.declared.status.Status.TheVariants.{Ended};
 ghost use Rattle.office_proof.specs.Outcomes.{is_ending, is_skipping, is_transferring};
 ghost use Rattle.office_rules.specs.Founding.{AreEndings, EachHasOneEnding, TwoRunsEndOne, is_entry_right};
 ghost use Rattle.office_rules.specs.State.{entry_cmp};
 
 use crate::Founded;
+use office_base::Memory;
 use office_proof::{Entry, Outcome, RunNo};
-use office_tree::{Memory, RecordNo, Status};
+use office_terms::{RecordNo, Status};
 use std::alloc::Global;
 use std::collections::BTreeMap;
 

@@ -5,9 +5,9 @@ ghost use Rattle.std.specs.FinMap.{contains_key, from_entries, get};
 ghost use Rattle.std.specs.List.{All};
 ghost use Rattle.std.specs.Ordering.{nat_cmp};
 ghost use Rattle.office_days.specs.Limits.{IsDayNumber};
-ghost use Rattle.office_tree.specs.Disposal.{is_ended};
-ghost use Rattle.office_tree.specs.Lists.{holds_of, numbered};
-ghost use Rattle.office_tree.specs.declared.status.Status.{Status};
+ghost use Rattle.office_terms.specs.Disposal.{is_ended};
+ghost use Rattle.office_terms.specs.Lists.{holds_of, numbered};
+ghost use Rattle.office_terms.specs.declared.status.Status.{Status};
 ghost use Rattle.office_rules.specs.Founding.{AreKeysOfLive, AreRunsBy};
 ghost use Rattle.office_rules.specs.Sound.{IsFormedRun, RunsStand};
 ghost use Rattle.office_rules.specs.declared.run.Run.{Run};
@@ -18,7 +18,8 @@ use crate::{Certificate, Founded};
 use office_days::Day;
 use office_proof::{Entry, RunNo};
 use office_rules::Run;
-use office_tree::{RecordNo, Status, Tree};
+use office_terms::{RecordNo, Status};
+use office_tree::Tree;
 use std::collections::BTreeMap;
 
 /// Whether all these runs are closed.

@@ -1,15 +1,14 @@
 //! The rows of holds, targets, runs, entries and certificates taken in.
 ghost use Rattle.std.specs.Prelude.{◌≡◌, OnOk};
-ghost use Rattle.office_rows.specs.Rows.{OnDamaged};
+ghost use Rattle.office_base.specs.Rows.{OnDamaged};
 ghost use Rattle.office_rules.specs.Tables.{Begins, StandForNone, TableLists, with_row};
 ghost use Rattle.office_rules.specs.declared.table_row.Row.TheVariants as of_table;
 
 use crate::{Certificate, Gathering};
-use office_holds::{HoldRow, Target};
+use office_base::{Rebuild, push_keyed, push_numbered};
 use office_proof::{Entry, RunNo};
-use office_rows::{Rebuild, push_keyed, push_numbered};
 use office_rules::Run;
-use office_tree::Code;
+use office_terms::{Code, HoldRow, Target};
 
 impl Gathering {
     /// Takes a hold in.

@@ -1,13 +1,13 @@
 //! The rows of office, schedules, classes and aggregations taken in.
 ghost use Rattle.std.specs.Prelude.{◌≡◌, OnOk};
-ghost use Rattle.office_rows.specs.Rows.{OnDamaged};
+ghost use Rattle.office_base.specs.Rows.{OnDamaged};
 ghost use Rattle.office_rules.specs.Tables.{Begins, StandForNone, TableLists, with_row};
 ghost use Rattle.office_rules.specs.declared.table_row.Row.TheVariants as of_table;
 
 use crate::Gathering;
+use office_base::{Rebuild, push_keyed, push_numbered};
 use office_days::Day;
-use office_rows::{Rebuild, push_keyed, push_numbered};
-use office_tree::{AggNo, Aggregation, Class, Code, Schedule};
+use office_terms::{AggNo, Aggregation, Class, Code, Schedule};
 
 impl Gathering {
     /// Takes the row of office in; damaged where one has come.

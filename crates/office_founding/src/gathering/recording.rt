@@ -1,14 +1,14 @@
 //! The rows of records, events and contents taken in.
 ghost use Rattle.std.specs.Prelude.{◌≡◌, OnOk};
-ghost use Rattle.office_rows.specs.Rows.{OnDamaged};
+ghost use Rattle.office_base.specs.Rows.{OnDamaged};
 ghost use Rattle.office_rules.specs.Tables.{Begins, StandForNone, TableLists, with_row};
 ghost use Rattle.office_rules.specs.declared.table_row.Row.TheVariants as of_table;
 
 use crate::Gathering;
 use crate::founding::records::push_record;
-use office_rows::{Rebuild, push_keyed};
+use office_base::{Rebuild, push_keyed};
 use office_rules::RecordRow;
-use office_tree::{Event, RecordNo};
+use office_terms::{Event, RecordNo};
 
 impl Gathering {
     /// Takes a record in.

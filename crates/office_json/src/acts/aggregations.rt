@@ -8,7 +8,7 @@ use crate::parts::{
     both, code_at, day_at, number_at, optional_code_at, optional_number_at, words_at,
 };
 use crate::targets::classified_at;
-use office_days::Refusal;
+use office_base::Refusal;
 use office_rules::Act;
 use serde_json::Value;
 use std::alloc::Global;

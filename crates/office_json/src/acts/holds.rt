@@ -6,7 +6,7 @@ use crate::ReadFault;
 use crate::members::has_only;
 use crate::parts::{both, code_at, day_at, words_at};
 use crate::targets::target_at;
-use office_days::Refusal;
+use office_base::Refusal;
 use office_rules::Act;
 use serde_json::Value;
 use std::alloc::Global;

@@ -8,9 +8,10 @@ use crate::ReadFault;
 use crate::content::{Content, content_at};
 use crate::members::has_only;
 use crate::parts::{both, day_at, number_at, optional_code_at, words_at};
-use office_days::{Day, Refusal};
+use office_base::Refusal;
+use office_days::Day;
 use office_rules::{Act, NewRecord};
-use office_tree::{AggNo, Code, Text};
+use office_terms::{AggNo, Code, Text};
 use serde_json::Value;
 use std::alloc::Global;
 

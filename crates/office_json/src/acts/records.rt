@@ -6,9 +6,10 @@ ghost use Rattle.office_json.specs.Acts.{IsActRead, asked, asks, confirm_asked, 
 use crate::ReadFault;
 use crate::members::has_only;
 use crate::parts::{action_at, both, day_at, digest_at, number_at, optional_code_at, words_at};
-use office_days::{Day, Refusal};
+use office_base::Refusal;
+use office_days::Day;
 use office_rules::Act;
-use office_tree::{RecordNo, Text};
+use office_terms::{RecordNo, Text};
 use serde_json::Value;
 use std::alloc::Global;
 

@@ -1,10 +1,10 @@
 //! What is held stays held, but for an act that takes a target off a hold or lifts one.
 ghost use Rattle.std.specs.Prelude.{◌≡◌, ℕ, ℤ, false, List, Option, Some};
-ghost use Rattle.office_tree.specs.declared.action.Action.{Action};
-ghost use Rattle.office_tree.specs.declared.class.Class.{Class};
-ghost use Rattle.office_tree.specs.declared.classified.Classified.{Classified};
-ghost use Rattle.office_tree.specs.declared.schedule.Schedule.{Schedule};
-ghost use Rattle.office_holds.specs.declared.target.Target.{Target};
+ghost use Rattle.office_terms.specs.declared.action.Action.{Action};
+ghost use Rattle.office_terms.specs.declared.class.Class.{Class};
+ghost use Rattle.office_terms.specs.declared.classified.Classified.{Classified};
+ghost use Rattle.office_terms.specs.declared.schedule.Schedule.{Schedule};
+ghost use Rattle.office_terms.specs.declared.target.Target.{Target};
 ghost use Rattle.office_rules.specs.Acts.{may_release, step};
 ghost use Rattle.office_rules.specs.Conditions.{refusals_of_add_schedule, refusals_of_add_class, refusals_of_set_class_schedule, refusals_of_add_aggregation, refusals_of_close_aggregation, refusals_of_add_record, refusals_of_set_record_schedule, refusals_of_reclassify, refusals_of_place_hold, refusals_of_hold_on, refusals_of_confirm, refusals_of_review, refusals_of_open_run, refusals_of_receipt};
 ghost use Rattle.office_rules.specs.Effects.{after_add_schedule, after_add_class, after_set_class_schedule, after_add_aggregation, after_close_aggregation, after_add_record, after_set_record_schedule, after_reclassify, after_place_hold, after_hold_on, after_confirm, after_review, after_open_run, after_receipt};

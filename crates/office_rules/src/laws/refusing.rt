@@ -1,10 +1,10 @@
 //! Of the conditions of refusal that hold, the one with the least number is answered.
 ghost use Rattle.std.specs.Prelude.{ℕ, ℤ, List, Option};
-ghost use Rattle.office_tree.specs.Conditions.{IsLeastOf, first_of};
-ghost use Rattle.office_tree.specs.declared.action.Action.{Action};
-ghost use Rattle.office_tree.specs.declared.class.Class.{Class};
-ghost use Rattle.office_tree.specs.declared.classified.Classified.{Classified};
-ghost use Rattle.office_holds.specs.declared.target.Target.{Target};
+ghost use Rattle.office_terms.specs.Conditions.{IsLeastOf, first_of};
+ghost use Rattle.office_terms.specs.declared.action.Action.{Action};
+ghost use Rattle.office_terms.specs.declared.class.Class.{Class};
+ghost use Rattle.office_terms.specs.declared.classified.Classified.{Classified};
+ghost use Rattle.office_terms.specs.declared.target.Target.{Target};
 ghost use Rattle.office_rules.specs.Conditions.{refusals_of_add_schedule, refusals_of_add_class, refusals_of_set_class_schedule, refusals_of_add_aggregation, refusals_of_close_aggregation, refusals_of_add_record, refusals_of_set_record_schedule, refusals_of_reclassify, refusals_of_place_hold, refusals_of_hold_on, refusals_of_hold_off, refusals_of_lift_hold, refusals_of_confirm, refusals_of_review, refusals_of_open_run, refusals_of_receipt, refusals_of_run_step};
 ghost use Rattle.office_rules.specs.State.{Office};
 ghost use Rattle.office_rules.specs.declared.new_record.NewRecord.{NewRecord};

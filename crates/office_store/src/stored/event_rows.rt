@@ -5,7 +5,7 @@ use crate::columns::{day, has_columns, words};
 use crate::stored::Stored;
 use office_rules::Row as TableRow;
 use office_sql::{BadValue, number};
-use office_tree::{Event, RecordNo};
+use office_terms::{Event, RecordNo};
 use sqlite::Row;
 use std::alloc::Global;
 

@@ -1,5 +1,5 @@
 use Rattle.std.proofs.Common.{◌∙◌, ℕ, List, Ok, Result, ap, inr, subst, sym}
-use Rattle.office_days.specs.declared.refusal.Refusal.{Refusal}
+use Rattle.office_base.specs.declared.refusal.Refusal.{Refusal}
 use Rattle.office_json.specs.Acts.{AskedRecord}
 use Rattle.office_json.specs.Parts.{IsReadAs, made}
 use Rattle.office_json.proofs.Made.{fault_made}

@@ -1,5 +1,5 @@
 use Rattle.std.proofs.Common.{refl, sym, subst}
-use Rattle.office_tree.specs.Sound.{IsSound}
+use Rattle.office_terms.specs.Sound.{IsSound}
 use Rattle.office_founding.specs.TreeRows.{AreTreeRows}
 use Rattle.office_founding.proofs.FoundTree.{tree_has_rows, tree_of_rows_is}
 use Rattle.office_founding.proofs.founding.tree_of.Goals as goal

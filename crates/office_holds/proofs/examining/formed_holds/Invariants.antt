@@ -1,5 +1,5 @@
 use Rattle.std.specs.List.{AllByRecursion}
-use Rattle.office_tree.specs.Forms.{IsCode}
+use Rattle.office_terms.specs.Forms.{IsCode}
 use Rattle.office_holds.specs.Forms.{IsFormedHold}
 use Rattle.office_holds.proofs.examining.formed_holds.Given as goal
 

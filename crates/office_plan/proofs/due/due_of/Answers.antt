@@ -1,5 +1,5 @@
 use Rattle.std.proofs.Common.{◌∙◌, ℤ, Result, Ok, Err, ap}
-use Rattle.office_days.specs.declared.refusal.Refusal.{Refusal}
+use Rattle.office_base.specs.declared.refusal.Refusal.{Refusal}
 use Rattle.office_plan.specs.DueCommand.{due_asked, due_made, move_asked}
 use Rattle.office_plan.specs.Parts.{period_part}
 use Rattle.office_plan.proofs.PartLemmas.{made-both}

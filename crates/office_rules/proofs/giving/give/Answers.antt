@@ -1,6 +1,6 @@
 use Rattle.std.proofs.Common.{subst, sym, ◌∙◌}
 use Rattle.std.proofs.lemmas.Result.{IfOk-weaker}
-use Rattle.office_rows.proofs.Exits.{damaged_so}
+use Rattle.office_base.proofs.Exits.{damaged_so}
 use Rattle.office_rules.specs.Tables.{Begins, TableLists}
 use Rattle.office_rules.proofs.giving.give.Goals as goal
 

@@ -1,6 +1,6 @@
 use Rattle.std.proofs.Common.{◌≡◌, ◌+◌, ℕ, suc, map, take, drop, ap, subst, sym, ◌∙◌, arith}
 use Rattle.std.proofs.lemmas.List.{take-append-drop}
-use Rattle.office_rows.proofs.Exits.{damaged_exit}
+use Rattle.office_base.proofs.Exits.{damaged_exit}
 use Rattle.office_rules.specs.Tables.{Begins, TableLists, with_row, with_rows}
 use Rattle.office_rules.proofs.GivenRows.{with_rows-next}
 use Rattle.office_rules.proofs.giving.give_all.Goals as goal

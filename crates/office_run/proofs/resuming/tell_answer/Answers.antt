@@ -1,6 +1,6 @@
 use Rattle.std.proofs.Common.{◌≡◌, ◌∙◌, ℕ, List, Option, Some, None, refl, sym, ap, subst}
-use Rattle.office_days.specs.declared.refusal.Refusal.{Refusal}
-use Rattle.office_days.specs.declared.refusal.Refusal.TheVariants.{NoRun}
+use Rattle.office_base.specs.declared.refusal.Refusal.{Refusal}
+use Rattle.office_base.specs.declared.refusal.Refusal.TheVariants.{NoRun}
 use Rattle.office_rules.specs.declared.answer.Answer.{Answer}
 use Rattle.office_rules.specs.declared.answer.Answer.TheVariants as answer
 use Rattle.office_desk.specs.Resuming.{resumed_answer}

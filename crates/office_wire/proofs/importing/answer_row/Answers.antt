@@ -1,7 +1,7 @@
 use Rattle.std.proofs.Common.{ap, refl, sym}
 use Rattle.office_csv.specs.ImportRows.{named}
 use Rattle.office_json.specs.Acts.{asked}
-use Rattle.office_days.specs.declared.refusal.Refusal.{Refusal}
+use Rattle.office_base.specs.declared.refusal.Refusal.{Refusal}
 use Rattle.office_rules.specs.declared.act.Act.TheVariants.{AddRecord}
 use Rattle.office_rules.specs.declared.answer.Answer.TheVariants.{Refused}
 use Rattle.office_wire.proofs.Calls.{not_called}

@@ -1,6 +1,6 @@
 use Rattle.std.proofs.Common.{subst}
-use Rattle.office_tree.specs.Forms.{IsFormedTree}
-use Rattle.office_tree.specs.Sound as tree
+use Rattle.office_terms.specs.Forms.{IsFormedTree}
+use Rattle.office_terms.specs.Sound as tree
 use Rattle.office_holds.specs.Forms.{AreFormedHolds, FitsHoldLimits}
 use Rattle.office_rules.specs.State.{Office}
 use Rattle.office_founding.proofs.founded.Founded.all_formed.Goals as goal

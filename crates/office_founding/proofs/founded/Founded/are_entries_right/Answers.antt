@@ -4,7 +4,7 @@ use Rattle.std.proofs.lemmas.Bool.{both_ways}
 use Rattle.office_proof.specs.declared.entry.Entry.{Entry}
 use Rattle.office_rules.specs.Founding.{is_entry_right}
 use Rattle.office_rules.specs.State.{Office}
-use Rattle.office_tree.proofs.Passing.{all_passed, next_passes, none_passed, passed_next}
+use Rattle.office_terms.proofs.Passing.{all_passed, next_passes, none_passed, passed_next}
 use Rattle.office_founding.proofs.RunEntries.{values_ordered}
 use Rattle.office_founding.proofs.founded.Founded.are_entries_right.Goals as goal
 

@@ -2,8 +2,8 @@ use Rattle.std.proofs.Common.{◌≡◌, ◌∙◌, Bool, true, Ok, ap, map, sub
 use Rattle.std.specs.Cmp.{nat_cmp_total}
 use Rattle.std.specs.FinMap.{from_entries}
 use Rattle.std.specs.Ordering.{nat_cmp}
-use Rattle.office_rows.proofs.Maps.{entries_of_ordered}
-use Rattle.office_tree.specs.Sound.{RefsDiffer}
+use Rattle.office_base.proofs.Maps.{entries_of_ordered}
+use Rattle.office_terms.specs.Sound.{RefsDiffer}
 use Rattle.office_rules.specs.State.{Office}
 use Rattle.office_founding.proofs.FoundSound.{found_sound, sound_endings, sound_parts}
 use Rattle.office_founding.proofs.founded.Founded.is_sound.Goals as goal

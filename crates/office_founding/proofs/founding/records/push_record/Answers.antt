@@ -1,6 +1,6 @@
 use Rattle.std.proofs.Common.{[], ◌∷◌, ◌++◌, ap, ◌∙◌, append_assoc}
-use Rattle.office_rows.specs.Rows.{numbered_rows}
-use Rattle.office_rows.proofs.Exits.{damaged_exit}
+use Rattle.office_base.specs.Rows.{numbered_rows}
+use Rattle.office_base.proofs.Exits.{damaged_exit}
 use Rattle.office_rules.specs.Rows.{record_rows}
 use Rattle.office_founding.proofs.RecordRows.{next_record, no_record, records-push, row_among}
 use Rattle.office_founding.proofs.founding.records.push_record.Goals as goal

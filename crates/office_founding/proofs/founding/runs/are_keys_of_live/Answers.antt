@@ -1,5 +1,5 @@
 use Rattle.std.proofs.Common.{not}
-use Rattle.office_tree.specs.Disposal.{is_ended}
+use Rattle.office_terms.specs.Disposal.{is_ended}
 use Rattle.office_founding.proofs.RunTests.{keys_pass, keys_passed, live_of, to_live}
 use Rattle.office_founding.proofs.founding.runs.are_keys_of_live.Goals as goal
 

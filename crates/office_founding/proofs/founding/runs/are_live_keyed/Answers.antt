@@ -1,11 +1,11 @@
 use Rattle.std.proofs.Common.{◌≡◌, ◌+◌, ◌<◌, ◌≤◌, ◌∙◌, ℕ, Some, length, not, true, arith, ap, sym}
 use Rattle.std.specs.FinMap.{contains_key, from_entries}
 use Rattle.std.specs.Ordering.{nat_cmp}
-use Rattle.office_tree.specs.Disposal.{is_ended}
-use Rattle.office_tree.specs.Lists.{holds_of, numbered}
-use Rattle.office_tree.specs.declared.status.Status.{Status}
-use Rattle.office_tree.proofs.Placed.{numbered_there}
-use Rattle.office_tree.proofs.Places.{numbered_at}
+use Rattle.office_terms.specs.Disposal.{is_ended}
+use Rattle.office_terms.specs.Lists.{holds_of, numbered}
+use Rattle.office_terms.specs.declared.status.Status.{Status}
+use Rattle.office_terms.proofs.Placed.{numbered_there}
+use Rattle.office_terms.proofs.Places.{numbered_at}
 use Rattle.office_founding.proofs.RunTests.{contains_is, numbers_all, numbers_more, passing}
 use Rattle.office_founding.proofs.founding.runs.are_live_keyed.Goals as goal
 use Rattle.office_founding.proofs.founding.runs.are_live_keyed.Goals.{else-is_live-via-then-is_live+else-not-contains_key, else-is_live-via-else-is_live}

@@ -1,9 +1,9 @@
 use Rattle.std.proofs.Common.{◌≡◌, ◌≤◌, ℕ, true, not, Some}
 use Rattle.std.specs.FinMap.{contains_key, from_entries}
 use Rattle.std.specs.Ordering.{nat_cmp}
-use Rattle.office_tree.specs.Disposal.{is_ended}
-use Rattle.office_tree.specs.Lists.{numbered}
-use Rattle.office_tree.specs.declared.status.Status.{Status}
+use Rattle.office_terms.specs.Disposal.{is_ended}
+use Rattle.office_terms.specs.Lists.{numbered}
+use Rattle.office_terms.specs.declared.status.Status.{Status}
 use Rattle.office_founding.proofs.founding.runs.are_live_keyed.Given as goal
 
 -- the records so far that are not ended have keys

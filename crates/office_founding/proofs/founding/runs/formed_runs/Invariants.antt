@@ -1,5 +1,5 @@
 use Rattle.std.proofs.Common.{◌≡◌, ◌≤◌, ℕ, Some}
-use Rattle.office_tree.specs.Lists.{numbered}
+use Rattle.office_terms.specs.Lists.{numbered}
 use Rattle.office_rules.specs.Sound.{IsFormedRun}
 use Rattle.office_rules.specs.declared.run.Run.{Run}
 use Rattle.office_founding.proofs.founding.runs.formed_runs.Given as goal

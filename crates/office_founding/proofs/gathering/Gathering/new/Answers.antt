@@ -1,5 +1,5 @@
 use Rattle.std.proofs.Common.{[], map, ap, ◌∙◌}
-use Rattle.office_rows.specs.Rows.{numbered_rows}
+use Rattle.office_base.specs.Rows.{numbered_rows}
 use Rattle.office_holds.specs.Founding.{hold_rows}
 use Rattle.office_rules.specs.Rows.{record_rows}
 use Rattle.office_founding.proofs.Gathered.{no_hold_rows, nothing_gathered}

@@ -1,8 +1,8 @@
 use Rattle.std.proofs.Common.{map, refl, sym, ap, subst, ◌∙◌}
 use Rattle.std.specs.Cmp.{nat_cmp_total}
 use Rattle.std.specs.Ordering.{nat_cmp}
-use Rattle.office_rows.proofs.Exits.{damaged_exit}
-use Rattle.office_rows.proofs.Maps.{entries_of_ordered}
+use Rattle.office_base.proofs.Exits.{damaged_exit}
+use Rattle.office_base.proofs.Maps.{entries_of_ordered}
 use Rattle.office_rules.specs.Founding.{AreTablesOf, HaveKeys}
 use Rattle.office_rules.specs.State.{ByteMap, entry_cmp}
 use Rattle.office_rules.specs.Tables.{StandsFor, TableLists}

@@ -1,7 +1,7 @@
 use Rattle.std.proofs.Common.{[], ◌∷◌, ◌++◌, List, ℕ, sym, ap, subst, ◌∙◌}
 use Rattle.std.specs.String.{string_bytes}
 use Rattle.std.proofs.lemmas.Result.{IfOk-weaker}
-use Rattle.office_rows.proofs.Exits.{damaged_so}
+use Rattle.office_base.proofs.Exits.{damaged_so}
 use Rattle.office_rules.specs.Tables.{Begins, TableLists, with_row}
 use Rattle.office_rules.specs.declared.table_row.Row.TheVariants as row
 use Rattle.office_founding.specs.contracts.gathering.Gathering.{the_view}

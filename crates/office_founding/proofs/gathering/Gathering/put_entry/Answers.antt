@@ -4,7 +4,7 @@ use Rattle.std.proofs.lemmas.Result.{IfOk-weaker}
 use Rattle.std.specs.List.{All}
 use Rattle.std.specs.Map.{keys_of}
 use Rattle.std.specs.declared.cmp.Ordering.TheVariants.{Less}
-use Rattle.office_rows.proofs.Exits.{damaged_so}
+use Rattle.office_base.proofs.Exits.{damaged_so}
 use Rattle.office_holds.proofs.Keys.{either_way}
 use Rattle.office_proof.specs.declared.entry.Entry.{Entry}
 use Rattle.office_rules.specs.State.{entry_cmp}

@@ -1,6 +1,6 @@
 use Rattle.std.proofs.Common.{sym, ap, subst, ◌∙◌}
 use Rattle.std.proofs.lemmas.Result.{IfOk-weaker}
-use Rattle.office_rows.proofs.Exits.{damaged_so}
+use Rattle.office_base.proofs.Exits.{damaged_so}
 use Rattle.office_holds.proofs.Keys.{either_way}
 use Rattle.office_holds.specs.Holds.{HoldMap}
 use Rattle.office_rules.specs.Tables.{Begins, TableLists, with_row}

@@ -1,5 +1,5 @@
 use Rattle.std.proofs.Common.{[], ◌∷◌, ◌++◌, sym, ap, subst, ◌∙◌}
-use Rattle.office_rows.proofs.Exits.{damaged_exit}
+use Rattle.office_base.proofs.Exits.{damaged_exit}
 use Rattle.office_holds.specs.Founding.{hold_rows}
 use Rattle.office_rules.specs.Tables.{Begins, TableLists, with_row}
 use Rattle.office_rules.specs.declared.table_row.Row.TheVariants as row

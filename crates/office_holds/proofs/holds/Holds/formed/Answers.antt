@@ -1,5 +1,5 @@
 use Rattle.std.proofs.Common.{sym}
-use Rattle.office_tree.specs.Forms.{IsCode}
+use Rattle.office_terms.specs.Forms.{IsCode}
 use Rattle.office_holds.specs.Forms.{IsFormedHold}
 use Rattle.office_holds.proofs.Standing.{at_entries}
 use Rattle.office_holds.proofs.holds.Holds.formed.Goals as goal

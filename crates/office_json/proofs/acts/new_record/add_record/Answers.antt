@@ -1,7 +1,7 @@
 use Rattle.std.proofs.Common.{◌≡◌, ◌∙◌, ℕ, List, rules, sym, subst, true, ap, codes, Ok, Result}
 use Rattle.serde_json.specs.Find.{get}
 use Rattle.serde_json.specs.View.{view}
-use Rattle.office_days.specs.declared.refusal.Refusal.{Refusal}
+use Rattle.office_base.specs.declared.refusal.Refusal.{Refusal}
 use Rattle.office_json.specs.Acts.{Asked, added, add_record_asked}
 use Rattle.office_json.specs.Contents.{content_part}
 use Rattle.office_json.specs.Parts.{IsReadAs}

@@ -1,5 +1,5 @@
 use Rattle.std.proofs.Common.{◌≡◌, ◌∙◌, Ok, Result, rules, sym, ap, true}
-use Rattle.office_days.specs.declared.refusal.Refusal.{Refusal}
+use Rattle.office_base.specs.declared.refusal.Refusal.{Refusal}
 use Rattle.office_json.specs.Acts.{Asked, receipt_asked}
 use Rattle.office_json.proofs.Faults.{act_fault, act_ok}
 use Rattle.office_json.proofs.acts.records.receipt.Goals as goal

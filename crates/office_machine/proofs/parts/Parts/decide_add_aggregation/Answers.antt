@@ -1,8 +1,8 @@
 use Rattle.std.proofs.Common.{◌≡◌, ◌∙◌, ◌∷◌, suc, ◌+◌, length, sym, ap, subst, arith, refl}
 use Rattle.std.specs.Option.{option_copied}
-use Rattle.office_tree.specs.Conditions.{first_of, conditions_of_add_aggregation}
-use Rattle.office_tree.specs.Sound.{IsSound}
-use Rattle.office_tree.specs.Tree.{TreeState}
+use Rattle.office_terms.specs.Conditions.{first_of, conditions_of_add_aggregation}
+use Rattle.office_terms.specs.Sound.{IsSound}
+use Rattle.office_terms.specs.Tree.{TreeState}
 use Rattle.office_rules.specs.Conditions.{refusals_of_add_aggregation}
 use Rattle.office_rules.specs.Effects.{after_add_aggregation}
 use Rattle.office_rules.specs.State.{ByteMap, with_contents, with_office}

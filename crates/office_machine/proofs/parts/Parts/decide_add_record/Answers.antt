@@ -1,6 +1,6 @@
 use Rattle.std.proofs.Common.{◌∙◌, ◌+◌, ◌++◌, List, sym, ap, refl}
 use Rattle.std.specs.Option.{option_copied}
-use Rattle.office_tree.specs.Conditions.{conditions_of_add_record}
+use Rattle.office_terms.specs.Conditions.{conditions_of_add_record}
 use Rattle.office_rules.specs.declared.rows.RowWrite.{RowWrite}
 use Rattle.office_machine.specs.DayWrites.{day_writes}
 use Rattle.office_machine.proofs.DecidedAdditions.{addition_refused, record_added, same_addition}

@@ -1,7 +1,7 @@
 use Rattle.std.proofs.Common.{◌≡◌, ◌∙◌, ◌∷◌, sym, ap, subst, refl}
-use Rattle.office_tree.specs.Conditions.{first_of, conditions_of_add_schedule}
-use Rattle.office_tree.specs.Sound.{IsSound}
-use Rattle.office_tree.specs.Tree.{TreeState}
+use Rattle.office_terms.specs.Conditions.{first_of, conditions_of_add_schedule}
+use Rattle.office_terms.specs.Sound.{IsSound}
+use Rattle.office_terms.specs.Tree.{TreeState}
 use Rattle.office_rules.specs.Conditions.{refusals_of_add_schedule}
 use Rattle.office_rules.specs.Effects.{after_add_schedule}
 use Rattle.office_rules.specs.State.{ByteMap, with_contents, with_office}

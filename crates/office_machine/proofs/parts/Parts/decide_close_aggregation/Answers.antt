@@ -1,10 +1,10 @@
 use Rattle.std.proofs.Common.{◌≡◌, ◌∙◌, ◌∷◌, Some, sym, ap, subst, refl}
-use Rattle.office_tree.specs.Conditions.{first_of, conditions_of_close_aggregation}
-use Rattle.office_tree.specs.Lists.{numbered}
-use Rattle.office_tree.specs.Sound.{IsSound}
-use Rattle.office_tree.specs.Tree.{TreeState, has_aggregation}
-use Rattle.office_tree.proofs.Accepting.{none_holds, not_false}
-use Rattle.office_tree.proofs.Keeping.{as_closed}
+use Rattle.office_terms.specs.Conditions.{first_of, conditions_of_close_aggregation}
+use Rattle.office_terms.specs.Lists.{numbered}
+use Rattle.office_terms.specs.Sound.{IsSound}
+use Rattle.office_terms.specs.Tree.{TreeState, has_aggregation}
+use Rattle.office_terms.proofs.Accepting.{none_holds, not_false}
+use Rattle.office_terms.proofs.Keeping.{as_closed}
 use Rattle.office_rules.specs.Conditions.{refusals_of_close_aggregation}
 use Rattle.office_rules.specs.Effects.{after_close_aggregation}
 use Rattle.office_rules.specs.State.{ByteMap, with_contents, with_office}

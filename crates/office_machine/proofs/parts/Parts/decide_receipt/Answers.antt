@@ -1,6 +1,6 @@
 use Rattle.std.proofs.Common.{◌∙◌, Some, sym, ap, refl}
-use Rattle.office_tree.specs.Conditions.{first_of, conditions_of_receipt}
-use Rattle.office_tree.specs.Tree.{TreeState}
+use Rattle.office_terms.specs.Conditions.{first_of, conditions_of_receipt}
+use Rattle.office_terms.specs.Tree.{TreeState}
 use Rattle.office_rules.specs.Conditions.{refusals_of_receipt}
 use Rattle.office_rules.specs.Effects.{after_receipt}
 use Rattle.office_rules.specs.State.{ByteMap, with_contents, with_office}

@@ -1,8 +1,8 @@
 use Rattle.std.proofs.Common.{◌∙◌, Some, sym, ap, refl}
 use Rattle.std.specs.Option.{option_copied}
-use Rattle.office_tree.specs.Conditions.{first_of, conditions_of_review}
-use Rattle.office_tree.specs.Lists.{or_else}
-use Rattle.office_tree.specs.Tree.{TreeState}
+use Rattle.office_terms.specs.Conditions.{first_of, conditions_of_review}
+use Rattle.office_terms.specs.Lists.{or_else}
+use Rattle.office_terms.specs.Tree.{TreeState}
 use Rattle.office_rules.specs.Conditions.{refusals_of_review}
 use Rattle.office_rules.specs.Effects.{after_review}
 use Rattle.office_rules.specs.State.{ByteMap, with_contents, with_office}

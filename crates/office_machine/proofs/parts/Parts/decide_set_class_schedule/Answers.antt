@@ -1,8 +1,8 @@
 use Rattle.std.proofs.Common.{◌≡◌, ◌∙◌, ◌∷◌, Some, sym, ap, subst, refl}
 use Rattle.std.specs.FinMap.{get}
-use Rattle.office_tree.specs.Conditions.{first_of, conditions_of_set_class_schedule}
-use Rattle.office_tree.specs.Sound.{IsSound}
-use Rattle.office_tree.specs.Tree.{TreeState}
+use Rattle.office_terms.specs.Conditions.{first_of, conditions_of_set_class_schedule}
+use Rattle.office_terms.specs.Sound.{IsSound}
+use Rattle.office_terms.specs.Tree.{TreeState}
 use Rattle.office_rules.specs.Conditions.{refusals_of_set_class_schedule}
 use Rattle.office_rules.specs.Effects.{after_set_class_schedule}
 use Rattle.office_rules.specs.State.{ByteMap, with_contents, with_office}

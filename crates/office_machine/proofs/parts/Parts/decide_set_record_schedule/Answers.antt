@@ -1,7 +1,7 @@
 use Rattle.std.proofs.Common.{◌∙◌, sym, ap, refl}
 use Rattle.std.specs.Option.{option_copied}
-use Rattle.office_tree.specs.Conditions.{first_of, conditions_of_set_record_schedule}
-use Rattle.office_tree.specs.Tree.{TreeState}
+use Rattle.office_terms.specs.Conditions.{first_of, conditions_of_set_record_schedule}
+use Rattle.office_terms.specs.Tree.{TreeState}
 use Rattle.office_rules.specs.Conditions.{refusals_of_set_record_schedule}
 use Rattle.office_rules.specs.Effects.{after_set_record_schedule}
 use Rattle.office_rules.specs.State.{ByteMap, with_contents, with_office}

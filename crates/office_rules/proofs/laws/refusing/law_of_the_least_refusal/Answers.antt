@@ -1,5 +1,5 @@
 use Rattle.std.proofs.Common.{rules}
-use Rattle.office_tree.proofs.Least.{first_is_least}
+use Rattle.office_terms.proofs.Least.{first_is_least}
 use Rattle.office_rules.specs.Conditions.{refusals_of_add_schedule, refusals_of_add_class, refusals_of_set_class_schedule, refusals_of_add_aggregation, refusals_of_close_aggregation, refusals_of_add_record, refusals_of_set_record_schedule, refusals_of_reclassify, refusals_of_place_hold, refusals_of_hold_on, refusals_of_hold_off, refusals_of_lift_hold, refusals_of_confirm, refusals_of_review, refusals_of_open_run, refusals_of_receipt, refusals_of_run_step}
 use Rattle.office_rules.proofs.laws.refusing.law_of_the_least_refusal.Goals as goal
 

@@ -1,5 +1,5 @@
 use Rattle.std.proofs.lemmas.Result.{IfOk-weaker}
-use Rattle.office_rows.proofs.Exits.{damaged_exit, damaged_so}
+use Rattle.office_base.proofs.Exits.{damaged_exit, damaged_so}
 use Rattle.office_rules.specs.Tables.{lists_of}
 use Rattle.office_rules.proofs.GivenRows.{holds_broken, holds_next, targets_broken, targets_next}
 use Rattle.office_rules.proofs.tables.Tables.give_holds.Goals as goal

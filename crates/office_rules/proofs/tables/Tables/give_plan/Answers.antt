@@ -1,6 +1,6 @@
 use Rattle.std.proofs.Common.{◌∙◌, ap}
 use Rattle.std.proofs.lemmas.Result.{IfOk-weaker}
-use Rattle.office_rows.proofs.Exits.{damaged_exit, damaged_so}
+use Rattle.office_base.proofs.Exits.{damaged_exit, damaged_so}
 use Rattle.office_rules.specs.Tables.{TableLists, lists_of, with_row}
 use Rattle.office_rules.specs.declared.table_row.Row.TheVariants as row
 use Rattle.office_rules.proofs.GivenRows.{classes_broken, classes_next, day_begins, schedules_broken, schedules_next}

@@ -1,5 +1,5 @@
 use Rattle.std.proofs.lemmas.Result.{IfOk-weaker}
-use Rattle.office_rows.proofs.Exits.{damaged_exit, damaged_so}
+use Rattle.office_base.proofs.Exits.{damaged_exit, damaged_so}
 use Rattle.office_rules.specs.Tables.{lists_of}
 use Rattle.office_rules.proofs.GivenRows.{aggregations_broken, aggregations_next, contents_broken, contents_next, events_broken, events_next, records_broken, records_next}
 use Rattle.office_rules.proofs.tables.Tables.give_records.Goals as goal

@@ -1,6 +1,6 @@
 use Rattle.std.proofs.Common.{ap, map}
 use Rattle.std.proofs.lemmas.Result.{IfOk-weaker}
-use Rattle.office_rows.proofs.Exits.{damaged_exit, damaged_so}
+use Rattle.office_base.proofs.Exits.{damaged_exit, damaged_so}
 use Rattle.office_rules.specs.Tables.{lists_of}
 use Rattle.office_rules.proofs.GivenRows.{certificates_broken, certificates_next, entries_broken, entries_next, runs_broken, runs_next, text_row}
 use Rattle.office_rules.proofs.tables.Tables.give_runs.Goals as goal

@@ -1,5 +1,5 @@
 use Rattle.std.proofs.Common.{rules}
-use Rattle.office_tree.proofs.Least.{least_event}
+use Rattle.office_terms.proofs.Least.{least_event}
 use Rattle.office_tree.proofs.tree.Tree.check_event.Goals as goal
 
 pub returns-then-not-has_record-clause-least : goal.returns-then-not-has_record-clause-least

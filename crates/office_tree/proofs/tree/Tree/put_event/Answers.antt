@@ -1,10 +1,10 @@
 use Rattle.std.proofs.Common.{◌≡◌, ◌∙◌, Some, sym, ap, subst}
 use Rattle.std.specs.FinMap.{from_entries}
-use Rattle.office_tree.specs.Lists.{numbered}
+use Rattle.office_terms.specs.Lists.{numbered}
 use Rattle.office_tree.specs.Outlooks.{IsOutlook}
-use Rattle.office_tree.specs.Rows.{put_event}
+use Rattle.office_terms.specs.Rows.{put_event}
 use Rattle.office_tree.specs.Stored.{IsStored}
-use Rattle.office_tree.specs.Tree.{TreeState, code_cmp}
+use Rattle.office_terms.specs.Tree.{TreeState, code_cmp}
 use Rattle.office_tree.specs.declared.outlook.Outlook.{Outlook}
 use Rattle.office_tree.specs.contracts.tree.Tree.{the_view}
 use Rattle.office_tree.proofs.EventPlaces.{event_inserted}

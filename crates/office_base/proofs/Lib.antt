@@ -1,0 +1,5 @@
+pub mod Ascending
+pub mod Counted
+pub mod Exits
+pub mod Maps
+pub mod Numerals

@@ -1,0 +1,4 @@
+pub mod Numerals
+pub mod Refusals
+pub mod Rows
+pub mod ThingNumbers

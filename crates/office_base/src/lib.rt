@@ -1,0 +1,28 @@
+//! What all crates of the office share, and what says nothing of records: the refusals, why work stops, bytes in
+//! and out, numerals, and rows of tables back to maps and lists.
+//!
+//! The office refuses an act for one of twenty-one reasons ([`Refusal`]). Work that takes memory stops with [`Memory`]
+//! where an allocation is refused, work that reads or writes with [`Io`], and work that does both with [`Stop`].
+//!
+//! A table by key represents a map, a table by number a list. A table's rows come in the order of its key. They are
+//! damaged where that order, or the run of the numbers 1, 2, .., is broken: then there is no map, or no list, of which
+//! they are the rows.
+#![tactic(auto)]
+
+mod build;
+mod input;
+mod memory;
+mod numeral;
+mod output;
+mod refusal;
+mod stop;
+mod thing_number;
+
+pub use build::{Rebuild, follows, ordered, push_keyed, push_numbered};
+pub use input::read_whole;
+pub use memory::Memory;
+pub use numeral::read_numeral;
+pub use output::{Io, write_out};
+pub use refusal::Refusal;
+pub use stop::Stop;
+pub use thing_number::read_thing_number;

@@ -1,4 +1,0 @@
-pub mod Ascending
-pub mod Counted
-pub mod Exits
-pub mod Maps

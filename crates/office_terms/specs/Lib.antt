@@ -1,0 +1,16 @@
+pub mod Candidates
+pub mod Codes
+pub mod Conditions
+pub mod Disposal
+pub mod Effects
+pub mod Examined
+pub mod Forms
+pub mod Founding
+pub mod Lasting
+pub mod Lists
+pub mod Meanings
+pub mod Rows
+pub mod Sound
+pub mod TextForms
+pub mod Tree
+pub mod Words
