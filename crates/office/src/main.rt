@@ -11,16 +11,16 @@ use crate::disks::{Place, disk_of_process, run_from, serve_in};
 use clap::error::ErrorKind;
 use office_base::{Stop, read_whole};
 use office_plan::{due_to, plan_to};
-use office_run::{Ending, tell};
+use office_run::{Ending, report};
 use office_store::Fault;
 use office_words::{Disk, Order, Words, order_of, read_words};
 use std::fs::File;
 use std::process::ExitCode;
 use std::{env, io};
 
-/// The exit status of an ending, whose line is told on standard error.
+/// The exit status of an ending, whose line is reported on standard error.
 fn ended(rt: &HostRuntime, ending: Ending) -> u8 {
-    let _ = tell(ending, &mut rt.stderr());
+    let _ = report(ending, &mut rt.stderr());
     ending.status()
 }
 

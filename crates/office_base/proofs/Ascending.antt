@@ -37,10 +37,10 @@ has_last P (x ∷ es) zero e at all = let same : x ≡ e = cc in subst (λ y. P 
 has_last P (x ∷ es) (suc i) e at all = has_last P es i e at (All-tail P x.0 (keys_of es) all)
 
 -- a row after others in a table in order is above them
-pub above_front : {K V : Type 0} (R : K → K → Ordering) (es : List (K × V)) (k : K) (v : V) (rest : List (K × V)) → IsStrictlySortedBy R (keys_of (es ++ (k, v) ∷ rest)) → AllByRecursion (λ q. R q k ≡ Less) (keys_of es)
+pub above_prefix : {K V : Type 0} (R : K → K → Ordering) (es : List (K × V)) (k : K) (v : V) (rest : List (K × V)) → IsStrictlySortedBy R (keys_of (es ++ (k, v) ∷ rest)) → AllByRecursion (λ q. R q k ≡ Less) (keys_of es)
 unfolding IsStrictlySortedBy
-above_front R [] k v rest h = tt
-above_front {K} {V} R (e ∷ es) k v rest h = (among es h.0, above_front R es k v rest h.1) where
+above_prefix R [] k v rest h = tt
+above_prefix {K} {V} R (e ∷ es) k v rest h = (among es h.0, above_prefix R es k v rest h.1) where
   among : (fs : List (K × V)) → AllByRecursion (λ q. R e.0 q ≡ Less) (keys_of (fs ++ (k, v) ∷ rest)) → R e.0 k ≡ Less
   among [] a = a.0
   among (f ∷ fs) a = among fs a.1
@@ -49,4 +49,4 @@ above_front {K} {V} R (e ∷ es) k v rest h = (among es h.0, above_front R es k 
 pub keyed_next : {K V : Type 0} (R : K → K → Ordering) (m : FinMap R V) (es : List (K × V)) (k : K) (v : V) (rest : List (K × V)) → entries m ≡ (es ++ (k, v) ∷ []) ++ rest → All (λ q. R q k ≡ Less) (keys_of es)
 keyed_next R m es k v rest e =
     All-from_recursion (λ q. R q k ≡ Less) (keys_of es)
-    (above_front R es k v rest (subst (λ es. IsStrictlySortedBy R (keys_of es)) (e ∙ append_assoc es ((k, v) ∷ []) rest) (keys_ascend R m)))
+    (above_prefix R es k v rest (subst (λ es. IsStrictlySortedBy R (keys_of es)) (e ∙ append_assoc es ((k, v) ∷ []) rest) (keys_ascend R m)))

@@ -7,11 +7,11 @@ use Rattle.std.specs.Str.Parse.{digits_value, ParsesUnsigned}
 use Rattle.std.proofs.lemmas.Str.Parse.{IsDigitsTest, IsNumeralModel, numerals_by_value, parse_digits}
 use Rattle.office_base.specs.Numerals.{number_named}
 
-tells_digits : IsDigitsTest (λ ds. list_all is_ascii_digit ds ≡ true)
-tells_digits = search rules
+reports_digits : IsDigitsTest (λ ds. list_all is_ascii_digit ds ≡ true)
+reports_digits = search rules
 
 model : IsNumeralModel (λ ds. list_all is_ascii_digit ds ≡ true) (digits_value 10)
-model = numerals_by_value _ tells_digits
+model = numerals_by_value _ reports_digits
 
 pub number_named-digits : (text : List ℕ) → 0 < length text → list_all is_ascii_digit text ≡ true → number_named text ≡ Some (digits_value 10 text)
 number_named-digits text long digits = grind arith

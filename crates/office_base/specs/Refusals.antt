@@ -1,4 +1,4 @@
--- The numbers of the refusals, by which the least of several is told. Source: own.
+-- The numbers of the refusals, by which the least of several is reported. Source: own.
 use Rattle.std.specs.Prelude.{ℕ}
 use Rattle.office_base.specs.declared.refusal.Refusal.{Refusal}
 use Rattle.office_base.specs.declared.refusal.Refusal.TheVariants.{DayBack, BadText, BadNumber, Exists, NoSuch, Full, Closed, ChildOpen, TooDeep, NeedsClass, HeldClass, Lifted, Ended, InTransfer, NotDue, WrongAction, RunOpen, NoRun, NotSent, WrongDigest, NotYet}

@@ -13,7 +13,7 @@ use std::collections::BTreeMap;
 pub enum Rebuild {
     /// There is no memory for it.
     Memory,
-    /// The rows stand for nothing.
+    /// The rows represent nothing.
     Damaged,
 }
 
@@ -75,7 +75,7 @@ pub fn push_numbered<T: Drop>(things: &mut Vec<T>, number: u32, thing: T) -> Res
     push(things, thing)
 }
 
-/// Tells in proofs that the keys of the map ascend; a call does nothing.
+/// Gives proofs the fact that the keys of the map ascend; a call does nothing.
 pub fn ordered<K: Ord, V>(map: &BTreeMap<K, V>)
     ensures { IsOrdered K.cmp map.now }
 {

@@ -6,7 +6,7 @@ use crate::numeral::read_numeral;
 use crate::refusal::Refusal;
 
 /// The number of a thing: one or more ASCII digits, from 1 to 4,294,967,295, leading zeros
-/// allowed. A text that is no number is told before a number that is none of a thing.
+/// allowed. A text that is no number is reported before a number that is none of a thing.
 pub fn read_thing_number(text: &str) -> Result<u32, Refusal>
     ensures { result ≡ thing_number text.now }
 {

@@ -8,7 +8,7 @@ use office_terms::{Code, RecordNo, Target, Text};
 use serde_json::Value;
 use std::io::Write;
 
-/// An act that is read is told by its members where it places a hold, adds a record, takes an aggregation off
+/// An act that is read is reported by its members where it places a hold, adds a record, takes an aggregation off
 /// a hold, reclassifies or records an event, and else as `an act`.
 pub(crate) const ACTS: &str = r#"
     # each kind
@@ -133,7 +133,7 @@ pub(crate) const CONTENTS: &str = r"
     content YWJj x 87381 + YW = refused 2
 ";
 
-/// How many acts a text has, or the fault; a bad act is told by its place, from 0.
+/// How many acts a text has, or the fault; a bad act is reported by its place, from 0.
 pub(crate) const LISTS: &str = r#"
     list [] = 0 acts
     list \s[ {"act":"open-run","day":"2024-01-02","by":"an archivist"},\n{"act":"run-step"} ]\n = 2 acts
@@ -166,7 +166,7 @@ pub(crate) fn push_day(out: &mut Vec<u8>, day: Day) -> Option<()> {
 }
 
 /// A hold by its members.
-fn tell_hold(out: &mut Vec<u8>, code: &Code, reason: &Text, by: &Text) -> Option<()> {
+fn report_hold(out: &mut Vec<u8>, code: &Code, reason: &Text, by: &Text) -> Option<()> {
     write!(
         out,
         " place-hold {}, {}, {}",
@@ -178,7 +178,7 @@ fn tell_hold(out: &mut Vec<u8>, code: &Code, reason: &Text, by: &Text) -> Option
 }
 
 /// Where a new record is filed, and its own class and schedule.
-fn tell_filing(out: &mut Vec<u8>, record: &NewRecord) -> Option<()> {
+fn report_filing(out: &mut Vec<u8>, record: &NewRecord) -> Option<()> {
     let class = code_text(record.class.as_ref());
     let schedule = code_text(record.schedule.as_ref());
     write!(
@@ -190,7 +190,7 @@ fn tell_filing(out: &mut Vec<u8>, record: &NewRecord) -> Option<()> {
 }
 
 /// A new record by its members.
-fn tell_record(out: &mut Vec<u8>, record: &NewRecord) -> Option<()> {
+fn report_record(out: &mut Vec<u8>, record: &NewRecord) -> Option<()> {
     write!(
         out,
         " add-record {}, {}",
@@ -198,28 +198,28 @@ fn tell_record(out: &mut Vec<u8>, record: &NewRecord) -> Option<()> {
         record.title.text()
     )
     .ok()?;
-    tell_filing(out, record)?;
+    report_filing(out, record)?;
     push_day(out, record.originated)?;
     push(out, ": ")?;
     out.extend_from_slice(&record.content).ok()
 }
 
 /// An event by its members.
-fn tell_event(out: &mut Vec<u8>, record_no: RecordNo, occurred: Day, by: &Text) -> Option<()> {
+fn report_event(out: &mut Vec<u8>, record_no: RecordNo, occurred: Day, by: &Text) -> Option<()> {
     write!(out, " event {record_no}, {}, of ", by.text()).ok()?;
     push_day(out, occurred)
 }
 
-/// An act by its members, where its kind is told so.
-fn tell_act(act: &Act, out: &mut Vec<u8>) -> Option<()> {
+/// An act by its members, where its kind is reported so.
+fn report_act(act: &Act, out: &mut Vec<u8>) -> Option<()> {
     match act {
         Act::PlaceHold {
             day,
             code,
             reason,
             by,
-        } => push_day(out, *day).and(tell_hold(out, code, reason, by)),
-        Act::AddRecord { day, record } => push_day(out, *day).and(tell_record(out, record)),
+        } => push_day(out, *day).and(report_hold(out, code, reason, by)),
+        Act::AddRecord { day, record } => push_day(out, *day).and(report_record(out, record)),
         Act::HoldOff {
             day,
             hold,
@@ -240,13 +240,13 @@ fn tell_act(act: &Act, out: &mut Vec<u8>) -> Option<()> {
             record_no,
             occurred,
             by,
-        } => push_day(out, *day).and(tell_event(out, *record_no, *occurred, by)),
+        } => push_day(out, *day).and(report_event(out, *record_no, *occurred, by)),
         _ => push(out, "an act"),
     }
 }
 
-/// A fault of reading; none for want of memory.
-fn tell_fault(fault: ReadFault, out: &mut Vec<u8>) -> Option<()> {
+/// A fault of reading; none for lack of memory.
+fn report_fault(fault: ReadFault, out: &mut Vec<u8>) -> Option<()> {
     match fault {
         ReadFault::Refused(refusal) => push_refused(out, refusal),
         ReadFault::Memory => None,
@@ -254,34 +254,34 @@ fn tell_fault(fault: ReadFault, out: &mut Vec<u8>) -> Option<()> {
 }
 
 /// The act that a value asks for, or its refusal.
-fn tell_asked(value: &Value, out: &mut Vec<u8>) -> Option<()> {
+fn report_asked(value: &Value, out: &mut Vec<u8>) -> Option<()> {
     match read_act(*out.allocator(), value) {
-        Ok(act) => tell_act(&act, out),
-        Err(fault) => tell_fault(fault, out),
+        Ok(act) => report_act(&act, out),
+        Err(fault) => report_fault(fault, out),
     }
 }
 
 /// The act that a text of JSON asks for, or its refusal.
-fn tell_json(text: &str, out: &mut Vec<u8>) -> Option<()> {
+fn report_json(text: &str, out: &mut Vec<u8>) -> Option<()> {
     match Value::from_str(*out.allocator(), text) {
-        Ok(value) => tell_asked(&value, out),
+        Ok(value) => report_asked(&value, out),
         Err(_) => None,
     }
 }
 
 /// A new record of that content, or its refusal.
-fn tell_content(content: &str, out: &mut Vec<u8>) -> Option<()> {
+fn report_content(content: &str, out: &mut Vec<u8>) -> Option<()> {
     let text = format!(in *out.allocator();
         "{{\"act\":\"add-record\",\"day\":\"2024-01-02\",\"ref\":\"r\",\"title\":\"r\",\"originated\":\"2024-01-02\",\"aggregation\":1,\"content\":\"{content}\"}}"
     );
     match text {
-        Ok(text) => tell_json(text.as_str(), out),
+        Ok(text) => report_json(text.as_str(), out),
         Err(_) => None,
     }
 }
 
-/// How many acts the bytes of an array have, or the fault; none for want of memory.
-fn tell_list(asked: &[u8], out: &mut Vec<u8>) -> Option<()> {
+/// How many acts the bytes of an array have, or the fault; none for lack of memory.
+fn report_list(asked: &[u8], out: &mut Vec<u8>) -> Option<()> {
     match read_acts(*out.allocator(), asked) {
         Ok(acts) => write!(out, "{} acts", acts.len()).ok(),
         Err(ListFault::Memory) => None,
@@ -289,11 +289,11 @@ fn tell_list(asked: &[u8], out: &mut Vec<u8>) -> Option<()> {
     }
 }
 
-pub(crate) fn tell(word: &str, asked: &[u8], out: &mut Vec<u8>) -> Option<()> {
+pub(crate) fn report(word: &str, asked: &[u8], out: &mut Vec<u8>) -> Option<()> {
     match word {
-        "act" => tell_json(str::from_utf8(asked).ok()?, out),
-        "content" => tell_content(str::from_utf8(asked).ok()?, out),
-        "list" => tell_list(asked, out),
+        "act" => report_json(str::from_utf8(asked).ok()?, out),
+        "content" => report_content(str::from_utf8(asked).ok()?, out),
+        "list" => report_list(asked, out),
         _ => None,
     }
 }

@@ -101,23 +101,23 @@ fn value_of(alloc: Global, word: &str, answers: &[Answer]) -> Result<Value, Memo
 }
 
 /// The text of such a value.
-fn text_told(alloc: Global, word: &str, answers: &[Answer]) -> Result<String, Memory> {
+fn text_reported(alloc: Global, word: &str, answers: &[Answer]) -> Result<String, Memory> {
     let value = value_of(alloc, word, answers)?;
     text_of(alloc, &value)
 }
 
-/// Tells answers by a word.
-fn tell_answers(word: &str, answers: &[Answer], out: &mut Vec<u8>) -> Option<()> {
+/// Reports answers by a word.
+fn report_answers(word: &str, answers: &[Answer], out: &mut Vec<u8>) -> Option<()> {
     if word == "lines" {
         return push_lines(answers, out);
     }
-    let text = text_told(*out.allocator(), word, answers).ok()?;
+    let text = text_reported(*out.allocator(), word, answers).ok()?;
     push(out, text.as_str())
 }
 
-pub(crate) fn tell(word: &str, asked: &[u8], out: &mut Vec<u8>) -> Option<()> {
+pub(crate) fn report(word: &str, asked: &[u8], out: &mut Vec<u8>) -> Option<()> {
     let text = str::from_utf8(asked).ok()?;
     let mut answers = Vec::new(*out.allocator());
     push_answers(&mut answers, text)?;
-    tell_answers(word, &answers, out)
+    report_answers(word, &answers, out)
 }

@@ -79,7 +79,7 @@ fn due<W: Write>(ask: &str, writer: &mut W) -> Result<Option<Refusal>, Io> {
 }
 
 /// The line of a due day, or its refusal.
-fn tell_due(ask: &str, out: &mut Vec<u8>) -> Option<()> {
+fn report_due(ask: &str, out: &mut Vec<u8>) -> Option<()> {
     match due(ask, out) {
         Ok(None) => Some(()),
         Ok(Some(refusal)) => push_refused(out, refusal),
@@ -88,7 +88,7 @@ fn tell_due(ask: &str, out: &mut Vec<u8>) -> Option<()> {
 }
 
 /// A refusal, for which a writer without room is not touched.
-fn tell_no_room(ask: &str, out: &mut Vec<u8>) -> Option<()> {
+fn report_no_room(ask: &str, out: &mut Vec<u8>) -> Option<()> {
     match due(ask, &mut Narrow { room: 0 }) {
         Ok(Some(refusal)) => push_refused(out, refusal),
         _ => None,
@@ -96,7 +96,7 @@ fn tell_no_room(ask: &str, out: &mut Vec<u8>) -> Option<()> {
 }
 
 /// A writer with room for fewer bytes than the eleven of a line, and one with room for them.
-fn tell_writer(ask: &str, out: &mut Vec<u8>) -> Option<()> {
+fn report_writer(ask: &str, out: &mut Vec<u8>) -> Option<()> {
     for room in 0..11 {
         if due(ask, &mut Narrow { room }) != Err(Io) {
             return None;
@@ -109,7 +109,7 @@ fn tell_writer(ask: &str, out: &mut Vec<u8>) -> Option<()> {
 }
 
 /// The number of the day that a text names, which its day must give back.
-fn tell_day(text: &str, out: &mut Vec<u8>) -> Option<()> {
+fn report_day(text: &str, out: &mut Vec<u8>) -> Option<()> {
     match Day::read(text) {
         None => push(out, "none"),
         Some(day) if day.text().as_slice() == text.as_bytes() => {
@@ -129,7 +129,7 @@ fn deadline_asked(ask: &str) -> Option<Result<Deadline, Refusal>> {
 }
 
 /// The deadline, or the refusal of its count.
-fn tell_deadline(ask: &str, out: &mut Vec<u8>) -> Option<()> {
+fn report_deadline(ask: &str, out: &mut Vec<u8>) -> Option<()> {
     match deadline_asked(ask)? {
         Ok(deadline) => out.extend_from_slice(&deadline.text()).ok(),
         Err(refusal) => push_refused(out, refusal),
@@ -137,21 +137,21 @@ fn tell_deadline(ask: &str, out: &mut Vec<u8>) -> Option<()> {
 }
 
 /// Whether a deadline is over on a day.
-fn tell_late(ask: &str, out: &mut Vec<u8>) -> Option<()> {
+fn report_late(ask: &str, out: &mut Vec<u8>) -> Option<()> {
     let deadline = deadline_asked(ask)?.ok()?;
     let is_late = deadline.passed(Day::read(word(ask, 2))?);
     push(out, if is_late { "yes" } else { "no" })
 }
 
-pub(crate) fn tell(word: &str, asked: &[u8], out: &mut Vec<u8>) -> Option<()> {
+pub(crate) fn report(word: &str, asked: &[u8], out: &mut Vec<u8>) -> Option<()> {
     let text = str::from_utf8(asked).ok()?;
     match word {
-        "due" => tell_due(text, out),
-        "no-room" => tell_no_room(text, out),
-        "writer" => tell_writer(text, out),
-        "day" => tell_day(text, out),
-        "deadline" => tell_deadline(text, out),
-        "late" => tell_late(text, out),
+        "due" => report_due(text, out),
+        "no-room" => report_no_room(text, out),
+        "writer" => report_writer(text, out),
+        "day" => report_day(text, out),
+        "deadline" => report_deadline(text, out),
+        "late" => report_late(text, out),
         _ => None,
     }
 }

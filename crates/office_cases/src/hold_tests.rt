@@ -26,7 +26,7 @@ pub(crate) const TREE: &str = "
     2024-01-02 add-empty-record r4 3 = Number(4)
 ";
 
-/// A record is held until each hold on it is lifted, and the least of them is told.
+/// A record is held until each hold on it is lifted, and the least of them is reported.
 pub(crate) const LIFTED: &str = "
     2024-01-02 place-hold H-2 = Done
     2024-01-02 hold-on H-2 record:1 = Done
@@ -172,7 +172,7 @@ fn reclassify(
 }
 
 /// What holds answer to an act on them, and the office that has their tree to any other.
-fn tell_act(office: &mut Machine, holds: &mut Holds, act: &Act, out: &mut Vec<u8>) -> Option<()> {
+fn report_act(office: &mut Machine, holds: &mut Holds, act: &Act, out: &mut Vec<u8>) -> Option<()> {
     match act {
         Act::PlaceHold {
             day,
@@ -191,7 +191,7 @@ fn tell_act(office: &mut Machine, holds: &mut Holds, act: &Act, out: &mut Vec<u8
 }
 
 /// The records that are held.
-fn tell_held(tree: &Tree, holds: &Holds, out: &mut Vec<u8>) -> Option<()> {
+fn report_held(tree: &Tree, holds: &Holds, out: &mut Vec<u8>) -> Option<()> {
     for record_no in 1..5 {
         if tree.has_record(record_no) && holds.held(tree, record_no) {
             write!(out, "{record_no};").ok()?;
@@ -201,7 +201,7 @@ fn tell_held(tree: &Tree, holds: &Holds, out: &mut Vec<u8>) -> Option<()> {
 }
 
 /// The least hold that covers record 1.
-fn tell_covering(tree: &Tree, holds: &Holds, out: &mut Vec<u8>) -> Option<()> {
+fn report_covering(tree: &Tree, holds: &Holds, out: &mut Vec<u8>) -> Option<()> {
     if !tree.has_record(1) {
         return None;
     }
@@ -211,8 +211,8 @@ fn tell_covering(tree: &Tree, holds: &Holds, out: &mut Vec<u8>) -> Option<()> {
     }
 }
 
-/// What is told to holds or asked of them, over the tree of an office.
-pub(crate) fn tell(
+/// What is reported to holds or asked of them, over the tree of an office.
+pub(crate) fn report(
     office: &mut Machine,
     holds: &mut Holds,
     word: &str,
@@ -221,8 +221,8 @@ pub(crate) fn tell(
 ) -> Option<()> {
     let text = str::from_utf8(asked).ok()?;
     match word {
-        "held" => tell_held(office.tree(), holds, out),
-        "covering-record-1" => tell_covering(office.tree(), holds, out),
-        _ => tell_act(office, holds, &act_of(*out.allocator(), word, text)?, out),
+        "held" => report_held(office.tree(), holds, out),
+        "covering-record-1" => report_covering(office.tree(), holds, out),
+        _ => report_act(office, holds, &act_of(*out.allocator(), word, text)?, out),
     }
 }

@@ -52,7 +52,7 @@ pub(crate) const NOTHING_TO_DO: &str = r"
 ";
 
 /// Two classes with an aggregation of each, and three records, all on one day. A record that is there already
-/// is told as the same on any day, and leaves the office's day as it is.
+/// is reported as the same on any day, and leaves the office's day as it is.
 pub(crate) const BASE: &str = "
     today = 0001-01-01
     2024-01-02 add-schedule D1 added years 1 none destroy = Done
@@ -119,8 +119,8 @@ pub(crate) const FEW_OF_MANY: &str = "
     next-counted = none of 0
 ";
 
-/// What is told of records that are here. The digests are those of `abc`, an example of FIPS 180-4, and of
-/// nothing, by `sha256sum`; what is told of record 1 has 306 bytes.
+/// What is reported of records that are here. The digests are those of `abc`, an example of FIPS 180-4, and of
+/// nothing, by `sha256sum`; what is reported of record 1 has 306 bytes.
 pub(crate) const HERE: &str = r#"
     record 1 = {"added":"2024-01-02","aggregation":1,"class":"FIN","confirmed":null,"digest":"ba7816bf8f01cfea414140de5dae2223b00361a396177a9cb410ff61f20015ad","due":"2025-01-02","ended":null,"event":null,"held":null,"length":3,"number":1,"originated":"2024-01-02","ref":"r1","schedule":"D1","status":"here","title":"r1"}
     record 4 = none
@@ -225,7 +225,7 @@ pub(crate) const HELD: &str = r#"
 "#;
 
 /// The aggregations that are spent.
-fn tell_spent(office: &Machine, out: &mut Vec<u8>) -> Option<()> {
+fn report_spent(office: &Machine, out: &mut Vec<u8>) -> Option<()> {
     let tree = office.tree();
     for before in 0..tree.aggregation_count() {
         let aggregation = before + 1;
@@ -245,14 +245,14 @@ fn push_next(next: Option<RecordNo>, out: &mut Vec<u8>) -> Option<()> {
 }
 
 /// The record that the next step of a run would take, and how many candidates were looked at.
-fn tell_counted(office: &Machine, out: &mut Vec<u8>) -> Option<()> {
+fn report_counted(office: &Machine, out: &mut Vec<u8>) -> Option<()> {
     let (next, count) = office.next_counted();
     push_next(next, out)?;
     write!(out, " of {count}").ok()
 }
 
 /// The certificate of a run.
-fn tell_certificate(office: &Machine, run: RunNo, out: &mut Vec<u8>) -> Option<()> {
+fn report_certificate(office: &Machine, run: RunNo, out: &mut Vec<u8>) -> Option<()> {
     match office.certificate(*out.allocator(), run) {
         Ok(Some(text)) => push(out, text.as_str()),
         Ok(None) => push(out, "none"),
@@ -261,7 +261,7 @@ fn tell_certificate(office: &Machine, run: RunNo, out: &mut Vec<u8>) -> Option<(
 }
 
 /// The line of an entry.
-fn tell_entry(office: &Machine, entry: &Entry, out: &mut Vec<u8>) -> Option<()> {
+fn report_entry(office: &Machine, entry: &Entry, out: &mut Vec<u8>) -> Option<()> {
     let tree = office.tree();
     if !tree.has_record(entry.record_no) {
         return None;
@@ -273,33 +273,33 @@ fn tell_entry(office: &Machine, entry: &Entry, out: &mut Vec<u8>) -> Option<()> 
 }
 
 /// The line of the last entry, or what it would be with no hold in it.
-fn tell_last_entry(office: &Machine, is_free: bool, out: &mut Vec<u8>) -> Option<()> {
+fn report_last_entry(office: &Machine, is_free: bool, out: &mut Vec<u8>) -> Option<()> {
     let mut entries = office.entries(*out.allocator()).ok()?;
     match entries.pop() {
         Some(mut entry) => {
             if is_free {
                 entry.hold = None;
             }
-            tell_entry(office, &entry, out)
+            report_entry(office, &entry, out)
         }
         None => None,
     }
 }
 
-/// The text of what is told of a record, with the entry that ended it.
+/// The text of what is reported of a record, with the entry that ended it.
 fn view_text(alloc: Global, view: &RecordView, ended: Option<&Entry>) -> Result<String, Memory> {
     let value = record_value(alloc, view, ended)?;
     text_of(alloc, &value)
 }
 
-/// Appends what is told of a record, with the entry that ended it.
+/// Appends what is reported of a record, with the entry that ended it.
 fn push_view(view: &RecordView, ended: Option<&Entry>, out: &mut Vec<u8>) -> Option<()> {
     let text = view_text(*out.allocator(), view, ended).ok()?;
     push(out, text.as_str())
 }
 
-/// What is told of a record, with the entry that ended a record of that number.
-fn tell_view(
+/// What is reported of a record, with the entry that ended a record of that number.
+fn report_view(
     office: &Machine,
     view: &RecordView,
     ended: RecordNo,
@@ -311,22 +311,22 @@ fn tell_view(
     }
 }
 
-/// What is told of a record.
-fn tell_record(office: &Machine, record_no: RecordNo, out: &mut Vec<u8>) -> Option<()> {
+/// What is reported of a record.
+fn report_record(office: &Machine, record_no: RecordNo, out: &mut Vec<u8>) -> Option<()> {
     match office.record(*out.allocator(), record_no) {
-        Ok(Some(view)) => tell_view(office, &view, record_no, out),
+        Ok(Some(view)) => report_view(office, &view, record_no, out),
         Ok(None) => push(out, "none"),
         Err(_) => None,
     }
 }
 
-/// What is told of a record were it ended as record 3, without a due day.
-fn tell_ended(office: &Machine, record_no: RecordNo, out: &mut Vec<u8>) -> Option<()> {
+/// What is reported of a record were it ended as record 3, without a due day.
+fn report_ended(office: &Machine, record_no: RecordNo, out: &mut Vec<u8>) -> Option<()> {
     match office.record(*out.allocator(), record_no) {
         Ok(Some(mut view)) => {
             view.status = Status::Ended;
             view.due = None;
-            tell_view(office, &view, 3, out)
+            report_view(office, &view, 3, out)
         }
         _ => None,
     }
@@ -349,8 +349,8 @@ fn due_text(alloc: Global, office: &Machine, day: Day) -> Result<String, Memory>
     text_of(alloc, &due_value(values))
 }
 
-/// What is told of the records that are due on a day.
-fn tell_due(office: &Machine, day: Day, out: &mut Vec<u8>) -> Option<()> {
+/// What is reported of the records that are due on a day.
+fn report_due(office: &Machine, day: Day, out: &mut Vec<u8>) -> Option<()> {
     let text = due_text(*out.allocator(), office, day).ok()?;
     push(out, text.as_str())
 }
@@ -363,7 +363,7 @@ fn addition(alloc: Global, day: Day, name: &str) -> Option<Act> {
     Some(Act::AddRecord { day, record })
 }
 
-/// Adds so many records to aggregation 1, and tells what is answered to the last.
+/// Adds so many records to aggregation 1, and reports what is answered to the last.
 fn add_records(office: &mut Machine, count: u32, out: &mut Vec<u8>) -> Option<()> {
     let alloc = *out.allocator();
     let day = Day::read("2024-01-02")?;
@@ -376,38 +376,38 @@ fn add_records(office: &mut Machine, count: u32, out: &mut Vec<u8>) -> Option<()
     Some(())
 }
 
-/// What is told of the thing of that number, or so many records are added.
-fn tell_thing(office: &mut Machine, word: &str, number: u32, out: &mut Vec<u8>) -> Option<()> {
+/// What is reported of the thing of that number, or so many records are added.
+fn report_thing(office: &mut Machine, word: &str, number: u32, out: &mut Vec<u8>) -> Option<()> {
     match word {
         "add-records" => add_records(office, number, out),
-        "certificate" => tell_certificate(office, number, out),
-        "record" => tell_record(office, number, out),
-        "record-ended-as-3" => tell_ended(office, number, out),
+        "certificate" => report_certificate(office, number, out),
+        "record" => report_record(office, number, out),
+        "record-ended-as-3" => report_ended(office, number, out),
         _ => None,
     }
 }
 
 /// What an office answers to an act.
-fn tell_act(office: &mut Machine, word: &str, text: &str, out: &mut Vec<u8>) -> Option<()> {
+fn report_act(office: &mut Machine, word: &str, text: &str, out: &mut Vec<u8>) -> Option<()> {
     let act = act_of(*out.allocator(), word, text)?;
     perform(office, &act, out)
 }
 
-/// What is told of an office as a whole, or what it answers to an act.
-fn tell_office(office: &mut Machine, word: &str, text: &str, out: &mut Vec<u8>) -> Option<()> {
+/// What is reported of an office as a whole, or what it answers to an act.
+fn report_office(office: &mut Machine, word: &str, text: &str, out: &mut Vec<u8>) -> Option<()> {
     match word {
-        "spent" => tell_spent(office, out),
+        "spent" => report_spent(office, out),
         "next" => push_next(office.next_in_run(), out),
-        "next-counted" => tell_counted(office, out),
+        "next-counted" => report_counted(office, out),
         "today" => out.extend_from_slice(&office.day().text()).ok(),
-        "last-entry" => tell_last_entry(office, false, out),
-        "last-entry-without-hold" => tell_last_entry(office, true, out),
-        "due" => tell_due(office, Day::read(text)?, out),
-        _ => tell_act(office, word, text, out),
+        "last-entry" => report_last_entry(office, false, out),
+        "last-entry-without-hold" => report_last_entry(office, true, out),
+        "due" => report_due(office, Day::read(text)?, out),
+        _ => report_act(office, word, text, out),
     }
 }
 
-pub(crate) fn tell(
+pub(crate) fn report(
     office: &mut Machine,
     word: &str,
     asked: &[u8],
@@ -415,7 +415,7 @@ pub(crate) fn tell(
 ) -> Option<()> {
     let text = str::from_utf8(asked).ok()?;
     match text.parse::<u32>() {
-        Ok(number) => tell_thing(office, word, number, out),
-        Err(_) => tell_office(office, word, text, out),
+        Ok(number) => report_thing(office, word, number, out),
+        Err(_) => report_office(office, word, text, out),
     }
 }

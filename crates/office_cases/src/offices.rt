@@ -50,7 +50,7 @@ fn form_of(name: &str) -> &'static str {
     }
 }
 
-/// The word for a place of a form; what is no place stands for itself.
+/// The word for a place of a form; what is no place stays as it is.
 fn word_at<'a>(place: &'a str, day: &'a str, ask: &'a str) -> &'a str {
     match place {
         "0" => day,
@@ -65,7 +65,7 @@ fn word_at<'a>(place: &'a str, day: &'a str, ask: &'a str) -> &'a str {
     }
 }
 
-/// Writes out an act that is told in short.
+/// Writes out an act that is reported in short.
 fn write_out(form: &str, day: &str, ask: &str, text: &mut String) -> Option<()> {
     for piece in form.split("$") {
         let (place, rest) = piece.split_at_checked(1)?;
@@ -81,7 +81,7 @@ fn read(alloc: Global, text: &str) -> Option<Act> {
     read_act(alloc, &value).ok()
 }
 
-/// The act that a row tells by its first word and what follows.
+/// The act that a row reports by its first word and what follows.
 pub(crate) fn act_of(alloc: Global, first: &str, rest: &str) -> Option<Act> {
     if first == "act" {
         return read(alloc, rest);
@@ -91,7 +91,7 @@ pub(crate) fn act_of(alloc: Global, first: &str, rest: &str) -> Option<Act> {
     read(alloc, text.as_str())
 }
 
-/// Makes a change, and tells its answer.
+/// Makes a change, and reports its answer.
 fn make(office: &mut Machine, change: Change, out: &mut Vec<u8>) -> Option<()>
     requires { CanBeMade office.old change }
 {
@@ -102,7 +102,7 @@ fn make(office: &mut Machine, change: Change, out: &mut Vec<u8>) -> Option<()>
     }
 }
 
-/// Tells what the office answers to an act, which is done where it is accepted.
+/// Reports what the office answers to an act, which is done where it is accepted.
 pub(crate) fn perform(office: &mut Machine, act: &Act, out: &mut Vec<u8>) -> Option<()> {
     match office.decide(*out.allocator(), act) {
         Ok(Decision::Stay(answer)) => push_answer(out, answer),

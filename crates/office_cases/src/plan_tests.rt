@@ -34,7 +34,7 @@ record 1 - - 2024-01-02 2024-01-02
 record 1 - - 2024-01-02 2024-01-02
 ";
 
-/// `CLOSED`, `TWO` and `EVENT` stand for those files.
+/// `CLOSED`, `TWO` and `EVENT` represent those files.
 pub(crate) const ROWS: &str = r"
     plan CLOSED = 1 2024-04-01\n2 -\n3 -\n
     plan TWO + \n = 1 2025-01-02\n2 2025-02-28\n
@@ -95,7 +95,7 @@ pub(crate) const ROWS: &str = r"
 ";
 
 /// What is printed of a file, or the line that is refused, where nothing is printed.
-fn tell_plan(mut file: &[u8], out: &mut Vec<u8>) -> Option<()> {
+fn report_plan(mut file: &[u8], out: &mut Vec<u8>) -> Option<()> {
     match plan_to(*out.allocator(), &mut file, out) {
         Ok(None) => Some(()),
         Ok(Some((line, refusal))) if out.is_empty() => {
@@ -107,7 +107,7 @@ fn tell_plan(mut file: &[u8], out: &mut Vec<u8>) -> Option<()> {
 }
 
 /// A reader that breaks after each number of bytes, for which nothing is printed.
-fn tell_reader(file: &[u8], out: &mut Vec<u8>) -> Option<()> {
+fn report_reader(file: &[u8], out: &mut Vec<u8>) -> Option<()> {
     for end in 0..file.len() {
         let mut reader = Sent::breaking(&file[..end]);
         if plan_to(*out.allocator(), &mut reader, out) != Err(PlanStop::Io) || !out.is_empty() {
@@ -124,7 +124,7 @@ fn plan_into(alloc: Global, mut file: &[u8], room: usize) -> Result<bool, PlanSt
 }
 
 /// A writer with room for fewer bytes than the 26 that are printed, and one with room for them.
-fn tell_writer(file: &[u8], out: &mut Vec<u8>) -> Option<()> {
+fn report_writer(file: &[u8], out: &mut Vec<u8>) -> Option<()> {
     let alloc = *out.allocator();
     for room in 0..26 {
         if plan_into(alloc, file, room) != Err(PlanStop::Io) {
@@ -137,11 +137,11 @@ fn tell_writer(file: &[u8], out: &mut Vec<u8>) -> Option<()> {
     }
 }
 
-pub(crate) fn tell(word: &str, file: &[u8], out: &mut Vec<u8>) -> Option<()> {
+pub(crate) fn report(word: &str, file: &[u8], out: &mut Vec<u8>) -> Option<()> {
     match word {
-        "plan" => tell_plan(file, out),
-        "reader" => tell_reader(file, out),
-        "writer" => tell_writer(file, out),
+        "plan" => report_plan(file, out),
+        "reader" => report_reader(file, out),
+        "writer" => report_writer(file, out),
         _ => None,
     }
 }

@@ -36,13 +36,13 @@ pub(crate) const ROWS: &str = "
 ";
 
 /// The digits of the digest of a content.
-fn tell_digest(content: &[u8], out: &mut Vec<u8>) -> Option<()> {
+fn report_digest(content: &[u8], out: &mut Vec<u8>) -> Option<()> {
     let digits = hex::encode(*out.allocator(), &digest_of(content)).ok()?;
     push(out, digits.as_str())
 }
 
 /// The outcome of a word, and the word of that outcome.
-fn tell_outcome(word: &str, out: &mut Vec<u8>) -> Option<()> {
+fn report_outcome(word: &str, out: &mut Vec<u8>) -> Option<()> {
     match Outcome::read(word) {
         None => push(out, "none"),
         Some(outcome) => write!(out, "{outcome:?} {}", outcome.text()).ok(),
@@ -58,7 +58,7 @@ fn push_code(code: &Code, out: &mut Vec<u8>) -> Option<()> {
 }
 
 /// The code that a text is.
-fn tell_code(text: &str, out: &mut Vec<u8>) -> Option<()> {
+fn report_code(text: &str, out: &mut Vec<u8>) -> Option<()> {
     match Code::read(*out.allocator(), text) {
         Ok(Some(code)) => push_code(&code, out),
         Ok(None) => push(out, "none"),
@@ -75,7 +75,7 @@ fn push_text(text: &Text, out: &mut Vec<u8>) -> Option<()> {
 }
 
 /// The line in words that a text is.
-fn tell_text(text: &str, out: &mut Vec<u8>) -> Option<()> {
+fn report_text(text: &str, out: &mut Vec<u8>) -> Option<()> {
     match Text::read(*out.allocator(), text) {
         Ok(Some(text)) => push_text(&text, out),
         Ok(None) => push(out, "none"),
@@ -83,13 +83,13 @@ fn tell_text(text: &str, out: &mut Vec<u8>) -> Option<()> {
     }
 }
 
-pub(crate) fn tell(word: &str, asked: &[u8], out: &mut Vec<u8>) -> Option<()> {
+pub(crate) fn report(word: &str, asked: &[u8], out: &mut Vec<u8>) -> Option<()> {
     let text = str::from_utf8(asked).ok()?;
     match word {
-        "digest" => tell_digest(asked, out),
-        "outcome" => tell_outcome(text, out),
-        "code" => tell_code(text, out),
-        "text" => tell_text(text, out),
+        "digest" => report_digest(asked, out),
+        "outcome" => report_outcome(text, out),
+        "code" => report_code(text, out),
+        "text" => report_text(text, out),
         "status" => write!(out, "{:?}", Status::read(text)).ok(),
         _ => None,
     }

@@ -3,8 +3,8 @@ use crate::streams::{Narrow, Sent};
 use httparse::spans::HeaderSpan;
 use office_base::Io;
 use office_http::{
-    Allow, Body, Failure, Head, Kind, LONGEST_HEAD, Plan, Reply, Routes, Status, check_reply,
-    failure_reply, is_head_in, plan_in, read_head, write_reply,
+    Allow, Body, Failure, Head, Kind, LONGEST_HEAD, Reply, RequestPlan, Routes, Status,
+    check_reply, failure_reply, is_head_in, plan_in, read_head, write_reply,
 };
 use std::io::Write;
 
@@ -53,7 +53,7 @@ fn fails_at_each_byte(reply: &Reply, is_head: bool, size: usize, status: u16) ->
 }
 
 /// An answer with its status and its size.
-fn tell_reply(reply: &Reply, is_head: bool, out: &mut Vec<u8>) -> Option<()> {
+fn report_reply(reply: &Reply, is_head: bool, out: &mut Vec<u8>) -> Option<()> {
     let mut answer = Vec::new(*out.allocator());
     match write_reply(reply, is_head, &mut answer) {
         Ok(status) if fails_at_each_byte(reply, is_head, answer.len(), status) => {
@@ -65,7 +65,7 @@ fn tell_reply(reply: &Reply, is_head: bool, out: &mut Vec<u8>) -> Option<()> {
 }
 
 /// The answer to a head that does not pass a check, read in pieces.
-fn tell_refused(most: usize, bytes: &[u8], out: &mut Vec<u8>) -> Option<()> {
+fn report_refused(most: usize, bytes: &[u8], out: &mut Vec<u8>) -> Option<()> {
     let alloc = *out.allocator();
     let routes = Routes::new(alloc).ok()?;
     let mut buf = Vec::with_capacity(alloc, LONGEST_HEAD).ok()?;
@@ -76,7 +76,7 @@ fn tell_refused(most: usize, bytes: &[u8], out: &mut Vec<u8>) -> Option<()> {
     };
     let is_head = is_head_in(&buf, &head);
     match plan_in(&routes, &buf, &head, &headers) {
-        Plan::Refuse(check) => tell_reply(&check_reply(check), is_head, out),
+        RequestPlan::Refuse(check) => report_reply(&check_reply(check), is_head, out),
         _ => None,
     }
 }
@@ -98,25 +98,25 @@ fn failure_of(word: &str) -> Option<Failure> {
 }
 
 /// The answer to a failure.
-fn tell_failure(bytes: &[u8], out: &mut Vec<u8>) -> Option<()> {
+fn report_failure(bytes: &[u8], out: &mut Vec<u8>) -> Option<()> {
     let failure = failure_of(str::from_utf8(bytes).ok()?)?;
-    tell_reply(&failure_reply(failure), false, out)
+    report_reply(&failure_reply(failure), false, out)
 }
 
 /// What was asked for, as a text.
-fn tell_text(bytes: &[u8], out: &mut Vec<u8>) -> Option<()> {
+fn report_text(bytes: &[u8], out: &mut Vec<u8>) -> Option<()> {
     let text = String::from_str(*out.allocator(), str::from_utf8(bytes).ok()?).ok()?;
     let reply = Reply {
-        status: Status::Fine,
+        status: Status::Ok,
         kind: Kind::Plain,
         allow: Allow::Any,
         body: Body::Text(text),
     };
-    tell_reply(&reply, false, out)
+    report_reply(&reply, false, out)
 }
 
 /// A refusal, as octets.
-fn tell_octets(bytes: &[u8], out: &mut Vec<u8>) -> Option<()> {
+fn report_octets(bytes: &[u8], out: &mut Vec<u8>) -> Option<()> {
     let octets = Vec::from_slice(*out.allocator(), bytes).ok()?;
     let reply = Reply {
         status: Status::Conflict,
@@ -124,15 +124,15 @@ fn tell_octets(bytes: &[u8], out: &mut Vec<u8>) -> Option<()> {
         allow: Allow::Any,
         body: Body::Bytes(octets),
     };
-    tell_reply(&reply, false, out)
+    report_reply(&reply, false, out)
 }
 
-pub(crate) fn tell(most: usize, word: &str, bytes: &[u8], out: &mut Vec<u8>) -> Option<()> {
+pub(crate) fn report(most: usize, word: &str, bytes: &[u8], out: &mut Vec<u8>) -> Option<()> {
     match word {
-        "reply" => tell_refused(most, bytes, out),
-        "failure" => tell_failure(bytes, out),
-        "text" => tell_text(bytes, out),
-        "octets" => tell_octets(bytes, out),
+        "reply" => report_refused(most, bytes, out),
+        "failure" => report_failure(bytes, out),
+        "text" => report_text(bytes, out),
+        "octets" => report_octets(bytes, out),
         _ => None,
     }
 }

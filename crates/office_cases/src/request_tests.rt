@@ -5,10 +5,10 @@ use crate::streams::Sent;
 use crate::written::push;
 use httparse::spans::HeaderSpan;
 use office_base::{Io, Stop};
-use office_http::{Head, LONGEST_HEAD, Plan, Routes, plan_in, read_body, read_head};
+use office_http::{Head, LONGEST_HEAD, RequestPlan, Routes, plan_in, read_body, read_head};
 use std::io::Write;
 
-/// What is done for a head; a day is told by its number, and 19782 is that of 2024-02-29.
+/// What is done for a head; a day is reported by its number, and 19782 is that of 2024-02-29.
 pub(crate) const HEADS: &str = r"
     # hosts of each version
     plan POST /acts HTTP/1.1\r\nContent-Length: 2\r\n\r\n = Refuse(Host)
@@ -118,12 +118,12 @@ pub(crate) const BODIES: &str = r#"
 "#;
 
 /// Appends what is done for a head.
-fn push_plan(plan: Plan, out: &mut Vec<u8>) -> Option<()> {
+fn push_plan(plan: RequestPlan, out: &mut Vec<u8>) -> Option<()> {
     write!(out, "{plan:?}").ok()
 }
 
 /// What is done for the head of some bytes that come in pieces.
-fn tell_plan(most: usize, bytes: &[u8], out: &mut Vec<u8>) -> Option<()> {
+fn report_plan(most: usize, bytes: &[u8], out: &mut Vec<u8>) -> Option<()> {
     let alloc = *out.allocator();
     let routes = Routes::new(alloc).ok()?;
     let mut buf = Vec::with_capacity(alloc, LONGEST_HEAD).ok()?;
@@ -144,7 +144,7 @@ fn push_body(out: &mut Vec<u8>, whole: bool, body: &[u8]) -> Option<()> {
 }
 
 /// The body of twenty bytes that follows a head, and whether it is whole.
-fn tell_body(most: usize, bytes: &[u8], out: &mut Vec<u8>) -> Option<()> {
+fn report_body(most: usize, bytes: &[u8], out: &mut Vec<u8>) -> Option<()> {
     let mut reader = Sent::in_pieces(bytes, most);
     let mut buf = Vec::with_capacity(*out.allocator(), LONGEST_HEAD).ok()?;
     let mut headers = [HeaderSpan::default(); 64];
@@ -161,8 +161,8 @@ fn tell_body(most: usize, bytes: &[u8], out: &mut Vec<u8>) -> Option<()> {
     }
 }
 
-/// Whether a reader that breaks after these bytes is told as failing, for a head and for a body.
-fn is_told_as_broken(bytes: &[u8], buf: &mut Vec<u8>) -> bool
+/// Whether a reader that breaks after these bytes is reported as failing, for a head and for a body.
+fn is_reported_as_broken(bytes: &[u8], buf: &mut Vec<u8>) -> bool
     requires { 16_384 ≤ vec_capacity buf.old }
 {
     let mut headers = [HeaderSpan::default(); 64];
@@ -173,21 +173,21 @@ fn is_told_as_broken(bytes: &[u8], buf: &mut Vec<u8>) -> bool
 }
 
 /// A reader that breaks before each of these bytes.
-fn tell_reader(bytes: &[u8], out: &mut Vec<u8>) -> Option<()> {
+fn report_reader(bytes: &[u8], out: &mut Vec<u8>) -> Option<()> {
     for end in 0..bytes.len() {
         let mut buf = Vec::with_capacity(*out.allocator(), LONGEST_HEAD).ok()?;
-        if !is_told_as_broken(&bytes[..end], &mut buf) {
+        if !is_reported_as_broken(&bytes[..end], &mut buf) {
             return None;
         }
     }
     push(out, "fails before each byte")
 }
 
-pub(crate) fn tell(most: usize, word: &str, bytes: &[u8], out: &mut Vec<u8>) -> Option<()> {
+pub(crate) fn report(most: usize, word: &str, bytes: &[u8], out: &mut Vec<u8>) -> Option<()> {
     match word {
-        "plan" => tell_plan(most, bytes, out),
-        "body" => tell_body(most, bytes, out),
-        "reader" => tell_reader(bytes, out),
+        "plan" => report_plan(most, bytes, out),
+        "body" => report_body(most, bytes, out),
+        "reader" => report_reader(bytes, out),
         _ => None,
     }
 }

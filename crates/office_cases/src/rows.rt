@@ -9,7 +9,7 @@ use office_machine::Machine;
 use std::alloc::Global;
 use std::test::Fail;
 
-/// The word of a text at that place from 0, or an empty one where there are fewer: words stand between
+/// The word of a text at that place from 0, or an empty one where there are fewer: words are between
 /// spaces, or between bars where there are any.
 pub(crate) fn word(text: &str, at: usize) -> &str {
     let between = if text.contains("|") { "|" } else { " " };
@@ -39,8 +39,8 @@ pub(crate) enum Subject {
     Replies(usize),
 }
 
-/// What is told of a row by its first word and the bytes that it asks about.
-fn tell(
+/// What is reported of a row by its first word and the bytes that it asks about.
+fn report(
     subject: Subject,
     office: &mut Machine,
     holds: &mut Holds,
@@ -49,16 +49,16 @@ fn tell(
     out: &mut Vec<u8>,
 ) -> Option<()> {
     match subject {
-        Subject::Acts => act_tests::tell(word, asked, out),
-        Subject::Answers => answer_tests::tell(word, asked, out),
-        Subject::Days => due_tests::tell(word, asked, out),
-        Subject::Holds => hold_tests::tell(office, holds, word, asked, out),
-        Subject::Offices => office_tests::tell(office, word, asked, out),
-        Subject::Plans => plan_tests::tell(word, asked, out),
-        Subject::Digests => proof_tests::tell(word, asked, out),
-        Subject::Words => word_tests::tell(word, asked, out),
-        Subject::Requests(most) => request_tests::tell(most, word, asked, out),
-        Subject::Replies(most) => reply_tests::tell(most, word, asked, out),
+        Subject::Acts => act_tests::report(word, asked, out),
+        Subject::Answers => answer_tests::report(word, asked, out),
+        Subject::Days => due_tests::report(word, asked, out),
+        Subject::Holds => hold_tests::report(office, holds, word, asked, out),
+        Subject::Offices => office_tests::report(office, word, asked, out),
+        Subject::Plans => plan_tests::report(word, asked, out),
+        Subject::Digests => proof_tests::report(word, asked, out),
+        Subject::Words => word_tests::report(word, asked, out),
+        Subject::Requests(most) => request_tests::report(most, word, asked, out),
+        Subject::Replies(most) => reply_tests::report(most, word, asked, out),
     }
 }
 
@@ -79,24 +79,24 @@ fn row_of(alloc: Global, line: &str) -> Option<(&str, Vec<u8>, Vec<u8>)> {
     }
 }
 
-/// Whether what is told of a row is its answer.
+/// Whether what is reported of a row is its answer.
 fn is_met(
     alloc: Global,
     subject: Subject,
     office: &mut Machine,
     holds: &mut Holds,
     row: &str,
-    told: &mut Vec<u8>,
+    reported: &mut Vec<u8>,
 ) -> bool {
     match row_of(alloc, row) {
         Some((word, asked, wanted)) => {
-            tell(subject, office, holds, word, &asked, told).is_some() && *told == wanted
+            report(subject, office, holds, word, &asked, reported).is_some() && *reported == wanted
         }
         None => false,
     }
 }
 
-/// Tells the rows of a subject, each of which must have its answer.
+/// Reports the rows of a subject, each of which must have its answer.
 fn must_go(
     alloc: Global,
     subject: Subject,
@@ -104,18 +104,18 @@ fn must_go(
     holds: &mut Holds,
     rows: &str,
 ) -> Result<(), Fail> {
-    let mut told = Vec::new(alloc);
+    let mut reported = Vec::new(alloc);
     for (before, line) in rows.lines().enumerate() {
         let row = line.trim();
-        told.clear();
-        if is_row(row) && !is_met(alloc, subject, office, holds, row, &mut told) {
+        reported.clear();
+        if is_row(row) && !is_met(alloc, subject, office, holds, row, &mut reported) {
             return Err(Fail::new(format_args!("line {before}: {row}")));
         }
     }
     Ok(())
 }
 
-/// The rows of a subject must hold, told to a new office after those of a start.
+/// The rows of a subject must hold, reported to a new office after those of a start.
 pub(crate) fn must_hold(
     alloc: Global,
     subject: Subject,

@@ -7,7 +7,7 @@ use office_words::{Order, Register, disk_of, order_of, read_words};
 use std::io::Write;
 
 /// Each row is a command line, or a variable with its value, where it is set. A refusal is that of an operand; what is no
-/// command of the program is told by the kind of the error of `clap`.
+/// command of the program is reported by the kind of the error of `clap`.
 pub(crate) const ROWS: &str = "
     words office due years 7 from-month-4 2017-06-30 = due years 7 from-month-4 2017-06-30
     words office plan tree.txt = plan tree.txt
@@ -112,7 +112,7 @@ fn push_all(out: &mut Vec<u8>, words: &[&str]) -> Option<()> {
 }
 
 /// The register that is ordered.
-fn tell_register(register: &Register, out: &mut Vec<u8>) -> Option<()> {
+fn report_register(register: &Register, out: &mut Vec<u8>) -> Option<()> {
     match register {
         Register::Entries => push(out, "entries"),
         Register::Due(day) => push_day(out, *day),
@@ -124,7 +124,7 @@ fn tell_register(register: &Register, out: &mut Vec<u8>) -> Option<()> {
 }
 
 /// What is ordered.
-fn tell_order(order: &Order<'_>, out: &mut Vec<u8>) -> Option<()> {
+fn report_order(order: &Order<'_>, out: &mut Vec<u8>) -> Option<()> {
     match order {
         Order::Due {
             unit,
@@ -145,10 +145,10 @@ fn tell_order(order: &Order<'_>, out: &mut Vec<u8>) -> Option<()> {
             .and(push_day(out, *day))
             .and(push_all(out, &["", file, csv])),
         Order::Export { file, register } => push(out, "export ")
-            .and(tell_register(register, out))
+            .and(report_register(register, out))
             .and(push_all(out, &["", file])),
         Order::Overdue { file, day, days } => push(out, "overdue ")
-            .and(tell_register(&Register::Overdue(*day, *days), out))
+            .and(report_register(&Register::Overdue(*day, *days), out))
             .and(push_all(out, &["", file])),
         Order::Serve { file, port, count } => {
             write!(out, "serve {port} {count}")
@@ -160,10 +160,10 @@ fn tell_order(order: &Order<'_>, out: &mut Vec<u8>) -> Option<()> {
 }
 
 /// What some words order.
-fn tell_words(words: &[&str], out: &mut Vec<u8>) -> Option<()> {
+fn report_words(words: &[&str], out: &mut Vec<u8>) -> Option<()> {
     match read_words(*out.allocator(), words) {
         Ok(words) => match order_of(words) {
-            Ok(order) => tell_order(&order, out),
+            Ok(order) => report_order(&order, out),
             Err(refusal) => push_refused(out, refusal),
         },
         Err(error) => write!(out, "{:?}", error.kind()).ok(),
@@ -171,7 +171,7 @@ fn tell_words(words: &[&str], out: &mut Vec<u8>) -> Option<()> {
 }
 
 /// The disk that a variable names.
-fn tell_disk(words: &[&str], out: &mut Vec<u8>) -> Option<()> {
+fn report_disk(words: &[&str], out: &mut Vec<u8>) -> Option<()> {
     match disk_of(words.get(1).copied()) {
         Ok(disk) => write!(out, "{disk:?}").ok(),
         Err(error) => write!(out, "{error}").ok(),
@@ -179,11 +179,11 @@ fn tell_disk(words: &[&str], out: &mut Vec<u8>) -> Option<()> {
 }
 
 /// What the words of a row order, or the disk that its variable names. With memory at hand, its want is no answer.
-pub(crate) fn tell(word: &str, asked: &[u8], out: &mut Vec<u8>) -> Option<()> {
+pub(crate) fn report(word: &str, asked: &[u8], out: &mut Vec<u8>) -> Option<()> {
     let text = str::from_utf8(asked).ok()?;
     let words = words_of(*out.allocator(), text)?;
     match word {
-        "disk" => tell_disk(&words, out),
-        _ => tell_words(&words, out),
+        "disk" => report_disk(&words, out),
+        _ => report_words(&words, out),
     }
 }

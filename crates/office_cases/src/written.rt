@@ -1,7 +1,7 @@
 //! Bytes as rows write them.
 use crate::plan_tests::{CLOSED, EVENT, TWO};
 
-/// The byte that a letter after a backslash stands for.
+/// The byte that a letter after a backslash represents.
 fn escaped(letter: u8) -> u8 {
     match letter {
         b'r' => b'\r',
@@ -29,7 +29,7 @@ fn push_text(out: &mut Vec<u8>, text: &str) -> Option<()> {
     Some(())
 }
 
-/// Appends a piece that stands once.
+/// Appends a piece that is once.
 fn push_named(out: &mut Vec<u8>, piece: &str) -> Option<()> {
     match piece {
         "nothing" => Some(()),
@@ -59,7 +59,7 @@ pub(crate) fn push_bytes(out: &mut Vec<u8>, written: &str) -> Option<()> {
     Some(())
 }
 
-/// Appends a text as it stands.
+/// Appends a text as it is.
 pub(crate) fn push(out: &mut Vec<u8>, text: &str) -> Option<()> {
     out.extend_from_slice(text.as_bytes()).ok()
 }

@@ -8,7 +8,7 @@ use Rattle.office_base.specs.declared.refusal.Refusal.TheVariants.{BadText}
 use Rattle.office_terms.specs.Codes.{code_named}
 use Rattle.office_terms.specs.TextForms.{text_named}
 use Rattle.office_rules.specs.declared.new_record.NewRecord.{NewRecord}
-use Rattle.office_json.specs.Acts.{AskedRecord, told}
+use Rattle.office_json.specs.Acts.{AskedRecord, reported}
 use Rattle.office_json.specs.Contents.{content_named, content_of}
 use Rattle.office_json.specs.Parts.{both, fault_of, made}
 use Rattle.office_json.specs.declared.read_fault.ReadFault.{ReadFault}
@@ -81,10 +81,10 @@ record_asked row =
     (both (both (both (words_field row.ref_text) (words_field row.title)) (both (day_field row.originated) (thing_number row.aggregation)))
     (both (both (code_field row.class) (code_field row.schedule)) (content_of (content_named row.content))))
 
--- why no record was read of a row: it is refused, or memory was wanting
+-- why no record was read of a row: it is refused, or memory ran out
 abbrev pub IsRowFault : Fields → ReadFault → Type 0
 IsRowFault row fault = (fault ≡ Memory) ⊎ (fault ≡ fault_of (record_asked row))
 
 -- what was read of a row is what it asks to add, or why nothing was
 abbrev pub IsRowRead : Fields → Result NewRecord ReadFault → Type 0
-IsRowRead row read = MatchResult read (λ new. record_asked row ≡ Ok (told new)) (λ fault. IsRowFault row fault)
+IsRowRead row read = MatchResult read (λ new. record_asked row ≡ Ok (reported new)) (λ fault. IsRowFault row fault)

@@ -8,7 +8,7 @@ use Rattle.csv.specs.declared.reader.Reader.{Reader}
 use Rattle.csv.specs.declared.reader.Trim.TheVariants as trim
 use Rattle.office_csv.specs.ImportRows.{Fields, fields_in, is_header}
 
--- a reader that reads rows of any length as they stand
+-- a reader that reads rows of any length as they are
 pub record IsPlain {R : Type 0} (rdr : Reader R) : Type 0 where
   pub config : reader_config rdr ≡ default_config
   pub trim : reader_trim rdr ≡ trim.None
@@ -49,11 +49,11 @@ abbrev pub AreTexts : List Fields → Type 0
 AreTexts [] = ⊤
 AreTexts (row ∷ rows) = AllText (fields_in row) × AreTexts rows
 
--- rows of seven fields at the front of a text, and what is left after them, where the text is known
-abbrev pub AreAtFront : State → Option (List ℕ) → List Fields → State → Option (List ℕ) → Type 0
-AreAtFront s None rows s2 rest = ⊤
-AreAtFront s (Some text) rows s2 None = ⊥
-AreAtFront s (Some text) rows s2 (Some rest) = Reached default_config s text (map fields_in rows) s2 rest × AreTexts rows
+-- rows of seven fields at the head of a text, and what is left after them, where the text is known
+abbrev pub AreAtPrefix : State → Option (List ℕ) → List Fields → State → Option (List ℕ) → Type 0
+AreAtPrefix s None rows s2 rest = ⊤
+AreAtPrefix s (Some text) rows s2 None = ⊥
+AreAtPrefix s (Some text) rows s2 (Some rest) = Reached default_config s text (map fields_in rows) s2 rest × AreTexts rows
 
 -- no row is left
 abbrev pub IsEnded : State → Option (List ℕ) → Type 0

@@ -11,7 +11,7 @@ use Rattle.office_days.specs.Due.{deadline_from}
 use Rattle.office_days.specs.Texts.{day_text}
 use Rattle.office_terms.specs.Words.{action_word}
 use Rattle.office_proof.specs.Outcomes.{outcome_word}
-use Rattle.office_rules.specs.Registers.{DueTold, EntryTold}
+use Rattle.office_rules.specs.Registers.{DueRowView, EntryView}
 
 -- a row of a register, with its line feed
 abbrev pub row_of : List (List ℕ) → List ℕ
@@ -32,18 +32,18 @@ abbrev pub due_columns : List (List ℕ)
 due_columns = codes "record" ∷ codes "ref" ∷ codes "class" ∷ codes "schedule" ∷ codes "action" ∷ codes "due" ∷ codes "held" ∷ codes "confirmed" ∷ []
 
 -- a record that is due: the least hold that covers it, or nothing, and whether a confirmation of it counts
-abbrev pub due_fields : DueTold → List (List ℕ)
+abbrev pub due_fields : DueRowView → List (List ℕ)
 due_fields r =
     decimal r.number ∷ r.ref_text ∷ r.class ∷ r.schedule ∷ action_word r.action ∷ day_field r.due ∷ unwrap_or r.held [] ∷ yes_or_no r.counts ∷ []
 
-unfoldable pub due_line : DueTold → List ℕ
+unfoldable pub due_line : DueRowView → List ℕ
 due_line r = row_of (due_fields r)
 
-abbrev pub due_lines : List DueTold → List ℕ
+abbrev pub due_lines : List DueRowView → List ℕ
 due_lines rows = flat_map due_line rows
 
 -- the due register: its columns, and then a line for each row
-abbrev pub due_register : List DueTold → List ℕ
+abbrev pub due_register : List DueRowView → List ℕ
 due_register rows = row_of due_columns ++ due_lines rows
 
 -- ---- what is overdue
@@ -52,18 +52,18 @@ abbrev pub overdue_columns : List (List ℕ)
 overdue_columns = codes "record" ∷ codes "ref" ∷ codes "class" ∷ codes "schedule" ∷ codes "action" ∷ codes "due" ∷ codes "deadline" ∷ codes "held" ∷ []
 
 -- a record that is overdue: its deadline, so many days after its due day, and the least hold that covers it, or nothing
-abbrev pub overdue_fields : ℕ → DueTold → List (List ℕ)
+abbrev pub overdue_fields : ℕ → DueRowView → List (List ℕ)
 overdue_fields n r =
     decimal r.number ∷ r.ref_text ∷ r.class ∷ r.schedule ∷ action_word r.action ∷ day_field r.due ∷ day_field (deadline_from r.due n) ∷ unwrap_or r.held [] ∷ []
 
-unfoldable pub overdue_line : ℕ → DueTold → List ℕ
+unfoldable pub overdue_line : ℕ → DueRowView → List ℕ
 overdue_line n r = row_of (overdue_fields n r)
 
-abbrev pub overdue_lines : ℕ → List DueTold → List ℕ
+abbrev pub overdue_lines : ℕ → List DueRowView → List ℕ
 overdue_lines n rows = flat_map (overdue_line n) rows
 
 -- the overdue register: its columns, and then a line for each row
-abbrev pub overdue_register : ℕ → List DueTold → List ℕ
+abbrev pub overdue_register : ℕ → List DueRowView → List ℕ
 overdue_register n rows = row_of overdue_columns ++ overdue_lines n rows
 
 -- ---- the entries
@@ -73,17 +73,17 @@ entry_columns =
     codes "run" ∷ codes "record" ∷ codes "ref" ∷ codes "outcome" ∷ codes "class" ∷ codes "schedule" ∷ codes "due" ∷ codes "hold" ∷ codes "confirmed_by" ∷ codes "length" ∷ codes "digest" ∷ []
 
 -- an entry, the ref of its record, and length and SHA-256 of what was its content
-abbrev pub entry_fields : EntryTold → List (List ℕ)
+abbrev pub entry_fields : EntryView → List (List ℕ)
 entry_fields it =
     decimal it.entry.run ∷ decimal it.entry.record_no ∷ it.ref_text ∷ outcome_word it.entry.outcome ∷ it.entry.class ∷ it.entry.schedule
     ∷ day_field it.entry.due ∷ unwrap_or it.entry.hold [] ∷ it.entry.confirmed_by ∷ decimal it.length ∷ encode_lower it.digest ∷ []
 
-unfoldable pub entry_line : EntryTold → List ℕ
+unfoldable pub entry_line : EntryView → List ℕ
 entry_line it = row_of (entry_fields it)
 
-abbrev pub entry_lines : List EntryTold → List ℕ
+abbrev pub entry_lines : List EntryView → List ℕ
 entry_lines rows = flat_map entry_line rows
 
 -- the register of entries: its columns, and then a line for each row
-abbrev pub entry_register : List EntryTold → List ℕ
+abbrev pub entry_register : List EntryView → List ℕ
 entry_register rows = row_of entry_columns ++ entry_lines rows

@@ -5,7 +5,7 @@ ghost use Rattle.std.specs.Io.KnownBytes.{Appends};
 ghost use Rattle.std.specs.Option.{option_copied, unwrap_or};
 ghost use Rattle.std.specs.String.{string_bytes};
 ghost use Rattle.office_terms.specs.Words.{action_word};
-ghost use Rattle.office_rules.specs.Registers.{due_told};
+ghost use Rattle.office_rules.specs.Registers.{due_reported};
 ghost use Rattle.office_csv.specs.Registers.{day_field, due_columns, due_line, row_of, yes_or_no};
 
 use crate::fields::{code_field, due_field, number_field, put_row, row_of};
@@ -15,17 +15,17 @@ use std::alloc::Global;
 use std::io::Write;
 
 /// Whether a confirmation of the record counts, in a word.
-fn counts_word<'a>(told: &'a DueRow<'a>) -> &'a str
-    ensures { result.now ≡ yes_or_no told.now.counts }
+fn counts_word<'a>(reported: &'a DueRow<'a>) -> &'a str
+    ensures { result.now ≡ yes_or_no reported.now.counts }
 {
-    if told.counts { "yes" } else { "no" }
+    if reported.counts { "yes" } else { "no" }
 }
 
 /// The word for the action.
-pub(crate) fn action_of<'a>(told: &'a DueRow<'a>) -> &'a str
-    ensures { result.now ≡ action_word told.now.action }
+pub(crate) fn action_of<'a>(reported: &'a DueRow<'a>) -> &'a str
+    ensures { result.now ≡ action_word reported.now.action }
 {
-    told.action.text()
+    reported.action.text()
 }
 
 /// The header of the due register.
@@ -55,48 +55,48 @@ struct Written {
 }
 
 /// They, of a row.
-fn texts_of(alloc: Global, told: &DueRow<'_>) -> Result<Written, Memory>
-    ensures number { IfOk result (λ it. string_bytes it.number ≡ decimal told.now.number) }
-    ensures due { IfOk result (λ it. it.due.items ≡ day_field told.now.due) }
+fn texts_of(alloc: Global, reported: &DueRow<'_>) -> Result<Written, Memory>
+    ensures number { IfOk result (λ it. string_bytes it.number ≡ decimal reported.now.number) }
+    ensures due { IfOk result (λ it. it.due.items ≡ day_field reported.now.due) }
 {
     Ok(Written {
-        number: number_field(alloc, told.number)?,
-        due: due_field(alloc, told.due)?,
+        number: number_field(alloc, reported.number)?,
+        due: due_field(alloc, reported.due)?,
     })
 }
 
 /// The line of a row, and what is written of it.
 fn line_written<'a>(
     alloc: Global,
-    told: &'a DueRow<'a>,
+    reported: &'a DueRow<'a>,
     texts: &'a Written,
 ) -> Result<Vec<u8>, Memory>
     ensures { IfOk result (λ row. row.items ≡ row_of (
-        string_bytes texts.now.number ∷ told.now.ref_text.now ∷ told.now.class.now ∷ told.now.schedule.now ∷ action_word told.now.action ∷ texts.now.due.items
-        ∷ unwrap_or (option_copied told.now.held) [] ∷ yes_or_no told.now.counts ∷ [])) }
+        string_bytes texts.now.number ∷ reported.now.ref_text.now ∷ reported.now.class.now ∷ reported.now.schedule.now ∷ action_word reported.now.action ∷ texts.now.due.items
+        ∷ unwrap_or (option_copied reported.now.held) [] ∷ yes_or_no reported.now.counts ∷ [])) }
 {
     row_of(
         alloc,
         &[
             texts.number.as_bytes(),
-            told.ref_text.text().as_bytes(),
-            told.class.text().as_bytes(),
-            told.schedule.text().as_bytes(),
-            action_of(told).as_bytes(),
+            reported.ref_text.text().as_bytes(),
+            reported.class.text().as_bytes(),
+            reported.schedule.text().as_bytes(),
+            action_of(reported).as_bytes(),
             texts.due.as_slice(),
-            code_field(told.held).as_bytes(),
-            counts_word(told).as_bytes(),
+            code_field(reported.held).as_bytes(),
+            counts_word(reported).as_bytes(),
         ],
     )
 }
 
 /// The line of a row.
 #[tactic(auto, unfolding(crate::specs::Registers::due_line))]
-fn due_line(alloc: Global, told: &DueRow<'_>) -> Result<Vec<u8>, Memory>
-    ensures { IfOk result (λ row. row.items ≡ due_line (due_told told.now)) }
+fn due_line(alloc: Global, reported: &DueRow<'_>) -> Result<Vec<u8>, Memory>
+    ensures { IfOk result (λ row. row.items ≡ due_line (due_reported reported.now)) }
 {
-    let texts = texts_of(alloc, told)?;
-    line_written(alloc, told, &texts)
+    let texts = texts_of(alloc, reported)?;
+    line_written(alloc, reported, &texts)
 }
 
 /// Writes the header of the due register.
@@ -108,9 +108,13 @@ pub fn write_due_header<W: Write>(alloc: Global, out: &mut W) -> Result<(), Stop
 }
 
 /// Writes the line of a record that is due.
-pub fn write_due_line<W: Write>(alloc: Global, told: &DueRow<'_>, out: &mut W) -> Result<(), Stop>
-    ensures { OnOk result (Appends (W.contents out.old) (W.contents out.new) (due_line (due_told told.now))) }
+pub fn write_due_line<W: Write>(
+    alloc: Global,
+    reported: &DueRow<'_>,
+    out: &mut W,
+) -> Result<(), Stop>
+    ensures { OnOk result (Appends (W.contents out.old) (W.contents out.new) (due_line (due_reported reported.now))) }
 {
-    let line = due_line(alloc, told)?;
+    let line = due_line(alloc, reported)?;
     put_row(out, &line)
 }

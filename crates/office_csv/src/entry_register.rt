@@ -6,7 +6,7 @@ ghost use Rattle.std.specs.Option.{unwrap_or};
 ghost use Rattle.std.specs.String.{string_bytes};
 ghost use Rattle.hex.specs.Hex.{encode_lower};
 ghost use Rattle.office_proof.specs.Outcomes.{outcome_word};
-ghost use Rattle.office_rules.specs.Registers.{entry_told};
+ghost use Rattle.office_rules.specs.Registers.{entry_view};
 ghost use Rattle.office_csv.specs.Registers.{day_field, entry_columns, entry_line, row_of};
 
 use crate::fields::{code_field, due_field, number_field, put_row, row_of};
@@ -49,17 +49,17 @@ struct Written {
 }
 
 /// They, of a row.
-fn texts_of(alloc: Global, told: &EntryRow<'_>) -> Result<Written, Memory>
-    ensures numbers { IfOk result (λ it. (string_bytes it.run ≡ decimal told.now.entry.now.run) × (string_bytes it.number ≡ decimal told.now.entry.now.record_no)) }
-    ensures due { IfOk result (λ it. it.due.items ≡ day_field told.now.entry.now.due) }
-    ensures content { IfOk result (λ it. (string_bytes it.length ≡ decimal told.now.length) × (string_bytes it.digest ≡ encode_lower told.now.digest.now)) }
+fn texts_of(alloc: Global, reported: &EntryRow<'_>) -> Result<Written, Memory>
+    ensures numbers { IfOk result (λ it. (string_bytes it.run ≡ decimal reported.now.entry.now.run) × (string_bytes it.number ≡ decimal reported.now.entry.now.record_no)) }
+    ensures due { IfOk result (λ it. it.due.items ≡ day_field reported.now.entry.now.due) }
+    ensures content { IfOk result (λ it. (string_bytes it.length ≡ decimal reported.now.length) × (string_bytes it.digest ≡ encode_lower reported.now.digest.now)) }
 {
     Ok(Written {
-        run: number_field(alloc, told.entry.run)?,
-        number: number_field(alloc, told.entry.record_no)?,
-        due: due_field(alloc, told.entry.due)?,
-        length: number_field(alloc, told.length)?,
-        digest: hex::encode(alloc, told.digest)?,
+        run: number_field(alloc, reported.entry.run)?,
+        number: number_field(alloc, reported.entry.record_no)?,
+        due: due_field(alloc, reported.entry.due)?,
+        length: number_field(alloc, reported.length)?,
+        digest: hex::encode(alloc, reported.digest)?,
     })
 }
 
@@ -73,21 +73,21 @@ fn outcome_of(entry: &Entry) -> &str
 /// The line of a row, and what is written of it.
 fn line_written<'a>(
     alloc: Global,
-    told: &'a EntryRow<'a>,
+    reported: &'a EntryRow<'a>,
     texts: &'a Written,
 ) -> Result<Vec<u8>, Memory>
     ensures { IfOk result (λ row. row.items ≡ row_of (
-        string_bytes texts.now.run ∷ string_bytes texts.now.number ∷ told.now.ref_text.now ∷ outcome_word told.now.entry.now.outcome ∷ told.now.entry.now.class
-        ∷ told.now.entry.now.schedule ∷ texts.now.due.items ∷ unwrap_or told.now.entry.now.hold [] ∷ told.now.entry.now.confirmed_by ∷ string_bytes texts.now.length
+        string_bytes texts.now.run ∷ string_bytes texts.now.number ∷ reported.now.ref_text.now ∷ outcome_word reported.now.entry.now.outcome ∷ reported.now.entry.now.class
+        ∷ reported.now.entry.now.schedule ∷ texts.now.due.items ∷ unwrap_or reported.now.entry.now.hold [] ∷ reported.now.entry.now.confirmed_by ∷ string_bytes texts.now.length
         ∷ string_bytes texts.now.digest ∷ [])) }
 {
-    let entry = told.entry;
+    let entry = reported.entry;
     row_of(
         alloc,
         &[
             texts.run.as_bytes(),
             texts.number.as_bytes(),
-            told.ref_text.text().as_bytes(),
+            reported.ref_text.text().as_bytes(),
             outcome_of(entry).as_bytes(),
             entry.class.text().as_bytes(),
             entry.schedule.text().as_bytes(),
@@ -102,11 +102,11 @@ fn line_written<'a>(
 
 /// The line of a row.
 #[tactic(auto, unfolding(crate::specs::Registers::entry_line))]
-fn entry_line(alloc: Global, told: &EntryRow<'_>) -> Result<Vec<u8>, Memory>
-    ensures { IfOk result (λ row. row.items ≡ entry_line (entry_told told.now)) }
+fn entry_line(alloc: Global, reported: &EntryRow<'_>) -> Result<Vec<u8>, Memory>
+    ensures { IfOk result (λ row. row.items ≡ entry_line (entry_view reported.now)) }
 {
-    let texts = texts_of(alloc, told)?;
-    line_written(alloc, told, &texts)
+    let texts = texts_of(alloc, reported)?;
+    line_written(alloc, reported, &texts)
 }
 
 /// Writes the header of the register of entries.
@@ -120,11 +120,11 @@ pub fn write_entry_header<W: Write>(alloc: Global, out: &mut W) -> Result<(), St
 /// Writes the line of an entry.
 pub fn write_entry_line<W: Write>(
     alloc: Global,
-    told: &EntryRow<'_>,
+    reported: &EntryRow<'_>,
     out: &mut W,
 ) -> Result<(), Stop>
-    ensures { OnOk result (Appends (W.contents out.old) (W.contents out.new) (entry_line (entry_told told.now))) }
+    ensures { OnOk result (Appends (W.contents out.old) (W.contents out.new) (entry_line (entry_view reported.now))) }
 {
-    let line = entry_line(alloc, told)?;
+    let line = entry_line(alloc, reported)?;
     put_row(out, &line)
 }

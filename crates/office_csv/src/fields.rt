@@ -60,7 +60,7 @@ pub(crate) fn row_of(alloc: Global, fields: &[&[u8]]) -> Result<Vec<u8>, Memory>
     }
 }
 
-/// Writes a row, as it stands.
+/// Writes a row, as it is.
 pub(crate) fn put_row<W: Write>(out: &mut W, row: &[u8]) -> Result<(), Stop>
     ensures { OnOk result (Appends (W.contents out.old) (W.contents out.new) row.now) }
 {

@@ -1,7 +1,7 @@
 //! A row of an import as the record that it asks to add.
 ghost use Rattle.std.specs.Prelude.{◌≡◌, ◌≤◌, IfOk, Ok, length};
 ghost use Rattle.office_base.specs.ThingNumbers.{thing_number};
-ghost use Rattle.office_json.specs.Acts.{told};
+ghost use Rattle.office_json.specs.Acts.{reported};
 ghost use Rattle.office_json.specs.Parts.{IsReadAs};
 ghost use Rattle.office_csv.specs.ImportRows.{IsRowRead, asked_record, code_field, day_field, is_first_column, is_header, named};
 
@@ -77,7 +77,7 @@ fn code_of(alloc: Global, field: &str) -> Result<Option<Code>, ReadFault>
 }
 
 /// What was read without memory.
-fn told(content: Result<Content, Refusal>) -> Result<Content, ReadFault>
+fn reported(content: Result<Content, Refusal>) -> Result<Content, ReadFault>
     ensures { IsReadAs content result }
 {
     match content {
@@ -93,7 +93,7 @@ fn record_of(
     planned: (Option<Code>, Option<Code>),
     content: Content,
 ) -> NewRecord
-    ensures { told result ≡ asked_record ((named, placed), (planned, content)) }
+    ensures { reported result ≡ asked_record ((named, placed), (planned, content)) }
 {
     let (ref_text, title) = named;
     let (originated, aggregation) = placed;
@@ -120,7 +120,7 @@ fn record_of(
 pub fn read_import_row(alloc: Global, row: &ImportRow) -> Result<NewRecord, ReadFault>
     ensures { IsRowRead (named row.now) result }
 {
-    let content = told(read_content(alloc, row.content)?);
+    let content = reported(read_content(alloc, row.content)?);
     let named = both(
         read_words(alloc, row.ref_text),
         read_words(alloc, row.title),

@@ -6,7 +6,7 @@ ghost use Rattle.std.specs.Option.{option_copied, unwrap_or};
 ghost use Rattle.std.specs.String.{string_bytes};
 ghost use Rattle.office_days.specs.Due.{deadline_from};
 ghost use Rattle.office_terms.specs.Words.{action_word};
-ghost use Rattle.office_rules.specs.Registers.{due_told};
+ghost use Rattle.office_rules.specs.Registers.{due_reported};
 ghost use Rattle.office_csv.specs.Registers.{day_field, overdue_columns, overdue_line, row_of};
 
 use crate::due_register::action_of;
@@ -85,7 +85,7 @@ fn line_written<'a>(
 /// The line of a row.
 #[tactic(auto, unfolding(crate::specs::Registers::overdue_line))]
 fn overdue_line(alloc: Global, row: &DueRow<'_>, days: ConfirmDays) -> Result<Vec<u8>, Memory>
-    ensures { IfOk result (λ line. line.items ≡ overdue_line days (due_told row.now)) }
+    ensures { IfOk result (λ line. line.items ≡ overdue_line days (due_reported row.now)) }
 {
     let texts = texts_of(alloc, row, days)?;
     line_written(alloc, row, &texts)
@@ -106,7 +106,7 @@ pub fn write_overdue_line<W: Write>(
     days: ConfirmDays,
     out: &mut W,
 ) -> Result<(), Stop>
-    ensures { OnOk result (Appends (W.contents out.old) (W.contents out.new) (overdue_line days (due_told row.now))) }
+    ensures { OnOk result (Appends (W.contents out.old) (W.contents out.new) (overdue_line days (due_reported row.now))) }
 {
     let line = overdue_line(alloc, row, days)?;
     put_row(out, &line)

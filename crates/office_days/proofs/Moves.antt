@@ -1,4 +1,4 @@
--- The first day that an offset moves to, told by months.
+-- The first day that an offset moves to, reported by months.
 use Rattle.std.proofs.Common.{◌≡◌, ◌≢◌, inl, inr, ℕ, ◌+◌, ◌-◌, ◌*◌, ◌%◌, ◌<◌, ◌≤◌, ℤ, pos, neg_ℤ, ◌+ℤ◌, ◌-ℤ◌, ◌<ℤ◌, ◌≤ℤ◌, unsigned_abs, arith, refl, Some, ap, sym, ◌∙◌, subst, true, false, Bool, ◌==◌, ◌||◌}
 use Rattle.jiff_core.proofs.SignedLemmas.{signed_arith, one_part, unsigned_abs-parts}
 use Rattle.std.proofs.lemmas.Bool.{cases_lt, cases_eq}

@@ -1,4 +1,4 @@
--- The proleptic Gregorian calendar from 0001-01-01 on, told by which day follows each day.
+-- The proleptic Gregorian calendar from 0001-01-01 on, reported by which day follows each day.
 -- Source: the calendar of ISO 8601, in which ISO 15489-1 and MoReq2010 write their dates; the form is own.
 use Rattle.std.specs.Prelude.{ℕ, zero, suc, ◌+◌, ◌-◌, ◌*◌, ◌≤◌, ◌%◌, Bool, not, ◌&&◌, ◌||◌, ◌==◌, nat_lt, if◌then◌else◌, ℤ, pos, ◌+ℤ◌, unsigned_abs}
 use Rattle.std.specs.Int.{IsInRange}

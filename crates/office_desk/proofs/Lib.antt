@@ -2,7 +2,7 @@ pub mod AllFates
 pub mod BroughtUp
 pub mod DecidedSteps
 pub mod Found
-pub mod Fronts
+pub mod Prefixes
 pub mod LeftFates
 pub mod LeftOffices
 pub mod LeftRest

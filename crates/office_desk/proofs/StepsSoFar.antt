@@ -14,7 +14,7 @@ use Rattle.office_rules.specs.declared.answer.Answer.TheVariants.{Step}
 use Rattle.office_store.specs.declared.fault.Fault.{Fault}
 use Rattle.office_desk.specs.Calling.{AreStepsDone, AreStepsStopped, Called, IsDone, IsFaulted, LeavesRestOf}
 use Rattle.office_desk.specs.Desk.{DeskState}
-use Rattle.office_desk.specs.Leaving.{StandsAt, StopsAt, StopsLeaving}
+use Rattle.office_desk.specs.Leaving.{IsAt, StopsAt, StopsLeaving}
 use Rattle.office_desk.specs.Resuming.{resumed_answer}
 use Rattle.office_desk.proofs.LeftRest.{rest_then}
 use Rattle.office_desk.proofs.RunSteps.{IsLast, IsTaken, after_more, last_in, taken_in}
@@ -23,7 +23,7 @@ use Rattle.office_desk.proofs.RunSteps.{IsLast, IsTaken, after_more, last_in, ta
 pub record AreTaken {S : Type 0} (g : Ghosts S) (s : State) (new : DeskState S) (At : Type 0) : Type 0 where
   pub count : ℕ
   pub office : new.office ≡ (after_steps s count).office
-  pub stands : At → StandsAt g (after_steps s count) new
+  pub represents : At → IsAt g (after_steps s count) new
 
 abbrev pub CalledSteps : {S : Type 0} (g : Ghosts S) (old new : DeskState S) → Type 0
 CalledSteps g old new = Called g old new (λ s At. AreTaken g s new At)
@@ -32,15 +32,15 @@ abbrev pub CalledStep : {S : Type 0} (g : Ghosts S) (old new : DeskState S) (ans
 CalledStep g old new answer = Called g old new (λ s At. IsDone g s act.RunStep answer new At)
 
 -- what the next step leaves of the rest of the file
-rest_taken : {S : Type 0} (g : Ghosts S) (old mid new : DeskState S) → CalledSteps g old mid → (HasCleanDisk (state g new.held) → HasCleanDisk (state g mid.held)) → (s : State) → HasCleanDisk (state g new.held) → StandsAt g s old
-    → ((t : State) → HasCleanDisk (state g new.held) → StandsAt g t mid → LeavesRestOf g mid new) → LeavesRestOf g old new
+rest_taken : {S : Type 0} (g : Ghosts S) (old mid new : DeskState S) → CalledSteps g old mid → (HasCleanDisk (state g new.held) → HasCleanDisk (state g mid.held)) → (s : State) → HasCleanDisk (state g new.held) → IsAt g s old
+    → ((t : State) → HasCleanDisk (state g new.held) → IsAt g t mid → LeavesRestOf g mid new) → LeavesRestOf g old new
 rest_taken g old mid new so_far early s clean at next =
     let so = so_far.did s at.is_open (sym at.office) in
-    let stands = so.stands (early clean, at) in
-    rest_then g (after_steps s so.count) old mid new stands (so_far.rest s (early clean) at) (next (after_steps s so.count) clean stands)
+    let represents = so.represents (early clean, at) in
+    rest_then g (after_steps s so.count) old mid new represents (so_far.rest s (early clean) at) (next (after_steps s so.count) clean represents)
 
-module _ {S : Type 0} (g : Ghosts S) (mid new : DeskState S) (answer : Answer) (still : mid.is_given_up ≡ false) (one : CalledStep g mid new answer) where
-  pub still_open : new.is_given_up ≡ false
+module _ {S : Type 0} (g : Ghosts S) (mid new : DeskState S) (answer : Answer) (still : mid.is_poisoned ≡ false) (one : CalledStep g mid new answer) where
+  pub still_open : new.is_poisoned ≡ false
   still_open = (one.did (with_contents mid.office empty) still refl).is_open
 
   pub is_taken : (r : ℕ) (outcome : Outcome) → answer ≡ Step r outcome → IsTaken mid.office new.office
@@ -58,7 +58,7 @@ module _ {S : Type 0} (g : Ghosts S) (mid new : DeskState S) (answer : Answer) (
         record {
           count = suc so.count;
           office = it.office ∙ sym (ap (λ (t : State). t.office) (after_more so.count s));
-          stands = λ at. subst (λ (t : State). StandsAt g t new) (sym (after_more so.count s)) (it.stands (at.0, so.stands (one.clean at.0, at.1)));
+          represents = λ at. subst (λ (t : State). IsAt g t new) (sym (after_more so.count s)) (it.represents (at.0, so.represents (one.clean at.0, at.1)));
         };
     rest = λ s clean at. rest_taken g old mid new so_far one.clean s clean at one.rest;
   }
@@ -78,12 +78,12 @@ module _ {S : Type 0} (g : Ghosts S) (mid new : DeskState S) (answer : Answer) (
               count = so.count;
               ended = ap open_run (sym so.office) ∙ last.ended;
               office = so.office;
-              stands = so.stands;
+              represents = so.represents;
             };
         rest = all.rest;
       }
 
-pub steps_stopped : {S : Type 0} (g : Ghosts S) (old mid new : DeskState S) (f : Fault) → mid.is_given_up ≡ false → CalledSteps g old mid → (open_run old.office ≡ None → mid ≡ old)
+pub steps_stopped : {S : Type 0} (g : Ghosts S) (old mid new : DeskState S) (f : Fault) → mid.is_poisoned ≡ false → CalledSteps g old mid → (open_run old.office ≡ None → mid ≡ old)
     → Called g mid new (λ s At. IsFaulted g s (step s act.RunStep).1 f mid new At) → Called g old new (λ s At. AreStepsStopped g s f old new At)
 steps_stopped g old mid new f still so_far first one = record {
   clean = λ clean. so_far.clean (one.clean clean);
@@ -96,7 +96,7 @@ steps_stopped g old mid new f still so_far first one = record {
         stops = subst (λ (o : Office). StopsAt o f new) so.office it.stops;
         left = λ at.
             subst (λ (t : State). StopsLeaving (after_steps s so.count) t f (state g new.held)) (sym (after_more so.count s))
-            (it.left (at.0, so.stands (one.clean at.0, at.1)));
+            (it.left (at.0, so.represents (one.clean at.0, at.1)));
       };
   rest = λ s clean at. rest_taken g old mid new so_far one.clean s clean at one.rest;
 }

@@ -5,7 +5,7 @@ use Rattle.sqlite.specs.Held.{state}
 use Rattle.sqlite.specs.State.{HasCleanDisk}
 use Rattle.sqlite_trees.specs.declared.store.Store.{Ghosts}
 use Rattle.office_rules.specs.Acts.{after, answers, step}
-use Rattle.office_rules.specs.Forms.{IsFormedAct}
+use Rattle.office_rules.specs.Forms.{IsWellFormedAct}
 use Rattle.office_rules.specs.Rows.{rows_of}
 use Rattle.office_rules.specs.Runs.{IsMidway, after_steps, open_run, whole}
 use Rattle.office_rules.specs.State.{State}
@@ -15,35 +15,35 @@ use Rattle.office_rules.specs.declared.act.Act.TheVariants as act
 use Rattle.office_rules.specs.declared.answer.Answer.{Answer}
 use Rattle.office_rules.specs.declared.change.Change.{Change}
 use Rattle.office_sql.specs.Office.{Leaves, SparesRest}
-use Rattle.office_store.specs.Stands.{HoldsRows, LeavesOffices}
+use Rattle.office_store.specs.RepresentsRows.{HoldsRows, LeavesOffices}
 use Rattle.office_store.specs.declared.fault.Fault.{Fault}
 use Rattle.office_store.specs.declared.fault.Fault.TheVariants as fault
 use Rattle.office_desk.specs.Desk.{DeskState}
 use Rattle.office_desk.specs.Fates.{LeavesFates, LeavesStepFates}
-use Rattle.office_desk.specs.Headline.{AreFormed}
-use Rattle.office_desk.specs.Leaving.{IsContentTold, IsFrontAnswered, IsOtherContent, LeavesRowsOf, StandsAt, StopsAt, StopsLeaving}
+use Rattle.office_desk.specs.Headline.{AreWellFormed}
+use Rattle.office_desk.specs.Leaving.{IsContentReported, IsPrefixAnswered, IsOtherContent, LeavesRowsOf, IsAt, StopsAt, StopsLeaving}
 use Rattle.office_desk.specs.Resuming.{AreRunSteps, LeavesMidway, resumed_answer}
 
 -- whatever a crash leaves has all that is not the office's as it was
 abbrev pub LeavesRestOf : {S : Type 0} (g : Ghosts S) (old new : DeskState S) → Type 0
 LeavesRestOf g old new = Leaves (SparesRest (state g old.held).now) (state g new.held)
 
--- the desk stood at the state, and the disk is clean
-abbrev pub StoodAt : {S : Type 0} (g : Ghosts S) (s : State) (old new : DeskState S) → Type 0
-StoodAt g s old new = HasCleanDisk (state g new.held) × StandsAt g s old
+-- the desk was at the state, and the disk is clean
+abbrev pub WasAt : {S : Type 0} (g : Ghosts S) (s : State) (old new : DeskState S) → Type 0
+WasAt g s old new = HasCleanDisk (state g new.held) × IsAt g s old
 
--- by a desk that is open: what was done from each state with its office, where `At` is that it stood there
+-- by a desk that is open: what was done from each state with its office, where `At` is that it was there
 pub record Called {S : Type 0} (g : Ghosts S) (old new : DeskState S) (Did : State → Type 0 → Type 0) : Type 0 where
   pub clean : HasCleanDisk (state g new.held) → HasCleanDisk (state g old.held)
-  pub did : (s : State) → old.is_given_up ≡ false → s.office ≡ old.office → Did s (StoodAt g s old new)
-  pub rest : (s : State) → HasCleanDisk (state g new.held) → StandsAt g s old → LeavesRestOf g old new
+  pub did : (s : State) → old.is_poisoned ≡ false → s.office ≡ old.office → Did s (WasAt g s old new)
+  pub rest : (s : State) → HasCleanDisk (state g new.held) → IsAt g s old → LeavesRestOf g old new
 
 -- by any desk
 pub record Asked {S : Type 0} (g : Ghosts S) (old new : DeskState S) (Gone Now : Type 0) (Did : State → Type 0 → Type 0) : Type 0 where
-  -- one that was given up stays as it was, and is answered so
-  pub gone : IsTrue old.is_given_up → (new ≡ old) × Gone
+  -- one that was poisoned stays as it was, and is answered so
+  pub gone : IsTrue old.is_poisoned → (new ≡ old) × Gone
   -- of one that was open this is so now
-  pub here : old.is_given_up ≡ false → Now
+  pub here : old.is_poisoned ≡ false → Now
   -- and this was done
   pub called : Called g old new Did
 
@@ -51,12 +51,12 @@ pub record Asked {S : Type 0} (g : Ghosts S) (old new : DeskState S) (Gone Now :
 pub record IsMade {S : Type 0} (change : Change) (answer : Answer) (old new : DeskState S) : Type 0 where
   pub answered : answer ≡ change.answer
   pub office : new.office ≡ all_office_writes change.writes.items old.office
-  pub same : new.is_given_up ≡ old.is_given_up
+  pub same : new.is_poisoned ≡ old.is_poisoned
 
--- a growth was refused, and the desk is given up
-pub record IsGivenUp {S : Type 0} (f : Fault) (new : DeskState S) : Type 0 where
+-- a growth was refused, and the desk is poisoned
+pub record IsPoisoned {S : Type 0} (f : Fault) (new : DeskState S) : Type 0 where
   pub reopen : f ≡ fault.Reopen
-  pub gone : IsTrue new.is_given_up
+  pub gone : IsTrue new.is_poisoned
 
 -- a change was saved and made
 pub record IsSaved {S : Type 0} (g : Ghosts S) (s : State) (change : Change) (answer : Answer) (old new : DeskState S) (At : Type 0) : Type 0 where
@@ -78,8 +78,8 @@ EndChange g s change result old new At =
 pub record IsDone {S : Type 0} (g : Ghosts S) (s : State) (a : Act) (answer : Answer) (new : DeskState S) (At : Type 0) : Type 0 where
   pub answered : answer ≡ (step s a).0
   pub office : new.office ≡ (step s a).1.office
-  pub is_open : new.is_given_up ≡ false
-  pub stands : At → StandsAt g (step s a).1 new
+  pub is_open : new.is_poisoned ≡ false
+  pub represents : At → IsAt g (step s a).1 new
 
 -- so an act ends
 abbrev pub EndAct : {S : Type 0} (g : Ghosts S) (s : State) (a : Act) (result : Result Answer Fault) (old new : DeskState S) (At : Type 0) → Type 0
@@ -87,7 +87,7 @@ EndAct g s a result old new At = MatchResult result (λ answer. IsDone g s a ans
 
 -- and what a crash leaves at each end
 pub record PerformedOne {S : Type 0} (g : Ghosts S) (s : State) (a : Act) (result : Result Answer Fault) (old new : DeskState S) (At : Type 0) : Type 0 where
-  pub formed : IsFormedAct a
+  pub formed : IsWellFormedAct a
   pub ends : EndAct g s a result old new At
   pub offices : At → LeavesOffices (state g new.held)
   pub fates : At → LeavesFates s (a ∷ []) (state g new.held)
@@ -97,13 +97,13 @@ pub record PerformedOne {S : Type 0} (g : Ghosts S) (s : State) (a : Act) (resul
 pub record AreDone {S : Type 0} (g : Ghosts S) (s : State) (acts : List Act) (given found : List Answer) (new : DeskState S) (At : Type 0) : Type 0 where
   pub answered : found ≡ given ++ answers s acts
   pub office : new.office ≡ (after s acts).office
-  pub is_open : new.is_given_up ≡ false
-  pub stands : At → StandsAt g (after s acts) new
+  pub is_open : new.is_poisoned ≡ false
+  pub represents : At → IsAt g (after s acts) new
 
 -- acts were stopped by a fault after so many
 pub record AreStopped {S : Type 0} (g : Ghosts S) (s : State) (acts : List Act) (given found : List Answer) (f : Fault) (new : DeskState S) (At : Type 0) : Type 0 where
   pub count : ℕ
-  pub front : IsFrontAnswered s acts given found f count
+  pub prefix : IsPrefixAnswered s acts given found f count
   pub stops : StopsAt (after s (take count acts)).office f new
   pub left : At → StopsLeaving (after s (take count acts)) (after s (take (count + 1) acts)) f (state g new.held)
 
@@ -113,7 +113,7 @@ EndActs g s acts given found result new At = MatchResult result (λ _. AreDone g
 
 -- and what a crash leaves at each end
 pub record Performed {S T : Type 0} (g : Ghosts S) (s : State) (acts : List Act) (given found : List Answer) (result : Result T Fault) (new : DeskState S) (At : Type 0) : Type 0 where
-  pub formed : AreFormed acts
+  pub formed : AreWellFormed acts
   pub ends : EndActs g s acts given found result new At
   pub offices : At → LeavesOffices (state g new.held)
   pub fates : At → LeavesFates s acts (state g new.held)
@@ -122,11 +122,11 @@ pub record Performed {S T : Type 0} (g : Ghosts S) (s : State) (acts : List Act)
 -- steps were taken until no run was open
 pub record AreStepsDone {S : Type 0} (g : Ghosts S) (s : State) (answer : Answer) (old new : DeskState S) (At : Type 0) : Type 0 where
   pub answered : answer ≡ resumed_answer (open_run old.office)
-  pub is_open : new.is_given_up ≡ false
+  pub is_open : new.is_poisoned ≡ false
   pub count : ℕ
   pub ended : open_run (after_steps s count).office ≡ None
   pub office : new.office ≡ (after_steps s count).office
-  pub stands : At → StandsAt g (after_steps s count) new
+  pub represents : At → IsAt g (after_steps s count) new
 
 -- steps were stopped by a fault after so many
 pub record AreStepsStopped {S : Type 0} (g : Ghosts S) (s : State) (f : Fault) (old new : DeskState S) (At : Type 0) : Type 0 where
@@ -142,11 +142,11 @@ EndSteps g s result old new At = MatchResult result (λ answer. AreStepsDone g s
 -- the run was closed as one that never stopped, or none was open
 pub record IsResumed {S : Type 0} (g : Ghosts S) (s : State) (answer : Answer) (old new : DeskState S) (At : Type 0) : Type 0 where
   pub answered : answer ≡ resumed_answer (open_run old.office)
-  pub is_open : new.is_given_up ≡ false
+  pub is_open : new.is_poisoned ≡ false
   pub office : (begun : State) (run : ℕ) → open_run begun.office ≡ Some run → IsMidway begun run s → new.office ≡ (whole begun run).office
-  pub whole : (begun : State) (run : ℕ) → open_run begun.office ≡ Some run → IsMidway begun run s → At → StandsAt g (whole begun run) new
+  pub whole : (begun : State) (run : ℕ) → open_run begun.office ≡ Some run → IsMidway begun run s → At → IsAt g (whole begun run) new
   pub same : open_run old.office ≡ None → new.office ≡ old.office
-  pub none : open_run s.office ≡ None → At → StandsAt g s new
+  pub none : open_run s.office ≡ None → At → IsAt g s new
 
 -- and what a crash leaves
 pub record Resumed {S : Type 0} (g : Ghosts S) (s : State) (result : Result Answer Fault) (old new : DeskState S) (At : Type 0) : Type 0 where
@@ -160,17 +160,17 @@ pub record Resumed {S : Type 0} (g : Ghosts S) (s : State) (result : Result Answ
 
 -- a content is reported, and the desk stays
 pub record IsContentTaken {S : Type 0} (g : Ghosts S) (s : State) (r : ℕ) (bytes : Option (List ℕ)) (new : DeskState S) (At : Type 0) : Type 0 where
-  pub told : At → IsContentTold s r bytes
-  pub is_open : new.is_given_up ≡ false
-  pub stands : At → StandsAt g s new
+  pub reported : At → IsContentReported s r bytes
+  pub is_open : new.is_poisoned ≡ false
+  pub represents : At → IsAt g s new
 
 -- a content is not reported
 pub record IsContentMissed {S : Type 0} (g : Ghosts S) (s : State) (r : ℕ) (f : Fault) (new : DeskState S) (At : Type 0) : Type 0 where
   pub faults : (f ≢ fault.Reopen) × (f ≢ fault.Version)
   pub damaged : At → f ≡ fault.Damaged → IsOtherContent s r
-  -- where the database failed the desk is given up, and else it stays
-  pub given_up : f ≡ fault.Store → IsTrue new.is_given_up
-  pub kept : At → f ≢ fault.Store → StandsAt g s new
+  -- where the database failed the desk is poisoned, and else it stays
+  pub poisoned : f ≡ fault.Store → IsTrue new.is_poisoned
+  pub kept : At → f ≢ fault.Store → IsAt g s new
 
 -- so the reading of a content ends, and what a crash leaves
 pub record IsContentRead {S : Type 0} (g : Ghosts S) (s : State) (r : ℕ) (result : Result (Option (Vec ℕ Global)) Fault) (old new : DeskState S) (At : Type 0) : Type 0 where
@@ -183,26 +183,26 @@ pub record IsContentRead {S : Type 0} (g : Ghosts S) (s : State) (r : ℕ) (resu
 
 -- one act is performed
 abbrev pub PerformsOne : {S : Type 0} (g : Ghosts S) (a : Act) (result : Result Answer Fault) (old new : DeskState S) → Type 0
-PerformsOne g a result old new = Asked g old new (result ≡ Err fault.Reopen) (OnOk result (new.is_given_up ≡ false)) (λ s At. PerformedOne g s a result old new At)
+PerformsOne g a result old new = Asked g old new (result ≡ Err fault.Reopen) (OnOk result (new.is_poisoned ≡ false)) (λ s At. PerformedOne g s a result old new At)
 
 -- a list of acts is performed
 abbrev pub PerformsAll : {S T : Type 0} (g : Ghosts S) (acts : List Act) (given found : List Answer) (result : Result T Fault) (old new : DeskState S) → Type 0
 PerformsAll g acts given found result old new =
-    Asked g old new ((result ≡ Err fault.Reopen) × (found ≡ given)) (OnOk result (new.is_given_up ≡ false)) (λ s At. Performed g s acts given found result new At)
+    Asked g old new ((result ≡ Err fault.Reopen) × (found ≡ given)) (OnOk result (new.is_poisoned ≡ false)) (λ s At. Performed g s acts given found result new At)
 
 -- the open run is resumed
 abbrev pub ResumesRun : {S : Type 0} (g : Ghosts S) (result : Result Answer Fault) (old new : DeskState S) → Type 0
-ResumesRun g result old new = Asked g old new (result ≡ Err fault.Reopen) (OnOk result (new.is_given_up ≡ false)) (λ s At. Resumed g s result old new At)
+ResumesRun g result old new = Asked g old new (result ≡ Err fault.Reopen) (OnOk result (new.is_poisoned ≡ false)) (λ s At. Resumed g s result old new At)
 
 -- the content of a record is read
 abbrev pub ReadsContent : {S : Type 0} (g : Ghosts S) (r : ℕ) (result : Result (Option (Vec ℕ Global)) Fault) (old new : DeskState S) → Type 0
-ReadsContent g r result old new = Asked g old new (result ≡ Err fault.Reopen) (OnOk result (new.is_given_up ≡ false)) (λ s At. IsContentRead g s r result old new At)
+ReadsContent g r result old new = Asked g old new (result ≡ Err fault.Reopen) (OnOk result (new.is_poisoned ≡ false)) (λ s At. IsContentRead g s r result old new At)
 
 -- something is read of the office in memory
 pub record Reads {S X : Type 0} (desk : DeskState S) (Is : X → Type 0) (result : Result X Fault) : Type 0 where
   -- what is reported is so, and by an open desk alone
   pub ok : IfOk result Is
-  pub is_open : OnOk result (desk.is_given_up ≡ false)
-  -- a fault is want of memory, or the desk was given up, which always is one
-  pub err : IfErr result (λ f. (f ≡ fault.Memory) ⊎ (f ≡ fault.Reopen) × IsTrue desk.is_given_up)
-  pub gone : IsTrue desk.is_given_up → result ≡ Err fault.Reopen
+  pub is_open : OnOk result (desk.is_poisoned ≡ false)
+  -- a fault is lack of memory, or the desk was poisoned, which always is one
+  pub err : IfErr result (λ f. (f ≡ fault.Memory) ⊎ (f ≡ fault.Reopen) × IsTrue desk.is_poisoned)
+  pub gone : IsTrue desk.is_poisoned → result ≡ Err fault.Reopen

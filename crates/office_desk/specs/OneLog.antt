@@ -7,15 +7,15 @@ use Rattle.office_rules.specs.Acts.{after, answers}
 use Rattle.office_rules.specs.State.{State}
 use Rattle.office_rules.specs.declared.act.Act.{Act}
 use Rattle.office_rules.specs.declared.answer.Answer.{Answer}
-use Rattle.office_desk.specs.Calling.{AreDone, StoodAt}
+use Rattle.office_desk.specs.Calling.{AreDone, WasAt}
 use Rattle.office_desk.specs.Desk.{DeskState}
-use Rattle.office_desk.specs.Leaving.{StandsAt}
+use Rattle.office_desk.specs.Leaving.{IsAt}
 
 -- a desk at the state did all of the acts, over a clean disk, and answered them behind what was answered before
 pub record DidAll {S : Type 0} (g : Ghosts S) (s : State) (acts : List Act) (given found : List Answer) (old new : DeskState S) : Type 0 where
   pub clean : HasCleanDisk (state g new.held)
-  pub began : StandsAt g s old
-  pub done : AreDone g s acts given found new (StoodAt g s old new)
+  pub began : IsAt g s old
+  pub done : AreDone g s acts given found new (WasAt g s old new)
 
 -- offices that do the entries of one log in order
 pub record OneLog {S : Type 0} (g : Ghosts S) : Type 0 where
@@ -24,4 +24,4 @@ pub record OneLog {S : Type 0} (g : Ghosts S) : Type 0 where
   -- offices at one state that did the same acts gave the same answers, and are at one state
   pub alike : (s : State) (acts : List Act) (given found other_found : List Answer) (old one other_old other : DeskState S)
       → DidAll g s acts given found old one → DidAll g s acts given other_found other_old other
-      → (found ≡ other_found) × StandsAt g (after s acts) one × StandsAt g (after s acts) other
+      → (found ≡ other_found) × IsAt g (after s acts) one × IsAt g (after s acts) other

@@ -8,7 +8,7 @@ use Rattle.std.specs.FinSet as set
 use Rattle.office_base.proofs.Maps.{keys_ascend}
 use Rattle.office_terms.specs.Tree.{code_cmp}
 use Rattle.office_holds.specs.Conditions.{target_count}
-use Rattle.office_holds.specs.Founding.{hold_rows}
+use Rattle.office_holds.specs.Loading.{hold_rows}
 use Rattle.office_holds.specs.Holds.{HoldMap, HoldState, has_target}
 use Rattle.office_holds.specs.Rows.{hold_from, hold_row}
 use Rattle.office_terms.specs.declared.hold_row.HoldRow.{HoldRow}
@@ -33,6 +33,6 @@ pub row_keys : (fs : List (List ℕ × HoldState)) → keys_of (map (λ (e : Lis
 row_keys [] = refl
 row_keys (f ∷ fs) = ap (λ rest. f.0 ∷ rest) (row_keys fs)
 
--- the rows of holds stand in the order of their codes
+-- the rows of holds are in the order of their codes
 pub rows_ascend : (rows : List (List ℕ × HoldRow)) (holds : HoldMap) → hold_rows holds ≡ rows → IsStrictlySortedBy code_cmp (keys_of rows)
 rows_ascend rows holds e = subst (λ ks. IsStrictlySortedBy code_cmp ks) (sym (row_keys (entries holds)) ∙ ap keys_of e) (keys_ascend code_cmp holds)

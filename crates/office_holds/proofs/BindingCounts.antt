@@ -81,7 +81,7 @@ pub binding_count-le : (holds : HoldMap) (t : Target) → binding_count holds t 
 unfolding binding_count
 binding_count-le holds t = omega (arith, count-le (binds t) (values holds), values_length (entries holds), len-entries holds)
 
--- ---- what the counts tell
+-- ---- what the counts report
 
 some_counted : (n : ℕ) → true ≡ nat_lt 0 (suc n)
 some_counted n = grind (arith, nat_tests)

@@ -44,8 +44,8 @@ there xs (suc n) e = within_there xs n (inside n (length xs) e)
 pub record_given : (xs : List Aggregation) (records : List Record) (r : ℕ) (head : Record) (c : List ℕ) → numbered records r ≡ Some head → class_in xs (edited records r (head_with (Some c))) r ≡ Some c
 record_given xs records r head c e = class_own xs (edited records r (head_with (Some c))) r (head_with (Some c) head) c (changed_there records r (head_with (Some c)) head e) refl
 
-pub record_home : (xs : List Aggregation) (records : List Record) (r : ℕ) (head : Record) → numbered records r ≡ Some head → class_in xs (edited records r (head_with None)) r ≡ aggregation_class_in xs head.aggregation
-record_home xs records r head e = class_above xs (edited records r (head_with None)) r (head_with None head) (changed_there records r (head_with None) head e) refl
+pub record_container : (xs : List Aggregation) (records : List Record) (r : ℕ) (head : Record) → numbered records r ≡ Some head → class_in xs (edited records r (head_with None)) r ≡ aggregation_class_in xs head.aggregation
+record_container xs records r head e = class_above xs (edited records r (head_with None)) r (head_with None head) (changed_there records r (head_with None) head e) refl
 
 -- ---- an aggregation
 
@@ -79,9 +79,9 @@ above_it xs a it low e =
     ap (λ numbers. first_some (own_classes ys numbers)) (chain-edited xs a (with_class None) (λ _. refl) a (Some a) ∙ step xs a it low e)
     ∙ ap (λ (o : Option Aggregation). first_some (option_and_then (λ it. it.class) o ∷ own_classes ys (chain xs (a - 1) it.parent))) (changed_there xs a (with_class None) it e)
 
-pub aggregation_home : (xs : List Aggregation) (a p : ℕ) (it : Aggregation) → ArePlaced xs → 0 < a → numbered xs a ≡ Some it → it.parent ≡ Some p → aggregation_class_in (edited xs a (with_class None)) a ≡ aggregation_class_in xs p
+pub aggregation_container : (xs : List Aggregation) (a p : ℕ) (it : Aggregation) → ArePlaced xs → 0 < a → numbered xs a ≡ Some it → it.parent ≡ Some p → aggregation_class_in (edited xs a (with_class None)) a ≡ aggregation_class_in xs p
 unfolding aggregation_class_in
-aggregation_home xs a p it placed low e up =
+aggregation_container xs a p it placed low e up =
     let ys : List Aggregation = edited xs a (with_class None) in
     let over = placed_parent a it p up (placed a it e) in
     above_it xs a it low e

@@ -10,7 +10,7 @@ use Rattle.std.specs.BTreeSet as tree_set
 use Rattle.std.specs.BTreeSet.{BTreeSet}
 use Rattle.std.specs.FinSet.{contains, from_list}
 use Rattle.office_terms.specs.Tree.{code_cmp}
-use Rattle.office_holds.specs.Founding.{same_target}
+use Rattle.office_holds.specs.Loading.{same_target}
 use Rattle.office_holds.specs.HoldCounts.{CountsDown, CountsUp}
 use Rattle.office_holds.specs.Numbers.{AreOneLess, AreOneMore, number_at, one_if}
 use Rattle.office_holds.specs.Holds.{HoldState, has_target}

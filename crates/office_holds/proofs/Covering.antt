@@ -102,7 +102,7 @@ target_by hold tree r sound (inr (inl (a, on, over))) =
 target_by hold tree r sound (inr (inr (class, on, is))) =
     true_one (contains hold.records r) (is_over hold tree r) (is_classed hold tree r) (inr (inr (there_class hold.classes (class_of tree r) class on is)))
 
--- whether a hold covers the record, by what stands above it and its class
+-- whether a hold covers the record, by what is above it and its class
 abbrev pub covers_it : TreeState → ℕ → HoldState → Bool
 covers_it tree r hold = hold_covers hold r (above tree r) (class_of tree r)
 

@@ -15,7 +15,7 @@ use Rattle.office_terms.specs.Lists.{amended_by, holds_of}
 use Rattle.office_terms.specs.Tree.{code_cmp}
 use Rattle.office_terms.proofs.Inserting.{get-amended, same_code}
 use Rattle.office_holds.specs.Effects.{held_on, with_target}
-use Rattle.office_holds.specs.Founding.{hold_rows, is_pair, same_target}
+use Rattle.office_holds.specs.Loading.{hold_rows, is_pair, same_target}
 use Rattle.office_holds.specs.Holds.{HoldMap, HoldState, has_target}
 use Rattle.office_holds.specs.Rows.{hold_row}
 use Rattle.office_terms.specs.declared.target.Target.{Target}

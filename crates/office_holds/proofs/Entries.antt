@@ -1,4 +1,4 @@
--- The entries of a map of codes stand in the order of their codes, and what is found at a code is an entry.
+-- The entries of a map of codes are in the order of their codes, and what is found at a code is an entry.
 use Rattle.std.proofs.Common.{◌≡◌, ◌≢◌, ◌↔◌, ℕ, List, [], ◌∷◌, Bool, true, false, cond, ◌&&◌, ◌||◌, map, filter, slice_get, Option, Some, None, refl, sym, ap, subst, ◌∙◌, true≢false}
 use Rattle.std.specs.Prelude.{T}
 use Rattle.std.specs.declared.cmp.Ordering.{Ordering}

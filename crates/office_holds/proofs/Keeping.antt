@@ -21,11 +21,11 @@ use Rattle.office_terms.proofs.Accepting.{none_holds, below}
 use Rattle.office_terms.proofs.Inserting.{len-insert_free}
 use Rattle.office_holds.specs.Conditions.{target_count, has_all_targets, conditions_of_place_hold, conditions_of_hold_on}
 use Rattle.office_holds.specs.Effects.{new_hold, placed_hold, with_target, without_target, held_on, held_off, lifted_hold}
-use Rattle.office_holds.specs.Forms.{IsFormedHold, AreFormedHolds, FitsHoldLimits, IsFormedTarget}
+use Rattle.office_holds.specs.Forms.{IsWellFormedHold, AreWellFormedHolds, FitsHoldLimits, IsWellFormedTarget}
 use Rattle.office_holds.specs.Holds.{HoldMap, HoldState}
 use Rattle.office_holds.specs.Rows.{StaysLifted, hold_from, put_hold}
 use Rattle.office_terms.specs.declared.hold_row.HoldRow.{HoldRow}
-use Rattle.office_holds.specs.Sound.{TargetsAreThere, TargetsStand, NoHoldIsAfter}
+use Rattle.office_holds.specs.Sound.{TargetsAreThere, TargetsExist, NoHoldIsAfter}
 use Rattle.office_terms.specs.declared.target.Target.{Target}
 use Rattle.office_terms.specs.declared.target.Target.TheVariants as target
 use Rattle.office_terms.proofs.Inserting.{len-amended}
@@ -122,29 +122,29 @@ without_there classes aggregation_count record_count (target.Record gone) hold o
   record_targets = λ r on. old.record_targets r (in_remove nat_cmp_total hold.records gone r on);
 }
 
-module _ (holds : HoldMap) (classes : FinMap code_cmp Class) (aggregation_count record_count : ℕ) (stand : TargetsStand holds classes aggregation_count record_count) where
-  pub TargetsStand-placed_hold : (day : ℤ) (code reason by : List ℕ) → TargetsStand (placed_hold holds day code reason by) classes aggregation_count record_count
-  TargetsStand-placed_hold day code reason by =
-      OfEach-insert (λ _ hold. TargetsAreThere classes aggregation_count record_count hold) holds code (new_hold day reason by) stand (none_there classes aggregation_count record_count day reason by)
+module _ (holds : HoldMap) (classes : FinMap code_cmp Class) (aggregation_count record_count : ℕ) (represent : TargetsExist holds classes aggregation_count record_count) where
+  pub TargetsExist-placed_hold : (day : ℤ) (code reason by : List ℕ) → TargetsExist (placed_hold holds day code reason by) classes aggregation_count record_count
+  TargetsExist-placed_hold day code reason by =
+      OfEach-insert (λ _ hold. TargetsAreThere classes aggregation_count record_count hold) holds code (new_hold day reason by) represent (none_there classes aggregation_count record_count day reason by)
 
-  pub TargetsStand-held_on : (code : List ℕ) (target : Target) → TargetIsThere classes aggregation_count record_count target → TargetsStand (held_on holds code target) classes aggregation_count record_count
-  TargetsStand-held_on code target there =
-      OfEach-amended (λ _ hold. TargetsAreThere classes aggregation_count record_count hold) holds code (with_target target) stand (λ hold is. with_there classes aggregation_count record_count target hold there (stand code hold is))
+  pub TargetsExist-held_on : (code : List ℕ) (target : Target) → TargetIsThere classes aggregation_count record_count target → TargetsExist (held_on holds code target) classes aggregation_count record_count
+  TargetsExist-held_on code target there =
+      OfEach-amended (λ _ hold. TargetsAreThere classes aggregation_count record_count hold) holds code (with_target target) represent (λ hold is. with_there classes aggregation_count record_count target hold there (represent code hold is))
 
-  pub TargetsStand-held_off : (code : List ℕ) (target : Target) → TargetsStand (held_off holds code target) classes aggregation_count record_count
-  TargetsStand-held_off code target =
-      OfEach-amended (λ _ hold. TargetsAreThere classes aggregation_count record_count hold) holds code (without_target target) stand (λ hold is. without_there classes aggregation_count record_count target hold (stand code hold is))
+  pub TargetsExist-held_off : (code : List ℕ) (target : Target) → TargetsExist (held_off holds code target) classes aggregation_count record_count
+  TargetsExist-held_off code target =
+      OfEach-amended (λ _ hold. TargetsAreThere classes aggregation_count record_count hold) holds code (without_target target) represent (λ hold is. without_there classes aggregation_count record_count target hold (represent code hold is))
 
-  pub TargetsStand-lifted_hold : (day : ℤ) (code : List ℕ) → TargetsStand (lifted_hold holds day code) classes aggregation_count record_count
-  TargetsStand-lifted_hold day code =
-      OfEach-amended (λ _ hold. TargetsAreThere classes aggregation_count record_count hold) holds code (λ hold. record hold { lifted = Some day }) stand
-      (λ hold is. let old = stand code hold is in record { class_targets = old.class_targets; aggregation_targets = old.aggregation_targets; record_targets = old.record_targets })
+  pub TargetsExist-lifted_hold : (day : ℤ) (code : List ℕ) → TargetsExist (lifted_hold holds day code) classes aggregation_count record_count
+  TargetsExist-lifted_hold day code =
+      OfEach-amended (λ _ hold. TargetsAreThere classes aggregation_count record_count hold) holds code (λ hold. record hold { lifted = Some day }) represent
+      (λ hold is. let old = represent code hold is in record { class_targets = old.class_targets; aggregation_targets = old.aggregation_targets; record_targets = old.record_targets })
 
 -- they are there still where no class goes and there are no fewer aggregations and records
-pub TargetsStand-more : (holds : HoldMap) (classes more : FinMap code_cmp Class) (aggregation_count record_count aggregations_now records_now : ℕ) → TargetsStand holds classes aggregation_count record_count
-    → ((code : List ℕ) → IsSome (get classes code) → IsSome (get more code)) → aggregation_count ≤ aggregations_now → record_count ≤ records_now → TargetsStand holds more aggregations_now records_now
-TargetsStand-more holds classes more aggregation_count record_count aggregations_now records_now stand keeps up_a up_r code hold is =
-    let old = stand code hold is in
+pub TargetsExist-more : (holds : HoldMap) (classes more : FinMap code_cmp Class) (aggregation_count record_count aggregations_now records_now : ℕ) → TargetsExist holds classes aggregation_count record_count
+    → ((code : List ℕ) → IsSome (get classes code) → IsSome (get more code)) → aggregation_count ≤ aggregations_now → record_count ≤ records_now → TargetsExist holds more aggregations_now records_now
+TargetsExist-more holds classes more aggregation_count record_count aggregations_now records_now represent keeps up_a up_r code hold is =
+    let old = represent code hold is in
     record {
       class_targets = λ c on. keeps c (old.class_targets c on);
       aggregation_targets = λ a on. let it = old.aggregation_targets a on in (it.0, omega (arith, it.1, up_a));
@@ -153,8 +153,8 @@ TargetsStand-more holds classes more aggregation_count record_count aggregations
 
 -- ---- the forms
 
-new_formed : (day : ℤ) (reason by : List ℕ) → IsText reason → IsText by → IsDayNumber day → IsFormedHold (new_hold day reason by)
-new_formed day reason by reason_is by_is day_is = record {
+new_well_formed : (day : ℤ) (reason by : List ℕ) → IsText reason → IsText by → IsDayNumber day → IsWellFormedHold (new_hold day reason by)
+new_well_formed day reason by reason_is by_is day_is = record {
   reason = reason_is;
   placed = day_is;
   by = by_is;
@@ -162,47 +162,47 @@ new_formed day reason by reason_is by_is day_is = record {
   classes = λ code. none_in code_cmp (IsCode code) code;
 }
 
-with_formed : (target : Target) (hold : HoldState) → IsFormedTarget target → IsFormedHold hold → IsFormedHold (with_target target hold)
-with_formed (target.Class new) hold form old = record {
+with_well_formed : (target : Target) (hold : HoldState) → IsWellFormedTarget target → IsWellFormedHold hold → IsWellFormedHold (with_target target hold)
+with_well_formed (target.Class new) hold form old = record {
   reason = old.reason;
   placed = old.placed;
   by = old.by;
   lifted = old.lifted;
   classes = λ code on. elim (code_in_insert hold.classes new code on) [ inl same ↦ subst IsCode same form | inr before ↦ old.classes code before ];
 }
-with_formed (target.Aggregation new) hold form old = record { reason = old.reason; placed = old.placed; by = old.by; lifted = old.lifted; classes = old.classes }
-with_formed (target.Record new) hold form old = record { reason = old.reason; placed = old.placed; by = old.by; lifted = old.lifted; classes = old.classes }
+with_well_formed (target.Aggregation new) hold form old = record { reason = old.reason; placed = old.placed; by = old.by; lifted = old.lifted; classes = old.classes }
+with_well_formed (target.Record new) hold form old = record { reason = old.reason; placed = old.placed; by = old.by; lifted = old.lifted; classes = old.classes }
 
-without_formed : (target : Target) (hold : HoldState) → IsFormedHold hold → IsFormedHold (without_target target hold)
-without_formed (target.Class gone) hold old = record {
+without_well_formed : (target : Target) (hold : HoldState) → IsWellFormedHold hold → IsWellFormedHold (without_target target hold)
+without_well_formed (target.Class gone) hold old = record {
   reason = old.reason;
   placed = old.placed;
   by = old.by;
   lifted = old.lifted;
   classes = λ code on. old.classes code (in_remove nat_list_cmp_total hold.classes gone code on);
 }
-without_formed (target.Aggregation gone) hold old = record { reason = old.reason; placed = old.placed; by = old.by; lifted = old.lifted; classes = old.classes }
-without_formed (target.Record gone) hold old = record { reason = old.reason; placed = old.placed; by = old.by; lifted = old.lifted; classes = old.classes }
+without_well_formed (target.Aggregation gone) hold old = record { reason = old.reason; placed = old.placed; by = old.by; lifted = old.lifted; classes = old.classes }
+without_well_formed (target.Record gone) hold old = record { reason = old.reason; placed = old.placed; by = old.by; lifted = old.lifted; classes = old.classes }
 
-abbrev IsFormedAt : List ℕ → HoldState → Type 0
-IsFormedAt code hold = IsCode code × IsFormedHold hold
+abbrev IsWellFormedAt : List ℕ → HoldState → Type 0
+IsWellFormedAt code hold = IsCode code × IsWellFormedHold hold
 
-module _ (holds : HoldMap) (formed : AreFormedHolds holds) where
-  pub AreFormedHolds-placed_hold : (day : ℤ) (code reason by : List ℕ) → IsCode code → IsText reason → IsText by → IsDayNumber day → AreFormedHolds (placed_hold holds day code reason by)
-  AreFormedHolds-placed_hold day code reason by code_is reason_is by_is day_is =
-      OfEach-insert IsFormedAt holds code (new_hold day reason by) formed (code_is, new_formed day reason by reason_is by_is day_is)
+module _ (holds : HoldMap) (formed : AreWellFormedHolds holds) where
+  pub AreWellFormedHolds-placed_hold : (day : ℤ) (code reason by : List ℕ) → IsCode code → IsText reason → IsText by → IsDayNumber day → AreWellFormedHolds (placed_hold holds day code reason by)
+  AreWellFormedHolds-placed_hold day code reason by code_is reason_is by_is day_is =
+      OfEach-insert IsWellFormedAt holds code (new_hold day reason by) formed (code_is, new_well_formed day reason by reason_is by_is day_is)
 
-  pub AreFormedHolds-held_on : (code : List ℕ) (target : Target) → IsFormedTarget target → AreFormedHolds (held_on holds code target)
-  AreFormedHolds-held_on code target form =
-      OfEach-amended IsFormedAt holds code (with_target target) formed (λ hold is. let old = formed code hold is in (old.0, with_formed target hold form old.1))
+  pub AreWellFormedHolds-held_on : (code : List ℕ) (target : Target) → IsWellFormedTarget target → AreWellFormedHolds (held_on holds code target)
+  AreWellFormedHolds-held_on code target form =
+      OfEach-amended IsWellFormedAt holds code (with_target target) formed (λ hold is. let old = formed code hold is in (old.0, with_well_formed target hold form old.1))
 
-  pub AreFormedHolds-held_off : (code : List ℕ) (target : Target) → AreFormedHolds (held_off holds code target)
-  AreFormedHolds-held_off code target =
-      OfEach-amended IsFormedAt holds code (without_target target) formed (λ hold is. let old = formed code hold is in (old.0, without_formed target hold old.1))
+  pub AreWellFormedHolds-held_off : (code : List ℕ) (target : Target) → AreWellFormedHolds (held_off holds code target)
+  AreWellFormedHolds-held_off code target =
+      OfEach-amended IsWellFormedAt holds code (without_target target) formed (λ hold is. let old = formed code hold is in (old.0, without_well_formed target hold old.1))
 
-  pub AreFormedHolds-lifted_hold : (day : ℤ) (code : List ℕ) → IsDayNumber day → AreFormedHolds (lifted_hold holds day code)
-  AreFormedHolds-lifted_hold day code day_is =
-      OfEach-amended IsFormedAt holds code (λ hold. record hold { lifted = Some day }) formed
+  pub AreWellFormedHolds-lifted_hold : (day : ℤ) (code : List ℕ) → IsDayNumber day → AreWellFormedHolds (lifted_hold holds day code)
+  AreWellFormedHolds-lifted_hold day code day_is =
+      OfEach-amended IsWellFormedAt holds code (λ hold. record hold { lifted = Some day }) formed
       (λ hold is. let old = formed code hold is in (old.0, record { reason = old.1.reason; placed = old.1.placed; by = old.1.by; lifted = day_is; classes = old.1.classes }))
 
 -- ---- the limits

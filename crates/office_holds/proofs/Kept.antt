@@ -1,4 +1,4 @@
--- What is kept beside the holds agrees with them still after each change.
+-- What is derived beside the holds agrees with them still after each change.
 use Rattle.std.proofs.Common.{◌≡◌, ◌<◌, ℕ, ◌+◌, List, filter, Bool, true, false, cond, not, ◌&&◌, ◌||◌, Option, Some, None, refl, sym, ap, ◌∙◌, arith, IsTrue, ℤ}
 use Rattle.std.specs.Option.{is_none, is_some, option_map}
 use Rattle.std.specs.Ordering.{eq_by_cmp, is_eq, nat_cmp}
@@ -15,8 +15,8 @@ use Rattle.office_terms.specs.Tree.{code_cmp}
 use Rattle.office_terms.proofs.Inserting.{get-amended, same_code}
 use Rattle.office_holds.specs.Effects.{held_off, held_on, lifted_hold, with_target, without_target}
 use Rattle.office_holds.specs.Forms.{FitsHoldLimits}
-use Rattle.office_holds.specs.Founding.{same_target}
-use Rattle.office_holds.specs.HoldCounts.{CountsDown, CountsUp, IsKept, binds, binds_at, is_bound, kept_count, may_gain}
+use Rattle.office_holds.specs.Loading.{same_target}
+use Rattle.office_holds.specs.HoldCounts.{CountsDown, CountsUp, IsKept, binds, binds_at, is_bound, cached_count, may_gain}
 use Rattle.office_holds.specs.Holds.{HoldMap, HoldState, covers_in, has_target, held_in, hold_covers, is_in_force}
 use Rattle.office_holds.specs.Numbers.{one_if}
 use Rattle.office_holds.specs.Rows.{hold_from, put_hold}
@@ -57,7 +57,7 @@ module _ (holds : HoldMap) (k : List ℕ) where
 
 -- ---- no holds
 
-pub IsKept-empty : (counts : HoldCounts) (codes : FinSet code_cmp) → ((t : Target) → kept_count counts t ≡ 0) → IsKept empty counts codes
+pub IsKept-empty : (counts : HoldCounts) (codes : FinSet code_cmp) → ((t : Target) → cached_count counts t ≡ 0) → IsKept empty counts codes
 IsKept-empty counts codes zero = record {
   counted = λ t. let few = binding_count-le empty t in let none = len-empty code_cmp HoldState in omega (arith, few, none, zero t);
   in_force = λ q hold is. let none = get-empty {X = HoldState} code_cmp q in absurd cc;
@@ -153,11 +153,11 @@ more_in codes k q there = contains-insert nat_list_cmp_total codes k q ∙ or_tr
   or_true false b e = e
 
 -- other counts that are the same do as well
-pub IsKept-same : (holds : HoldMap) (counts after : HoldCounts) (codes : FinSet code_cmp) → ((t : Target) → kept_count after t ≡ kept_count counts t) → IsKept holds counts codes → IsKept holds after codes
+pub IsKept-same : (holds : HoldMap) (counts after : HoldCounts) (codes : FinSet code_cmp) → ((t : Target) → cached_count after t ≡ cached_count counts t) → IsKept holds counts codes → IsKept holds after codes
 IsKept-same holds counts after codes same kept = record { counted = λ t. same t ∙ kept.counted t; in_force = kept.in_force }
 
 -- a count is far from the greatest number
-pub count_fits : (holds : HoldMap) (counts : HoldCounts) (codes : FinSet code_cmp) (t : Target) → FitsHoldLimits holds → IsKept holds counts codes → kept_count counts t + 1 < 4_294_967_296
+pub count_fits : (holds : HoldMap) (counts : HoldCounts) (codes : FinSet code_cmp) (t : Target) → FitsHoldLimits holds → IsKept holds counts codes → cached_count counts t + 1 < 4_294_967_296
 count_fits holds counts codes t fits kept = let few = binding_count-le holds t in omega (arith, few, kept.counted t, fits.holds_few)
 
 -- a code more among those kept does no harm
@@ -299,9 +299,9 @@ module _ (holds : HoldMap) (k : List ℕ) (n : Target) (counts : HoldCounts) (co
     in_force = still_without;
   }
 
--- ---- what is told of a record
+-- ---- what is reported of a record
 
--- what the counts kept tell of a record is whether it is held
+-- what the cached counts report of a record is whether it is held
 pub held_by_kept : (holds : HoldMap) (counts : HoldCounts) (codes : FinSet code_cmp) (r : ℕ) (above : List ℕ) (class : List ℕ) → IsKept holds counts codes
     → (is_bound counts (target.Record r) || list_any (λ a. is_bound counts (target.Aggregation a)) above || is_bound counts (target.Class class)) ≡ held_in holds r above (Some class)
 held_by_kept holds counts codes r above class kept =
@@ -312,7 +312,7 @@ first_part : (a b : Bool) → (a && b) ≡ true → a ≡ true
 first_part true b e = refl
 first_part false b e = e
 
--- and the first of the codes kept whose hold covers it is the least of those that do
+-- and the first of the cached codes whose hold covers it is the least of those that do
 pub least_by_kept : (holds : HoldMap) (counts : HoldCounts) (ks : List (List ℕ)) (r : ℕ) (above : List ℕ) (class : Option (List ℕ)) → IsKept holds counts (from_list {R = code_cmp} ks) → IsStrictlySortedBy code_cmp ks
     → slice_get (filter (λ code. holds_of (get holds code) (λ hold. hold_covers hold r above class)) ks) 0 ≡ slice_get (covers_in holds r above class) 0
 unfolding covers_in

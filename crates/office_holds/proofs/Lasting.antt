@@ -106,16 +106,16 @@ own_class o = option_and_then (λ (head : Record). head.class) o
 
 pub above-with_head : (xs : List Aggregation) (records : List Record) (q : ℕ) (f : Record → Record) → ((head : Record) → (f head).aggregation ≡ head.aggregation) → (r : ℕ) → above_in xs (edited records q f) r ≡ above_in xs records r
 unfolding above_in
-above-with_head xs records q f homes r = seen_edited (above_head xs) records q r f (λ x. ap (chain_of xs) (homes x))
+above-with_head xs records q f child_lists r = seen_edited (above_head xs) records q r f (λ x. ap (chain_of xs) (child_lists x))
 
 pub class-with_head : (xs : List Aggregation) (records : List Record) (q : ℕ) (f : Record → Record) → ((head : Record) → (f head).aggregation ≡ head.aggregation) → ((head : Record) → (f head).class ≡ head.class) → (r : ℕ) → class_in xs (edited records q f) r ≡ class_in xs records r
 unfolding class_in
-class-with_head xs records q f homes classes r =
-    λ i. first_some (seen_edited own_class records q r f classes i ∷ own_classes xs (above-with_head xs records q f homes r i))
+class-with_head xs records q f child_lists classes r =
+    λ i. first_some (seen_edited own_class records q r f classes i ∷ own_classes xs (above-with_head xs records q f child_lists r i))
 
 pub held-with_head : (holds : HoldMap) (tree : TreeState) (q : ℕ) (f : Record → Record) → ((head : Record) → (f head).aggregation ≡ head.aggregation) → ((head : Record) → (f head).class ≡ head.class) → (r : ℕ) → is_held holds (with_head tree q f) r ≡ is_held holds tree r
-held-with_head holds tree q f homes classes r =
-    λ i. held_in holds r (above-with_head tree.aggregations tree.records q f homes r i) (class-with_head tree.aggregations tree.records q f homes classes r i)
+held-with_head holds tree q f child_lists classes r =
+    λ i. held_in holds r (above-with_head tree.aggregations tree.records q f child_lists r i) (class-with_head tree.aggregations tree.records q f child_lists classes r i)
 
 pub held-set_record_schedule : (holds : HoldMap) (tree : TreeState) (q : ℕ) (schedule : Option (List ℕ)) (r : ℕ) → is_held holds tree r ≡ true → is_held holds (with_record_schedule tree q schedule) r ≡ true
 held-set_record_schedule holds tree q schedule r e = held-with_head holds tree q (λ head. record head { schedule = schedule }) (λ _. refl) (λ _. refl) r ∙ e
@@ -233,24 +233,24 @@ own_classes_same_pushed xs x placed (suc m) (Some a) w =
     λ i. option_and_then (λ (it : Aggregation). it.class) (numbered_same xs x a w.1 i)
     ∷ own_classes_same_pushed xs x placed m (above_one xs a) (next_within xs placed a (length xs) (omega (arith, w.1))) i
 
--- the home of a record that is there
-abbrev pub HomeFits : List Aggregation → Option Record → Type 0
-HomeFits xs None = Unit {0}
-HomeFits xs (Some head) = (0 < head.aggregation) × (head.aggregation ≤ length xs)
+-- the container of a record that is there
+abbrev pub ContainerFits : List Aggregation → Option Record → Type 0
+ContainerFits xs None = Unit {0}
+ContainerFits xs (Some head) = (0 < head.aggregation) × (head.aggregation ≤ length xs)
 
-pub home_fits : (tree : TreeState) → IsSound tree → (r : ℕ) (o : Option Record) → numbered tree.records r ≡ o → HomeFits tree.aggregations o
-home_fits tree sound r None e = tt
-home_fits tree sound r (Some head) e = sound.names.homes r head e
+pub container_fits : (tree : TreeState) → IsSound tree → (r : ℕ) (o : Option Record) → numbered tree.records r ≡ o → ContainerFits tree.aggregations o
+container_fits tree sound r None e = tt
+container_fits tree sound r (Some head) e = sound.names.child_lists r head e
 
-above_pushed : (xs : List Aggregation) (x : Aggregation) → ArePlaced xs → (o : Option Record) → HomeFits xs o → above_head (xs ++ x ∷ []) o ≡ above_head xs o
+above_pushed : (xs : List Aggregation) (x : Aggregation) → ArePlaced xs → (o : Option Record) → ContainerFits xs o → above_head (xs ++ x ∷ []) o ≡ above_head xs o
 above_pushed xs x placed None w = refl
 above_pushed xs x placed (Some head) w = chain_same_pushed xs x placed head.aggregation (Some head.aggregation) w
 
-classes_pushed : (xs : List Aggregation) (x : Aggregation) → ArePlaced xs → (o : Option Record) → HomeFits xs o → own_classes (xs ++ x ∷ []) (above_head xs o) ≡ own_classes xs (above_head xs o)
+classes_pushed : (xs : List Aggregation) (x : Aggregation) → ArePlaced xs → (o : Option Record) → ContainerFits xs o → own_classes (xs ++ x ∷ []) (above_head xs o) ≡ own_classes xs (above_head xs o)
 classes_pushed xs x placed None w = refl
 classes_pushed xs x placed (Some head) w = own_classes_same_pushed xs x placed head.aggregation (Some head.aggregation) w
 
-held_in_pushed : (holds : HoldMap) (xs : List Aggregation) (x : Aggregation) (records : List Record) (r : ℕ) → ArePlaced xs → HomeFits xs (numbered records r) → held_of holds (xs ++ x ∷ []) records r ≡ held_of holds xs records r
+held_in_pushed : (holds : HoldMap) (xs : List Aggregation) (x : Aggregation) (records : List Record) (r : ℕ) → ArePlaced xs → ContainerFits xs (numbered records r) → held_of holds (xs ++ x ∷ []) records r ≡ held_of holds xs records r
 unfolding above_in class_in
 held_in_pushed holds xs x records r placed w =
     let o : Option Record = numbered records r in
@@ -260,7 +260,7 @@ held_in_pushed holds xs x records r placed w =
 pub held-add_aggregation : (holds : HoldMap) (tree : TreeState) (ref_text title : List ℕ) (parent : Option ℕ) (class : Option (List ℕ)) (r : ℕ) → IsSound tree → is_held holds tree r ≡ true → is_held holds (added_aggregation tree ref_text title parent class) r ≡ true
 held-add_aggregation holds tree ref_text title parent class r sound h =
     held_in_pushed holds tree.aggregations (record { ref_text = ref_text; title = title; parent = parent; class = class; closed = None }) tree.records r
-    (placed_in tree.aggregations sound.forest sound.names.root_classes) (home_fits tree sound r (numbered tree.records r) refl)
+    (placed_in tree.aggregations sound.forest sound.names.root_classes) (container_fits tree sound r (numbered tree.records r) refl)
     ∙ h
 
 -- ---- the acts on holds

@@ -13,7 +13,7 @@ pub mod Keys
 pub mod Lasting
 pub mod NextHolds
 pub mod Reclassifying
-pub mod Standing
+pub mod Representing
 pub mod Subsets
 pub mod TargetCounts
 pub mod TargetRows

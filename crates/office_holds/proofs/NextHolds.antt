@@ -12,12 +12,12 @@ use Rattle.std.specs.FinMap.Entries.{by_order, find, put}
 use Rattle.std.proofs.lemmas.Bool.Decides.{nat_tests}
 use Rattle.std.proofs.lemmas.List.{length-append}
 use Rattle.std.proofs.lemmas.List.Elements.{All-from_recursion, All-head, All-tail}
-use Rattle.office_base.proofs.Ascending.{above_front}
+use Rattle.office_base.proofs.Ascending.{above_prefix}
 use Rattle.office_terms.specs.Lists.{holds_of}
 use Rattle.office_terms.specs.Tree.{code_cmp}
 use Rattle.office_terms.proofs.Inserting.{len-insert_free, same_code}
 use Rattle.office_holds.specs.Forms.{FitsHoldLimits}
-use Rattle.office_holds.specs.Founding.{AreRowsOf, IsAbove, hold_rows}
+use Rattle.office_holds.specs.Loading.{AreRowsOf, IsAbove, hold_rows}
 use Rattle.office_holds.specs.Holds.{HoldMap, HoldState, has_target}
 use Rattle.office_holds.specs.Rows.{hold_from, put_hold}
 use Rattle.office_terms.specs.declared.hold_row.HoldRow.{HoldRow}
@@ -64,9 +64,9 @@ module _ (holds : HoldMap) (code : List ℕ) (row : HoldRow) (above : IsAbove ho
     columns = ap hold_rows put_bare
         ∙ rows-insert holds code (hold_from row None)
         ∙ put_above (hold_rows holds) code row (subst (λ ks. All (λ q. code_cmp q code ≡ Less) ks) (sym (row_keys (entries holds))) above)
-        ∙ ap (λ front. front ++ (code, row) ∷ []) are.columns;
-    targets_stand = λ q t.
-        are.targets_stand q t
+        ∙ ap (λ prefix. prefix ++ (code, row) ∷ []) are.columns;
+    targets_exist = λ q t.
+        are.targets_exist q t
         ∙ sym (ap (λ h. holds_of (get h q) (λ hold. has_target hold t)) put_bare
         ∙ ap (λ (o : Option HoldState). holds_of o (λ hold. has_target hold t)) (get-insert nat_list_cmp_total holds code (hold_from row None) q)
         ∙ none_there row t (eq_by_cmp code_cmp q code) (get holds q) (λ tie. ap (get holds) (same_code q code tie) ∙ get-above holds code above));
@@ -84,19 +84,19 @@ module _ (holds : HoldMap) (code : List ℕ) (row : HoldRow) (above : IsAbove ho
     below : (n : ℕ) → nat_le 1_000 n ≡ false → n < 1_000
     below n h = grind (arith, nat_tests)
 
-module _ (holds stand : HoldMap) (code : List ℕ) (row : HoldRow) (rest : List (List ℕ × HoldRow)) (begins : hold_rows stand ≡ (hold_rows holds ++ (code, row) ∷ []) ++ rest) where
-  begin_so : hold_rows stand ≡ hold_rows holds ++ (code, row) ∷ rest
+module _ (holds represent : HoldMap) (code : List ℕ) (row : HoldRow) (rest : List (List ℕ × HoldRow)) (begins : hold_rows represent ≡ (hold_rows holds ++ (code, row) ∷ []) ++ rest) where
+  begin_so : hold_rows represent ≡ hold_rows holds ++ (code, row) ∷ rest
   begin_so = begins ∙ append_assoc (hold_rows holds) ((code, row) ∷ []) rest
 
   -- the code of a row after those of holds is above theirs
   pub above-next : IsAbove holds code
   above-next =
       subst (λ ks. All (λ q. code_cmp q code ≡ Less) ks) (row_keys (entries holds))
-      (All-from_recursion (λ q. code_cmp q code ≡ Less) (keys_of (hold_rows holds)) (above_front code_cmp (hold_rows holds) code row rest (rows_ascend (hold_rows holds ++ (code, row) ∷ rest) stand begin_so)))
+      (All-from_recursion (λ q. code_cmp q code ≡ Less) (keys_of (hold_rows holds)) (above_prefix code_cmp (hold_rows holds) code row rest (rows_ascend (hold_rows holds ++ (code, row) ∷ rest) represent begin_so)))
 
   -- and there are more holds
-  pub more-next : len holds < len stand
+  pub more-next : len holds < len represent
   more-next =
       let few = len-entries holds ∙ sym (rows_length (entries holds)) in
-      let many = len-entries stand ∙ sym (rows_length (entries stand)) ∙ ap length begin_so ∙ length-append (hold_rows holds) ((code, row) ∷ rest) in
+      let many = len-entries represent ∙ sym (rows_length (entries represent)) ∙ ap length begin_so ∙ length-append (hold_rows holds) ((code, row) ∷ rest) in
       omega (arith, few, many)

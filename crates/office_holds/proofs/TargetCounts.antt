@@ -10,7 +10,7 @@ use Rattle.office_terms.proofs.Accepting.{below}
 use Rattle.office_holds.specs.Conditions.{target_count}
 use Rattle.office_holds.specs.Effects.{held_on, with_target}
 use Rattle.office_holds.specs.Forms.{FitsHoldLimits}
-use Rattle.office_holds.specs.Founding.{takes_target}
+use Rattle.office_holds.specs.Loading.{takes_target}
 use Rattle.office_holds.specs.Holds.{HoldMap, HoldState, has_target}
 use Rattle.office_terms.specs.declared.target.Target.{Target}
 use Rattle.office_terms.specs.declared.target.Target.TheVariants as target

@@ -13,7 +13,7 @@ use Rattle.office_terms.proofs.Accepting.{neither, not_false}
 use Rattle.office_holds.specs.Conditions.{target_count}
 use Rattle.office_holds.specs.Effects.{held_on, with_target}
 use Rattle.office_holds.specs.Forms.{FitsHoldLimits}
-use Rattle.office_holds.specs.Founding.{AreRowsOf, is_pair, same_target, takes_target}
+use Rattle.office_holds.specs.Loading.{AreRowsOf, is_pair, same_target, takes_target}
 use Rattle.office_holds.specs.Holds.{HoldMap, HoldState, has_target}
 use Rattle.office_holds.specs.Rows.{hold_row}
 use Rattle.office_terms.specs.declared.hold_row.HoldRow.{HoldRow}
@@ -32,10 +32,10 @@ pub rows-taken : (rows : List (List ℕ × HoldRow)) (done : List (List ℕ × T
     → AreRowsOf rows (done ++ (code, new) ∷ []) (held_on holds code new)
 rows-taken rows done code new holds are takes = record {
   columns = rows-held_on holds code new ∙ are.columns;
-  targets_stand = λ q t.
+  targets_exist = λ q t.
       list_any-append (λ e. is_pair e.0 e.1 q t) done ((code, new) ∷ [])
       ∙ last_first (list_any (λ e. is_pair e.0 e.1 q t) done) (is_pair code new q t)
-      ∙ ap (λ b. is_pair code new q t || b) (are.targets_stand q t)
+      ∙ ap (λ b. is_pair code new q t || b) (are.targets_exist q t)
       ∙ sym (target-held_on holds code new q t (taken_there holds code new takes));
 }
 
@@ -61,28 +61,28 @@ there a (Some hold) it e is = (hold, refl)
 there None None it e is = absurd cc
 there (Some hold) None it e is = absurd cc
 
-module _ (rows : List (List ℕ × HoldRow)) (done rest : List (List ℕ × Target)) (code : List ℕ) (new : Target) (holds stand : HoldMap)
-    (are : AreRowsOf rows done holds) (fits : FitsHoldLimits stand) (all : AreRowsOf rows (done ++ (code, new) ∷ rest) stand) where
-  same_columns : option_map hold_row (get holds code) ≡ option_map hold_row (get stand code)
-  same_columns = sym (find-hold_rows holds code) ∙ ap (find code_cmp code) (are.columns ∙ sym all.columns) ∙ find-hold_rows stand code
+module _ (rows : List (List ℕ × HoldRow)) (done rest : List (List ℕ × Target)) (code : List ℕ) (new : Target) (holds represent : HoldMap)
+    (are : AreRowsOf rows done holds) (fits : FitsHoldLimits represent) (all : AreRowsOf rows (done ++ (code, new) ∷ rest) represent) where
+  same_columns : option_map hold_row (get holds code) ≡ option_map hold_row (get represent code)
+  same_columns = sym (find-hold_rows holds code) ∙ ap (find code_cmp code) (are.columns ∙ sym all.columns) ∙ find-hold_rows represent code
 
   -- which targets a hold has among the rows
-  among : (t : Target) → holds_of (get stand code) (λ hold. has_target hold t) ≡ (list_any (λ e. is_pair e.0 e.1 code t) done || (is_pair code new code t || list_any (λ e. is_pair e.0 e.1 code t) rest))
-  among t = sym (all.targets_stand code t) ∙ list_any-append (λ e. is_pair e.0 e.1 code t) done ((code, new) ∷ rest)
+  among : (t : Target) → holds_of (get represent code) (λ hold. has_target hold t) ≡ (list_any (λ e. is_pair e.0 e.1 code t) done || (is_pair code new code t || list_any (λ e. is_pair e.0 e.1 code t) rest))
+  among t = sym (all.targets_exist code t) ∙ list_any-append (λ e. is_pair e.0 e.1 code t) done ((code, new) ∷ rest)
 
-  has_new : holds_of (get stand code) (λ hold. has_target hold new) ≡ true
+  has_new : holds_of (get represent code) (λ hold. has_target hold new) ≡ true
   has_new = among new ∙ or_middle (list_any (λ e. is_pair e.0 e.1 code new) done) (is_pair code new code new) (list_any (λ e. is_pair e.0 e.1 code new) rest) (pair_itself code new)
 
-  has_all : (it other : HoldState) → get holds code ≡ Some it → get stand code ≡ Some other → (t : Target) → has_target (with_target new it) t ≡ true → has_target other t ≡ true
+  has_all : (it other : HoldState) → get holds code ≡ Some it → get represent code ≡ Some other → (t : Target) → has_target (with_target new it) t ≡ true → has_target other t ≡ true
   has_all it other is e t has =
-      let before : list_any (λ e. is_pair e.0 e.1 code t) done ≡ has_target it t = are.targets_stand code t ∙ ap (λ (o : Option HoldState). holds_of o (λ hold. has_target hold t)) is in
+      let before : list_any (λ e. is_pair e.0 e.1 code t) done ≡ has_target it t = are.targets_exist code t ∙ ap (λ (o : Option HoldState). holds_of o (λ hold. has_target hold t)) is in
       let here : is_pair code new code t ≡ same_target new t = ap (λ b. b && same_target new t) (code_itself code) in
       sym (ap (λ (o : Option HoldState). holds_of o (λ hold. has_target hold t)) e)
       ∙ among t
       ∙ (λ i. before i || (here i || list_any (λ e. is_pair e.0 e.1 code t) rest))
       ∙ has_either (has_target it t) (same_target new t) (list_any (λ e. is_pair e.0 e.1 code t) rest) (sym (has-with_target new t it) ∙ has)
 
-  too_many : (it other : HoldState) → get holds code ≡ Some it → get stand code ≡ Some other → (has_target it new || not (nat_le 1_000 (target_count it))) ≡ false → ⊥
+  too_many : (it other : HoldState) → get holds code ≡ Some it → get represent code ≡ Some other → (has_target it new || not (nat_le 1_000 (target_count it))) ≡ false → ⊥
   too_many it other is e refused =
       let parts = neither (has_target it new) (not (nat_le 1_000 (target_count it))) refused in
       let full : 1_000 ≤ target_count it = at_least (target_count it) (not_false (nat_le 1_000 (target_count it)) parts.1) in
@@ -98,7 +98,7 @@ module _ (rows : List (List ℕ × HoldRow)) (done rest : List (List ℕ × Targ
   pub not_taken : takes_target holds code new ≡ false → ⊥
   not_taken refused = by_hold (get holds code) refl where
     by_hold : (o : Option HoldState) → get holds code ≡ o → ⊥
-    by_hold None is = missing (get holds code) (get stand code) (λ hold. has_target hold new) same_columns is has_new
+    by_hold None is = missing (get holds code) (get represent code) (λ hold. has_target hold new) same_columns is has_new
     by_hold (Some it) is =
-        let other = there (get holds code) (get stand code) it same_columns is in
+        let other = there (get holds code) (get represent code) it same_columns is in
         too_many it other.0 is other.1 (sym (ap (λ (o : Option HoldState). holds_of o (λ hold. has_target hold new || not (nat_le 1_000 (target_count hold)))) is) ∙ refused)

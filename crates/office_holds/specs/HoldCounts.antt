@@ -1,4 +1,4 @@
--- What is kept beside the holds, and when it agrees with them. Source: own.
+-- What is derived beside the holds, and when it agrees with them. Source: own.
 use Rattle.std.specs.Prelude.{◌≡◌, ◌+◌, ◌-◌, ℕ, Bool, ◌&&◌, not, nat_lt, List, length, filter, Some, IsTrue}
 use Rattle.std.specs.Ordering.{nat_cmp}
 use Rattle.std.specs.BTreeMap.{ContainsKey}
@@ -30,19 +30,19 @@ binds_at holds code target = holds_of (get holds code) (binds target)
 abbrev pub may_gain : HoldMap → List ℕ → Target → Bool
 may_gain holds code target = holds_of (get holds code) (λ hold. is_in_force hold && not (has_target hold target))
 
--- ---- what is kept
+-- ---- what is cached
 
--- the count kept of a target
-abbrev pub kept_count : HoldCounts → Target → ℕ
-kept_count counts (target.Class code) = number_at code_cmp counts.classes code
-kept_count counts (target.Aggregation a) = number_at nat_cmp counts.aggregations a
-kept_count counts (target.Record r) = number_at nat_cmp counts.records r
+-- the cached count of a target
+abbrev pub cached_count : HoldCounts → Target → ℕ
+cached_count counts (target.Class code) = number_at code_cmp counts.classes code
+cached_count counts (target.Aggregation a) = number_at nat_cmp counts.aggregations a
+cached_count counts (target.Record r) = number_at nat_cmp counts.records r
 
--- by the counts kept, a hold in force has the target
+-- by the cached counts, a hold in force has the target
 abbrev pub is_bound : HoldCounts → Target → Bool
-is_bound counts target = nat_lt 0 (kept_count counts target)
+is_bound counts target = nat_lt 0 (cached_count counts target)
 
--- a count is kept of the target, if only 0
+-- a count is cached of the target, if only 0
 abbrev pub HasRoom : HoldCounts → Target → Type 0
 HasRoom counts (target.Class code) = ContainsKey code_cmp counts.classes code
 HasRoom counts (target.Aggregation a) = ContainsKey nat_cmp counts.aggregations a
@@ -50,17 +50,17 @@ HasRoom counts (target.Record r) = ContainsKey nat_cmp counts.records r
 
 -- the counts of these targets are one more, and every other stays
 abbrev pub CountsUp : HoldCounts → HoldCounts → (Target → Bool) → Type 0
-CountsUp old new these = (target : Target) → kept_count new target ≡ kept_count old target + one_if (these target)
+CountsUp old new these = (target : Target) → cached_count new target ≡ cached_count old target + one_if (these target)
 
 -- the counts of these targets are one less, and every other stays
 abbrev pub CountsDown : HoldCounts → HoldCounts → (Target → Bool) → Type 0
-CountsDown old new these = (target : Target) → kept_count new target ≡ kept_count old target - one_if (these target)
+CountsDown old new these = (target : Target) → cached_count new target ≡ cached_count old target - one_if (these target)
 
 -- each hold in force has its code among these
 abbrev pub HasInForce : HoldMap → FinSet code_cmp → Type 0
 HasInForce holds codes = (code : List ℕ) (hold : HoldState) → get holds code ≡ Some hold → IsTrue (is_in_force hold) → IsTrue (contains codes code)
 
--- the count kept of each target is how many holds in force have it, and the codes kept have those of the holds in force among them
+-- the cached count of each target is how many holds in force have it, and the cached codes have those of the holds in force among them
 pub record IsKept (holds : HoldMap) (counts : HoldCounts) (codes : FinSet code_cmp) : Type 0 where
-  pub counted : (target : Target) → kept_count counts target ≡ binding_count holds target
+  pub counted : (target : Target) → cached_count counts target ≡ binding_count holds target
   pub in_force : HasInForce holds codes

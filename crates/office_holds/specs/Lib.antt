@@ -1,7 +1,7 @@
 pub mod Conditions
 pub mod Effects
 pub mod Forms
-pub mod Founding
+pub mod Loading
 pub mod HoldCounts
 pub mod Holds
 pub mod Meanings

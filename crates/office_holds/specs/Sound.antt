@@ -13,8 +13,8 @@ pub record TargetsAreThere (classes : FinMap code_cmp Class) (aggregation_count 
   pub record_targets : (r : ℕ) → IsTrue (contains hold.records r) → (0 < r) × (r ≤ record_count)
 
 -- every target of every hold is there
-abbrev pub TargetsStand : HoldMap → FinMap code_cmp Class → ℕ → ℕ → Type 0
-TargetsStand holds classes aggregation_count record_count =
+abbrev pub TargetsExist : HoldMap → FinMap code_cmp Class → ℕ → ℕ → Type 0
+TargetsExist holds classes aggregation_count record_count =
     (code : List ℕ) (hold : HoldState) → get holds code ≡ Some hold → TargetsAreThere classes aggregation_count record_count hold
 
 -- no day of placing or lifting is after a day

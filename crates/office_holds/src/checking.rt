@@ -33,7 +33,7 @@ impl Holds {
         None
     }
 
-    /// Why a target is not put on a hold, as far as the holds tell: the hold has it, there is no such
+    /// Why a target is not put on a hold, by the holds alone: the hold has it, there is no such
     /// hold, it has 1,000 targets, or it is lifted.
     pub fn check_cover(&self, code: &Code, target: &Target) -> Option<Refusal>
         ensures first { result ≡ first_of (conditions_of_hold_on self.now code.now target.now) }
@@ -84,7 +84,7 @@ impl Holds {
         }
     }
 
-    /// Why an aggregation or a record is not reclassified, as far as the holds tell: its class would
+    /// Why an aggregation or a record is not reclassified, by the holds alone: its class would
     /// change, and a hold in force has the old one as a target. What is not there leaves no class.
     pub fn check_reclassify(
         &self,

@@ -1,8 +1,8 @@
 //! What is counted beside the holds, so that no reading goes over all of them.
 ghost use Rattle.std.specs.Prelude.{◌≡◌, ◌+◌, ◌<◌, ◌^◌, ◌||◌, OnOk};
 ghost use Rattle.std.specs.List.{list_any};
-ghost use Rattle.office_holds.specs.Founding.{same_target};
-ghost use Rattle.office_holds.specs.HoldCounts.{CountsDown, CountsUp, HasRoom, is_bound, kept_count};
+ghost use Rattle.office_holds.specs.Loading.{same_target};
+ghost use Rattle.office_holds.specs.HoldCounts.{CountsDown, CountsUp, HasRoom, is_bound, cached_count};
 ghost use Rattle.office_terms.specs.declared.target.Target.{Target};
 ghost use Rattle.office_terms.specs.declared.target.Target.TheVariants as target;
 
@@ -24,7 +24,7 @@ pub(crate) struct HoldCounts {
 impl HoldCounts {
     /// Counts of which each is 0.
     pub(crate) fn new(alloc: Global) -> HoldCounts
-        ensures { (it : Target) → kept_count result it ≡ 0 }
+        ensures { (it : Target) → cached_count result it ≡ 0 }
     {
         HoldCounts {
             classes: BTreeMap::new(alloc),
@@ -36,7 +36,7 @@ impl HoldCounts {
     /// Keeps a count of the target, if only 0.
     pub(crate) fn make_room(&mut self, alloc: Global, target: &Target) -> Result<(), Memory>
         ensures room { OnOk result (HasRoom self.new target.now) }
-        ensures same { (it : Target) → kept_count self.new it ≡ kept_count self.old it }
+        ensures same { (it : Target) → cached_count self.new it ≡ cached_count self.old it }
     {
         match target {
             Target::Class(code) => make_room_for_code(&mut self.classes, alloc, code),
@@ -48,7 +48,7 @@ impl HoldCounts {
     /// Counts the target up by one.
     pub(crate) fn count_up(&mut self, target: &Target)
         requires room { HasRoom self.old target.now }
-        requires fits { kept_count self.old target.now + 1 < 2 ^ 32 }
+        requires fits { cached_count self.old target.now + 1 < 2 ^ 32 }
         ensures { CountsUp self.old self.new (same_target target.now) }
     {
         match target {
@@ -70,14 +70,14 @@ impl HoldCounts {
     }
 
     /// Whether a hold in force has the class as a target.
-    pub(crate) fn bind_class(&self, class: &Code) -> bool
+    pub(crate) fn is_class_bound(&self, class: &Code) -> bool
         ensures { result ≡ is_bound self.now (target.Class class.now) }
     {
         number_of(&self.classes, class) > 0
     }
 
     /// Whether a hold in force has one of the aggregations as a target.
-    pub(crate) fn bind_any(&self, aggregations: &[AggNo]) -> bool
+    pub(crate) fn is_any_bound(&self, aggregations: &[AggNo]) -> bool
         ensures { result ≡ list_any (λ a. is_bound self.now (target.Aggregation a)) aggregations.now }
     {
         aggregations.iter().any(|aggregation| number_of(&self.aggregations, aggregation) > 0)
@@ -90,9 +90,9 @@ impl HoldCounts {
         if number_of(&self.records, &record_no) > 0 {
             return true;
         }
-        if self.bind_any(above) {
+        if self.is_any_bound(above) {
             return true;
         }
-        self.bind_class(class)
+        self.is_class_bound(class)
     }
 }

@@ -4,9 +4,9 @@ ghost use Rattle.std.specs.BTreeMap as map;
 ghost use Rattle.std.specs.List.{All};
 ghost use Rattle.office_terms.specs.Forms.{IsCode};
 ghost use Rattle.office_terms.specs.Tree.{code_cmp};
-ghost use Rattle.office_holds.specs.Forms.{AreFormedHolds, IsFormedHold};
+ghost use Rattle.office_holds.specs.Forms.{AreWellFormedHolds, IsWellFormedHold};
 ghost use Rattle.office_holds.specs.Holds.{HoldState};
-ghost use Rattle.office_holds.specs.Sound.{NoHoldIsAfter, TargetsAreThere, TargetsStand};
+ghost use Rattle.office_holds.specs.Sound.{NoHoldIsAfter, TargetsAreThere, TargetsExist};
 
 use crate::{Hold, Holds};
 use office_days::Day;
@@ -15,11 +15,11 @@ use office_tree::Tree;
 use std::collections::BTreeMap;
 
 /// Whether every target of each hold is in the tree.
-fn do_all_stand(holds: &BTreeMap<Code, Hold>, tree: &Tree) -> bool
+fn do_all_exist(holds: &BTreeMap<Code, Hold>, tree: &Tree) -> bool
     ensures all { IsTrue result ↔ All (TargetsAreThere tree.now.classes (length tree.now.aggregations) (length tree.now.records)) (map.values holds.now) }
     ensures ordered { map.IsOrdered code_cmp holds.now }
 {
-    holds.values().all(|hold| hold.do_targets_stand(tree))
+    holds.values().all(|hold| hold.do_targets_exist(tree))
 }
 
 /// Whether none of the holds was placed or lifted after that day.
@@ -30,9 +30,9 @@ fn are_all_by(holds: &BTreeMap<Code, Hold>, last: Day) -> bool
     holds.values().all(|hold| hold.is_by(last))
 }
 
-/// Tells in proofs that each hold and its code are of their forms; a call changes nothing.
-fn formed_holds(holds: &BTreeMap<Code, Hold>)
-    ensures { All (λ it. IsCode it.0 × IsFormedHold it.1) holds.now.entries }
+/// Gives proofs the fact that each hold and its code are of their forms; a call changes nothing.
+fn well_formed_holds(holds: &BTreeMap<Code, Hold>)
+    ensures { All (λ it. IsCode it.0 × IsWellFormedHold it.1) holds.now.entries }
 {
     for (code, hold) in holds.iter() {
         let _ = code.text();
@@ -42,11 +42,11 @@ fn formed_holds(holds: &BTreeMap<Code, Hold>)
 
 impl Holds {
     /// Whether every target of every hold is in the tree.
-    pub fn do_targets_stand(&self, tree: &Tree) -> bool
-        ensures yes { IsTrue result → TargetsStand self.now tree.now.classes (length tree.now.aggregations) (length tree.now.records) }
-        ensures no { result ≡ false → TargetsStand self.now tree.now.classes (length tree.now.aggregations) (length tree.now.records) → ⊥ }
+    pub fn do_targets_exist(&self, tree: &Tree) -> bool
+        ensures yes { IsTrue result → TargetsExist self.now tree.now.classes (length tree.now.aggregations) (length tree.now.records) }
+        ensures no { result ≡ false → TargetsExist self.now tree.now.classes (length tree.now.aggregations) (length tree.now.records) → ⊥ }
     {
-        do_all_stand(&self.by_code, tree)
+        do_all_exist(&self.by_code, tree)
     }
 
     /// Whether no hold was placed or lifted after that day.
@@ -57,10 +57,10 @@ impl Holds {
         are_all_by(&self.by_code, last)
     }
 
-    /// Tells in proofs that all that stands in the holds is of its form; a call changes nothing.
+    /// Gives proofs the fact that all that is in the holds is of its form; a call changes nothing.
     pub fn formed(&self)
-        ensures { AreFormedHolds self.now }
+        ensures { AreWellFormedHolds self.now }
     {
-        formed_holds(&self.by_code);
+        well_formed_holds(&self.by_code);
     }
 }

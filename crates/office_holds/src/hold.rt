@@ -4,7 +4,7 @@ ghost use Rattle.std.specs.Option.{is_some};
 ghost use Rattle.office_days.specs.Limits.{IsDayNumber};
 ghost use Rattle.office_holds.specs.Conditions.{target_count};
 ghost use Rattle.office_holds.specs.Effects.{with_target, without_target};
-ghost use Rattle.office_holds.specs.Forms.{IsFormedHold};
+ghost use Rattle.office_holds.specs.Forms.{IsWellFormedHold};
 ghost use Rattle.office_holds.specs.HoldCounts.{CountsDown};
 ghost use Rattle.office_holds.specs.Holds.{has_target, hold_covers};
 ghost use Rattle.office_holds.specs.Rows.{hold_from, hold_row};
@@ -13,8 +13,8 @@ ghost use Rattle.office_holds.specs.Sound.{TargetsAreThere};
 use crate::counts::HoldCounts;
 use crate::numbers::count_each_down;
 use crate::sets::{
-    are_aggregations, are_classes, are_records, count_codes, count_numbers, formed_codes, has_any,
-    has_code, has_number, put_code, put_number, take_code, take_number,
+    are_aggregations, are_classes, are_records, count_codes, count_numbers, has_any, has_code,
+    has_number, put_code, put_number, take_code, take_number, well_formed_codes,
 };
 use office_base::Memory;
 use office_days::Day;
@@ -54,8 +54,8 @@ impl Model for Hold {
     } };
 }
 
-/// Tells in proofs that a day, where there is one, may be handed in; a call changes nothing.
-fn formed_day_or_none(day: Option<Day>)
+/// Gives proofs the fact that a day, where there is one, may be handed in; a call changes nothing.
+fn well_formed_day_or_none(day: Option<Day>)
     ensures { IfSome day IsDayNumber }
 {
     if let Some(day) = day {
@@ -174,7 +174,7 @@ impl Hold {
     }
 
     /// Whether every target is in the tree.
-    pub(crate) fn do_targets_stand(&self, tree: &Tree) -> bool
+    pub(crate) fn do_targets_exist(&self, tree: &Tree) -> bool
         ensures { IsTrue result ↔ TargetsAreThere tree.now.classes (length tree.now.aggregations) (length tree.now.records) self.now }
     {
         if !are_classes(&self.classes, tree) {
@@ -193,15 +193,15 @@ impl Hold {
         self.row.placed <= last && self.row.lifted.is_none_or(|lifted| lifted <= last)
     }
 
-    /// Tells in proofs that its texts and days and the codes of its classes are of their forms; a call
+    /// Gives proofs the fact that its texts and days and the codes of its classes are of their forms; a call
     /// changes nothing.
     pub(crate) fn formed(&self)
-        ensures { IsFormedHold self.now }
+        ensures { IsWellFormedHold self.now }
     {
         let _ = self.row.reason.text();
         let _ = self.row.placed.number();
         let _ = self.row.placed_by.text();
-        formed_day_or_none(self.row.lifted);
-        formed_codes(&self.classes);
+        well_formed_day_or_none(self.row.lifted);
+        well_formed_codes(&self.classes);
     }
 }

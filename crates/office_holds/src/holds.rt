@@ -89,7 +89,7 @@ impl Holds {
         )
     }
 
-    /// Tells in proofs that the holds are within their limits; a call does nothing.
+    /// Gives proofs the fact that the holds are within their limits; a call does nothing.
     pub fn sound(&self)
         ensures { FitsHoldLimits self.now }
     {

@@ -14,7 +14,7 @@ use office_terms::{AggNo, Classified, Code, RecordNo};
 use office_tree::Tree;
 
 /// The class of a record's aggregation, which is the record's where it has none of its own.
-fn class_of_home(tree: &Tree, record_no: RecordNo) -> &Code
+fn class_of_container(tree: &Tree, record_no: RecordNo) -> &Code
     requires { IsTrue (has_record tree.now record_no) }
     ensures { class_of (reclassified tree.now (classified.Record record_no) None) record_no ≡ Some result.now }
 {
@@ -43,7 +43,7 @@ fn record_class_after<'a>(tree: &'a Tree, record_no: RecordNo, class: Option<&'a
 {
     match class {
         Some(class) => class,
-        None => class_of_home(tree, record_no),
+        None => class_of_container(tree, record_no),
     }
 }
 
@@ -77,7 +77,7 @@ impl Holds {
     fn is_held_class(&self, class: &Code) -> bool
         ensures { result ≡ is_held_class self.now class.now }
     {
-        self.counts.bind_class(class)
+        self.counts.is_class_bound(class)
     }
 
     /// Whether a class is left for another, or for none, and a hold in force has it as a target.

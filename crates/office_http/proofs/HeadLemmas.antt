@@ -40,14 +40,14 @@ missing_long (Some xs) (Some ys) buf h l s = (
   λ head rest reads short. s head (drop (length (print_request head)) buf) (reads.0, starts _ rest buf ys (sym h ∙ reads.1) (omega (arith, short.bytes, l))),
 )
 
--- where there is no head, the rest of what reading one says tells nothing
-untold : (old new : Option (List ℕ)) → IfSome old (λ bytes. IfSome new (λ left. Unit {0}))
-untold None new = tt
-untold (Some xs) None = tt
-untold (Some xs) (Some ys) = tt
+-- where there is no head, the rest of what reading one says reports nothing
+unreported : (old new : Option (List ℕ)) → IfSome old (λ bytes. IfSome new (λ left. Unit {0}))
+unreported None new = tt
+unreported (Some xs) None = tt
+unreported (Some xs) (Some ys) = tt
 
 pub reads_none : (old new : Option (List ℕ)) (buf : List ℕ) (headers : List HeaderSpan) → Consumes old new buf → IfSome old (λ bytes. IsRequest headless bytes) → ReadsHead Missing buf headers old new
-reads_none old new buf headers h n = record { read = h; head = n; spans = tt; asked = untold old new }
+reads_none old new buf headers h n = record { read = h; head = n; spans = tt; asked = unreported old new }
 
 -- no bytes begin no head
 pub nothing_has_none : (buf : List ℕ) → true ≡ (length buf == 0) → HasNoRequest buf

@@ -23,7 +23,7 @@ use Rattle.office_http.specs.declared.status.Status.TheVariants as statuses
 -- the first lines and what follows them
 start : (s : Status) (k : Kind) (rest : List ℕ) → head_start s k ++ rest ≡ print_version 1 ++ space ∷ decimal (status_number s) ++ (space ∷ reason_phrase s) ++ crlf_bytes ++ (kind_line k ++ rest)
 unfolding status_words digits
-start statuses.Fine k rest = refl
+start statuses.Ok k rest = refl
 start statuses.BadRequest k rest = refl
 start statuses.NotFound k rest = refl
 start statuses.MethodNotAllowed k rest = refl
@@ -67,7 +67,7 @@ head_is r =
 
 three_digits : (s : Status) → (length (decimal (status_number s)) ≡ 3) × AllPass is_ascii_digit (decimal (status_number s))
 unfolding digits
-three_digits statuses.Fine = (refl, AllPass-from_list_all is_ascii_digit (decimal (status_number statuses.Fine)) refl)
+three_digits statuses.Ok = (refl, AllPass-from_list_all is_ascii_digit (decimal (status_number statuses.Ok)) refl)
 three_digits statuses.BadRequest = (refl, AllPass-from_list_all is_ascii_digit (decimal (status_number statuses.BadRequest)) refl)
 three_digits statuses.NotFound = (refl, AllPass-from_list_all is_ascii_digit (decimal (status_number statuses.NotFound)) refl)
 three_digits statuses.MethodNotAllowed = (refl, AllPass-from_list_all is_ascii_digit (decimal (status_number statuses.MethodNotAllowed)) refl)
@@ -78,7 +78,7 @@ three_digits statuses.NotImplemented = (refl, AllPass-from_list_all is_ascii_dig
 three_digits statuses.ServiceUnavailable = (refl, AllPass-from_list_all is_ascii_digit (decimal (status_number statuses.ServiceUnavailable)) refl)
 
 phrase_bytes : (s : Status) → AllPass is_value_byte (reason_phrase s)
-phrase_bytes statuses.Fine = AllPass-from_list_all is_value_byte (reason_phrase statuses.Fine) refl
+phrase_bytes statuses.Ok = AllPass-from_list_all is_value_byte (reason_phrase statuses.Ok) refl
 phrase_bytes statuses.BadRequest = AllPass-from_list_all is_value_byte (reason_phrase statuses.BadRequest) refl
 phrase_bytes statuses.NotFound = AllPass-from_list_all is_value_byte (reason_phrase statuses.NotFound) refl
 phrase_bytes statuses.MethodNotAllowed = AllPass-from_list_all is_value_byte (reason_phrase statuses.MethodNotAllowed) refl

@@ -34,11 +34,11 @@ none_by false b n h = refl
 pub number_named-not_utf8 : (bs : List ℕ) → ¬ (IsUtf8 bs) → number_named bs ≡ None
 number_named-not_utf8 bs h = none_by (nat_lt 0 (length bs)) (list_all is_ascii_digit bs) _ (λ all. h (IsUtf8-from_ascii bs (ascii bs all)))
 
-tells_digits : IsDigitsTest (λ ds. list_all is_ascii_digit ds ≡ true)
-tells_digits = search rules
+reports_digits : IsDigitsTest (λ ds. list_all is_ascii_digit ds ≡ true)
+reports_digits = search rules
 
 pub digits_model : IsNumeralModel (λ ds. list_all is_ascii_digit ds ≡ true) (digits_value 10)
-digits_model = numerals_by_value _ tells_digits
+digits_model = numerals_by_value _ reports_digits
 
 -- 19 digits write less than 2 ^ 64
 fits : (bs : List ℕ) → length bs ≤ 19 → list_all is_ascii_digit bs ≡ true → digits_value 10 bs < 2 ^ 64

@@ -3,6 +3,6 @@ pub mod Fields
 pub mod Messages
 pub mod Numbers
 pub mod Paths
-pub mod Plans
+pub mod RequestPlans
 pub mod Replies
 pub mod Requests

@@ -13,7 +13,7 @@ field_of name value = record { name = name; raw = 32 ∷ value; end = crlf }
 abbrev pub close_fields : List Field
 close_fields = field_of (codes "Connection") (codes "close") ∷ []
 
--- with the field line of the method that is allowed, where one is told
+-- with the field line of the method that is allowed, where one is reported
 abbrev pub allow_fields : Allow → List Field
 allow_fields allows.Any = close_fields
 allow_fields allows.Get = field_of (codes "Allow") (codes "GET") ∷ close_fields

@@ -41,7 +41,7 @@ is_path target = not (list_any (λ byte. byte == 63) target) && is_utf8 target
 abbrev pub resource_at : List ℕ → Option Resource
 resource_at path = option_map (λ route. route.value) (first office_routes path)
 
--- the segment of a path at that place, where 1 is its first word, as `records` of `/records/8`: the second tells which record, day or
+-- the segment of a path at that place, where 1 is its first word, as `records` of `/records/8`: the second reports which record, day or
 -- certificate is meant, and the third of `/overdue/{day}/{count}` how many days
 abbrev pub path_segment : ℕ → List ℕ → List ℕ
 path_segment place path = unwrap_or (slice_get (slice_split (λ byte. byte == 47) path) place) []

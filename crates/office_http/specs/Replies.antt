@@ -18,7 +18,7 @@ abbrev pub line_end : List ℕ
 line_end = 13 ∷ 10 ∷ []
 
 abbrev pub status_number : Status → ℕ
-status_number statuses.Fine = 200
+status_number statuses.Ok = 200
 status_number statuses.BadRequest = 400
 status_number statuses.NotFound = 404
 status_number statuses.MethodNotAllowed = 405
@@ -30,7 +30,7 @@ status_number statuses.ServiceUnavailable = 503
 
 -- the reason phrases of RFC 9110 section 15; that of 413 is the one of RFC 7231
 abbrev pub reason_phrase : Status → List ℕ
-reason_phrase statuses.Fine = codes "OK"
+reason_phrase statuses.Ok = codes "OK"
 reason_phrase statuses.BadRequest = codes "Bad Request"
 reason_phrase statuses.NotFound = codes "Not Found"
 reason_phrase statuses.MethodNotAllowed = codes "Method Not Allowed"
@@ -113,7 +113,7 @@ check_response checks.LengthMissing = error_response statuses.LengthRequired all
 check_response checks.LengthInvalid = error_response statuses.BadRequest allows.Any (codes "length")
 check_response checks.ContentTooLarge = error_response statuses.PayloadTooLarge allows.Any (codes "size")
 
--- the answer where anything else fails that needs no number told
+-- the answer where anything else fails that needs no number reported
 unfoldable pub failure_response : Failure → Response
 failure_response failures.Head = error_response statuses.BadRequest allows.Any (codes "head")
 failure_response failures.Body = error_response statuses.BadRequest allows.Any (codes "body")

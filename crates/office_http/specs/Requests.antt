@@ -5,8 +5,8 @@ use Rattle.httparse.specs.Grammar.{RequestHead, print_request, ReadsRequest, Has
 use Rattle.httparse.specs.declared.spans.HeaderSpan.{HeaderSpan}
 use Rattle.httparse.specs.declared.spans.RequestSpans.{RequestSpans}
 use Rattle.httparse.specs.Spans.{IsRequestAt, IsRequestWithin}
-use Rattle.office_http.specs.declared.reading.Seen.{Seen}
-use Rattle.office_http.specs.declared.reading.Seen.TheVariants.{Whole, Part, Never}
+use Rattle.office_http.specs.declared.reading.HeadParse.{HeadParse}
+use Rattle.office_http.specs.declared.reading.HeadParse.TheVariants.{Whole, Part, Never}
 use Rattle.office_http.specs.declared.reading.Head.{Head}
 use Rattle.office_http.specs.declared.reading.Head.TheVariants.{Found, Missing, Empty}
 
@@ -35,8 +35,8 @@ IsRequest (asks h rest) bytes = ReadsRequest bytes h rest × IsShort h
 abbrev pub IsHeadAt : RequestSpans → List ℕ → List HeaderSpan → Type 0
 IsHeadAt spans buf headers = IsRequestWithin buf headers spans × ((h : RequestHead) × IsRequestAt buf headers spans h × IsShort h)
 
--- what a buffer tells of all bytes that may begin with it
-abbrev pub IsSeen : Seen → List ℕ → List HeaderSpan → Type 0
+-- what a buffer reports of all bytes that may begin with it
+abbrev pub IsSeen : HeadParse → List ℕ → List HeaderSpan → Type 0
 IsSeen (Whole spans) buf headers = IsHeadAt spans buf headers
 IsSeen Part buf headers = HasNoRequest buf
 IsSeen Never buf headers = (more : List ℕ) → IsHeadless (buf ++ more)

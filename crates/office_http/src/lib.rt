@@ -2,7 +2,7 @@
 //! more.
 //!
 //! [`read_head`] reads until the head of a request is whole or there will be none, and [`plan_in`]
-//! tells what is done for it: the first check that fails, as a [`Check`], or what is asked for, as
+//! reports what is done for it: the first check that fails, as a [`Check`], or what is asked for, as
 //! a [`Want`]. It looks the path up in [`Routes`], which are made once. [`read_body`] reads the body
 //! that a head announces. The answer is a [`Reply`], and [`write_reply`] writes it; [`check_reply`]
 //! and [`failure_reply`] give the answers whose bytes are fixed. What is asked for is done by others,
@@ -17,9 +17,9 @@ mod fixed;
 mod method;
 mod numbers;
 mod paths;
-mod plan;
 mod reading;
 mod reply;
+mod request_plan;
 mod status;
 mod want;
 mod writing;
@@ -29,9 +29,9 @@ pub use check::Check;
 pub use failure::Failure;
 pub use fixed::{check_reply, failure_reply};
 pub use paths::Routes;
-pub use plan::{Plan, is_head_in, plan_in};
 pub use reading::{Head, LONGEST_HEAD, MOST_FIELDS, law_of_requests, read_head};
 pub use reply::{Allow, Body, Kind, Reply};
+pub use request_plan::{RequestPlan, is_head_in, plan_in};
 pub use status::Status;
 pub use want::Want;
 pub use writing::{law_of_replies, write_reply};

@@ -108,7 +108,7 @@ pub(crate) fn path_of(target: &[u8]) -> Option<&str>
     }
 }
 
-/// The segment of a path at that place: the second tells which record, day or certificate is meant,
+/// The segment of a path at that place: the second reports which record, day or certificate is meant,
 /// and the third of `/overdue/{day}/{count}` how many days.
 pub(crate) fn path_segment(path: &str, place: usize) -> &str
     ensures { result.now ≡ path_segment place path.now }

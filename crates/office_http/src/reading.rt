@@ -9,9 +9,9 @@ use httparse::spans::{HeaderSpan, RequestSpans, parse_request};
 use office_base::Io;
 use std::io::Read;
 
-/// What a buffer tells of the head of a request.
+/// What a buffer reports of the head of a request.
 #[derive(Clone, Copy)]
-pub(crate) enum Seen {
+pub(crate) enum HeadParse {
     /// It begins with a whole head, whose parts lie there.
     Whole(RequestSpans),
     /// It has no whole head yet.
@@ -40,28 +40,28 @@ pub const MOST_FIELDS: usize = 64;
 /// The most bytes that are read at once.
 const PIECE: usize = 4_096;
 
-/// What a buffer tells of a head.
-fn see(buf: &[u8], headers: &mut [HeaderSpan]) -> Seen
+/// What a buffer reports of a head.
+fn see(buf: &[u8], headers: &mut [HeaderSpan]) -> HeadParse
     requires short { length buf.now ≤ 16_384 }
     requires room { length headers.old ≡ 64 }
     ensures { IsSeen result buf.now headers.new }
 {
     match parse_request(buf, headers) {
-        Ok(Status::Complete(head)) => Seen::Whole(head),
-        Ok(Status::Partial) => Seen::Part,
-        Err(_) => Seen::Never,
+        Ok(Status::Complete(head)) => HeadParse::Whole(head),
+        Ok(Status::Partial) => HeadParse::Part,
+        Err(_) => HeadParse::Never,
     }
 }
 
 /// The same, also of no bytes.
-fn see_any(buf: &[u8], headers: &mut [HeaderSpan]) -> Seen
+fn see_any(buf: &[u8], headers: &mut [HeaderSpan]) -> HeadParse
     requires short { length buf.now ≤ 16_384 }
     requires room { length headers.old ≡ 64 }
     ensures seen { IsSeen result buf.now headers.new }
-    ensures some { result ≡ Seen.Never → buf.now ≢ [] }
+    ensures some { result ≡ HeadParse.Never → buf.now ≢ [] }
 {
     if buf.is_empty() {
-        Seen::Part
+        HeadParse::Part
     } else {
         see(buf, headers)
     }
@@ -110,9 +110,9 @@ pub fn read_head<R: Read>(
 {
     loop {
         match see_any(buf.as_slice(), headers) {
-            Seen::Whole(head) => return Ok(Head::Found(head)),
-            Seen::Never => return Ok(Head::Missing),
-            Seen::Part => {}
+            HeadParse::Whole(head) => return Ok(Head::Found(head)),
+            HeadParse::Never => return Ok(Head::Missing),
+            HeadParse::Part => {}
         }
         if buf.len() >= LONGEST_HEAD {
             return Ok(Head::Missing);

@@ -15,10 +15,10 @@ pub enum Kind {
     Plain,
 }
 
-/// The method that a path takes, which is told where another came.
+/// The method that a path takes, which is reported where another came.
 #[derive(Clone, Copy, PartialEq, Eq, Debug)]
 pub enum Allow {
-    /// Nothing is told.
+    /// Nothing is reported.
     Any,
     /// GET.
     Get,

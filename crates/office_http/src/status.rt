@@ -9,7 +9,7 @@ use http::StatusCode;
 #[derive(Clone, Copy, PartialEq, Eq, Debug)]
 pub enum Status {
     /// What was asked for was done.
-    Fine,
+    Ok,
     /// The request is not of its form.
     BadRequest,
     /// The path, or what it names, is not there.
@@ -43,7 +43,7 @@ impl Status {
         ensures words { status_text result ≡ status_words self }
     {
         match self {
-            Status::Fine => StatusCode::OK,
+            Status::Ok => StatusCode::OK,
             Status::BadRequest => StatusCode::BAD_REQUEST,
             Status::NotFound => StatusCode::NOT_FOUND,
             Status::MethodNotAllowed => StatusCode::METHOD_NOT_ALLOWED,

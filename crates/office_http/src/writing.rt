@@ -22,7 +22,7 @@ fn kind_text(kind: Kind) -> &'static str
     }
 }
 
-/// The line of the method that is taken, if one is told.
+/// The line of the method that is taken, if one is reported.
 #[tactic(auto, unfolding(crate::specs::Replies::allow_line))]
 fn allow_text(allow: Allow) -> &'static str
     ensures { result.now ≡ allow_line allow }

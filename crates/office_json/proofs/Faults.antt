@@ -1,4 +1,4 @@
--- What is told of an act: what is told of its parts.
+-- What is reported of an act: what is reported of its parts.
 use Rattle.std.proofs.Common.{◌≡◌, ◌∙◌, Bool, true, cond, Result, Ok, Err, IfErr, IfOk, refl, sym, inl}
 use Rattle.serde_json.specs.Data.{Data}
 use Rattle.office_base.specs.declared.refusal.Refusal.{Refusal}
@@ -18,14 +18,14 @@ act_ok plain f part p h k = rw (h, k) refl
 pub act_fault : {A : Type 0} (plain : Bool) (f : A → Asked) (part : Result A Refusal) (fault : ReadFault) → plain ≡ true → fault ≡ fault_of part → fault ≡ fault_of (cond plain (made f part) (Err BadText))
 act_fault plain f part fault h k = rw h (k ∙ sym (fault_made f part))
 
--- a fault that is told of an act without a content
+-- a fault that is reported of an act without a content
 pub plain_fault : (d : Data) (part : Result Asked Refusal) (fault : ReadFault) → fault ≡ fault_of part → IsReadFault d part fault
 plain_fault d (Ok it) (Refused refusal) h = absurd cc
 plain_fault d (Err e) (Refused refusal) h = cc
 plain_fault d (Ok it) Memory h = inl refl
 plain_fault d (Err e) Memory h = absurd cc
 
--- what was read of an act without a content, as the office tells it
-pub told_act : (d : Data) (part : Result Asked Refusal) (read : Result Act ReadFault) → IsActRead part read → IfOk read (λ it. part ≡ Ok (asked it)) × IfErr read (λ fault. IsReadFault d part fault)
-told_act d part (Ok it) h = (h, tt)
-told_act d part (Err fault) h = (tt, plain_fault d part fault h)
+-- what was read of an act without a content, as the office reports it
+pub reported_act : (d : Data) (part : Result Asked Refusal) (read : Result Act ReadFault) → IsActRead part read → IfOk read (λ it. part ≡ Ok (asked it)) × IfErr read (λ fault. IsReadFault d part fault)
+reported_act d part (Ok it) h = (h, tt)
+reported_act d part (Err fault) h = (tt, plain_fault d part fault h)

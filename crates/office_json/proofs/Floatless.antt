@@ -1,4 +1,4 @@
--- What is told has no floats.
+-- What is reported has no floats.
 use Rattle.std.proofs.Common.{Vec, ◌≡◌, refl, ℕ, List, [], ◌∷◌, map, Option, Some, None, false}
 use Rattle.std.specs.declared.alloc.Global.{Global}
 use Rattle.serde_json.proofs.Views.{view-Array}
@@ -11,7 +11,7 @@ use Rattle.office_terms.specs.declared.head.Confirmation.{Confirmation}
 use Rattle.office_proof.specs.declared.entry.Entry.{Entry}
 use Rattle.office_rules.specs.declared.answer.Answer.{Answer}
 use Rattle.office_rules.specs.declared.answer.Answer.TheVariants.{Done, Number, Same, Step, RunClosed, Refused}
-use Rattle.office_rules.specs.Registers.{DueTold}
+use Rattle.office_rules.specs.Registers.{DueRowView}
 use Rattle.office_rules.specs.declared.record_view.RecordView.{RecordView}
 use Rattle.office_json.specs.Answers.{answer_data}
 use Rattle.office_json.specs.DueJson.{due_row_data}
@@ -19,15 +19,15 @@ use Rattle.office_json.specs.OverdueJson.{overdue_row_data}
 use Rattle.office_json.specs.RecordJson.{confirmed_data, day_data, ended_data, or_null, record_data}
 use Rattle.office_json.specs.Replies.{stopped_data}
 
--- where what is told of each thing has none, what is told of one or of none has none
-or_null_has_none : {A : Type 0} (told : A → Data) → ((x : A) → has_float (told x) ≡ false) → (o : Option A) → has_float (or_null told o) ≡ false
-or_null_has_none told each None = refl
-or_null_has_none told each (Some x) = each x
+-- where what is reported of each thing has none, what is reported of one or of none has none
+or_null_has_none : {A : Type 0} (reported : A → Data) → ((x : A) → has_float (reported x) ≡ false) → (o : Option A) → has_float (or_null reported o) ≡ false
+or_null_has_none reported each None = refl
+or_null_has_none reported each (Some x) = each x
 
 -- and an array of it has none
-array_has_none : {A : Type 0} (told : A → Data) → ((x : A) → has_float (told x) ≡ false) → (xs : List A) → items_have_float (items_of (map told xs)) ≡ false
-array_has_none told each [] = refl
-array_has_none told each (x ∷ xs) = rw (each x) (array_has_none told each xs)
+array_has_none : {A : Type 0} (reported : A → Data) → ((x : A) → has_float (reported x) ≡ false) → (xs : List A) → items_have_float (items_of (map reported xs)) ≡ false
+array_has_none reported each [] = refl
+array_has_none reported each (x ∷ xs) = rw (each x) (array_has_none reported each xs)
 
 confirmed_has_none : (c : Confirmation) → has_float (confirmed_data c) ≡ false
 unfolding confirmed_data
@@ -51,18 +51,18 @@ record_has_none r ending = rw (
   code_has_none r.held,
 ) refl
 
-pub due_row_has_none : (r : DueTold) → has_float (due_row_data r) ≡ false
+pub due_row_has_none : (r : DueRowView) → has_float (due_row_data r) ≡ false
 unfolding due_row_data
 due_row_has_none r = rw (code_has_none r.held) refl
 
-pub due_has_none : (values : Vec Value Global) (rows : List DueTold) → map view values.items ≡ map due_row_data rows → has_float (view (Array values)) ≡ false
-due_has_none values rows told = rw (view-Array values, told) (array_has_none due_row_data due_row_has_none rows)
+pub due_has_none : (values : Vec Value Global) (rows : List DueRowView) → map view values.items ≡ map due_row_data rows → has_float (view (Array values)) ≡ false
+due_has_none values rows reported = rw (view-Array values, reported) (array_has_none due_row_data due_row_has_none rows)
 
-pub overdue_row_has_none : (n : ℕ) (r : DueTold) → has_float (overdue_row_data n r) ≡ false
+pub overdue_row_has_none : (n : ℕ) (r : DueRowView) → has_float (overdue_row_data n r) ≡ false
 unfolding overdue_row_data
 overdue_row_has_none n r = rw (code_has_none r.held) refl
 
-pub overdue_has_none : (n : ℕ) (values : Vec Value Global) (rows : List DueTold) → map view values.items ≡ map (overdue_row_data n) rows → has_float (view (Array values)) ≡ false
+pub overdue_has_none : (n : ℕ) (values : Vec Value Global) (rows : List DueRowView) → map view values.items ≡ map (overdue_row_data n) rows → has_float (view (Array values)) ≡ false
 overdue_has_none n values rows given = rw (view-Array values, given) (array_has_none (overdue_row_data n) (overdue_row_has_none n) rows)
 
 pub answer_has_none : (answer : Answer) → has_float (answer_data answer) ≡ false
@@ -74,7 +74,7 @@ answer_has_none (RunClosed n) = refl
 answer_has_none (Refused refusal) = refl
 
 pub answers_have_none : (values : Vec Value Global) (answers : List Answer) → map view values.items ≡ map answer_data answers → has_float (view (Array values)) ≡ false
-answers_have_none values answers told = rw (view-Array values, told) (array_has_none answer_data answer_has_none answers)
+answers_have_none values answers reported = rw (view-Array values, reported) (array_has_none answer_data answer_has_none answers)
 
 pub stopped_has_none : (answers : List Answer) (n : ℕ) → has_float (stopped_data answers n) ≡ false
 stopped_has_none answers n = rw (array_has_none answer_data answer_has_none answers) refl

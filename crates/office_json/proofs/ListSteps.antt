@@ -4,13 +4,13 @@ use Rattle.office_json.specs.Acts.{Asked}
 use Rattle.office_json.specs.Lists.{NoActs, and_act}
 
 -- acts, with those that were read before them
-abbrev pub with_front : List Asked → Result (List Asked) NoActs → Result (List Asked) NoActs
-with_front front (Ok acts) = Ok (front ++ acts)
-with_front front (Err why) = Err why
+abbrev pub with_prefix : List Asked → Result (List Asked) NoActs → Result (List Asked) NoActs
+with_prefix prefix (Ok acts) = Ok (prefix ++ acts)
+with_prefix prefix (Err why) = Err why
 
 abbrev ok_of : List Asked → Result (List Asked) NoActs
 ok_of acts = Ok acts
 
-pub one_more : (front : List Asked) (place : ℕ) (act : Asked) (rest : Result (List Asked) NoActs) → with_front front (and_act place (Ok act) rest) ≡ with_front (front ++ act ∷ []) rest
-one_more front place act (Ok acts) = ap (λ (all : List Asked). ok_of all) (sym (append_assoc front (act ∷ []) acts))
-one_more front place act (Err why) = refl
+pub one_more : (prefix : List Asked) (place : ℕ) (act : Asked) (rest : Result (List Asked) NoActs) → with_prefix prefix (and_act place (Ok act) rest) ≡ with_prefix (prefix ++ act ∷ []) rest
+one_more prefix place act (Ok acts) = ap (λ (all : List Asked). ok_of all) (sym (append_assoc prefix (act ∷ []) acts))
+one_more prefix place act (Err why) = refl

@@ -1,4 +1,4 @@
--- What is told of what is made of a part: what is told of the part.
+-- What is reported of what is made of a part: what is reported of the part.
 use Rattle.std.proofs.Common.{◌≡◌, Result, Ok, Err, refl}
 use Rattle.office_base.specs.declared.refusal.Refusal.{Refusal}
 use Rattle.office_json.specs.Parts.{fault_of, made}

@@ -1,7 +1,7 @@
--- What is told of two parts together.
+-- What is reported of two parts together.
 use Rattle.std.proofs.Common.{◌≡◌, Result, Ok, Err, refl}
 use Rattle.office_base.specs.declared.refusal.Refusal.{Refusal}
-use Rattle.office_json.specs.Parts.{both, fault_of, lesser, IsReadAs}
+use Rattle.office_json.specs.Parts.{both, fault_of, min_refusal, IsReadAs}
 use Rattle.office_json.specs.declared.read_fault.ReadFault.{ReadFault}
 
 fault_first : {A B : Type 0} (a : Result A Refusal) (v : B) → fault_of a ≡ fault_of (both a (Ok v))
@@ -12,7 +12,7 @@ fault_second : {A B : Type 0} (u : A) (b : Result B Refusal) → fault_of b ≡ 
 fault_second u (Ok v) = refl
 fault_second u (Err f) = refl
 
-faults_both : {A B : Type 0} (a : Result A Refusal) (b : Result B Refusal) → lesser (fault_of a) (fault_of b) ≡ fault_of (both a b)
+faults_both : {A B : Type 0} (a : Result A Refusal) (b : Result B Refusal) → min_refusal (fault_of a) (fault_of b) ≡ fault_of (both a b)
 faults_both (Ok u) (Ok v) = refl
 faults_both (Ok u) (Err f) = refl
 faults_both (Err e) (Ok v) = refl
@@ -23,7 +23,7 @@ abbrev pub both_read : {A B : Type 0} → Result A ReadFault → Result B ReadFa
 both_read (Ok u) (Ok v) = Ok (u, v)
 both_read (Ok u) (Err f) = Err f
 both_read (Err e) (Ok v) = Err e
-both_read (Err e) (Err f) = Err (lesser e f)
+both_read (Err e) (Err f) = Err (min_refusal e f)
 
 pub both_reads : {A B : Type 0} (x : Result A ReadFault) (y : Result B ReadFault) (a : Result A Refusal) (b : Result B Refusal) → IsReadAs a x → IsReadAs b y → IsReadAs (both a b) (both_read x y)
 both_reads (Ok u) (Ok v) a b h k = rw (h, k) refl

@@ -1,4 +1,4 @@
--- The members of a record, put a few at a time, stand in the order of their names.
+-- The members of a record, put a few at a time, are in the order of their names.
 use Rattle.std.proofs.Common.{◌≡◌, refl, Option}
 use Rattle.serde_json.proofs.OnLiterals.{serde_json_on_literals}
 use Rattle.serde_json.specs.Data.{Members, object, no_members}

@@ -1,4 +1,4 @@
--- What stands after the bytes that a text begins with.
+-- What is after the bytes that a text begins with.
 use Rattle.std.proofs.Common.{◌≡◌, ◌∙◌, ℕ, eqb, Bool, true, false, cond, List, length, drop, Bor, Option, Some, None, MatchOption, option_map, ap, subst, sym}
 use Rattle.std.specs.List.{starts_with}
 use Rattle.std.specs.Str.{IsCharBoundary}

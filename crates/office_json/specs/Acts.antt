@@ -32,8 +32,8 @@ pub data Asked : Type 0 where
   asks : Act → Asked
 
 -- a new record with the bytes of its content as a list
-abbrev pub told : NewRecord → AskedRecord
-told new = record {
+abbrev pub reported : NewRecord → AskedRecord
+reported new = record {
   ref_text = new.ref_text;
   title = new.title;
   originated = new.originated;
@@ -45,7 +45,7 @@ told new = record {
 
 -- what an act asks
 unfoldable pub asked : Act → Asked
-asked (act.AddRecord day new) = adds day (told new)
+asked (act.AddRecord day new) = adds day (reported new)
 asked other = asks other
 
 -- ---- one kind of act each, by its members
@@ -244,7 +244,7 @@ IsActRead part read = MatchResult read (λ it. part ≡ Ok (asked it)) (λ fault
 abbrev pub HasContent : Data → Type 0
 HasContent d = IsSome (option_and_then as_str (get (codes "content") d))
 
--- why nothing was read: the value asks for no act; or memory was wanting for what it asks, or to look at a content
+-- why nothing was read: the value asks for no act; or memory ran out for what it asks, or to look at a content
 abbrev pub IsReadFault : Data → Result Asked Refusal → ReadFault → Type 0
 IsReadFault d part (Refused refusal) = part ≡ Err refusal
 IsReadFault d part Memory = IsOk part ⊎ HasContent d

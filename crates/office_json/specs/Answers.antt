@@ -20,7 +20,7 @@ same_data n = object (member (codes "number") (number (unsigned n)) (member (cod
 abbrev pub step_data : ℕ → List ℕ → Data
 step_data n outcome = object (member (codes "outcome") (string outcome) (member (codes "record") (number (unsigned n)) no_members))
 
--- an answer in JSON; the members of each object stand in the order of their names
+-- an answer in JSON; the members of each object are in the order of their names
 abbrev pub answer_data : Answer → Data
 answer_data Done = object (member (codes "done") (boolean true) no_members)
 answer_data (Number n) = numbered_data (codes "number") n

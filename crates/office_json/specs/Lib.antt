@@ -9,4 +9,4 @@ pub mod Parts
 pub mod RecordJson
 pub mod Replies
 pub mod Targets
-pub mod Told
+pub mod MemberValues

@@ -1,4 +1,4 @@
--- Which members an object of JSON has. Source: RFC 8259 for objects, as `serde_json` tells them; the rest is own.
+-- Which members an object of JSON has. Source: RFC 8259 for objects, as `serde_json` reports them; the rest is own.
 use Rattle.std.specs.Prelude.{ℕ, ◌&&◌, Bool, true, false, List, Option, Some, None, Result, Err, if◌then◌else◌}
 use Rattle.std.specs.List.{list_any}
 use Rattle.std.specs.Str.{bytes_eq}

@@ -4,11 +4,11 @@ use Rattle.serde_json.specs.Data.{Data, number, unsigned, string, array, object,
 use Rattle.serde_json.specs.View.{items_of}
 use Rattle.office_days.specs.Due.{deadline_from}
 use Rattle.office_terms.specs.Words.{action_word}
-use Rattle.office_rules.specs.Registers.{DueTold}
+use Rattle.office_rules.specs.Registers.{DueRowView}
 use Rattle.office_json.specs.RecordJson.{day_data, or_null}
 
--- a row of what is overdue, so many days after the due day; the members stand in the order of their names
-unfoldable pub overdue_row_data : ℕ → DueTold → Data
+-- a row of what is overdue, so many days after the due day; the members are in the order of their names
+unfoldable pub overdue_row_data : ℕ → DueRowView → Data
 overdue_row_data n r = object
     (member (codes "action") (string (action_word r.action))
     (member (codes "class") (string r.class)
@@ -20,11 +20,11 @@ overdue_row_data n r = object
     (member (codes "schedule") (string r.schedule) no_members))))))))
 
 -- the rows, in their order
-abbrev pub overdue_data : ℕ → List DueTold → Data
+abbrev pub overdue_data : ℕ → List DueRowView → Data
 overdue_data n rows = array (items_of (map (overdue_row_data n) rows))
 
 -- ---- what the code puts first; then come the members of a row of what is due, from `held` on
 
-unfoldable pub put_overdue : ℕ → DueTold → Members → Members
+unfoldable pub put_overdue : ℕ → DueRowView → Members → Members
 put_overdue n r ms = put (codes "due") (day_data r.due) (put (codes "deadline") (day_data (deadline_from r.due n))
     (put (codes "class") (string r.class) (put (codes "action") (string (action_word r.action)) ms)))

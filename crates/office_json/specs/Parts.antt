@@ -113,7 +113,7 @@ optional part member = if is_given member then made (λ a. Some a) (part member)
 
 -- ---- what the code answers
 
--- why nothing was read of a part: the part is refused, or it is of its form and memory was wanting
+-- why nothing was read of a part: the part is refused, or it is of its form and memory ran out
 abbrev pub fault_of : {A : Type 0} → Result A Refusal → ReadFault
 fault_of (Ok a) = Memory
 fault_of (Err refusal) = Refused refusal
@@ -122,8 +122,8 @@ fault_of (Err refusal) = Refused refusal
 abbrev pub IsReadAs : {A : Type 0} → Result A Refusal → Result A ReadFault → Type 0
 IsReadAs part read = MatchResult read (λ a. part ≡ Ok a) (λ fault. fault ≡ fault_of part)
 
--- of two faults the one to tell: a refusal before want of memory
-abbrev pub lesser : ReadFault → ReadFault → ReadFault
-lesser Memory other = other
-lesser (Refused e) Memory = Refused e
-lesser (Refused e) (Refused f) = Refused (least e f)
+-- of two faults the one to report: a refusal before lack of memory
+abbrev pub min_refusal : ReadFault → ReadFault → ReadFault
+min_refusal Memory other = other
+min_refusal (Refused e) Memory = Refused e
+min_refusal (Refused e) (Refused f) = Refused (least e f)

@@ -1,4 +1,4 @@
--- What is told of a record, in JSON. Source: own.
+-- What is reported of a record, in JSON. Source: own.
 use Rattle.std.specs.Prelude.{ℤ, Option, Some, None, codes}
 use Rattle.serde_json.specs.Data.{Data, null, number, unsigned, string, object, Members, member, no_members, put}
 use Rattle.office_days.specs.Calendar.{civil}
@@ -16,8 +16,8 @@ day_data day = string (day_text (civil day))
 
 -- what is there, or null
 abbrev pub or_null : {A : Type 0} → (A → Data) → Option A → Data
-or_null told None = null
-or_null told (Some x) = told x
+or_null reported None = null
+or_null reported (Some x) = reported x
 
 -- a confirmation
 unfoldable pub confirmed_data : Confirmation → Data
@@ -31,7 +31,7 @@ confirmed_data c = object
 unfoldable pub ended_data : Entry → Data
 ended_data e = object (member (codes "outcome") (string (outcome_word e.outcome)) (member (codes "run") (number (unsigned e.run)) no_members))
 
--- a record and the entry that ended it, if one did; the members stand in the order of their names
+-- a record and the entry that ended it, if one did; the members are in the order of their names
 unfoldable pub record_data : RecordView → Option Entry → Data
 record_data r ending = object
     (member (codes "added") (day_data r.added)

@@ -1,4 +1,4 @@
--- What is told of acts besides a single answer, in JSON. Source: own.
+-- What is reported of acts besides a single answer, in JSON. Source: own.
 use Rattle.std.specs.Prelude.{ℕ, List, map, codes}
 use Rattle.serde_json.specs.Data.{Data, number, unsigned, string, array, object, no_members, member}
 use Rattle.serde_json.specs.View.{items_of}

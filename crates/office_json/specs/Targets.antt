@@ -13,11 +13,11 @@ use Rattle.office_terms.specs.declared.target.Target.{Target}
 use Rattle.office_terms.specs.declared.target.Target.TheVariants as target
 use Rattle.office_json.specs.Parts.{made, thing_numbered}
 
--- what stands after those bytes, in a text that begins with them
+-- what is after those bytes, in a text that begins with them
 unfoldable pub after : List ℕ → List ℕ → Option (List ℕ)
-after front text = if starts_with eqb text front then Some (drop (length front) text) else None
+after prefix text = if starts_with eqb text prefix then Some (drop (length prefix) text) else None
 
--- no zero stands before another digit
+-- no zero is before another digit
 abbrev pub is_plain : List ℕ → Bool
 is_plain digits = length digits == 1 || is_none (after (codes "0") digits)
 
@@ -29,9 +29,9 @@ thing_read (Some n) = thing_numbered n
 unfoldable pub thing_named : List ℕ → Result ℕ Refusal
 thing_named digits = if is_plain digits then thing_read (number_named digits) else Err BadText
 
--- what a text names by what stands after those bytes, or else something else
+-- what a text names by what is after those bytes, or else something else
 abbrev pub by_rest : {A : Type 0} → List ℕ → (List ℕ → A) → List ℕ → A → A
-by_rest front named text other = unwrap_or (option_map named (after front text)) other
+by_rest prefix named text other = unwrap_or (option_map named (after prefix text)) other
 
 -- what has a class: `aggregation:N` or `record:N`
 unfoldable pub classified_named : List ℕ → Result Classified Refusal

@@ -4,7 +4,7 @@ ghost use Rattle.serde_json.specs.View.{view};
 ghost use Rattle.serde_json.specs.Written.{has_float};
 ghost use Rattle.office_json.specs.Answers.{answer_data, numbered_data, same_data, step_data};
 
-use crate::told::{Told, object_of};
+use crate::member_value::{MemberValue, object_of};
 use office_base::Memory;
 use office_rules::Answer;
 use serde_json::Value;
@@ -14,30 +14,36 @@ use std::alloc::{AllocError, Global};
 fn done_value(alloc: Global) -> Result<Value, AllocError>
     ensures { IfOk result (λ value. view value ≡ answer_data Answer.Done) }
 {
-    object_of(alloc, &[("done", Told::Flag(true))])
+    object_of(alloc, &[("done", MemberValue::Flag(true))])
 }
 
 /// `{NAME:N}`
 pub(crate) fn numbered_value(alloc: Global, name: &str, number: u32) -> Result<Value, AllocError>
     ensures { IfOk result (λ value. view value ≡ numbered_data name.now number) }
 {
-    object_of(alloc, &[(name, Told::Number(u64::from(number)))])
+    object_of(alloc, &[(name, MemberValue::Number(u64::from(number)))])
 }
 
 /// `{"number":N,"same":true}`
 fn same_value(alloc: Global, number: u32) -> Result<Value, AllocError>
     ensures { IfOk result (λ value. view value ≡ same_data number) }
 {
-    let number = Told::Number(u64::from(number));
-    object_of(alloc, &[("number", number), ("same", Told::Flag(true))])
+    let number = MemberValue::Number(u64::from(number));
+    object_of(
+        alloc,
+        &[("number", number), ("same", MemberValue::Flag(true))],
+    )
 }
 
 /// `{"outcome":WORD,"record":N}`
 fn step_value(alloc: Global, record_no: u32, word: &str) -> Result<Value, AllocError>
     ensures { IfOk result (λ value. view value ≡ step_data record_no word.now) }
 {
-    let record = Told::Number(u64::from(record_no));
-    object_of(alloc, &[("outcome", Told::Text(word)), ("record", record)])
+    let record = MemberValue::Number(u64::from(record_no));
+    object_of(
+        alloc,
+        &[("outcome", MemberValue::Text(word)), ("record", record)],
+    )
 }
 
 /// An answer in JSON. `Memory` comes where an allocation was refused.

@@ -71,7 +71,7 @@ pub fn read_content(alloc: Global, text: &str) -> Result<Result<Content, Refusal
     }
 }
 
-/// A content. A text is decoded before it is known to be one, so memory may be wanting for one that
+/// A content. A text is decoded before it is known to be one, so memory may run out for one that
 /// is refused.
 #[tactic(auto, unfolding(crate::specs::Contents::content_part))]
 pub(crate) fn content_at(
@@ -88,7 +88,7 @@ pub(crate) fn content_at(
     read_content(alloc, text)
 }
 
-/// Tells in proofs that a text is taken as a content's bytes exactly where it is what encoding them
+/// Gives proofs the fact that a text is taken as a content's bytes exactly where it is what encoding them
 /// writes; a call does nothing.
 pub fn law_of_contents()
     ensures { TakesEncodings }

@@ -18,6 +18,8 @@ mod content;
 mod digits;
 mod due_json;
 mod lists;
+mod member_parts;
+mod member_value;
 mod members;
 mod overdue_json;
 mod parts;
@@ -25,8 +27,6 @@ mod read_fault;
 mod record_json;
 mod replies;
 mod targets;
-mod told;
-mod told_parts;
 
 pub use acts::read_act;
 pub use answer_lines::{law_of_answer_texts, write_answers};

@@ -53,7 +53,7 @@ fn read_all(alloc: Global, values: &[Value]) -> Result<Vec<Act>, ListFault>
 
 /// The acts that the bytes of a JSON array ask for, in their order. `NotJson` comes where the bytes are
 /// no JSON or no array, else `BadAct` for the first value that asks for no act, with its refusal as
-/// [`read_act`] tells it. Want of memory may be told of any bytes.
+/// [`read_act`] reports it. Lack of memory may be reported of any bytes.
 #[tactic(auto, unfolding(crate::specs::Lists::acts_in))]
 pub fn read_acts(alloc: Global, bytes: &[u8]) -> Result<Vec<Act>, ListFault>
     ensures ok { IfOk result (λ acts. acts_in bytes.now ≡ Ok (map asked acts.items)) }

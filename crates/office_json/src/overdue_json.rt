@@ -2,11 +2,11 @@
 ghost use Rattle.std.specs.Prelude.{◌≡◌, ℕ, false, IfOk, List, OnOk, map};
 ghost use Rattle.serde_json.specs.View.{members_view, view};
 ghost use Rattle.serde_json.specs.Written.{has_float};
-ghost use Rattle.office_rules.specs.Registers.{DueTold, due_told};
+ghost use Rattle.office_rules.specs.Registers.{DueRowView, due_reported};
 ghost use Rattle.office_json.specs.OverdueJson.{overdue_data, overdue_row_data, put_overdue};
 
 use crate::due_json::put_rest;
-use crate::told::{Told, put_all};
+use crate::member_value::{MemberValue, put_all};
 use office_base::Memory;
 use office_days::{ConfirmDays, deadline};
 use office_rules::DueRow;
@@ -21,16 +21,16 @@ fn put_overdue(
     row: &DueRow<'_>,
     days: ConfirmDays,
 ) -> Result<(), AllocError>
-    ensures { OnOk result (members_view map.new.entries ≡ put_overdue days (due_told row.now) (members_view map.old.entries)) }
+    ensures { OnOk result (members_view map.new.entries ≡ put_overdue days (due_reported row.now) (members_view map.old.entries)) }
 {
     put_all(
         map,
         alloc,
         &[
-            ("action", Told::Text(row.action.text())),
-            ("class", Told::Text(row.class.text())),
-            ("deadline", Told::Deadline(deadline(row.due, days))),
-            ("due", Told::Due(row.due)),
+            ("action", MemberValue::Text(row.action.text())),
+            ("class", MemberValue::Text(row.class.text())),
+            ("deadline", MemberValue::Deadline(deadline(row.due, days))),
+            ("due", MemberValue::Due(row.due)),
         ],
     )
 }
@@ -42,7 +42,7 @@ pub fn overdue_row_value(
     row: &DueRow<'_>,
     days: ConfirmDays,
 ) -> Result<Value, Memory>
-    ensures value { IfOk result (λ value. view value ≡ overdue_row_data days (due_told row.now)) }
+    ensures value { IfOk result (λ value. view value ≡ overdue_row_data days (due_reported row.now)) }
     ensures no_float { IfOk result (λ value. has_float (view value) ≡ false) }
 {
     let mut map = Map::new(alloc);
@@ -54,8 +54,8 @@ pub fn overdue_row_value(
 /// The array of rows in JSON, all for as many days.
 #[tactic(auto, using(crate::proofs::Floatless::overdue_has_none))]
 pub fn overdue_value(rows: Vec<Value>) -> Value
-    ensures value { (n : ℕ) (given : List DueTold) → map view rows.items ≡ map (overdue_row_data n) given → view result ≡ overdue_data n given }
-    ensures no_float { (n : ℕ) (given : List DueTold) → map view rows.items ≡ map (overdue_row_data n) given → has_float (view result) ≡ false }
+    ensures value { (n : ℕ) (given : List DueRowView) → map view rows.items ≡ map (overdue_row_data n) given → view result ≡ overdue_data n given }
+    ensures no_float { (n : ℕ) (given : List DueRowView) → map view rows.items ≡ map (overdue_row_data n) given → has_float (view result) ≡ false }
 {
     Value::Array(rows)
 }

@@ -18,7 +18,7 @@ use office_terms::{Action, AggNo, Code, Text, Trigger};
 use serde_json::Value;
 use std::alloc::Global;
 
-/// Both parts, or the fault that is to be told of them: a refusal before want of memory, and of two
+/// Both parts, or the fault that is to be reported of them: a refusal before lack of memory, and of two
 /// refusals that with the least number.
 pub fn both<A: Drop, B: Drop>(
     first: Result<A, ReadFault>,
@@ -33,7 +33,7 @@ pub fn both<A: Drop, B: Drop>(
         },
         Err(fault) => match second {
             Ok(_) => Err(fault),
-            Err(other) => Err(fault.lesser(other)),
+            Err(other) => Err(fault.min_refusal(other)),
         },
     }
 }

@@ -13,12 +13,12 @@ pub enum ReadFault {
 
 impl ReadFault {
     ghost use Rattle.std.specs.Prelude.{◌≡◌};
-    ghost use Rattle.office_json.specs.Parts.{lesser};
+    ghost use Rattle.office_json.specs.Parts.{min_refusal};
 
-    /// Of two faults the one to tell: a refusal before want of memory, and of two refusals that with the
+    /// Of two faults the one to report: a refusal before lack of memory, and of two refusals that with the
     /// least number.
-    pub(crate) fn lesser(self, other: ReadFault) -> ReadFault
-        ensures { result ≡ lesser self other }
+    pub(crate) fn min_refusal(self, other: ReadFault) -> ReadFault
+        ensures { result ≡ min_refusal self other }
     {
         match (self, other) {
             (ReadFault::Memory, other) => other,

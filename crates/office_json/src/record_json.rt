@@ -4,7 +4,9 @@ ghost use Rattle.serde_json.specs.View.{members_view, view};
 ghost use Rattle.serde_json.specs.Written.{has_float};
 ghost use Rattle.office_json.specs.RecordJson.{confirmed_data, ended_data, or_null, put_first, put_last, put_second, put_third, record_data};
 
-use crate::told::{Told, object_of, put_all, told_code, told_day, told_due};
+use crate::member_value::{
+    MemberValue, object_of, put_all, reported_code, reported_day, reported_due,
+};
 use office_base::Memory;
 use office_proof::Entry;
 use office_rules::RecordView;
@@ -20,10 +22,10 @@ fn confirmation_value(alloc: Global, it: &Confirmation) -> Result<Value, AllocEr
     object_of(
         alloc,
         &[
-            ("action", Told::Text(it.action.text())),
-            ("by", Told::Text(it.by.text())),
-            ("day", Told::Day(it.day)),
-            ("due", Told::Due(it.due)),
+            ("action", MemberValue::Text(it.action.text())),
+            ("by", MemberValue::Text(it.by.text())),
+            ("day", MemberValue::Day(it.day)),
+            ("due", MemberValue::Due(it.due)),
         ],
     )
 }
@@ -43,10 +45,13 @@ fn confirmed_value(alloc: Global, it: Option<&Confirmation>) -> Result<Value, Al
 fn entry_value(alloc: Global, entry: &Entry) -> Result<Value, AllocError>
     ensures { IfOk result (λ value. view value ≡ ended_data entry.now) }
 {
-    let run = Told::Number(u64::from(entry.run));
+    let run = MemberValue::Number(u64::from(entry.run));
     object_of(
         alloc,
-        &[("outcome", Told::Text(entry.outcome.text())), ("run", run)],
+        &[
+            ("outcome", MemberValue::Text(entry.outcome.text())),
+            ("run", run),
+        ],
     )
 }
 
@@ -65,20 +70,23 @@ fn ended_value(alloc: Global, entry: Option<&Entry>) -> Result<Value, AllocError
 fn put_first(
     map: &mut Map<String, Value>,
     alloc: Global,
-    told: &RecordView,
+    reported: &RecordView,
 ) -> Result<(), AllocError>
-    ensures { OnOk result (members_view map.new.entries ≡ put_first told.now (members_view map.old.entries)) }
+    ensures { OnOk result (members_view map.new.entries ≡ put_first reported.now (members_view map.old.entries)) }
 {
     put_all(
         map,
         alloc,
         &[
-            ("added", Told::Day(told.added)),
-            ("aggregation", Told::Number(u64::from(told.aggregation))),
-            ("class", Told::Text(told.class.text())),
+            ("added", MemberValue::Day(reported.added)),
+            (
+                "aggregation",
+                MemberValue::Number(u64::from(reported.aggregation)),
+            ),
+            ("class", MemberValue::Text(reported.class.text())),
         ],
     )?;
-    let confirmed = confirmed_value(alloc, told.confirmed.as_ref())?;
+    let confirmed = confirmed_value(alloc, reported.confirmed.as_ref())?;
     serde_json::put(map, alloc, "confirmed", confirmed)
 }
 
@@ -87,16 +95,19 @@ fn put_first(
 fn put_second(
     map: &mut Map<String, Value>,
     alloc: Global,
-    told: &RecordView,
+    reported: &RecordView,
     ending: Option<&Entry>,
 ) -> Result<(), AllocError>
-    ensures { OnOk result (members_view map.new.entries ≡ put_second told.now (option_copied ending.entry) (members_view map.old.entries)) }
+    ensures { OnOk result (members_view map.new.entries ≡ put_second reported.now (option_copied ending.entry) (members_view map.old.entries)) }
 {
-    let due = told_due(told.due);
+    let due = reported_due(reported.due);
     put_all(
         map,
         alloc,
-        &[("digest", Told::Digest(&told.digest)), ("due", due)],
+        &[
+            ("digest", MemberValue::Digest(&reported.digest)),
+            ("due", due),
+        ],
     )?;
     let ended = ended_value(alloc, ending)?;
     serde_json::put(map, alloc, "ended", ended)?;
@@ -104,8 +115,8 @@ fn put_second(
         map,
         alloc,
         &[
-            ("event", told_day(told.event)),
-            ("held", told_code(told.held.as_ref())),
+            ("event", reported_day(reported.event)),
+            ("held", reported_code(reported.held.as_ref())),
         ],
     )
 }
@@ -115,18 +126,18 @@ fn put_second(
 fn put_third(
     map: &mut Map<String, Value>,
     alloc: Global,
-    told: &RecordView,
+    reported: &RecordView,
 ) -> Result<(), AllocError>
-    ensures { OnOk result (members_view map.new.entries ≡ put_third told.now (members_view map.old.entries)) }
+    ensures { OnOk result (members_view map.new.entries ≡ put_third reported.now (members_view map.old.entries)) }
 {
     put_all(
         map,
         alloc,
         &[
-            ("length", Told::Number(u64::from(told.length))),
-            ("number", Told::Number(u64::from(told.number))),
-            ("originated", Told::Day(told.originated)),
-            ("ref", Told::Text(told.ref_text.text())),
+            ("length", MemberValue::Number(u64::from(reported.length))),
+            ("number", MemberValue::Number(u64::from(reported.number))),
+            ("originated", MemberValue::Day(reported.originated)),
+            ("ref", MemberValue::Text(reported.ref_text.text())),
         ],
     )
 }
@@ -136,35 +147,35 @@ fn put_third(
 fn put_last(
     map: &mut Map<String, Value>,
     alloc: Global,
-    told: &RecordView,
+    reported: &RecordView,
 ) -> Result<(), AllocError>
-    ensures { OnOk result (members_view map.new.entries ≡ put_last told.now (members_view map.old.entries)) }
+    ensures { OnOk result (members_view map.new.entries ≡ put_last reported.now (members_view map.old.entries)) }
 {
     put_all(
         map,
         alloc,
         &[
-            ("schedule", Told::Text(told.schedule.text())),
-            ("status", Told::Text(told.status.text())),
-            ("title", Told::Text(told.title.text())),
+            ("schedule", MemberValue::Text(reported.schedule.text())),
+            ("status", MemberValue::Text(reported.status.text())),
+            ("title", MemberValue::Text(reported.title.text())),
         ],
     )
 }
 
-/// What is told of a record in JSON, with the entry that ended it, if one did. `Memory` comes where an
+/// What is reported of a record in JSON, with the entry that ended it, if one did. `Memory` comes where an
 /// allocation was refused.
 pub fn record_value(
     alloc: Global,
-    told: &RecordView,
+    reported: &RecordView,
     ending: Option<&Entry>,
 ) -> Result<Value, Memory>
-    ensures value { IfOk result (λ value. view value ≡ record_data told.now (option_copied ending.entry)) }
+    ensures value { IfOk result (λ value. view value ≡ record_data reported.now (option_copied ending.entry)) }
     ensures no_float { IfOk result (λ value. has_float (view value) ≡ false) }
 {
     let mut map = Map::new(alloc);
-    put_first(&mut map, alloc, told)?;
-    put_second(&mut map, alloc, told, ending)?;
-    put_third(&mut map, alloc, told)?;
-    put_last(&mut map, alloc, told)?;
+    put_first(&mut map, alloc, reported)?;
+    put_second(&mut map, alloc, reported, ending)?;
+    put_third(&mut map, alloc, reported)?;
+    put_last(&mut map, alloc, reported)?;
     Ok(Value::Object(map))
 }

@@ -6,7 +6,7 @@ ghost use Rattle.serde_json.specs.Written.{compact_text, has_float};
 ghost use Rattle.office_json.specs.Replies.{answers_data, bad_act_data, fault_data, stopped_data};
 
 use crate::answers::{answer_value, numbered_value};
-use crate::told::{Told, object_of, put_all};
+use crate::member_value::{MemberValue, object_of, put_all};
 use office_base::{Memory, Refusal};
 use office_rules::Answer;
 use serde_json::{Map, Value};
@@ -43,7 +43,11 @@ fn put_stopped(
     ensures { OnOk result (members_view map.new.entries ≡ with_member (codes "fault") (number_data (unsigned number)) (with_member (codes "answers") (view answers) (members_view map.old.entries))) }
 {
     serde_json::put(map, alloc, "answers", answers)?;
-    put_all(map, alloc, &[("fault", Told::Number(u64::from(number)))])
+    put_all(
+        map,
+        alloc,
+        &[("fault", MemberValue::Number(u64::from(number)))],
+    )
 }
 
 /// `{"answers":[..],"fault":N}`: the answers to the acts before a fault, and the number of the fault.
@@ -68,9 +72,9 @@ pub fn bad_act_value(alloc: Global, place: u64, refusal: Refusal) -> Result<Valu
     let value = object_of(
         alloc,
         &[
-            ("error", Told::Text("act")),
-            ("place", Told::Number(place)),
-            ("refused", Told::Number(number)),
+            ("error", MemberValue::Text("act")),
+            ("place", MemberValue::Number(place)),
+            ("refused", MemberValue::Number(number)),
         ],
     )?;
     Ok(value)

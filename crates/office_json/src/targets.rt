@@ -14,14 +14,14 @@ use office_terms::{Classified, Target};
 use serde_json::Value;
 use std::alloc::Global;
 
-/// What stands after these bytes, in a text that begins with them.
-fn after<'a>(text: &'a str, front: &str) -> Option<&'a str>
-    ensures { option_map (λ rest. rest.now) result ≡ after front.now text.now }
+/// What is after these bytes, in a text that begins with them.
+fn after<'a>(text: &'a str, prefix: &str) -> Option<&'a str>
+    ensures { option_map (λ rest. rest.now) result ≡ after prefix.now text.now }
 {
-    text.strip_prefix(front)
+    text.strip_prefix(prefix)
 }
 
-/// Whether no zero stands before another digit.
+/// Whether no zero is before another digit.
 fn is_plain(digits: &str) -> bool
     ensures { result ≡ is_plain digits.now }
 {

@@ -1,4 +1,4 @@
--- The row write of the office's day: a change that leaves it out, where the day stands already, leads to the same state.
+-- The row write of the office's day: a change that leaves it out, where the day is there already, leads to the same state.
 use Rattle.std.proofs.Common.{◌≡◌, ◌≤◌, Bool, true, false, [], ◌∷◌, length, ℤ, refl, sym, ◌∙◌, arith}
 use Rattle.std.specs.Prelude.{if◌then◌else◌}
 use Rattle.std.specs.Ordering.{int_eq}

@@ -30,9 +30,9 @@ use Rattle.office_machine.proofs.Decisions.{refused_step, accepted_change}
 use Rattle.office_machine.proofs.DayWrites.{day_led, days_follow, few_days}
 
 -- the table's answer depends on the tree, the class and the schedule alone
-pub same_addition : (t u : TreeState) (name : List ℕ) (home : ℕ) (class own_class schedule own_schedule : Option (List ℕ)) → t ≡ u → class ≡ own_class → schedule ≡ own_schedule
-    → first_of (conditions_of_add_record t name home class schedule) ≡ first_of (conditions_of_add_record u name home own_class own_schedule)
-same_addition t u name home class own_class schedule own_schedule trees classes schedules = λ i. first_of (conditions_of_add_record (trees i) name home (classes i) (schedules i))
+pub same_addition : (t u : TreeState) (name : List ℕ) (container : ℕ) (class own_class schedule own_schedule : Option (List ℕ)) → t ≡ u → class ≡ own_class → schedule ≡ own_schedule
+    → first_of (conditions_of_add_record t name container class schedule) ≡ first_of (conditions_of_add_record u name container own_class own_schedule)
+same_addition t u name container class own_class schedule own_schedule trees classes schedules = λ i. first_of (conditions_of_add_record (trees i) name container (classes i) (schedules i))
 
 -- a record that was not added before is refused by its table
 pub addition_refused : (s : Office) (day : ℤ) (new : NewRecord) (refusal : Refusal) → same_record s new ≡ None → first_of (refusals_of_add_record s day new) ≡ Some refusal
@@ -47,7 +47,7 @@ addition_writes s r head bytes day = row_write.Record r head Here ∷ row_write.
 
 -- the tree with the next row put in is the tree with the record added
 next_put : (t : TreeState) (r : ℕ) (head new : Record) → r ≡ length t.records + 1 → length t.statuses ≡ length t.records → head ≡ new → put_record t r head Here ≡ added_record t new
-next_put t r head new next standing is =
+next_put t r head new next representing is =
     let also : r ≡ length t.statuses + 1 = omega arith in
     let heads = (λ j. put t.records (next j) (is j)) ∙ put_next t.records new in
     let statuses = ap (λ (k : ℕ). put t.statuses k Here) also ∙ put_next t.statuses Here in

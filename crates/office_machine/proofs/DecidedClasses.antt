@@ -48,10 +48,10 @@ aggregation_reclassified s day a class old it change sound accepted there is sam
 pub record_reclassified : (s : Office) (day : ℤ) (r : ℕ) (class : Option (List ℕ)) (old head : Record) (status : Status) (change : Change)
     → tree.IsSound s.tree → first_of (refusals_of_reclassify s day (classified.Record r) class) ≡ None → numbered s.tree.records r ≡ Some old → numbered s.tree.statuses r ≡ Some status → head ≡ record old { class = class } → Done ≡ change.answer
     → change.writes.items ≡ row_write.Record r head status ∷ day_writes s day → IsChangeTo s (λ contents. step_reclassify (with_contents s contents) day (classified.Record r) class) change
-record_reclassified s day r class old head status change sound accepted there standing is same writes =
+record_reclassified s day r class old head status change sound accepted there representing is same writes =
     let what = classified.Record r in
     let heads = ap (put s.tree.records r) is ∙ put-edited s.tree.records r (λ x. record x { class = class }) old there in
-    let statuses = put_same s.tree.statuses r status standing in
+    let statuses = put_same s.tree.statuses r status representing in
     let puts : record s.tree { records = put s.tree.records r head; statuses = put s.tree.statuses r status } ≡ reclassified s.tree what class = λ i. record s.tree { records = heads i; statuses = statuses i } in
     let within = numbered_within s.tree.records r old there in
     put_change s day (conditions_of_reclassifying s what class) Done (reclassified s.tree what class) (row_write.Record r head status) change accepted same refl writes

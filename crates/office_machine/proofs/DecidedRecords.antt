@@ -55,7 +55,7 @@ pub record_to_review : (t : TreeState) (day : ℤ) (r : ℕ) (schedule : Option 
 record_to_review t day r schedule accepted =
     not_false (has_record t r) (neither (not (has_record t r)) (lacks_schedule t schedule) (none_holds (conditions_of_review t day r schedule) accepted).0).0
 
--- and one of which a receipt may be told
+-- and one of which a receipt may be reported
 pub record_to_receipt : (t : TreeState) (r : ℕ) (digest : List ℕ) → first_of (conditions_of_receipt t r digest) ≡ None → has_record t r ≡ true
 record_to_receipt t r digest accepted = not_false (has_record t r) (none_holds (conditions_of_receipt t r digest) accepted).0
 
@@ -68,8 +68,8 @@ head_writes s r head status day = row_write.Record r head status ∷ day_writes 
 -- the tree with the row put in is the tree with the head changed
 head_put : (t : TreeState) (r : ℕ) (edit : Record → Record) (old head : Record) (status : Status) → numbered t.records r ≡ Some old → numbered t.statuses r ≡ Some status → head ≡ edit old
     → record t { records = put t.records r head; statuses = put t.statuses r status } ≡ with_head t r edit
-head_put t r edit old head status there standing is =
-    λ i. record t { records = (ap (put t.records r) is ∙ put-edited t.records r edit old there) i; statuses = put_same t.statuses r status standing i }
+head_put t r edit old head status there representing is =
+    λ i. record t { records = (ap (put t.records r) is ∙ put-edited t.records r edit old there) i; statuses = put_same t.statuses r status representing i }
 
 -- a row put in place of the one of a record that is there, which makes a sound tree of the tree
 row_changed : (s : Office) (day : ℤ) (r : ℕ) (next : TreeState) (old head : Record) (status : Status) (conditions : List (Refusal × Bool)) (change : Change)
@@ -90,14 +90,14 @@ pub head_changed : (s : Office) (day : ℤ) (r : ℕ) (edit : Record → Record)
     → first_of conditions ≡ None → numbered s.tree.records r ≡ Some old → numbered s.tree.statuses r ≡ Some status → head ≡ edit old → HeadStays old (edit old) → tree.IsSound (with_head s.tree r edit)
     → change.answer ≡ Done → change.writes.items ≡ head_writes s r head status day
     → IsChangeTo s (λ contents. stepped conditions (with_contents s contents) Done (with_office (with_contents s contents) (with_tree s day (with_head s.tree r edit)))) change
-head_changed s day r edit old head status conditions change accepted there standing is stays sound done written =
-    row_changed s day r (with_head s.tree r edit) old head status conditions change accepted there (subst (HeadStays old) (sym is) stays) (head_put s.tree r edit old head status there standing is) sound done written
+head_changed s day r edit old head status conditions change accepted there representing is stays sound done written =
+    row_changed s day r (with_head s.tree r edit) old head status conditions change accepted there (subst (HeadStays old) (sym is) stays) (head_put s.tree r edit old head status there representing is) sound done written
 
 -- what a decision reads of a record that is there: its head and its status
 pub record IsRead (t : TreeState) (r : ℕ) (old : Record) (status : Status) : Type 0 where
   pub sound : tree.IsSound t
   pub there : numbered t.records r ≡ Some old
-  pub standing : numbered t.statuses r ≡ Some status
+  pub representing : numbered t.statuses r ≡ Some status
 
 pub scheduled : (s : Office) (t : TreeState) (day : ℤ) (r : ℕ) (schedule : Option (List ℕ)) (old head : Record) (status : Status) (change : Change)
     → t ≡ s.tree → first_of (dated s day (conditions_of_set_record_schedule t r schedule)) ≡ None → IsRead t r old status → head ≡ record old { schedule = schedule }
@@ -107,7 +107,7 @@ scheduled s t day r schedule old head status change same table reads is done wri
     let accepted = subst (λ (u : TreeState). first_of (dated s day (conditions_of_set_record_schedule u r schedule)) ≡ None) same table in
     let read = subst (λ (u : TreeState). IsRead u r old status) same reads in
     let sound = IsSound-set_record_schedule s.tree r schedule read.sound (dated_accepted s day (conditions_of_set_record_schedule s.tree r schedule) accepted).1 in
-    head_changed s day r (λ it. record it { schedule = schedule }) old head status (refusals_of_set_record_schedule s day r schedule) change accepted read.there read.standing is (record { ref_text = refl; aggregation = refl; added = refl }) sound done written
+    head_changed s day r (λ it. record it { schedule = schedule }) old head status (refusals_of_set_record_schedule s day r schedule) change accepted read.there read.representing is (record { ref_text = refl; aggregation = refl; added = refl }) sound done written
 
 -- the confirmation of a record with that due day
 abbrev pub confirming : Action → ℤ → List ℕ → Option ℤ → Option Confirmation
@@ -124,7 +124,7 @@ confirmed_on s t day r named by old head status change same table reads is done 
     let head_is = subst (λ (u : TreeState). head ≡ record old { confirmation = confirming named day by (due_of u r) }) same is in
     let sound = IsSound-confirm s.tree day r named by read.sound (dated_accepted s day (conditions_of_confirm s.tree day r named) accepted).1 in
     head_changed s day r (λ it. record it { confirmation = confirming named day by (due_of s.tree r) }) old head status
-    (refusals_of_confirm s day r named) change accepted read.there read.standing head_is (record { ref_text = refl; aggregation = refl; added = refl }) sound done written
+    (refusals_of_confirm s day r named) change accepted read.there read.representing head_is (record { ref_text = refl; aggregation = refl; added = refl }) sound done written
 
 pub reviewed_on : (s : Office) (t : TreeState) (day : ℤ) (r : ℕ) (schedule : Option (List ℕ)) (by : List ℕ) (old head : Record) (status : Status) (change : Change)
     → t ≡ s.tree → first_of (dated s day (conditions_of_review t day r schedule)) ≡ None → IsRead t r old status
@@ -136,7 +136,7 @@ reviewed_on s t day r schedule by old head status change same table reads is don
     let read = subst (λ (u : TreeState). IsRead u r old status) same reads in
     let sound = IsSound-review s.tree day r schedule by read.sound (dated_accepted s day (conditions_of_review s.tree day r schedule) accepted).1 in
     head_changed s day r (λ it. record it { review = Some (record { day = day; by = by }); schedule = or_else schedule it.schedule }) old head status
-    (refusals_of_review s day r schedule) change accepted read.there read.standing is (record { ref_text = refl; aggregation = refl; added = refl }) sound done written
+    (refusals_of_review s day r schedule) change accepted read.there read.representing is (record { ref_text = refl; aggregation = refl; added = refl }) sound done written
 
 -- the tree with the row put in is the tree with the receipt
 receipt_put : (t : TreeState) (day : ℤ) (r : ℕ) (by : List ℕ) (old head : Record) → tree.IsSound t → numbered t.records r ≡ Some old → head ≡ record old { receipt = Some (record { day = day; by = by }) }

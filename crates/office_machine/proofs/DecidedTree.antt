@@ -48,8 +48,8 @@ none_of (Some refusal) h = absurd (h refusal refl)
 pub put_change : (s : Office) (day : ℤ) (conditions : List (Refusal × Bool)) (answer : Answer) (after : TreeState) (row : RowWrite) (change : Change) → first_of (dated s day conditions) ≡ None → answer ≡ change.answer → is_of_change answer ≡ true → change.writes.items ≡ row ∷ day_writes s day → CanPut s row
     → ((contents : ByteMap) → write row (with_contents s contents) ≡ with_contents (record s { tree = after }) contents)
     → IsChangeTo s (λ contents. stepped (dated s day conditions) (with_contents s contents) answer (with_office (with_contents s contents) (with_tree s day after))) change
-put_change s day conditions answer after row change accepted same told writes can wrote =
-    accepted_change s (dated s day conditions) answer (λ contents. with_office (with_contents s contents) (with_tree s day after)) change accepted same told
+put_change s day conditions answer after row change accepted same reported writes can wrote =
+    accepted_change s (dated s day conditions) answer (λ contents. with_office (with_contents s contents) (with_tree s day after)) change accepted same reported
     (let n = ap length writes in let days = few_days s day in omega (arith, n, days)) (subst (λ (ws : List RowWrite). CanWrite s ws) (sym writes) (can, days_follow s (write_office row s) day))
     (λ contents. ap (λ ws. all_writes ws (with_contents s contents)) writes ∙ day_led s day (write row (with_contents s contents)) (ap (λ (t : State). t.office.day) (wrote contents)) ∙ ap (write (row_write.Day day)) (wrote contents))
 
@@ -87,8 +87,8 @@ class_schedule_change s day class schedule it change sound accepted there same w
 aggregation_put : (s : Office) (day : ℤ) (conditions : List (Refusal × Bool)) (answer : Answer) (a : ℕ) (it : Aggregation) (after : List Aggregation) (change : Change) → first_of (dated s day conditions) ≡ None → answer ≡ change.answer → is_of_change answer ≡ true → change.writes.items ≡ row_write.Aggregation a it ∷ day_writes s day
     → 0 < a → a ≤ length s.tree.aggregations + 1 → put s.tree.aggregations a it ≡ after → tree.IsSound (record s.tree { aggregations = after }) → KeepsAggregation s.tree.aggregations a it
     → IsChangeTo s (λ contents. stepped (dated s day conditions) (with_contents s contents) answer (with_office (with_contents s contents) (with_tree s day (record s.tree { aggregations = after })))) change
-aggregation_put s day conditions answer a it after change accepted same told writes low high is sound keeps =
-    put_change s day conditions answer (record s.tree { aggregations = after }) (row_write.Aggregation a it) change accepted same told writes
+aggregation_put s day conditions answer a it after change accepted same reported writes low high is sound keeps =
+    put_change s day conditions answer (record s.tree { aggregations = after }) (row_write.Aggregation a it) change accepted same reported writes
     (low, high, subst (λ (aggregations : List Aggregation). tree.IsSound (record s.tree { aggregations = aggregations })) (sym is) sound, keeps)
     (λ contents. ap (λ (aggregations : List Aggregation). with_contents (record s { tree = record s.tree { aggregations = aggregations } }) contents) is)
 

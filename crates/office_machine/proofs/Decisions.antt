@@ -26,9 +26,9 @@ accepted_step conditions before answer next e = ap (λ o. by_refusal o before an
 pub accepted_change : (s : Office) (conditions : List (Refusal × Bool)) (answer : Answer) (next : ByteMap → State) (change : Change) → first_of conditions ≡ None → answer ≡ change.answer → is_of_change answer ≡ true → length change.writes.items ≤ 6
     → CanWrite s change.writes.items → ((contents : ByteMap) → all_writes change.writes.items (with_contents s contents) ≡ next contents)
     → IsChangeTo s (λ contents. stepped conditions (with_contents s contents) answer (next contents)) change
-accepted_change s conditions answer next change accepted same told few fits leads = record {
+accepted_change s conditions answer next change accepted same reported few fits leads = record {
   answered = λ contents. ap (λ (p : Answer × State). p.0) (accepted_step conditions (with_contents s contents) answer (next contents) accepted) ∙ same;
-  changes = ap is_of_change (sym same) ∙ told;
+  changes = ap is_of_change (sym same) ∙ reported;
   few = few;
   fits = fits;
   leads = λ contents. leads contents ∙ sym (ap (λ (p : Answer × State). p.1) (accepted_step conditions (with_contents s contents) answer (next contents) accepted));
@@ -38,5 +38,5 @@ accepted_change s conditions answer next change accepted same told few fits lead
 pub going : (s : Office) (next : ByteMap → Answer × State) (answer : Answer) (writes : List RowWrite) (decided : Result Decision Memory) → IfOk decided (IsGoing answer writes)
     → ((change : Change) → change.answer ≡ answer → change.writes.items ≡ writes → IsChangeTo s next change) → IfOk decided (λ d. IsDecidedTo s next d)
 going s next answer writes (Ok (Go change)) goes right = let led = right change goes.0 goes.1 in (led, led.changes)
-going s next answer writes (Ok (Stay told)) goes right = absurd goes
+going s next answer writes (Ok (Stay reported)) goes right = absurd goes
 going s next answer writes (Err refused) goes right = tt

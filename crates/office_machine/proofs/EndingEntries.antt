@@ -84,38 +84,38 @@ abbrev ended : ℕ → Entry → Bool
 ended r e = e.record_no == r && is_ending e.outcome
 
 module _ (s : Office) (sound : IsSoundOffice s) where
-  -- what is told as the entry that ended a record stands under some run and the record
-  told_is : (r : ℕ) (e : Entry) → ending_entry s r ≡ Some e → (run : ℕ) × Ends s run r e
+  -- what is reported as the entry that ended a record is under some run and the record
+  reported_is : (r : ℕ) (e : Entry) → ending_entry s r ≡ Some e → (run : ℕ) × Ends s run r e
   unfolding IsSoundOffice
-  told_is r e told =
-      let found = found_is (ended r) (values s.entries) e told in
+  reported_is r e reported =
+      let found = found_is (ended r) (values s.entries) e reported in
       let passes = and_parts (e.record_no == r) (is_ending e.outcome) found.1 in
       let one = value_found s.entries e found.0 in
       let keyed = sound.1.entries.keyed one.0.0 one.0.1 e one.1 in
       let same : one.0.1 ≡ r = sym keyed.1 ∙ same_is e.record_no r passes.0 in
       (one.0.0, (ap (λ n. get s.entries (one.0.0, n)) (sym same) ∙ one.1, passes.1))
 
-  -- an entry by which a run ended a record is told as the one that ended it
+  -- an entry by which a run ended a record is reported as the one that ended it
   pub ending_is : (run r : ℕ) (e : Entry) → get s.entries (run, r) ≡ Some e → is_ending e.outcome ≡ true → ending_entry s r ≡ Some e
   unfolding IsSoundOffice
   ending_is run r e there ends =
       let keyed = sound.1.entries.keyed run r e there in
       let passes = and_from (e.record_no == r) (is_ending e.outcome) (is_same e.record_no r keyed.1) ends in
       let one = finds (ended r) (values s.entries) (is_any (ended r) (values s.entries) e (found_value s.entries (run, r) e there) passes) in
-      let other = told_is r one.0 one.1 in
+      let other = reported_is r one.0 one.1 in
       let same_run = sound.1.entries.once other.0 run r one.0 e other.1.0 there other.1.1 ends in
       let same = one_there (get s.entries (run, r)) one.0 e (ap (λ n. get s.entries (n, r)) (sym same_run) ∙ other.1.0) there in
       one.1 ∙ ap Some same
 
-  -- where none of the runs ended a record, no entry is told as the one that ended it
+  -- where none of the runs ended a record, no entry is reported as the one that ended it
   pub no_ending : (r : ℕ) → NoneEnded s r (length s.runs) → ending_entry s r ≡ None
   unfolding IsSoundOffice
-  no_ending r none = none_is (ending_entry s r) (λ e told.
-      let one = told_is r e told in
+  no_ending r none = none_is (ending_entry s r) (λ e reported.
+      let one = reported_is r e reported in
       let there = (sound.1.names.of_entries one.0 r e one.1.0).run_there in
       none one.0 e there.0 there.1 one.1.0 one.1.1)
 
   -- and so it is where the record is not ended
   pub not_ended : (r : ℕ) → (numbered s.tree.statuses r ≡ Some Ended → ⊥) → ending_entry s r ≡ None
   unfolding IsSoundOffice
-  not_ended r other = none_is (ending_entry s r) (λ e told. let one = told_is r e told in other (sound.1.entries.no_other one.0 r e one.1.0 one.1.1))
+  not_ended r other = none_is (ending_entry s r) (λ e reported. let one = reported_is r e reported in other (sound.1.entries.no_other one.0 r e one.1.0 one.1.1))

@@ -9,7 +9,7 @@ pub mod DecidedTree
 pub mod Decisions
 pub mod DueLists
 pub mod EndingEntries
-pub mod LesserRefusals
+pub mod MinRefusals
 pub mod LookedAt
 pub mod NextCandidate
 pub mod NextReady

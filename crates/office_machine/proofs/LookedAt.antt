@@ -21,7 +21,7 @@ use Rattle.office_machine.proofs.NextReady.{one_after, ready_after, ready_here, 
 abbrev is_due : TreeState → ℕ → ℤ → Bool
 is_due tree r day = holds_of (due_of tree r) (λ due. int_le due day)
 
-never_by : (stands : Option Status) (may due counts : Bool) → candidate_by stands (may && counts) ≡ false → ready_by stands (may && due && counts) ≡ false
+never_by : (represents : Option Status) (may due counts : Bool) → candidate_by represents (may && counts) ≡ false → ready_by represents (may && due && counts) ≡ false
 never_by (Some status.Here) true true counts not = not
 never_by (Some status.Here) true false counts not = refl
 never_by (Some status.Here) false due counts not = refl
@@ -40,18 +40,18 @@ begins_by true false counts is = refl
 begins_by false due counts is = absurd cc
 
 is_due_by : (b : Bool) (due day : ℤ) → (IsTrue b ↔ (due ≤ℤ day)) → b ≡ int_le due day
-is_due_by b due day told = grind arith
+is_due_by b due day reported = grind arith
 
 -- a candidate that is here is ready where its due day is reached
 pub here_ready : (s : Office) (day due : ℤ) (r : ℕ) (reached : Bool) → Some status.Here ≡ status_of s.tree r → is_candidate s.tree r ≡ true
     → Some due ≡ due_of s.tree r → (IsTrue reached ↔ (due ≤ℤ day)) → reached ≡ is_ready s day r
 unfolding is_candidate
-here_ready s day due r reached here is there told =
+here_ready s day due r reached here is there reported =
     let may = holds_of (action_of s.tree r) is_disposal in
     let count = counts s.tree r in
-    is_due_by reached due day told
+    is_due_by reached due day reported
     ∙ (λ i. holds_of (there i) (λ due. int_le due day))
-    ∙ sym (begins_by may (is_due s.tree r day) count (ap (λ stands. candidate_by stands (may && count)) here ∙ is))
+    ∙ sym (begins_by may (is_due s.tree r day) count (ap (λ represents. candidate_by represents (may && count)) here ∙ is))
     ∙ (λ i. ready_by (here i) (may && is_due s.tree r day && count))
 
 -- ---- the candidates above a number, and how many of them are looked at

@@ -32,8 +32,8 @@ closing_writes run text it = row_write.Certificate run text ∷ row_write.Run ru
 closed_is : (s : Office) (run : ℕ) (it : Run) (text : String Global) (contents : ByteMap) → numbered s.runs run ≡ Some it → string_bytes text ≡ certificate_of s run
     → all_writes (closing_writes run text it) (with_contents s contents) ≡ closed (with_contents s contents) run
 unfolding closed
-closed_is s run it text contents there told =
-    λ i. with_contents (record s { certificates = insert s.certificates run (told i); runs = put-edited s.runs run as_closed it there i }) contents
+closed_is s run it text contents there reported =
+    λ i. with_contents (record s { certificates = insert s.certificates run (reported i); runs = put-edited s.runs run as_closed it there i }) contents
 
 step_is : (s : Office) (run : ℕ) (contents : ByteMap) → open_run s ≡ Some run → next_ready s run ≡ None → step_of (with_contents s contents) (open_run s) ≡ closed (with_contents s contents) run
 unfolding run_step
@@ -43,7 +43,7 @@ step_is s run contents opened none = ap (step_of (with_contents s contents)) ope
 pub closing : (s : Office) (run : ℕ) (it : Run) (text : String Global) (change : Change) → open_run s ≡ Some run → next_ready s run ≡ None → numbered s.runs run ≡ Some it
     → string_bytes text ≡ certificate_of s run → change.answer ≡ RunClosed run → change.writes.items ≡ closing_writes run text it
     → IsChangeTo s (λ contents. step_run_step (with_contents s contents)) change
-closing s run it text change opened none there told answered written =
+closing s run it text change opened none there reported answered written =
     let within = numbered_within s.runs run it there in
     let accepted : first_of (refusals_of_run_step s) ≡ None = ap (λ o. first_of ((NoRun, is_none o) ∷ [])) opened in
     let answer : answer_in s (open_run s) ≡ RunClosed run = ap (answer_in s) opened ∙ ap (answer_at s run) none in
@@ -51,4 +51,4 @@ closing s run it text change opened none there told answered written =
     let few : length change.writes.items ≤ 6 = rw written (omega arith) in
     accepted_change s (refusals_of_run_step s) (answer_in s (open_run s)) (λ contents. step_of (with_contents s contents) (open_run s)) change accepted (answer ∙ sym answered) (ap is_of_change answer) few
     (subst (CanWrite s) (sym written) fits)
-    (λ contents. ap (λ ws. all_writes ws (with_contents s contents)) written ∙ closed_is s run it text contents there told ∙ sym (step_is s run contents opened none))
+    (λ contents. ap (λ ws. all_writes ws (with_contents s contents)) written ∙ closed_is s run it text contents there reported ∙ sym (step_is s run contents opened none))

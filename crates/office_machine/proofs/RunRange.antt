@@ -1,4 +1,4 @@
--- The entries of a run, which stand under its number, are those between its first key and its last.
+-- The entries of a run, which are under its number, are those between its first key and its last.
 use Rattle.std.proofs.Common.{◌≡◌, ◌==◌, ◌&&◌, ◌<◌, ◌≤◌, ◌⊎◌, inl, inr, ℕ, Bool, true, false, not, cond, List, [], ◌∷◌, filter, Some, refl, sym, ap, ◌∙◌, arith}
 use Rattle.std.proofs.lemmas.Bool.{cases_order}
 use Rattle.std.proofs.lemmas.Bool.Decides.{nat_tests}
@@ -21,14 +21,14 @@ use Rattle.office_rules.proofs.SoundMaps.{entry_cmp-IsAntisymmetric, entry_total
 use Rattle.office_rules.specs.Runs.{entries_of}
 use Rattle.office_rules.specs.Sound.{IsSoundOffice}
 use Rattle.office_rules.specs.State.{Office, entry_cmp}
-use Rattle.office_founding.proofs.RunEntries.{of_run_ordered}
-use Rattle.office_founding.proofs.Stored.{get_is}
+use Rattle.office_loading.proofs.RunEntries.{of_run_ordered}
+use Rattle.office_loading.proofs.Stored.{get_is}
 
 -- an entry with its key
 abbrev Kept : Type 0
 Kept = (ℕ × ℕ) × Entry
 
--- it stands under its own run, and its record's number is of 32 bits
+-- it is under its own run, and its record's number is of 32 bits
 abbrev IsOfItsRun : Kept → Type 0
 IsOfItsRun e = (e.1.run ≡ e.0.0) × (e.0.1 ≤ 4_294_967_295)
 
@@ -92,7 +92,7 @@ between_is run [] own = refl
 between_is run (e ∷ es) own =
     one_more e (between run es) (filter (λ e. e.run == run) (values_of es)) (range_contains entry_cmp (first_of_run run) (last_of_run run) e.0) (e.1.run == run) (of_its_run run e own.0) (between_is run es own.1)
 
--- ---- in a sound office each entry stands under its own run
+-- ---- in a sound office each entry is under its own run
 
 module _ (s : Office) (sound : IsSoundOffice s) where
   of_its_own : (run r : ℕ) (e : Entry) → get s.entries (run, r) ≡ Some e → IsOfItsRun ((run, r), e)

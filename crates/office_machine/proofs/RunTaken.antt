@@ -103,12 +103,12 @@ with_changes s run r t o runs contents = record {
 }
 
 -- where the head, the status and the run are put at their places
-module _ (s : State) (run r : ℕ) (head : Record) (was : Status) (it : Run) (there : numbered s.office.tree.records r ≡ Some head) (standing : numbered s.office.tree.statuses r ≡ Some was) (opened : numbered s.office.runs run ≡ Some it) where
+module _ (s : State) (run r : ℕ) (head : Record) (was : Status) (it : Run) (there : numbered s.office.tree.records r ≡ Some head) (representing : numbered s.office.tree.statuses r ≡ Some was) (opened : numbered s.office.runs run ≡ Some it) where
   head_put : put s.office.tree.records r head ≡ s.office.tree.records
   head_put = put_same s.office.tree.records r head there
 
   status_put : (now : Status) → put s.office.tree.statuses r now ≡ edited s.office.tree.statuses r (λ _. now)
-  status_put now = put-edited s.office.tree.statuses r (λ _. now) was standing
+  status_put now = put-edited s.office.tree.statuses r (λ _. now) was representing
 
   run_put : put s.office.runs run (record it { cursor = r }) ≡ with_cursor s.office.runs run r
   run_put = put-edited s.office.runs run (λ (x : Run). record x { cursor = r }) it opened
@@ -149,7 +149,7 @@ taken s run r o head it change sound opened next comes there at answer writes =
       leads = λ contents. ap (λ ws. all_writes ws (with_contents s contents)) writes ∙ wrote (with_contents s contents) run r head was it there t.status at o ∙ sym (ap (λ (p : Answer × State). p.1) (step contents));
     }
 
--- and so are those that are told for each head and run that are there
+-- and so are those that are reported for each head and run that are there
 pub taken_change : (s : Office) (run r : ℕ) (o : Outcome) (change : Change) → IsSoundOffice s → open_run s ≡ Some run → next_ready s run ≡ Some r → outcome_of s r ≡ Some o → change.answer ≡ Step r o
     → ((head : Record) (it : Run) → numbered s.tree.records r ≡ Some head → numbered s.runs run ≡ Some it → change.writes.items ≡ taking_writes o (entry_of s run r o) head it) → IsChangeTo s (λ contents. step_run_step (with_contents s contents)) change
 taken_change s run r o change sound opened next comes answer writes =

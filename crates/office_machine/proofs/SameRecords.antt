@@ -56,7 +56,7 @@ not_true false h = refl
 
 -- what a record is called that was found by its ref
 pub named : (records : List Record) (r : ℕ) (head : Record) (new : NewRecord) → numbered records r ≡ Some head → option_map (λ (it : Record). it.ref_text) (numbered records r) ≡ Some new.ref_text → head.ref_text ≡ new.ref_text
-named records r head new there told = let both = sym (ap (option_map (λ (it : Record). it.ref_text)) there) ∙ told in cc
+named records r head new there reported = let both = sym (ap (option_map (λ (it : Record). it.ref_text)) there) ∙ reported in cc
 
 module _ (new : NewRecord) (records : List Record) where
   -- no record has the ref

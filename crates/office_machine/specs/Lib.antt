@@ -1,7 +1,7 @@
 pub mod DayWrites
 pub mod DuePairs
 pub mod EntryPlaces
-pub mod Lesser
+pub mod MinRefusal
 pub mod Marks
 pub mod RunWrites
 pub mod Selections

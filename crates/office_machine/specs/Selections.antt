@@ -6,7 +6,7 @@ use Rattle.office_terms.specs.Disposal.{counts, is_here}
 use Rattle.office_terms.specs.Lists.{holds_of}
 use Rattle.office_terms.specs.Tree.{TreeState, due_of, status_of}
 use Rattle.office_rules.specs.Readings.{IsDueList, IsOverdueList}
-use Rattle.office_rules.specs.Registers.{AreDueRows, AreOverdueRows, DueTold}
+use Rattle.office_rules.specs.Registers.{AreDueRows, AreOverdueRows, DueRowView}
 use Rattle.office_rules.specs.State.{Office}
 use Rattle.office_machine.specs.declared.selection.Selection.{Selection}
 use Rattle.office_machine.specs.declared.selection.Selection.TheVariants.{Due, Overdue}
@@ -33,6 +33,6 @@ abbrev pub IsSelectedList : Selection → TreeState → List ℕ → Type 0
 IsSelectedList (Due day) tree list = IsDueList tree day list
 IsSelectedList (Overdue day n) tree list = IsOverdueList tree day n list
 
-abbrev pub AreSelectedRows : Selection → Office → List DueTold → Type 0
+abbrev pub AreSelectedRows : Selection → Office → List DueRowView → Type 0
 AreSelectedRows (Due day) s rows = AreDueRows s day rows
 AreSelectedRows (Overdue day n) s rows = AreOverdueRows s day n rows

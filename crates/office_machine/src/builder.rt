@@ -1,15 +1,15 @@
 //! The office in memory, made of rows as they come.
 ghost use Rattle.std.specs.Prelude.{◌≡◌, IfOk};
 ghost use Rattle.office_base.specs.Rows.{OnDamaged};
-ghost use Rattle.office_rules.specs.Founding.{AreTablesOf, HaveKeys};
+ghost use Rattle.office_rules.specs.Loading.{AreTablesOf, HaveKeys};
 ghost use Rattle.office_rules.specs.Sound.{IsSound};
 ghost use Rattle.office_rules.specs.State.{ByteMap, with_contents};
-ghost use Rattle.office_rules.specs.Tables.{StandForNone, no_rows};
+ghost use Rattle.office_rules.specs.Tables.{RepresentNone, no_rows};
 
 use crate::parts::Parts;
 use crate::{Intake, Machine, Row};
 use office_base::Rebuild;
-use office_founding::Gathering;
+use office_loading::Loader;
 use std::alloc::Global;
 use std::marker::Model;
 
@@ -17,7 +17,7 @@ use std::marker::Model;
 /// office keeps it. Contracts see the rows that have come.
 #[derive(Drop)]
 pub struct Builder {
-    gathering: Gathering,
+    loader: Loader,
 }
 
 impl Model for Builder {
@@ -29,7 +29,7 @@ impl Model for Builder {
 
     ghost coded = { Prim.hlevel (codes, map.code) };
 
-    ghost view = { λ b. b.gathering };
+    ghost view = { λ b. b.loader };
 }
 
 impl Builder {
@@ -38,19 +38,19 @@ impl Builder {
         ensures { result ≡ no_rows }
     {
         Builder {
-            gathering: Gathering::new(alloc),
+            loader: Loader::new(alloc),
         }
     }
 
-    /// The office for which the rows stand that have come; damaged only where there is none. Whatever the
+    /// The office that the rows represent that have come; damaged only where there is none. Whatever the
     /// contents of the keys that have come are, it is sound with them. Contents themselves are not asked for.
     pub fn finish(self) -> Result<Machine, Rebuild>
         ensures ok { IfOk result (λ machine. AreTablesOf self machine) }
         ensures sound { IfOk result (λ machine. (contents : ByteMap) → HaveKeys contents self.contents → IsSound (with_contents machine contents)) }
         ensures keys { IfOk result (λ machine. (contents : ByteMap) × HaveKeys contents self.contents) }
-        ensures damaged { OnDamaged result (StandForNone self) }
+        ensures damaged { OnDamaged result (RepresentNone self) }
     {
-        let office = self.gathering.finish()?;
+        let office = self.loader.finish()?;
         Ok(Machine {
             parts: Parts {
                 tree: office.tree,
@@ -70,6 +70,6 @@ impl Intake for Builder {
     ghost examines = { Unit {0} };
 
     fn row(&mut self, row: Row) -> Result<(), Rebuild> {
-        self.gathering.row(row)
+        self.loader.row(row)
     }
 }

@@ -41,7 +41,7 @@ impl Parts {
         Ok(these)
     }
 
-    /// The text of the run's certificate, as the office stands.
+    /// The text of the run's certificate, as the office is.
     pub(crate) fn certificate_of(&self, alloc: Global, run: RunNo) -> Result<String, Memory>
         requires sound { IsSoundOffice self.now }
         requires there { IsSome (numbered self.now.runs run) }

@@ -6,7 +6,7 @@ ghost use Rattle.office_rules.specs.Conditions.{conditions_of_target, lacks_targ
 ghost use Rattle.office_rules.specs.State.{with_contents};
 ghost use Rattle.office_rules.specs.Steps.{step_hold_off, step_hold_on, step_lift_hold, step_place_hold};
 
-use crate::lesser::lesser;
+use crate::min_refusal::min_refusal;
 use crate::parts::Parts;
 use crate::{Answer, Decision, RowWrite};
 use office_base::{Memory, Refusal};
@@ -41,7 +41,7 @@ fn target_status(tree: &Tree, target: &Target) -> Option<Status>
     Some(tree.status(*number))
 }
 
-/// Why that is no target for a hold, as far as the tree tells: it is not there, or it is an ended
+/// Why that is no target for a hold, by the tree alone: it is not there, or it is an ended
 /// record.
 fn check_target(tree: &Tree, target: &Target) -> Option<Refusal>
     ensures { result ≡ first_of (conditions_of_target tree.now target.now) }
@@ -94,7 +94,7 @@ impl Parts {
     {
         let by_holds = self.holds.check_cover(code, target);
         let by_tree = check_target(&self.tree, target);
-        if let Some(refusal) = self.dated(day, lesser(by_holds, by_tree)) {
+        if let Some(refusal) = self.dated(day, min_refusal(by_holds, by_tree)) {
             return Ok(Decision::Stay(Answer::Refused(refusal)));
         }
         self.holds.sound();

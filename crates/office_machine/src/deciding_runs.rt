@@ -18,7 +18,7 @@ use office_terms::{RecordNo, Text};
 use std::alloc::Global;
 
 impl Parts {
-    /// Why a run is not opened, as far as the runs tell: there are 10,000, or one is open.
+    /// Why a run is not opened, by the runs alone: there are 10,000, or one is open.
     fn check_open_run(&self) -> Option<Refusal>
         requires { IsSoundOffice self.now }
         ensures { result ≡ first_of (conditions_of_open_run self.now) }

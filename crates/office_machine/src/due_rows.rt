@@ -5,7 +5,7 @@ ghost use Rattle.std.specs.Ordering.{int_eq};
 ghost use Rattle.office_terms.specs.Disposal.{same_action};
 ghost use Rattle.office_terms.specs.Lists.{holds_of};
 ghost use Rattle.office_terms.specs.Tree.{due_of, has_record};
-ghost use Rattle.office_rules.specs.Registers.{due_row, due_told};
+ghost use Rattle.office_rules.specs.Registers.{due_row, due_reported};
 ghost use Rattle.office_machine.specs.Selections.{AreSelectedRows};
 
 use crate::due_list::due_pairs;
@@ -30,10 +30,10 @@ pub struct DueRows<'a> {
 impl<'a> Model for DueRows<'a> {
     ghost use Rattle.std.specs.Coded.{codes};
     ghost use Rattle.std.specs.Prelude.{List};
-    ghost use Rattle.office_rules.specs.Registers.{DueTold};
+    ghost use Rattle.office_rules.specs.Registers.{DueRowView};
     ghost use Rattle.office_machine.specs.DuePairs.{AreOwnPairs, rows_of_pairs};
 
-    ghost Value = { List DueTold };
+    ghost Value = { List DueRowView };
 
     ghost view = { λ rows. rows_of_pairs rows.parts.now rows.pairs };
 
@@ -55,7 +55,7 @@ impl Parts {
     fn due_row(&self, record_no: RecordNo, due: DueDay) -> DueRow<'_>
         requires there { IsTrue (has_record self.now.tree record_no) }
         requires due { due_of self.now.tree record_no ≡ Some due }
-        ensures { due_row self.now record_no ≡ Some (due_told result) }
+        ensures { due_row self.now record_no ≡ Some (due_reported result) }
     {
         let tree = &self.tree;
         let head = tree.record(record_no);
@@ -89,9 +89,9 @@ impl Parts {
 }
 
 impl<'a> DueRows<'a> {
-    /// The next row, which is not told again; none after the last.
+    /// The next row, which is not reported again; none after the last.
     pub fn next_row(&mut self) -> Option<DueRow<'a>>
-        ensures some { IfSome result (λ row. self.old ≡ due_told row ∷ self.new) }
+        ensures some { IfSome result (λ row. self.old ≡ due_reported row ∷ self.new) }
         ensures none { IsNone result → self.old ≡ [] }
         ensures ended { IsNone result → self.new ≡ [] }
     {

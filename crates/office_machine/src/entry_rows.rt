@@ -3,7 +3,7 @@ ghost use Rattle.std.specs.Prelude.{◌≡◌, ◌∷◌, [], IfSome, IsNone, Is
 ghost use Rattle.office_terms.specs.Lists.{numbered};
 ghost use Rattle.office_terms.specs.Tree.{has_record};
 ghost use Rattle.office_rules.specs.Readings.{all_entries_of};
-ghost use Rattle.office_rules.specs.Registers.{EntryTold, and_entry, entry_rows, entry_told};
+ghost use Rattle.office_rules.specs.Registers.{EntryView, and_entry, entry_rows, entry_view};
 ghost use Rattle.office_machine.specs.EntryPlaces.{AreOfRecords};
 
 use crate::parts::Parts;
@@ -23,20 +23,20 @@ pub struct EntryRows<'a> {
 
 impl<'a> Model for EntryRows<'a> {
     ghost use Rattle.std.specs.Prelude.{List};
-    ghost use Rattle.office_rules.specs.Registers.{EntryTold, entry_rows_of};
+    ghost use Rattle.office_rules.specs.Registers.{EntryView, entry_rows_of};
     ghost use Rattle.office_machine.specs.EntryPlaces.{AreOfRecords};
 
-    ghost Value = { List EntryTold };
+    ghost Value = { List EntryView };
 
     ghost view = { λ rows. entry_rows_of rows.tree.now rows.entries };
 
     ghost invariant = { λ rows. AreOfRecords rows.tree.now rows.entries };
 }
 
-/// What is told of an entry whose record is there.
+/// What is reported of an entry whose record is there.
 fn entry_row<'a>(tree: &'a Tree, entry: &'a Entry) -> EntryRow<'a>
     requires { IsTrue (has_record tree.now entry.now.record_no) }
-    ensures { (rest : List EntryTold) → and_entry (numbered tree.now.records entry.now.record_no) entry.now rest ≡ entry_told result ∷ rest }
+    ensures { (rest : List EntryView) → and_entry (numbered tree.now.records entry.now.record_no) entry.now rest ≡ entry_view result ∷ rest }
 {
     let head = tree.record(entry.record_no);
     EntryRow {
@@ -48,7 +48,7 @@ fn entry_row<'a>(tree: &'a Tree, entry: &'a Entry) -> EntryRow<'a>
 }
 
 impl Parts {
-    /// All entries, each as it is told.
+    /// All entries, each as it is reported.
     pub(crate) fn entry_rows(&self) -> EntryRows<'_>
         requires { AreOfRecords self.now.tree (all_entries_of self.now) }
         ensures { result ≡ entry_rows self.now }
@@ -61,9 +61,9 @@ impl Parts {
 }
 
 impl<'a> EntryRows<'a> {
-    /// The next row, which is not told again; none after the last.
+    /// The next row, which is not reported again; none after the last.
     pub fn next_row(&mut self) -> Option<EntryRow<'a>>
-        ensures some { IfSome result (λ row. self.old ≡ entry_told row ∷ self.new) }
+        ensures some { IfSome result (λ row. self.old ≡ entry_view row ∷ self.new) }
         ensures none { IsNone result → self.old ≡ [] }
         ensures ended { IsNone result → self.new ≡ [] }
     {

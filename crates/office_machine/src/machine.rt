@@ -3,7 +3,7 @@ ghost use Rattle.std.specs.Prelude.{◌≡◌, IfOk, OnErr, OnOk, false};
 ghost use Rattle.std.specs.FinMap.{get};
 ghost use Rattle.std.specs.Option.{option_map};
 ghost use Rattle.std.specs.String.{string_bytes};
-ghost use Rattle.office_rules.specs.Acts.{CanBeMade, IsDecidedFor, IsFeasible, KeepsHeld, TellsItsKind, may_release};
+ghost use Rattle.office_rules.specs.Acts.{CanBeMade, IsDecidedFor, IsFeasible, KeepsHeld, ReportsItsKind, may_release};
 ghost use Rattle.office_rules.specs.Readings.{IsDueList, IsOverdueList, all_entries_of, ending_entry, record_view};
 ghost use Rattle.office_rules.specs.Registers.{AreDueRows, AreOverdueRows, entry_rows};
 ghost use Rattle.office_rules.specs.Runs.{looked_at, next_in_run};
@@ -62,7 +62,7 @@ impl Machine {
     /// as it is, and the contents of records are not asked for.
     pub fn decide(&self, alloc: Global, act: &Act) -> Result<Decision, Memory>
         ensures step { IfOk result (λ d. IsDecidedFor self.now act.now d) }
-        ensures told { IfOk result TellsItsKind }
+        ensures reported { IfOk result ReportsItsKind }
         ensures feasible { IfOk result (λ d. IsFeasible self.now d) }
         ensures held { IfOk result (λ d. may_release act.now ≡ false → KeepsHeld self.now d) }
     {
@@ -101,7 +101,7 @@ impl Machine {
         self.parts.next_counted()
     }
 
-    /// What is told of the record; `None` where it is not there.
+    /// What is reported of the record; `None` where it is not there.
     pub fn record(&self, alloc: Global, record_no: RecordNo) -> Result<Option<RecordView>, Memory>
         ensures { IfOk result (λ view. view ≡ record_view self.now record_no) }
     {
@@ -138,7 +138,7 @@ impl Machine {
         due_list(alloc, &self.parts.tree, &Selection::Due(day))
     }
 
-    /// What is told of the records that are due on the day, row by row, in the order of the due list.
+    /// What is reported of the records that are due on the day, row by row, in the order of the due list.
     pub fn due_rows(&self, alloc: Global, day: Day) -> Result<DueRows<'_>, Memory>
         ensures { IfOk result (λ rows. AreDueRows self.now day rows) }
     {
@@ -170,7 +170,7 @@ impl Machine {
         self.parts.due_rows(alloc, &Selection::Overdue(day, days))
     }
 
-    /// What is told of all entries, row by row, by run, then record.
+    /// What is reported of all entries, row by row, by run, then record.
     pub fn entry_rows(&self) -> EntryRows<'_>
         ensures { result ≡ entry_rows self.now }
     {
@@ -199,7 +199,7 @@ impl Machine {
         self.parts.day
     }
 
-    /// Tells in proofs that an office is sound; a call does nothing.
+    /// Gives proofs the fact that an office is sound; a call does nothing.
     pub(crate) fn sound(&self)
         ensures { IsSoundOffice self.now }
     {

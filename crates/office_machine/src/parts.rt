@@ -5,8 +5,8 @@ ghost use Rattle.office_rules.specs.State.{empty_office};
 
 use crate::Run;
 use office_days::Day;
-use office_founding::Certificate;
 use office_holds::Holds;
+use office_loading::Certificate;
 use office_proof::{Entry, RunNo};
 use office_terms::RecordNo;
 use office_tree::Tree;

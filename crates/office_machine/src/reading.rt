@@ -105,7 +105,7 @@ impl Parts {
         }
     }
 
-    /// What is told of a record that is there.
+    /// What is reported of a record that is there.
     fn view_of(&self, alloc: Global, record_no: RecordNo) -> Result<RecordView, Memory>
         requires { IsTrue (has_record self.now.tree record_no) }
         ensures { IfOk result (λ view. Some view ≡ record_view self.now record_no) }
@@ -146,7 +146,7 @@ impl Parts {
         })
     }
 
-    /// What is told of the record; `None` where it is not there.
+    /// What is reported of the record; `None` where it is not there.
     pub(crate) fn view(
         &self,
         alloc: Global,

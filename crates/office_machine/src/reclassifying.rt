@@ -8,7 +8,7 @@ ghost use Rattle.office_rules.specs.Conditions.{refusals_of_reclassify};
 ghost use Rattle.office_rules.specs.State.{with_contents};
 ghost use Rattle.office_rules.specs.Steps.{step_reclassify};
 
-use crate::lesser::lesser;
+use crate::min_refusal::min_refusal;
 use crate::parts::Parts;
 use crate::{Answer, Decision, RowWrite};
 use office_base::Memory;
@@ -76,7 +76,7 @@ impl Parts {
     {
         let by_tree = self.tree.check_reclassify(target, class);
         let by_holds = self.holds.check_reclassify(&self.tree, target, class);
-        if let Some(refusal) = self.dated(day, lesser(by_tree, by_holds)) {
+        if let Some(refusal) = self.dated(day, min_refusal(by_tree, by_holds)) {
             return Ok(Decision::Stay(Answer::Refused(refusal)));
         }
         match target {

@@ -6,7 +6,7 @@ ghost use Rattle.std.specs.String.{string_bytes};
 ghost use Rattle.office_rules.specs.State.{entry_cmp};
 
 use office_base::Memory;
-use office_founding::Certificate;
+use office_loading::Certificate;
 use office_proof::{Entry, RunNo};
 use office_terms::RecordNo;
 use std::collections::BTreeMap;

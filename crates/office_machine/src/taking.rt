@@ -74,8 +74,8 @@ impl Parts {
         outcome_by(self.tree.status(record_no), action, held)
     }
 
-    /// The hold that is told of a skipped record: the least code of those that cover it.
-    fn hold_told(
+    /// The hold that is reported of a skipped record: the least code of those that cover it.
+    fn hold_reported(
         &self,
         alloc: Global,
         record_no: RecordNo,
@@ -90,7 +90,7 @@ impl Parts {
         }
     }
 
-    /// The entry of a record that a run takes, as the office stands.
+    /// The entry of a record that a run takes, as the office is.
     fn entry_of(
         &self,
         alloc: Global,
@@ -106,7 +106,7 @@ impl Parts {
             unreachable!();
         };
         let confirmed_by = confirmation.by.copy(alloc)?;
-        let hold = self.hold_told(alloc, record_no, outcome)?;
+        let hold = self.hold_reported(alloc, record_no, outcome)?;
         let class = self.tree.class_of(record_no);
         let (class, schedule) = copy_codes(alloc, class, self.tree.plan_of(record_no))?;
         Ok(Entry {

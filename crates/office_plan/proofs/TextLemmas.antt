@@ -30,7 +30,7 @@ ascii p f [] h i = omega arith
 ascii p f (b ∷ bs) h zero = f b (both_true (p b) (list_all p bs) h).0
 ascii p f (b ∷ bs) h (suc i) = ascii p f bs (both_true (p b) (list_all p bs) h).1 i
 
--- UTF-8 of few bytes, each an ASCII character that may stand in a text
+-- UTF-8 of few bytes, each an ASCII character that may be in a text
 plain : (p : ℕ → Bool) → ((b : ℕ) → p b ≡ true → b < 128) → ((b : ℕ) → p b ≡ true → is_text_character b ≡ true) → (bs : List ℕ) → nat_lt 0 (length bs) ≡ true → nat_le (length bs) 200 ≡ true → is_utf8 bs ≡ true → list_all p bs ≡ true → is_text bs ≡ true
 plain p low character bs long short utf8 all =
     let same = chars-IsAscii bs (ascii p low bs all) in
@@ -56,12 +56,12 @@ is_text-code bs code utf8 =
     let few = sizes.1 in
     plain is_code_byte code_byte-low code_byte-character bs sizes.0 (grind (arith, nat_tests)) utf8 parts.1
 
-tells_digits : IsDigitsTest (λ ds. list_all is_ascii_digit ds ≡ true)
-tells_digits = search rules
+reports_digits : IsDigitsTest (λ ds. list_all is_ascii_digit ds ≡ true)
+reports_digits = search rules
 
 pub is_text-decimal : (n : ℕ) → n < 2 ^ 32 → 0 < length (decimal n) → is_utf8 (decimal n) ≡ true → is_text (decimal n) ≡ true
 is_text-decimal n fits long utf8 =
-    let all = digits_decimal (numerals_by_value _ tells_digits) n (omega (arith, fits)) in
+    let all = digits_decimal (numerals_by_value _ reports_digits) n (omega (arith, fits)) in
     let short : length (decimal n) ≤ 10 = length-decimal-le 10 n (omega arith) (omega (arith, fits)) (omega (arith, fits)) in
     plain is_ascii_digit digit-low digit-character (decimal n) (grind (arith, nat_tests)) (grind (arith, nat_tests)) utf8 all
 

@@ -1,4 +1,4 @@
--- What `from_utf8` tells, by the test of UTF-8.
+-- What `from_utf8` reports, by the test of UTF-8.
 use Rattle.std.proofs.Common.{◌≡◌, ℕ, List, Bool, true, false, Bor, Option, Result, Ok, Err, refl, sym, subst}
 use Rattle.std.specs.Option.{MatchOption}
 use Rattle.std.specs.Result.{MatchResult, result_ok}

@@ -27,7 +27,7 @@ words_of line = slice_split (λ byte. byte == 32) line
 abbrev pub word_at : List (List ℕ) → ℕ → List ℕ
 word_at words i = unwrap_or (slice_get words i) []
 
--- what stands at a place of a line
+-- what is at a place of a line
 unfoldable pub code_at : List (List ℕ) → ℕ → Result (List ℕ) Refusal
 code_at words i = code_part (word_at words i)
 

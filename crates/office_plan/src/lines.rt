@@ -3,7 +3,7 @@ ghost use Rattle.std.specs.Prelude.{◌≡◌, ◌<◌, ◌==◌, ◌↔◌, [],
 ghost use Rattle.std.specs.List.{position};
 ghost use Rattle.std.specs.Str.Lines.{lines, strip_carriage_return};
 
-/// Where the first line feed stands.
+/// Where the first line feed is.
 fn first_feed(rest: &[u8]) -> Option<usize>
     ensures { result ≡ position (λ byte. byte == 10) rest.now }
 {

@@ -74,8 +74,8 @@ fn lines_of(alloc: Global, tree: &Tree) -> Result<Vec<u8>, AllocError>
 
 /// The lines of all records of a plan file, or the first line that is refused, and why.
 fn lines_asked(alloc: Global, bytes: &[u8]) -> Result<Result<Vec<u8>, (u64, Refusal)>, Memory>
-    ensures lines { IfOk result (λ told. IfOk told (λ lines. (plan_refusal (plan_asked bytes.now) ≡ None) × (lines.items ≡ plan_written (plan_asked bytes.now)))) }
-    ensures refused { IfOk result (λ told. IfErr told (λ refused. plan_asked bytes.now ≡ Err refused)) }
+    ensures lines { IfOk result (λ reported. IfOk reported (λ lines. (plan_refusal (plan_asked bytes.now) ≡ None) × (lines.items ≡ plan_written (plan_asked bytes.now)))) }
+    ensures refused { IfOk result (λ reported. IfErr reported (λ refused. plan_asked bytes.now ≡ Err refused)) }
 {
     let mut tree = Tree::new(alloc);
     match take_lines(alloc, &mut tree, bytes) {

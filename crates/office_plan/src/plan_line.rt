@@ -81,7 +81,7 @@ fn trigger_at(words: &[&str], i: usize) -> Result<Trigger, Refusal>
     Trigger::read(word_at(words, i)).ok_or(Refusal::BadText)
 }
 
-/// The period whose unit and count stand at a place and at the next.
+/// The period whose unit and count are at a place and at the next.
 #[tactic(auto, unfolding(crate::specs::PlanLines::period_at))]
 fn period_at(words: &[&str], i: usize) -> Result<Period, Refusal>
     requires { i < 8 }

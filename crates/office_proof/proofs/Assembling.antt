@@ -11,20 +11,20 @@ use Rattle.office_proof.specs.Outcomes.{is_ending, is_sending, is_skipping, outc
 use Rattle.office_proof.specs.declared.entry.Entry.{Entry}
 use Rattle.office_proof.proofs.Texts.{more_lines}
 
-abbrev told : Entry → Record → List ℕ → List ℕ → List ℕ → List ℕ → List ℕ
-told e head number due length digest = tabbed (
+abbrev reported : Entry → Record → List ℕ → List ℕ → List ℕ → List ℕ → List ℕ
+reported e head number due length digest = tabbed (
     codes "ENTRY" ∷ number ∷ outcome_word e.outcome ∷ head.ref_text ∷ e.class ∷ e.schedule ∷ due
     ∷ unwrap_or e.hold (codes "-") ∷ e.confirmed_by ∷ length ∷ digest ∷ []) ++ 10 ∷ []
 
-pub told_is : (e : Entry) (head : Record) (number due length digest : List ℕ)
+pub reported_is : (e : Entry) (head : Record) (number due length digest : List ℕ)
     → number ≡ decimal e.record_no → due ≡ date_text e.due → length ≡ decimal head.length → digest ≡ encode_lower head.digest
-    → told e head number due length digest ≡ entry_line e head
+    → reported e head number due length digest ≡ entry_line e head
 unfolding entry_words
-told_is e head number due length digest number_is due_is length_is digest_is =
-    ap (λ w. told e head w due length digest) number_is
-    ∙ ap (λ w. told e head (decimal e.record_no) w length digest) due_is
-    ∙ ap (λ w. told e head (decimal e.record_no) (date_text e.due) w digest) length_is
-    ∙ ap (λ w. told e head (decimal e.record_no) (date_text e.due) (decimal head.length) w) digest_is
+reported_is e head number due length digest number_is due_is length_is digest_is =
+    ap (λ w. reported e head w due length digest) number_is
+    ∙ ap (λ w. reported e head (decimal e.record_no) w length digest) due_is
+    ∙ ap (λ w. reported e head (decimal e.record_no) (date_text e.due) w digest) length_is
+    ∙ ap (λ w. reported e head (decimal e.record_no) (date_text e.due) (decimal head.length) w) digest_is
 
 pub certificate_is : (tree : TreeState) (run : ℕ) (day : ℤ) (by : List ℕ) (entries : List Entry) (spent : List ℕ) (start with_run with_counts with_entries body : List ℕ)
     → start ≡ []

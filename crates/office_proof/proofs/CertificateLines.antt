@@ -4,13 +4,13 @@ use Rattle.std.proofs.lemmas.Bool.Decides.{nat_tests}
 use Rattle.std.specs.Fmt.{decimal}
 use Rattle.std.specs.List.{All, AllByRecursion, flat_map}
 use Rattle.std.proofs.lemmas.List.Elements.{All-nil, All-cons, All-append, All-head, All-tail, All-weaker, All-from_recursion, recursion_from_All}
-use Rattle.office_terms.specs.Forms.{IsText, IsFormedAggregation, IsFormedRecord, IsFormedTree}
+use Rattle.office_terms.specs.Forms.{IsText, IsWellFormedAggregation, IsWellFormedRecord, IsWellFormedTree}
 use Rattle.office_terms.specs.Lists.{numbered}
 use Rattle.office_terms.specs.Tree.{TreeState}
 use Rattle.office_terms.specs.declared.aggregation.Aggregation.{Aggregation}
 use Rattle.office_terms.specs.declared.head.Record.{Record}
 use Rattle.office_proof.specs.Certificates.{tabbed, lines_text, date_text, counted, entry_words, aggregation_words, made_of, certificate_lines}
-use Rattle.office_proof.specs.Forms.{IsFormedEntry}
+use Rattle.office_proof.specs.Forms.{IsWellFormedEntry}
 use Rattle.office_proof.specs.Meanings.{IsOneLine, IsOneColumn, entry_columns, before_first, split_at}
 use Rattle.office_proof.specs.Outcomes.{is_ending, is_sending, is_skipping, outcome_word}
 use Rattle.office_proof.specs.declared.entry.Entry.{Entry}
@@ -31,23 +31,23 @@ outcome_column Transferred = literal_column (codes "transferred") refl
 outcome_column Sent = literal_column (codes "sent") refl
 outcome_column Skipped = literal_column (codes "skipped") refl
 
-each_column : (e : Entry) (head : Record) → IsFormedEntry e → IsFormedRecord head → AllByRecursion IsOneColumn (entry_columns e head)
-each_column e head entry_formed head_formed =
+each_column : (e : Entry) (head : Record) → IsWellFormedEntry e → IsWellFormedRecord head → AllByRecursion IsOneColumn (entry_columns e head)
+each_column e head entry_well_formed head_well_formed =
     literal_column (codes "ENTRY") refl
     beside decimal_column e.record_no
     beside outcome_column e.outcome
-    beside text_column head.ref_text head_formed.ref_text
-    beside code_column e.class entry_formed.class
-    beside code_column e.schedule entry_formed.schedule
+    beside text_column head.ref_text head_well_formed.ref_text
+    beside code_column e.class entry_well_formed.class
+    beside code_column e.schedule entry_well_formed.schedule
     beside date_column e.due
-    beside hold_column e.hold entry_formed.hold
-    beside text_column e.confirmed_by entry_formed.confirmed_by
+    beside hold_column e.hold entry_well_formed.hold
+    beside text_column e.confirmed_by entry_well_formed.confirmed_by
     beside decimal_column head.length
     beside digest_column head.digest
     beside tt
 
-pub columns_whole : (e : Entry) (head : Record) → IsFormedEntry e → IsFormedRecord head → All IsOneColumn (entry_columns e head)
-columns_whole e head entry_formed head_formed = All-from_recursion IsOneColumn (entry_columns e head) (each_column e head entry_formed head_formed)
+pub columns_whole : (e : Entry) (head : Record) → IsWellFormedEntry e → IsWellFormedRecord head → All IsOneColumn (entry_columns e head)
+columns_whole e head entry_well_formed head_well_formed = All-from_recursion IsOneColumn (entry_columns e head) (each_column e head entry_well_formed head_well_formed)
 
 pub words_joined : (e : Entry) (head : Record) → entry_words e head ≡ tabbed (entry_columns e head)
 unfolding entry_words
@@ -61,10 +61,10 @@ tabbed_line (x ∷ []) one = line_from_column x one.0
 tabbed_line (x ∷ y ∷ xs) one =
     All-append (λ b. b ≢ 10) x (9 ∷ tabbed (y ∷ xs)) (line_from_column x one.0) (All-cons (λ b. b ≢ 10) 9 (tabbed (y ∷ xs)) (omega arith) (tabbed_line (y ∷ xs) one.1))
 
-entry_line : (e : Entry) (head : Record) → IsFormedEntry e → IsFormedRecord head → IsOneLine (entry_words e head)
-entry_line e head entry_formed head_formed = subst IsOneLine (sym (words_joined e head)) (tabbed_line (entry_columns e head) (each_column e head entry_formed head_formed))
+entry_line : (e : Entry) (head : Record) → IsWellFormedEntry e → IsWellFormedRecord head → IsOneLine (entry_words e head)
+entry_line e head entry_well_formed head_well_formed = subst IsOneLine (sym (words_joined e head)) (tabbed_line (entry_columns e head) (each_column e head entry_well_formed head_well_formed))
 
-aggregation_line : (a : ℕ) (it : Aggregation) → IsFormedAggregation it → IsOneLine (aggregation_words a it)
+aggregation_line : (a : ℕ) (it : Aggregation) → IsWellFormedAggregation it → IsOneLine (aggregation_words a it)
 aggregation_line a it formed =
     tabbed_line (codes "AGGREGATION" ∷ decimal a ∷ it.ref_text ∷ []) (literal_column (codes "AGGREGATION") refl beside decimal_column a beside text_column it.ref_text formed.ref_text beside tt)
 
@@ -84,19 +84,19 @@ flat_lines P f each (x ∷ xs) all = All-append IsOneLine (f x) (flat_map f xs) 
 counted_line : (label : List ℕ) (n : ℕ) → IsOneColumn label → IsOneLine (label ++ decimal n)
 counted_line label n one = labelled_line label (decimal n) one (decimal_column n)
 
-entry_lines : (tree : TreeState) (entries : List Entry) → IsFormedTree tree → All IsFormedEntry entries → All IsOneLine (flat_map (λ e. made_of (entry_words e) (numbered tree.records e.record_no)) entries)
+entry_lines : (tree : TreeState) (entries : List Entry) → IsWellFormedTree tree → All IsWellFormedEntry entries → All IsOneLine (flat_map (λ e. made_of (entry_words e) (numbered tree.records e.record_no)) entries)
 entry_lines tree entries formed each =
-    flat_lines IsFormedEntry (λ e. made_of (entry_words e) (numbered tree.records e.record_no))
-    (λ e entry_formed. made_lines (entry_words e) (numbered tree.records e.record_no) (λ head is. entry_line e head entry_formed (formed.records e.record_no head is))) entries each
+    flat_lines IsWellFormedEntry (λ e. made_of (entry_words e) (numbered tree.records e.record_no))
+    (λ e entry_well_formed. made_lines (entry_words e) (numbered tree.records e.record_no) (λ head is. entry_line e head entry_well_formed (formed.records e.record_no head is))) entries each
 
-aggregation_lines : (tree : TreeState) (spent : List ℕ) → IsFormedTree tree → All IsOneLine (flat_map (λ a. made_of (aggregation_words a) (numbered tree.aggregations a)) spent)
+aggregation_lines : (tree : TreeState) (spent : List ℕ) → IsWellFormedTree tree → All IsOneLine (flat_map (λ a. made_of (aggregation_words a) (numbered tree.aggregations a)) spent)
 aggregation_lines tree spent formed =
     flat_lines (λ (a : ℕ). Unit {0}) (λ a. made_of (aggregation_words a) (numbered tree.aggregations a))
     (λ a _. made_lines (aggregation_words a) (numbered tree.aggregations a) (λ it is. aggregation_line a it (formed.aggregations a it is))) spent (λ _ _ _. tt)
 
-pub lines_whole : (tree : TreeState) (run : ℕ) (day : ℤ) (by : List ℕ) (entries : List Entry) (spent : List ℕ) → IsFormedTree tree → IsText by → All IsFormedEntry entries → All IsOneLine (certificate_lines tree run day by entries spent)
+pub lines_whole : (tree : TreeState) (run : ℕ) (day : ℤ) (by : List ℕ) (entries : List Entry) (spent : List ℕ) → IsWellFormedTree tree → IsText by → All IsWellFormedEntry entries → All IsOneLine (certificate_lines tree run day by entries spent)
 unfolding certificate_lines
-lines_whole tree run day by entries spent formed by_formed each =
+lines_whole tree run day by entries spent formed by_well_formed each =
     let entry_part = flat_map (λ (e : Entry). made_of (entry_words e) (numbered tree.records e.record_no)) entries in
     let spent_line = codes "SPENT " ++ decimal (length spent) in
     let spent_part = flat_map (λ (a : ℕ). made_of (aggregation_words a) (numbered tree.aggregations a)) spent in
@@ -106,7 +106,7 @@ lines_whole tree run day by entries spent formed by_formed each =
     All-from_recursion IsOneLine (certificate_lines tree run day by entries spent)
     (counted_line (codes "CERTIFICATE ") run (literal_column (codes "CERTIFICATE ") refl)
     beside labelled_line (codes "DAY ") (date_text day) (literal_column (codes "DAY ") refl) (date_column day)
-    beside labelled_line (codes "BY ") by (literal_column (codes "BY ") refl) (text_column by by_formed)
+    beside labelled_line (codes "BY ") by (literal_column (codes "BY ") refl) (text_column by by_well_formed)
     beside labelled_line (codes "ENDED ") (counted is_ending entries) (literal_column (codes "ENDED ") refl) (decimal_column _)
     beside labelled_line (codes "SENT ") (counted is_sending entries) (literal_column (codes "SENT ") refl) (decimal_column _)
     beside labelled_line (codes "SKIPPED ") (counted is_skipping entries) (literal_column (codes "SKIPPED ") refl) (decimal_column _)
@@ -157,11 +157,11 @@ spent_in_order tree run day by entries spent heads aggregations there spent_ther
 
 -- ---- the first lines
 
-pub head_told : (tree : TreeState) (run : ℕ) (day : ℤ) (by : List ℕ) (entries : List Entry) (spent : List ℕ)
+pub head_reported : (tree : TreeState) (run : ℕ) (day : ℤ) (by : List ℕ) (entries : List Entry) (spent : List ℕ)
     → take 6 (certificate_lines tree run day by entries spent)
     ≡ (codes "CERTIFICATE " ++ decimal run) ∷ (codes "DAY " ++ date_text day) ∷ (codes "BY " ++ by) ∷ (codes "ENDED " ++ counted is_ending entries) ∷ (codes "SENT " ++ counted is_sending entries) ∷ (codes "SKIPPED " ++ counted is_skipping entries) ∷ []
 unfolding certificate_lines
-head_told tree run day by entries spent = refl
+head_reported tree run day by entries spent = refl
 
 -- ---- parted again
 
@@ -190,8 +190,8 @@ split_tabbed word [] one = split_last 9 word (no_tab word (All-head IsOneColumn 
 split_tabbed word (next ∷ words) one =
     split_word 9 word (tabbed (next ∷ words)) (no_tab word (All-head IsOneColumn word (next ∷ words) one)) ∙ ap (λ ws. word ∷ ws) (split_tabbed next words (All-tail IsOneColumn word (next ∷ words) one))
 
-pub words_parted : (e : Entry) (head : Record) → IsFormedEntry e → IsFormedRecord head → split_at 9 (entry_words e head) ≡ entry_columns e head
-words_parted e head entry_formed head_formed = ap (split_at 9) (words_joined e head) ∙ split_tabbed _ _ (columns_whole e head entry_formed head_formed)
+pub words_parted : (e : Entry) (head : Record) → IsWellFormedEntry e → IsWellFormedRecord head → split_at 9 (entry_words e head) ≡ entry_columns e head
+words_parted e head entry_well_formed head_well_formed = ap (split_at 9) (words_joined e head) ∙ split_tabbed _ _ (columns_whole e head entry_well_formed head_well_formed)
 
 split_lines : (lines : List (List ℕ)) → All IsOneLine lines → split_at 10 (lines_text lines) ≡ lines ++ [] ∷ []
 split_lines [] one = refl
@@ -200,6 +200,6 @@ split_lines (line ∷ lines) one =
     ∙ split_word 10 line (lines_text lines) (All-head IsOneLine line lines one)
     ∙ ap (λ ls. line ∷ ls) (split_lines lines (All-tail IsOneLine line lines one))
 
-pub lines_parted_again : (tree : TreeState) (run : ℕ) (day : ℤ) (by : List ℕ) (entries : List Entry) (spent : List ℕ) → IsFormedTree tree → IsText by → All IsFormedEntry entries
+pub lines_parted_again : (tree : TreeState) (run : ℕ) (day : ℤ) (by : List ℕ) (entries : List Entry) (spent : List ℕ) → IsWellFormedTree tree → IsText by → All IsWellFormedEntry entries
     → split_at 10 (lines_text (certificate_lines tree run day by entries spent)) ≡ certificate_lines tree run day by entries spent ++ [] ∷ []
-lines_parted_again tree run day by entries spent formed by_formed each = split_lines (certificate_lines tree run day by entries spent) (lines_whole tree run day by entries spent formed by_formed each)
+lines_parted_again tree run day by entries spent formed by_well_formed each = split_lines (certificate_lines tree run day by entries spent) (lines_whole tree run day by entries spent formed by_well_formed each)

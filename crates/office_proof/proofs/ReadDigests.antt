@@ -24,6 +24,6 @@ digest_read text digest read formed same e =
 pub same_digest : (read : Result (List ℕ) FromHexError) (a b : List ℕ) → read ≡ Ok a → read ≡ Ok b → a ≡ b
 same_digest read a b one other = cc
 
--- what was read of a digest's digits is told to be written so
-pub is_so_written : (text digest other : List ℕ) (told : Bool) → text ≡ encode_lower digest → digest ≡ other → told ≡ bytes_eq (encode_lower other) text → told ≡ true
-is_so_written text digest other told same one e = e ∙ (bytes_eq-Decides (encode_lower other) text).1 (sym (same ∙ ap encode_lower one))
+-- what was read of a digest's digits is reported to be written so
+pub is_so_written : (text digest other : List ℕ) (reported : Bool) → text ≡ encode_lower digest → digest ≡ other → reported ≡ bytes_eq (encode_lower other) text → reported ≡ true
+is_so_written text digest other reported same one e = e ∙ (bytes_eq-Decides (encode_lower other) text).1 (sym (same ∙ ap encode_lower one))

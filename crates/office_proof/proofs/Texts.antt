@@ -17,9 +17,9 @@ more_lines old mid new before after first second =
     ∙ append_assoc old (lines_text before) (lines_text after)
     ∙ ap (λ t. old ++ t) (sym (flat_map-append (λ line. line ++ 10 ∷ []) before after))
 
--- a line that tells the same
-pub told_as : (old new kind told same : List ℕ) → new ≡ old ++ lines_text ((kind ++ told) ∷ []) → told ≡ same → new ≡ old ++ lines_text ((kind ++ same) ∷ [])
-told_as old new kind told same pushed e = pushed ∙ ap (λ t. old ++ lines_text ((kind ++ t) ∷ [])) e
+-- a line that reports the same
+pub reported_as : (old new kind reported same : List ℕ) → new ≡ old ++ lines_text ((kind ++ reported) ∷ []) → reported ≡ same → new ≡ old ++ lines_text ((kind ++ same) ∷ [])
+reported_as old new kind reported same pushed e = pushed ∙ ap (λ t. old ++ lines_text ((kind ++ t) ∷ [])) e
 
 pub three_lines : (old one two three : List ℕ) (a b c : List ℕ) → one ≡ old ++ lines_text (a ∷ []) → two ≡ one ++ lines_text (b ∷ []) → three ≡ two ++ lines_text (c ∷ []) → three ≡ old ++ lines_text (a ∷ b ∷ c ∷ [])
 three_lines old one two three a b c first second third =

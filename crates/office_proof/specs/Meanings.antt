@@ -1,4 +1,4 @@
--- What a line and a column of a certificate are, how they are parted again, and which words stand in the line of an entry:
+-- What a line and a column of a certificate are, how they are parted again, and which words are in the line of an entry:
 -- the laws of `src/laws.rt` say that no title, ref or name breaks them. Source: own.
 use Rattle.std.specs.Prelude.{◌≢◌, ◌==◌, ℕ, List, [], ◌∷◌, codes, if◌then◌else◌}
 use Rattle.std.specs.Fmt.{decimal}

@@ -15,7 +15,7 @@ use office_tree::Tree;
 use std::alloc::Global;
 
 /// The line of an entry and its record, where what is no text in them is written as one.
-fn line_told<'a>(
+fn line_reported<'a>(
     alloc: Global,
     entry: &'a Entry,
     head: &'a Record,
@@ -55,7 +55,7 @@ pub fn entry_line(alloc: Global, entry: &Entry, head: &Record) -> Result<String,
     let due = due_word(alloc, entry.due)?;
     let length = number_word(alloc, head.length as u64)?;
     let digest = hex::encode(alloc, &head.digest)?;
-    line_told(
+    line_reported(
         alloc,
         entry,
         head,

@@ -6,7 +6,7 @@ use office_terms::{Code, RecordNo, Text};
 /// The number of a disposal run: 1, 2, .. in the order of opening.
 pub type RunNo = u32;
 
-/// What a run did with a record, as it stood at that moment: the class and the schedule in effect,
+/// What a run did with a record, as it was at that moment: the class and the schedule in effect,
 /// the due day that was confirmed and who confirmed it, and for a skipped record the least code, in
 /// byte order, of the holds that covered it.
 #[derive(Drop)]

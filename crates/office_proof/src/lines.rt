@@ -16,12 +16,12 @@ use office_terms::{AggNo, Aggregation, Text};
 use office_tree::Tree;
 use std::alloc::Global;
 
-/// Appends a line of its kind and what it tells.
-pub(crate) fn push_line(text: &mut String, kind: &str, told: &str) -> Result<(), Memory>
-    ensures { OnOk result (string_bytes text.new ≡ string_bytes text.old ++ lines_text ((kind.now ++ told.now) ∷ [])) }
+/// Appends a line of its kind and what it reports.
+pub(crate) fn push_line(text: &mut String, kind: &str, reported: &str) -> Result<(), Memory>
+    ensures { OnOk result (string_bytes text.new ≡ string_bytes text.old ++ lines_text ((kind.now ++ reported.now) ∷ [])) }
 {
     text.push_str(kind)?;
-    text.push_str(told)?;
+    text.push_str(reported)?;
     text.push_str("\n")?;
     Ok(())
 }

@@ -7,7 +7,7 @@ ghost use Rattle.office_proof.specs.Outcomes.{is_ending, is_sending, is_skipping
 pub enum Outcome {
     /// It was due to be destroyed, and its content is gone.
     Destroyed,
-    /// Its receiver has told that it has the copy, and the content here is gone.
+    /// Its receiver has reported that it has the copy, and the content here is gone.
     Transferred,
     /// A copy may be sent to its receiver; the content is still here.
     Sent,

@@ -11,7 +11,7 @@ use Rattle.office_rules.specs.State.{State, Office}
 use Rattle.office_rules.specs.declared.run.Run.{Run}
 use Rattle.office_rules.proofs.SoundMaps.{put_here, put_elsewhere}
 
--- the certificate of a run that is there tells its day and who opened it
+-- the certificate of a run that is there reports its day and who opened it
 certificate_is : (s : Office) (run : ℕ) (it : Run) → numbered s.runs run ≡ Some it → certificate_of s run ≡ certificate_text s.tree run it.day it.by (entries_of s run) (spent_list s.tree (entries_of s run))
 certificate_is s run it there =
     ap (λ (o : Option Run). certificate_text s.tree run (unwrap_or (option_map (λ it. it.day) o) (pos 0)) (unwrap_or (option_map (λ it. it.by) o) []) (entries_of s run) (spent_list s.tree (entries_of s run))) there

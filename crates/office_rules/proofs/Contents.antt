@@ -31,9 +31,9 @@ get-removed contents c r outcome.Skipped e = absurd cc
 get-removed contents c r outcome.Destroyed e = get-remove nat_cmp_total contents c r ∙ ap (λ b. cond b None (get contents r)) (same_test r c)
 get-removed contents c r outcome.Transferred e = get-remove nat_cmp_total contents c r ∙ ap (λ b. cond b None (get contents r)) (same_test r c)
 
--- the content of r, without what this answer tells to be ended
+-- the content of r, without what this answer reports to be ended
 abbrev pub left_by : State → ℕ → Answer → Option (List ℕ)
-left_by s r told = cond (holds_of (ended_by told) (λ e. e == r)) None (get s.contents r)
+left_by s r reported = cond (holds_of (ended_by reported) (λ e. e == r)) None (get s.contents r)
 
 by_outcome : (s : State) (c r : ℕ) (o : Option Outcome) → get (contents_with s.contents c o) r ≡ left_by s r (answer.Step c (unwrap_or o outcome.Skipped))
 by_outcome s c r None = refl
@@ -64,7 +64,7 @@ contents_other contents c r (Some outcome.Skipped) h = refl
 contents_other contents c r (Some outcome.Destroyed) h = let other : (c == r) ≡ false = grind (arith, nat_tests) in get-removed contents c r outcome.Destroyed refl ∙ ap (λ b. cond b None (get contents r)) other
 contents_other contents c r (Some outcome.Transferred) h = let other : (c == r) ≡ false = grind (arith, nat_tests) in get-removed contents c r outcome.Transferred refl ∙ ap (λ b. cond b None (get contents r)) other
 
--- a new record's content stands under its number
+-- a new record's content is under its number
 pub content_added : (s : State) (day : ℤ) (new : NewRecord) → get (with_new_record s day new).contents (suc (length s.office.tree.records)) ≡ Some new.content.items
 content_added s day new =
     let n : ℕ = suc (length s.office.tree.records) in

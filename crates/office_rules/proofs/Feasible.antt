@@ -1,7 +1,7 @@
 -- What is decided of an act in a sound office can be made there, and keeps what is held.
 use Rattle.std.proofs.Common.{◌≡◌, false, sym, subst}
 use Rattle.office_rules.specs.Acts.{CanBeMade, IsDecidedFor, IsFeasible, KeepsHeld, may_release, step}
-use Rattle.office_rules.specs.Forms.{IsFormedAct}
+use Rattle.office_rules.specs.Forms.{IsWellFormedAct}
 use Rattle.office_rules.specs.Meanings.{IsHeldIn}
 use Rattle.office_rules.specs.Sound.{IsSound, IsSoundOffice}
 use Rattle.office_rules.specs.State.{State, Office, with_contents, empty_office, empty_state}
@@ -22,7 +22,7 @@ pub empty_sound : IsSoundOffice empty_office
 empty_sound = office_sound empty_state sound_empty
 
 -- a decided change leads to the office of a step, which is sound
-pub feasible : (s : Office) (a : Act) (d : Decision) → IsSoundOffice s → IsFormedAct a → IsDecidedFor s a d → IsFeasible s d
+pub feasible : (s : Office) (a : Act) (d : Decision) → IsSoundOffice s → IsWellFormedAct a → IsDecidedFor s a d → IsFeasible s d
 unfolding CanBeMade IsSoundOffice
 feasible s a (Stay answer) sound formed decided = tt
 feasible s a (Go change) sound formed decided =

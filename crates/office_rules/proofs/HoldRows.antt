@@ -13,7 +13,7 @@ use Rattle.office_terms.specs.Lists.{amended, holds_of}
 use Rattle.office_terms.specs.Tree.{code_cmp}
 use Rattle.office_terms.proofs.Inserting.{get-amended, same_code}
 use Rattle.office_holds.specs.Effects.{with_target, without_target}
-use Rattle.office_holds.specs.Founding.{is_pair, same_target}
+use Rattle.office_holds.specs.Loading.{is_pair, same_target}
 use Rattle.office_holds.specs.Holds.{HoldMap, HoldState, has_target}
 use Rattle.office_holds.specs.Rows.{hold_from, hold_row}
 use Rattle.office_terms.specs.declared.hold_row.HoldRow.{HoldRow}

@@ -172,11 +172,11 @@ found_is : (q : ℕ × ℕ) (v : Entry) (es : List Kept) → find entry_cmp q es
 found_is q v [] found = absurd cc
 found_is q v (e ∷ es) found = found_by q v e es (eq_by_cmp entry_cmp q e.0) found (found_is q v es)
 
--- an entry that stands under its run and record
+-- an entry that is under its run and record
 abbrev IsKeyed : Kept → Type 0
 IsKeyed e = (e.1.run ≡ e.0.0) × (e.1.record_no ≡ e.0.1)
 
--- each entry stands under its own run and record
+-- each entry is under its own run and record
 abbrev pub AreKeyed : EntryMap → Type 0
 AreKeyed m = (run r : ℕ) (e : Entry) → get m (run, r) ≡ Some e → (e.run ≡ run) × (e.record_no ≡ r)
 
@@ -199,14 +199,14 @@ run_is n run e = grind (arith, nat_tests)
 is_run : (n run : ℕ) → n ≡ run → (n == run) ≡ true
 is_run n run e = grind (arith, nat_tests)
 
--- each of the values stands under some key
+-- each of the values is under some key
 pub value_found : (m : EntryMap) (entry : Entry) → Contains (values m) entry → (key : ℕ × ℕ) × (get m key ≡ Some entry)
 value_found m entry h =
     let one = Contains-from_values_of (entries m) entry h in
     let found : IsFoundIn (entries m) (one.0, entry) = All-contains (IsFoundIn (entries m)) (entries m) (one.0, entry) (All-from_recursion (IsFoundIn (entries m)) (entries m) (each_found (entries m) (entries_rise m))) one.1 in
     (one.0, get-entries m one.0 ∙ found)
 
--- what stands under a key is one of the values
+-- what is under a key is one of the values
 pub found_value : (m : EntryMap) (key : ℕ × ℕ) (entry : Entry) → get m key ≡ Some entry → Contains (values m) entry
 found_value m key entry there = found_is key entry (entries m) (sym (get-entries m key) ∙ there)
 

@@ -14,7 +14,7 @@ use Rattle.office_terms.specs.declared.target.Target.{Target}
 use Rattle.office_terms.specs.declared.target.Target.TheVariants as target
 use Rattle.office_rules.specs.Rows.{rows_of, record_rows, targets_of}
 use Rattle.office_rules.specs.State.{State, with_contents}
-use Rattle.office_rules.specs.Tables.{StandsFor, TableLists}
+use Rattle.office_rules.specs.Tables.{Represents, TableLists}
 use Rattle.office_rules.proofs.HoldRows.{codes_apart}
 use Rattle.office_rules.proofs.KeyedRows.{rows_by, rows_by-get}
 use Rattle.office_rules.proofs.NumberedRows.{same_numbered, same_heads, same_statuses}
@@ -71,8 +71,8 @@ one_state s t e f same =
 same_day : (x y : ℤ) → x ∷ [] ≡ y ∷ [] → x ≡ y
 same_day x y e = cc
 
--- tables that were read stand for at most one office
-pub one_office : (t : TableLists) (s u : State) → length s.office.tree.statuses ≡ length s.office.tree.records → length u.office.tree.statuses ≡ length u.office.tree.records → StandsFor t s → StandsFor t u → s.office ≡ u.office
+-- tables that were read represent at most one office
+pub one_office : (t : TableLists) (s u : State) → length s.office.tree.statuses ≡ length s.office.tree.records → length u.office.tree.statuses ≡ length u.office.tree.records → Represents t s → Represents t u → s.office ≡ u.office
 unfolding rows_of
 one_office t s u e f a b =
     ap (λ (x : State). x.office) (one_state s (with_contents u.office s.contents) e f (λ i. record {

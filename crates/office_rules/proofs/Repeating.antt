@@ -29,7 +29,7 @@ use Rattle.office_rules.specs.declared.new_record.NewRecord.{NewRecord}
 abbrev Alike : Record → Record → Type 0
 Alike x y = (new : NewRecord) → is_same_record new x ≡ is_same_record new y
 
--- the first records stand at their numbers in the second list, alike
+-- the first records are at their numbers in the second list, alike
 abbrev Stay : List Record → List Record → Type 0
 Stay [] ys = Unit {0}
 Stay (x ∷ xs) [] = ⊥
@@ -174,38 +174,38 @@ found_after s [] new n found = found
 found_after s (a ∷ rest) new n found = found_after (step s a).1 rest new n (found_step s a new n found)
 
 found_in : (s : State) (acts : List Act) (i n : ℕ) (day : ℤ) (new : NewRecord) → slice_get acts i ≡ Some (act.AddRecord day new) → slice_get (answers s acts) i ≡ Some (Number n) → same_record (after s acts).office new ≡ Some n
-found_in s [] i n day new asked told = absurd cc
-found_in s (a ∷ rest) zero n day new asked told =
+found_in s [] i n day new asked reported = absurd cc
+found_in s (a ∷ rest) zero n day new asked reported =
     let same : a ≡ act.AddRecord day new = cc in
     let answer : (step s a).0 ≡ Number n = cc in
     let found = found_new s day new n (ap (λ (x : Act). (step s x).0) (sym same) ∙ answer) in
     found_after (step s a).1 rest new n (ap (λ (x : Act). same_record (step s x).1.office new) same ∙ found)
-found_in s (a ∷ rest) (suc i) n day new asked told = found_in (step s a).1 rest i n day new asked told
+found_in s (a ∷ rest) (suc i) n day new asked reported = found_in (step s a).1 rest i n day new asked reported
 
 found_at : (s : State) (acts : List Act) (k n : ℕ) (day : ℤ) (new : NewRecord) → numbered acts k ≡ Some (act.AddRecord day new) → numbered (answers s acts) k ≡ Some (Number n) → same_record (after s acts).office new ≡ Some n
-found_at s acts zero n day new asked told = absurd cc
-found_at s acts (suc i) n day new asked told = found_in s acts i n day new asked told
+found_at s acts zero n day new asked reported = absurd cc
+found_at s acts (suc i) n day new asked reported = found_in s acts i n day new asked reported
 
--- ---- and told
+-- ---- and reported
 
-told_step : (s : State) (later : ℤ) (new : NewRecord) (n : ℕ) → same_record s.office new ≡ Some n → step s (act.AddRecord later new) ≡ (Same n, s)
+reported_step : (s : State) (later : ℤ) (new : NewRecord) (n : ℕ) → same_record s.office new ≡ Some n → step s (act.AddRecord later new) ≡ (Same n, s)
 unfolding step
-told_step s later new n found = ap (λ o. by_same_record o s later new) found
+reported_step s later new n found = ap (λ o. by_same_record o s later new) found
 
-told_in : (s : State) (acts : List Act) (i n : ℕ) (later : ℤ) (new : NewRecord) → same_record s.office new ≡ Some n → slice_get acts i ≡ Some (act.AddRecord later new) → slice_get (answers s acts) i ≡ Some (Same n)
-told_in s [] i n later new found asked = absurd cc
-told_in s (a ∷ rest) zero n later new found asked =
+reported_in : (s : State) (acts : List Act) (i n : ℕ) (later : ℤ) (new : NewRecord) → same_record s.office new ≡ Some n → slice_get acts i ≡ Some (act.AddRecord later new) → slice_get (answers s acts) i ≡ Some (Same n)
+reported_in s [] i n later new found asked = absurd cc
+reported_in s (a ∷ rest) zero n later new found asked =
     let same : a ≡ act.AddRecord later new = cc in
-    ap (λ (x : Act). Some (step s x).0) same ∙ ap (λ (p : Answer × State). Some p.0) (told_step s later new n found)
-told_in s (a ∷ rest) (suc i) n later new found asked = told_in (step s a).1 rest i n later new (found_step s a new n found) asked
+    ap (λ (x : Act). Some (step s x).0) same ∙ ap (λ (p : Answer × State). Some p.0) (reported_step s later new n found)
+reported_in s (a ∷ rest) (suc i) n later new found asked = reported_in (step s a).1 rest i n later new (found_step s a new n found) asked
 
-pub told_again : (s : State) (acts more : List Act) (k n : ℕ) (day later : ℤ) (new : NewRecord) → numbered acts k ≡ Some (act.AddRecord day new) → numbered (answers s acts) k ≡ Some (Number n)
+pub reported_again : (s : State) (acts more : List Act) (k n : ℕ) (day later : ℤ) (new : NewRecord) → numbered acts k ≡ Some (act.AddRecord day new) → numbered (answers s acts) k ≡ Some (Number n)
     → step (after (after s acts) more) (act.AddRecord later new) ≡ (Same n, after (after s acts) more)
-told_again s acts more k n day later new asked told =
-    told_step (after (after s acts) more) later new n (found_after (after s acts) more new n (found_at s acts k n day new asked told))
+reported_again s acts more k n day later new asked reported =
+    reported_step (after (after s acts) more) later new n (found_after (after s acts) more new n (found_at s acts k n day new asked reported))
 
-pub told_each : (s : State) (acts more others : List Act) (k j n : ℕ) (day later : ℤ) (new : NewRecord) → numbered acts k ≡ Some (act.AddRecord day new) → numbered (answers s acts) k ≡ Some (Number n)
+pub reported_each : (s : State) (acts more others : List Act) (k j n : ℕ) (day later : ℤ) (new : NewRecord) → numbered acts k ≡ Some (act.AddRecord day new) → numbered (answers s acts) k ≡ Some (Number n)
     → numbered others j ≡ Some (act.AddRecord later new) → numbered (answers (after (after s acts) more) others) j ≡ Some (Same n)
-told_each s acts more others k zero n day later new asked told other = absurd cc
-told_each s acts more others k (suc j) n day later new asked told other =
-    told_in (after (after s acts) more) others j n later new (found_after (after s acts) more new n (found_at s acts k n day new asked told)) other
+reported_each s acts more others k zero n day later new asked reported other = absurd cc
+reported_each s acts more others k (suc j) n day later new asked reported other =
+    reported_in (after (after s acts) more) others j n later new (found_after (after s acts) more new n (found_at s acts k n day new asked reported)) other

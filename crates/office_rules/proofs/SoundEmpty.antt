@@ -66,7 +66,7 @@ sound_empty = record {
       class_schedules = λ code class e. none_found code_cmp code class _ e;
       aggregation_classes = λ a it e. none_numbered a it _ e;
       root_classes = λ a it e up. none_numbered a it _ e;
-      homes = λ r head e. none_numbered r head _ e;
+      child_lists = λ r head e. none_numbered r head _ e;
       record_classes = λ r head e. none_numbered r head _ e;
       record_schedules = λ r head e. none_numbered r head _ e;
     };
@@ -75,7 +75,7 @@ sound_empty = record {
   };
   closed = λ a p it parent e up there _. none_numbered a it _ e;
   contents = λ r. (λ some. none_there (List ℕ) nat_cmp r _ some, λ h. none_numbered r h.0 _ h.1);
-  papers = record {
+  documents = record {
     confirmed = λ r head status e _ _. none_numbered r head _ e;
     disposal = λ r head e. none_numbered r head _ e;
     received = λ r head e _. none_numbered r head _ e;

@@ -8,7 +8,7 @@ use Rattle.std.proofs.lemmas.Int.{ints}
 use Rattle.office_days.specs.Limits.{IsDayNumber}
 use Rattle.office_terms.specs.Conditions.{conditions_of_event}
 use Rattle.office_terms.specs.Effects.{with_event}
-use Rattle.office_terms.specs.Forms.{IsFormedEvent, IsFormedTree, IsText}
+use Rattle.office_terms.specs.Forms.{IsWellFormedEvent, IsWellFormedTree, IsText}
 use Rattle.office_terms.specs.Sound.{AreEventsSound}
 use Rattle.office_terms.specs.Tree.{TreeState}
 use Rattle.office_terms.specs.declared.event.Event.{Event}
@@ -38,17 +38,17 @@ not_ahead day occurred e = grind (arith, ints)
 ≤ℤ_itself day = omega (arith, ints)
 
 -- the new event is of its form, and so are the others
-formed_after : (tree : TreeState) (day : ℤ) (r : ℕ) (occurred : ℤ) (by : List ℕ) → IsFormedTree tree → IsDayNumber day → IsDayNumber occurred → IsText by → IsFormedTree (with_event tree day r occurred by)
-formed_after tree day r occurred by formed day_formed occurred_formed by_formed =
+well_formed_after : (tree : TreeState) (day : ℤ) (r : ℕ) (occurred : ℤ) (by : List ℕ) → IsWellFormedTree tree → IsDayNumber day → IsDayNumber occurred → IsText by → IsWellFormedTree (with_event tree day r occurred by)
+well_formed_after tree day r occurred by formed day_well_formed occurred_well_formed by_well_formed =
     let new : Event = record { occurred = occurred; day = day; by = by } in
-    let is_formed : IsFormedEvent new = record { occurred = occurred_formed; day = day_formed; by = by_formed } in
+    let is_well_formed : IsWellFormedEvent new = record { occurred = occurred_well_formed; day = day_well_formed; by = by_well_formed } in
     record {
       schedules = formed.schedules;
       classes = formed.classes;
       aggregations = formed.aggregations;
       records = formed.records;
       events = λ q event at. elim (put_cases nat_cmp_total nat_cmp-IsAntisymmetric tree.events r new q event at) [
-        | inl here ↦ subst IsFormedEvent here.1 is_formed
+        | inl here ↦ subst IsWellFormedEvent here.1 is_well_formed
         | inr old ↦ formed.events q event old
       ];
     }
@@ -72,18 +72,18 @@ events_after s day r occurred by sound up there on =
 
 pub sound_event : (s : State) (day : ℤ) (r : ℕ) (occurred : ℤ) (by : List ℕ) → IsSound s → IsDayNumber day → IsDayNumber occurred → IsText by → IsAccepted (refusals_of_event s.office day r occurred)
     → IsSound (with_office s (after_event s.office day r occurred by))
-sound_event s day r occurred by sound day_formed occurred_formed by_formed accepted =
+sound_event s day r occurred by sound day_well_formed occurred_well_formed by_well_formed accepted =
     let t = s.office.tree in
     let no = dated_accepted s.office day (conditions_of_event t day r occurred) accepted in
     let none = none_holds (conditions_of_event t day r occurred) no.1 in
     let new = with_event t day r occurred by in
     record {
-      limits = limits_after s day new sound sound.limits.tree_few sound.limits.statuses (formed_after t day r occurred by sound.limits.tree_forms day_formed occurred_formed by_formed) day_formed;
+      limits = limits_after s day new sound sound.limits.tree_few sound.limits.statuses (well_formed_after t day r occurred by sound.limits.tree_forms day_well_formed occurred_well_formed by_well_formed) day_well_formed;
       forest = sound.forest;
       names = names_after s new sound sound.names.of_tree (record { schedules = λ c there. there; classes = λ c there. there; aggregations = as_many (length t.aggregations); records = as_many (length t.records) });
       closed = sound.closed;
       contents = sound.contents;
-      papers = sound.papers;
+      documents = sound.documents;
       entries = sound.entries;
       runs = sound.runs;
       days = days_later s day sound no.0;

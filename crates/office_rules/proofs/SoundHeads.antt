@@ -9,7 +9,7 @@ use Rattle.office_terms.specs.Disposal.{is_disposal, is_sent, same_action}
 use Rattle.office_terms.specs.Effects.{with_head, reclassified, confirmed, receipted}
 use Rattle.office_terms.specs.Forms.{IsCode, IsText}
 use Rattle.office_terms.specs.Lists.{numbered, edited, edited_at, holds_of, or_else}
-use Rattle.office_terms.specs.Sound.{NamesStand}
+use Rattle.office_terms.specs.Sound.{NamesExist}
 use Rattle.office_terms.specs.Tree.{action_of, due_of, due_by, has_record, is_keep, schedule_of, start_in}
 use Rattle.office_terms.specs.declared.action.Action.{Action}
 use Rattle.office_terms.specs.declared.action.Action.TheVariants as action
@@ -24,13 +24,13 @@ use Rattle.office_terms.specs.declared.status.Status.TheVariants.{Here, Sent, Re
 use Rattle.office_terms.proofs.Accepting.{none_holds, not_false, neither}
 use Rattle.office_terms.proofs.Amending.{IsSound-set_record_schedule, IsSound-reclassify, IsSound-confirm, IsSound-review, IsSound-receipt}
 use Rattle.office_terms.proofs.DueNumbers.{due_of-number}
-use Rattle.office_terms.proofs.Forming.{IsFormed-set_record_schedule, IsFormed-reclassify, IsFormed-confirm, IsFormed-review, IsFormed-receipt}
+use Rattle.office_terms.proofs.Forming.{IsWellFormed-set_record_schedule, IsWellFormed-reclassify, IsWellFormed-confirm, IsWellFormed-review, IsWellFormed-receipt}
 use Rattle.office_terms.proofs.Refs.{RefsDiffer-with_head, RefsDiffer-reclassify}
 use Rattle.office_terms.proofs.Places.{numbered_edited}
 use Rattle.office_rules.specs.Conditions.{conditions_of_reclassifying, refusals_of_set_record_schedule, refusals_of_reclassify, refusals_of_confirm, refusals_of_review, refusals_of_receipt}
 use Rattle.office_rules.specs.Effects.{after_set_record_schedule, after_reclassify, after_confirm, after_review, after_receipt}
 use Rattle.office_rules.specs.Meanings.{IsAccepted}
-use Rattle.office_rules.specs.Sound.{IsSound, AllNamesStand, ContentsStand, PapersStand, EntriesStand, NoDayIsAfter}
+use Rattle.office_rules.specs.Sound.{IsSound, AllNamesExist, ContentsAgree, DocumentsAgree, EntriesAgree, NoDayIsAfter}
 use Rattle.office_rules.specs.State.{State, EntryMap, ByteMap, with_office}
 use Rattle.office_rules.specs.declared.run.Run.{Run}
 use Rattle.office_rules.proofs.Accepted.{tree_sound, dated_accepted, accepted_by_tree}
@@ -39,35 +39,35 @@ use Rattle.office_rules.proofs.SoundParts.{IsClosedBy, IsHeadBy, closed_by, head
 -- ---- a change of a head
 
 -- a change that takes no confirmation and no receipt away, and confirms only transfer and destruction
-record KeepsPapers (change : Record → Record) : Type 0 where
+record KeepsDocuments (change : Record → Record) : Type 0 where
   confirmed : (head : Record) → IsSome head.confirmation → IsSome (change head).confirmation
   disposal : (head : Record) → NamesDisposal head.confirmation → NamesDisposal (change head).confirmation
   receipt : (head : Record) → IsSome head.receipt → IsSome (change head).receipt
 
--- papers: the change keeps them
-papers_with_head : (s : State) (r : ℕ) (change : Record → Record) → IsSound s → KeepsPapers change → PapersStand (edited s.office.tree.records r change) s.office.tree.statuses s.office.entries
-papers_with_head s r change sound keeps = record {
+-- required documents: the change keeps them
+documents_with_head : (s : State) (r : ℕ) (change : Record → Record) → IsSound s → KeepsDocuments change → DocumentsAgree (edited s.office.tree.records r change) s.office.tree.statuses s.office.entries
+documents_with_head s r change sound keeps = record {
   confirmed = λ n head status e at away.
       let came = numbered_edited s.office.tree.records r change head n e in
-      let old = sound.papers.confirmed n came.0 status came.1 at away in
+      let old = sound.documents.confirmed n came.0 status came.1 at away in
       elim came.2 [ inl same ↦ subst (λ (k : Record). IsSome k.confirmation) (sym same) old | inr changed ↦ subst (λ (k : Record). IsSome k.confirmation) (sym changed.1) (keeps.confirmed came.0 old) ];
   disposal = λ n head e.
       let came = numbered_edited s.office.tree.records r change head n e in
-      let old = sound.papers.disposal n came.0 came.1 in
+      let old = sound.documents.disposal n came.0 came.1 in
       elim came.2 [ inl same ↦ subst (λ (k : Record). NamesDisposal k.confirmation) (sym same) old | inr changed ↦ subst (λ (k : Record). NamesDisposal k.confirmation) (sym changed.1) (keeps.disposal came.0 old) ];
   received = λ n head e at.
       let came = numbered_edited s.office.tree.records r change head n e in
-      let old = sound.papers.received n came.0 came.1 at in
+      let old = sound.documents.received n came.0 came.1 at in
       elim came.2 [ inl same ↦ subst (λ (k : Record). IsSome k.receipt) (sym same) old | inr changed ↦ subst (λ (k : Record). IsSome k.receipt) (sym changed.1) (keeps.receipt came.0 old) ];
   transferred = λ run n entry head there is e.
       let came = numbered_edited s.office.tree.records r change head n e in
-      let old = sound.papers.transferred run n entry came.0 there is came.1 in
+      let old = sound.documents.transferred run n entry came.0 there is came.1 in
       elim came.2 [ inl same ↦ subst (λ (k : Record). IsSome k.receipt) (sym same) old | inr changed ↦ subst (λ (k : Record). IsSome k.receipt) (sym changed.1) (keeps.receipt came.0 old) ];
 }
 
--- names: those of the tree with the changed head stand
-names_with_head : (s : State) (r : ℕ) (change : Record → Record) → IsSound s → NamesStand s.office.tree.schedules s.office.tree.classes s.office.tree.aggregations (edited s.office.tree.records r change)
-    → AllNamesStand (with_head s.office.tree r change) s.office.holds s.office.runs s.office.entries
+-- names: those of the tree with the changed head are
+names_with_head : (s : State) (r : ℕ) (change : Record → Record) → IsSound s → NamesExist s.office.tree.schedules s.office.tree.classes s.office.tree.aggregations (edited s.office.tree.records r change)
+    → AllNamesExist (with_head s.office.tree r change) s.office.holds s.office.runs s.office.entries
 names_with_head s r change sound names =
     let t = s.office.tree in
     names_after s (with_head t r change) sound names
@@ -83,18 +83,18 @@ days_with_head s day r change sound up by_day =
 -- ---- an own schedule
 
 pub sound_set_record_schedule : (s : State) (day : ℤ) (r : ℕ) (schedule : Option (List ℕ)) → IsSound s → IsDayNumber day → IfSome schedule IsCode → IsAccepted (refusals_of_set_record_schedule s.office day r schedule) → IsSound (with_office s (after_set_record_schedule s.office day r schedule))
-sound_set_record_schedule s day r schedule sound day_formed schedule_formed accepted =
+sound_set_record_schedule s day r schedule sound day_well_formed schedule_well_formed accepted =
     let t = s.office.tree in
     let no = dated_accepted s.office day (conditions_of_set_record_schedule t r schedule) accepted in
     let change : Record → Record = λ head. record head { schedule = schedule } in
     let of_tree = IsSound-set_record_schedule t r schedule (tree_sound s sound) no.1 in
     record {
-      limits = limits_after s day (with_head t r change) sound of_tree.limits of_tree.statuses (IsFormed-set_record_schedule t r schedule sound.limits.tree_forms schedule_formed) day_formed;
+      limits = limits_after s day (with_head t r change) sound of_tree.limits of_tree.statuses (IsWellFormed-set_record_schedule t r schedule sound.limits.tree_forms schedule_well_formed) day_well_formed;
       forest = sound.forest;
       names = names_with_head s r change sound of_tree.names;
       closed = sound.closed;
       contents = sound.contents;
-      papers = papers_with_head s r change sound (record { confirmed = λ head there. there; disposal = λ head old. old; receipt = λ head there. there });
+      documents = documents_with_head s r change sound (record { confirmed = λ head there. there; disposal = λ head old. old; receipt = λ head there. there });
       entries = sound.entries;
       runs = sound.runs;
       days = days_with_head s day r change sound no.0 (λ head old. record { added = old.added; reviewed = old.reviewed; confirmed = old.confirmed; receipted = old.receipted });
@@ -105,7 +105,7 @@ sound_set_record_schedule s day r schedule sound day_formed schedule_formed acce
 -- ---- an own class
 
 pub sound_reclassify : (s : State) (day : ℤ) (what : Classified) (class : Option (List ℕ)) → IsSound s → IsDayNumber day → IfSome class IsCode → IsAccepted (refusals_of_reclassify s.office day what class) → IsSound (with_office s (after_reclassify s.office day what class))
-sound_reclassify s day (classified.Aggregation a) class sound day_formed class_formed accepted =
+sound_reclassify s day (classified.Aggregation a) class sound day_well_formed class_well_formed accepted =
     let t = s.office.tree in
     let what = classified.Aggregation a in
     let up = (dated_accepted s.office day (conditions_of_reclassifying s.office what class) accepted).0 in
@@ -113,31 +113,31 @@ sound_reclassify s day (classified.Aggregation a) class sound day_formed class_f
     let new = reclassified t what class in
     let of_tree = IsSound-reclassify t what class (tree_sound s sound) (accepted_by_tree s.office day what class accepted) in
     record {
-      limits = limits_after s day new sound of_tree.limits of_tree.statuses (IsFormed-reclassify t what class sound.limits.tree_forms class_formed) day_formed;
+      limits = limits_after s day new sound of_tree.limits of_tree.statuses (IsWellFormed-reclassify t what class sound.limits.tree_forms class_well_formed) day_well_formed;
       forest = of_tree.forest;
       names = names_after s new sound of_tree.names (record { schedules = λ c there. there; classes = λ c there. there; aggregations = no_fewer_edited t.aggregations a change; records = as_many (length t.records) });
       closed = of_tree.closed;
       contents = sound.contents;
-      papers = sound.papers;
+      documents = sound.documents;
       entries = sound.entries;
       runs = sound.runs;
       days = days_after s day new sound up (each_edited (IsClosedBy day) t.aggregations a change (closed_by s day sound up) (λ it old. old)) (heads_by s day sound up);
       events = events_later s day sound up (as_many (length t.records));
       refs = RefsDiffer-reclassify t what class sound.refs;
     }
-sound_reclassify s day (classified.Record r) class sound day_formed class_formed accepted =
+sound_reclassify s day (classified.Record r) class sound day_well_formed class_well_formed accepted =
     let t = s.office.tree in
     let what = classified.Record r in
     let up = (dated_accepted s.office day (conditions_of_reclassifying s.office what class) accepted).0 in
     let change : Record → Record = λ head. record head { class = class } in
     let of_tree = IsSound-reclassify t what class (tree_sound s sound) (accepted_by_tree s.office day what class accepted) in
     record {
-      limits = limits_after s day (with_head t r change) sound of_tree.limits of_tree.statuses (IsFormed-reclassify t what class sound.limits.tree_forms class_formed) day_formed;
+      limits = limits_after s day (with_head t r change) sound of_tree.limits of_tree.statuses (IsWellFormed-reclassify t what class sound.limits.tree_forms class_well_formed) day_well_formed;
       forest = sound.forest;
       names = names_with_head s r change sound of_tree.names;
       closed = sound.closed;
       contents = sound.contents;
-      papers = papers_with_head s r change sound (record { confirmed = λ head there. there; disposal = λ head old. old; receipt = λ head there. there });
+      documents = documents_with_head s r change sound (record { confirmed = λ head there. there; disposal = λ head old. old; receipt = λ head there. there });
       entries = sound.entries;
       runs = sound.runs;
       days = days_with_head s day r change sound up (λ head old. record { added = old.added; reviewed = old.reviewed; confirmed = old.confirmed; receipted = old.receipted });
@@ -193,10 +193,10 @@ confirms_by : (day : ℤ) (named : Action) (by : List ℕ) (due : Option ℤ) �
 confirms_by day named by None = tt
 confirms_by day named by (Some due) = ≤ℤ_refl day
 
--- papers: the confirmation is there, as the record is due, and names its plan's action, which is a disposal
-confirm_papers : (s : State) (day : ℤ) (r : ℕ) (named : Action) (by : List ℕ) → IsSound s → first_of (conditions_of_confirm s.office.tree day r named) ≡ None
-    → PapersStand (confirmed s.office.tree day r named by).records s.office.tree.statuses s.office.entries
-confirm_papers s day r named by sound accepted =
+-- required documents: the confirmation is there, as the record is due, and names its plan's action, which is a disposal
+confirm_documents : (s : State) (day : ℤ) (r : ℕ) (named : Action) (by : List ℕ) → IsSound s → first_of (conditions_of_confirm s.office.tree day r named) ≡ None
+    → DocumentsAgree (confirmed s.office.tree day r named by).records s.office.tree.statuses s.office.entries
+confirm_documents s day r named by sound accepted =
     let t = s.office.tree in
     let none = none_holds (conditions_of_confirm t day r named) accepted in
     let there = not_false (has_record t r) none.0 in
@@ -204,22 +204,22 @@ confirm_papers s day r named by sound accepted =
     let actions = neither (has_other_action t r named) (same_action named action.Review) none.1.1.1.1.0 in
     let same = not_other (has_record t r) (holds_of (action_of t r) (same_action named)) there actions.0 in
     let disposal = disposal_of (schedule_of t r) (λ schedule. start_in t.aggregations t.records t.events schedule r) named is_due same actions.1 in
-    papers_with_head s r (λ head. record head { confirmation = confirmation_for day named by (due_of t r) }) sound
+    documents_with_head s r (λ head. record head { confirmation = confirmation_for day named by (due_of t r) }) sound
     (record { confirmed = λ head old. confirms day named by (due_of t r) is_due; disposal = λ head old. confirms_disposal day named by (due_of t r) disposal; receipt = λ head receipt. receipt })
 
 pub sound_confirm : (s : State) (day : ℤ) (r : ℕ) (named : Action) (by : List ℕ) → IsSound s → IsDayNumber day → IsText by → IsAccepted (refusals_of_confirm s.office day r named) → IsSound (with_office s (after_confirm s.office day r named by))
-sound_confirm s day r named by sound day_formed by_formed accepted =
+sound_confirm s day r named by sound day_well_formed by_well_formed accepted =
     let t = s.office.tree in
     let no = dated_accepted s.office day (conditions_of_confirm t day r named) accepted in
     let change : Record → Record = λ head. record head { confirmation = confirmation_for day named by (due_of t r) } in
     let of_tree = IsSound-confirm t day r named by (tree_sound s sound) no.1 in
     record {
-      limits = limits_after s day (with_head t r change) sound of_tree.limits of_tree.statuses (IsFormed-confirm t day r named by sound.limits.tree_forms day_formed by_formed (due_of-number t r sound.limits.tree_forms)) day_formed;
+      limits = limits_after s day (with_head t r change) sound of_tree.limits of_tree.statuses (IsWellFormed-confirm t day r named by sound.limits.tree_forms day_well_formed by_well_formed (due_of-number t r sound.limits.tree_forms)) day_well_formed;
       forest = sound.forest;
       names = names_with_head s r change sound of_tree.names;
       closed = sound.closed;
       contents = sound.contents;
-      papers = confirm_papers s day r named by sound no.1;
+      documents = confirm_documents s day r named by sound no.1;
       entries = sound.entries;
       runs = sound.runs;
       days = days_with_head s day r change sound no.0 (λ head old. record { added = old.added; reviewed = old.reviewed; confirmed = confirms_by day named by (due_of t r); receipted = old.receipted });
@@ -230,18 +230,18 @@ sound_confirm s day r named by sound day_formed by_formed accepted =
 -- ---- a review
 
 pub sound_review : (s : State) (day : ℤ) (r : ℕ) (schedule : Option (List ℕ)) (by : List ℕ) → IsSound s → IsDayNumber day → IfSome schedule IsCode → IsText by → IsAccepted (refusals_of_review s.office day r schedule) → IsSound (with_office s (after_review s.office day r schedule by))
-sound_review s day r schedule by sound day_formed schedule_formed by_formed accepted =
+sound_review s day r schedule by sound day_well_formed schedule_well_formed by_well_formed accepted =
     let t = s.office.tree in
     let no = dated_accepted s.office day (conditions_of_review t day r schedule) accepted in
     let change : Record → Record = λ head. record head { review = Some (record { day = day; by = by }); schedule = or_else schedule head.schedule } in
     let of_tree = IsSound-review t day r schedule by (tree_sound s sound) no.1 in
     record {
-      limits = limits_after s day (with_head t r change) sound of_tree.limits of_tree.statuses (IsFormed-review t day r schedule by sound.limits.tree_forms day_formed schedule_formed by_formed) day_formed;
+      limits = limits_after s day (with_head t r change) sound of_tree.limits of_tree.statuses (IsWellFormed-review t day r schedule by sound.limits.tree_forms day_well_formed schedule_well_formed by_well_formed) day_well_formed;
       forest = sound.forest;
       names = names_with_head s r change sound of_tree.names;
       closed = sound.closed;
       contents = sound.contents;
-      papers = papers_with_head s r change sound (record { confirmed = λ head there. there; disposal = λ head old. old; receipt = λ head there. there });
+      documents = documents_with_head s r change sound (record { confirmed = λ head there. there; disposal = λ head old. old; receipt = λ head there. there });
       entries = sound.entries;
       runs = sound.runs;
       days = days_with_head s day r change sound no.0 (λ head old. record { added = old.added; reviewed = ≤ℤ_refl day; confirmed = old.confirmed; receipted = old.receipted });
@@ -294,50 +294,50 @@ module _ (statuses : List Status) (r : ℕ) (sent : IsSentAt statuses r) where
   not_ended : (n : ℕ) (status : Status) → n ≡ r → numbered statuses n ≡ Some status → status ≢ Ended
   not_ended n status here is ended = let same : status ≡ Sent = sent status (ap (numbered statuses) (sym here) ∙ is) in absurd cc
 
-  contents_received : (contents : ByteMap) → ContentsStand statuses contents → ContentsStand received_now contents
-  contents_received contents stand n = (
-    λ some. let old = (stand n).0 some in elim (edited_reads statuses r (λ _. Received) old.0 n old.1) [ inl here ↦ (Received, here.1, λ e. absurd cc) | inr kept ↦ (old.0, kept, old.2) ],
+  contents_received : (contents : ByteMap) → ContentsAgree statuses contents → ContentsAgree received_now contents
+  contents_received contents represent n = (
+    λ some. let old = (represent n).0 some in elim (edited_reads statuses r (λ _. Received) old.0 n old.1) [ inl here ↦ (Received, here.1, λ e. absurd cc) | inr kept ↦ (old.0, kept, old.2) ],
     λ is.
         let came = numbered_edited statuses r (λ _. Received) is.0 n is.1 in
-        (stand n).1 (came.0, came.1, elim came.2 [ inl same ↦ λ e. is.2 (same ∙ e) | inr changed ↦ not_ended n came.0 changed.0 came.1 ]),
+        (represent n).1 (came.0, came.1, elim came.2 [ inl same ↦ λ e. is.2 (same ∙ e) | inr changed ↦ not_ended n came.0 changed.0 came.1 ]),
   )
 
-  entries_received : (runs : List Run) (entries : EntryMap) → EntriesStand statuses runs entries → EntriesStand received_now runs entries
-  entries_received runs entries stand = record {
-    keyed = stand.keyed;
+  entries_received : (runs : List Run) (entries : EntryMap) → EntriesAgree statuses runs entries → EntriesAgree received_now runs entries
+  entries_received runs entries represent = record {
+    keyed = represent.keyed;
     ended = λ n is.
         let came = numbered_edited statuses r (λ _. Received) Ended n is in
-        elim came.2 [ inl same ↦ stand.ended n (came.1 ∙ ap Some (sym same)) | inr changed ↦ let other : Ended ≡ Received = changed.1 in absurd cc ];
-    once = stand.once;
+        elim came.2 [ inl same ↦ represent.ended n (came.1 ∙ ap Some (sym same)) | inr changed ↦ let other : Ended ≡ Received = changed.1 in absurd cc ];
+    once = represent.once;
     no_other = λ run n e there ending.
-        let old = stand.no_other run n e there ending in
+        let old = represent.no_other run n e there ending in
         elim (edited_reads statuses r (λ _. Received) Ended n old) [ inl here ↦ absurd (not_ended n Ended here.0 old refl) | inr kept ↦ kept ];
-    holds = stand.holds;
-    passed = stand.passed;
+    holds = represent.holds;
+    passed = represent.passed;
   }
 
-  papers_received : (records : List Record) (entries : EntryMap) (change : Record → Record) → PapersStand (edited records r change) statuses entries → ((head : Record) → IsSome (change head).receipt) → PapersStand (edited records r change) received_now entries
-  papers_received records entries change papers receipted = record {
+  documents_received : (records : List Record) (entries : EntryMap) (change : Record → Record) → DocumentsAgree (edited records r change) statuses entries → ((head : Record) → IsSome (change head).receipt) → DocumentsAgree (edited records r change) received_now entries
+  documents_received records entries change documents receipted = record {
     confirmed = λ n head status e at away.
         let came = numbered_edited statuses r (λ _. Received) status n at in
-        papers.confirmed n head came.0 e came.1 (elim came.2 [
+        documents.confirmed n head came.0 e came.1 (elim came.2 [
           | inl same ↦ λ here. away (same ∙ here)
           | inr changed ↦ λ here. let same : came.0 ≡ Sent = sent came.0 (ap (numbered statuses) (sym changed.0) ∙ came.1) in absurd cc
         ]);
-    disposal = papers.disposal;
+    disposal = documents.disposal;
     received = λ n head e at.
         let came = numbered_edited statuses r (λ _. Received) Received n at in
         elim came.2 [
-          | inl same ↦ papers.received n head e (came.1 ∙ ap Some (sym same))
+          | inl same ↦ documents.received n head e (came.1 ∙ ap Some (sym same))
           | inr changed ↦
               let x = edited_here records r change head (ap (numbered (edited records r change)) (sym changed.0) ∙ e) in
               subst (λ (k : Record). IsSome k.receipt) (sym x.1) (receipted x.0)
         ];
-    transferred = papers.transferred;
+    transferred = documents.transferred;
   }
 
 pub sound_receipt : (s : State) (day : ℤ) (r : ℕ) (digest by : List ℕ) → IsSound s → IsDayNumber day → IsText by → IsAccepted (refusals_of_receipt s.office day r digest) → IsSound (with_office s (after_receipt s.office day r by))
-sound_receipt s day r digest by sound day_formed by_formed accepted =
+sound_receipt s day r digest by sound day_well_formed by_well_formed accepted =
     let t = s.office.tree in
     let no = dated_accepted s.office day (conditions_of_receipt t r digest) accepted in
     let none = none_holds (conditions_of_receipt t r digest) no.1 in
@@ -346,13 +346,13 @@ sound_receipt s day r digest by sound day_formed by_formed accepted =
     let new = receipted t day r by in
     let of_tree = IsSound-receipt t day r digest by (tree_sound s sound) no.1 in
     record {
-      limits = limits_after s day new sound of_tree.limits of_tree.statuses (IsFormed-receipt t day r by sound.limits.tree_forms day_formed by_formed) day_formed;
+      limits = limits_after s day new sound of_tree.limits of_tree.statuses (IsWellFormed-receipt t day r by sound.limits.tree_forms day_well_formed by_well_formed) day_well_formed;
       forest = sound.forest;
       names = names_after s new sound of_tree.names (record { schedules = λ c there. there; classes = λ c there. there; aggregations = as_many (length t.aggregations); records = no_fewer_edited t.records r change });
       closed = sound.closed;
       contents = contents_received t.statuses r sent s.contents sound.contents;
-      papers = papers_received t.statuses r sent t.records s.office.entries change
-          (papers_with_head s r change sound (record { confirmed = λ head there. there; disposal = λ head old. old; receipt = λ head there. refl })) (λ head. refl);
+      documents = documents_received t.statuses r sent t.records s.office.entries change
+          (documents_with_head s r change sound (record { confirmed = λ head there. there; disposal = λ head old. old; receipt = λ head there. refl })) (λ head. refl);
       entries = entries_received t.statuses r sent s.office.runs s.office.entries sound.entries;
       runs = sound.runs;
       days = days_with_head s day r change sound no.0 (λ head old. record { added = old.added; reviewed = old.reviewed; confirmed = old.confirmed; receipted = ≤ℤ_refl day });

@@ -11,10 +11,10 @@ use Rattle.office_terms.proofs.Inserting.{insert_keeps, amended_keeps}
 use Rattle.office_terms.proofs.Reading.{aggregation_within, record_within}
 use Rattle.office_holds.specs.Conditions.{conditions_of_place_hold, conditions_of_hold_on, conditions_of_hold_off, conditions_of_lift_hold}
 use Rattle.office_holds.specs.Effects.{new_hold, placed_hold, with_target, without_target, held_on, held_off, lifted_hold}
-use Rattle.office_holds.specs.Forms.{IsFormedTarget}
+use Rattle.office_holds.specs.Forms.{IsWellFormedTarget}
 use Rattle.office_terms.specs.declared.target.Target.{Target}
 use Rattle.office_terms.specs.declared.target.Target.TheVariants as target
-use Rattle.office_holds.proofs.Keeping.{TargetIsThere, TargetsStand-placed_hold, TargetsStand-held_on, TargetsStand-held_off, TargetsStand-lifted_hold, AreFormedHolds-placed_hold, AreFormedHolds-held_on, AreFormedHolds-held_off, AreFormedHolds-lifted_hold, FitsHoldLimits-placed_hold, FitsHoldLimits-held_on, FitsHoldLimits-held_off, FitsHoldLimits-lifted_hold, NoHoldIsAfter-placed_hold, NoHoldIsAfter-held_on, NoHoldIsAfter-held_off, NoHoldIsAfter-lifted_hold}
+use Rattle.office_holds.proofs.Keeping.{TargetIsThere, TargetsExist-placed_hold, TargetsExist-held_on, TargetsExist-held_off, TargetsExist-lifted_hold, AreWellFormedHolds-placed_hold, AreWellFormedHolds-held_on, AreWellFormedHolds-held_off, AreWellFormedHolds-lifted_hold, FitsHoldLimits-placed_hold, FitsHoldLimits-held_on, FitsHoldLimits-held_off, FitsHoldLimits-lifted_hold, NoHoldIsAfter-placed_hold, NoHoldIsAfter-held_on, NoHoldIsAfter-held_off, NoHoldIsAfter-lifted_hold}
 use Rattle.office_rules.specs.Conditions.{refusals_of_place_hold, refusals_of_hold_on, refusals_of_hold_off, refusals_of_lift_hold, lacks_target}
 use Rattle.office_rules.specs.Effects.{after_place_hold, after_hold_on, after_hold_off, after_lift_hold}
 use Rattle.office_rules.specs.Meanings.{IsAccepted}
@@ -24,19 +24,19 @@ use Rattle.office_rules.proofs.Accepted.{not_back, dated_accepted, accepted_of}
 use Rattle.office_rules.proofs.SoundParts.{as_many, limits_holding, names_holding, days_holding, events_later}
 
 pub sound_place_hold : (s : State) (day : ℤ) (code reason by : List ℕ) → IsSound s → IsDayNumber day → IsCode code → IsText reason → IsText by → IsAccepted (refusals_of_place_hold s.office day code) → IsSound (with_office s (after_place_hold s.office day code reason by))
-sound_place_hold s day code reason by sound day_formed code_formed reason_formed by_formed accepted =
+sound_place_hold s day code reason by sound day_well_formed code_well_formed reason_well_formed by_well_formed accepted =
     let t = s.office.tree in
     let holds = s.office.holds in
     let no = dated_accepted s.office day (conditions_of_place_hold holds code) accepted in
     let new = placed_hold holds day code reason by in
     record {
       limits = limits_holding s day new sound (FitsHoldLimits-placed_hold holds sound.limits.holds_few day code reason by no.1)
-          (AreFormedHolds-placed_hold holds sound.limits.hold_forms day code reason by code_formed reason_formed by_formed day_formed) day_formed;
+          (AreWellFormedHolds-placed_hold holds sound.limits.hold_forms day code reason by code_well_formed reason_well_formed by_well_formed day_well_formed) day_well_formed;
       forest = sound.forest;
-      names = names_holding s new sound (TargetsStand-placed_hold holds t.classes (length t.aggregations) (length t.records) sound.names.of_holds day code reason by) (insert_keeps holds code (new_hold day reason by));
+      names = names_holding s new sound (TargetsExist-placed_hold holds t.classes (length t.aggregations) (length t.records) sound.names.of_holds day code reason by) (insert_keeps holds code (new_hold day reason by));
       closed = sound.closed;
       contents = sound.contents;
-      papers = sound.papers;
+      documents = sound.documents;
       entries = sound.entries;
       runs = sound.runs;
       days = days_holding s day new sound no.0 (NoHoldIsAfter-placed_hold holds s.office.day day sound.days.held no.0 code reason by);
@@ -50,8 +50,8 @@ target_there t (target.Class code) e = not_false (contains_key t.classes code) e
 target_there t (target.Aggregation a) e = aggregation_within t a (not_false (has_aggregation t a) e)
 target_there t (target.Record r) e = record_within t r (not_false (has_record t r) e)
 
-pub sound_hold_on : (s : State) (day : ℤ) (code : List ℕ) (target : Target) → IsSound s → IsDayNumber day → IsFormedTarget target → IsAccepted (refusals_of_hold_on s.office day code target) → IsSound (with_office s (after_hold_on s.office day code target))
-sound_hold_on s day code target sound day_formed target_formed accepted =
+pub sound_hold_on : (s : State) (day : ℤ) (code : List ℕ) (target : Target) → IsSound s → IsDayNumber day → IsWellFormedTarget target → IsAccepted (refusals_of_hold_on s.office day code target) → IsSound (with_office s (after_hold_on s.office day code target))
+sound_hold_on s day code target sound day_well_formed target_well_formed accepted =
     let t = s.office.tree in
     let holds = s.office.holds in
     let no = none_holds (refusals_of_hold_on s.office day code target) accepted in
@@ -61,12 +61,12 @@ sound_hold_on s day code target sound day_formed target_formed accepted =
     let new = held_on holds code target in
     record {
       limits = limits_holding s day new sound (FitsHoldLimits-held_on holds sound.limits.holds_few code target below)
-          (AreFormedHolds-held_on holds sound.limits.hold_forms code target target_formed) day_formed;
+          (AreWellFormedHolds-held_on holds sound.limits.hold_forms code target target_well_formed) day_well_formed;
       forest = sound.forest;
-      names = names_holding s new sound (TargetsStand-held_on holds t.classes (length t.aggregations) (length t.records) sound.names.of_holds code target (target_there t target lacks.1)) (amended_keeps holds code (with_target target));
+      names = names_holding s new sound (TargetsExist-held_on holds t.classes (length t.aggregations) (length t.records) sound.names.of_holds code target (target_there t target lacks.1)) (amended_keeps holds code (with_target target));
       closed = sound.closed;
       contents = sound.contents;
-      papers = sound.papers;
+      documents = sound.documents;
       entries = sound.entries;
       runs = sound.runs;
       days = days_holding s day new sound up (NoHoldIsAfter-held_on holds s.office.day day sound.days.held up code target);
@@ -75,19 +75,19 @@ sound_hold_on s day code target sound day_formed target_formed accepted =
     }
 
 pub sound_hold_off : (s : State) (day : ℤ) (code : List ℕ) (target : Target) → IsSound s → IsDayNumber day → IsAccepted (refusals_of_hold_off s.office day code target) → IsSound (with_office s (after_hold_off s.office day code target))
-sound_hold_off s day code target sound day_formed accepted =
+sound_hold_off s day code target sound day_well_formed accepted =
     let t = s.office.tree in
     let holds = s.office.holds in
     let up = (dated_accepted s.office day (conditions_of_hold_off holds code target) accepted).0 in
     let new = held_off holds code target in
     record {
       limits = limits_holding s day new sound (FitsHoldLimits-held_off holds sound.limits.holds_few code target)
-          (AreFormedHolds-held_off holds sound.limits.hold_forms code target) day_formed;
+          (AreWellFormedHolds-held_off holds sound.limits.hold_forms code target) day_well_formed;
       forest = sound.forest;
-      names = names_holding s new sound (TargetsStand-held_off holds t.classes (length t.aggregations) (length t.records) sound.names.of_holds code target) (amended_keeps holds code (without_target target));
+      names = names_holding s new sound (TargetsExist-held_off holds t.classes (length t.aggregations) (length t.records) sound.names.of_holds code target) (amended_keeps holds code (without_target target));
       closed = sound.closed;
       contents = sound.contents;
-      papers = sound.papers;
+      documents = sound.documents;
       entries = sound.entries;
       runs = sound.runs;
       days = days_holding s day new sound up (NoHoldIsAfter-held_off holds s.office.day day sound.days.held up code target);
@@ -96,19 +96,19 @@ sound_hold_off s day code target sound day_formed accepted =
     }
 
 pub sound_lift_hold : (s : State) (day : ℤ) (code : List ℕ) → IsSound s → IsDayNumber day → IsAccepted (refusals_of_lift_hold s.office day code) → IsSound (with_office s (after_lift_hold s.office day code))
-sound_lift_hold s day code sound day_formed accepted =
+sound_lift_hold s day code sound day_well_formed accepted =
     let t = s.office.tree in
     let holds = s.office.holds in
     let up = (dated_accepted s.office day (conditions_of_lift_hold holds code) accepted).0 in
     let new = lifted_hold holds day code in
     record {
       limits = limits_holding s day new sound (FitsHoldLimits-lifted_hold holds sound.limits.holds_few day code)
-          (AreFormedHolds-lifted_hold holds sound.limits.hold_forms day code day_formed) day_formed;
+          (AreWellFormedHolds-lifted_hold holds sound.limits.hold_forms day code day_well_formed) day_well_formed;
       forest = sound.forest;
-      names = names_holding s new sound (TargetsStand-lifted_hold holds t.classes (length t.aggregations) (length t.records) sound.names.of_holds day code) (amended_keeps holds code (λ hold. record hold { lifted = Some day }));
+      names = names_holding s new sound (TargetsExist-lifted_hold holds t.classes (length t.aggregations) (length t.records) sound.names.of_holds day code) (amended_keeps holds code (λ hold. record hold { lifted = Some day }));
       closed = sound.closed;
       contents = sound.contents;
-      papers = sound.papers;
+      documents = sound.documents;
       entries = sound.entries;
       runs = sound.runs;
       days = days_holding s day new sound up (NoHoldIsAfter-lifted_hold holds s.office.day day sound.days.held up code);

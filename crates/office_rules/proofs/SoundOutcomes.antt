@@ -12,7 +12,7 @@ use Rattle.office_proof.specs.Outcomes.{is_ending}
 use Rattle.office_proof.specs.declared.outcome.Outcome.{Outcome}
 use Rattle.office_proof.specs.declared.outcome.Outcome.TheVariants.{Destroyed, Transferred, Sent, Skipped}
 use Rattle.office_rules.specs.Runs.{statuses_with, contents_with}
-use Rattle.office_rules.specs.Sound.{ContentsStand}
+use Rattle.office_rules.specs.Sound.{ContentsAgree}
 use Rattle.office_rules.specs.State.{ByteMap}
 use Rattle.office_rules.proofs.SoundMaps.{one_there, edited_here, edited_elsewhere, removed_here, removed_elsewhere, same_or_not}
 
@@ -69,34 +69,34 @@ still_received was Transferred e = absurd cc
 
 -- ---- contents
 
-abbrev pub ContentStands : List Status → ByteMap → ℕ → Type 0
-ContentStands statuses contents r = IsSome (get contents r) ↔ ((it : Status) × (numbered statuses r ≡ Some it) × (it ≢ status.Ended))
+abbrev pub ContentAgrees : List Status → ByteMap → ℕ → Type 0
+ContentAgrees statuses contents r = IsSome (get contents r) ↔ ((it : Status) × (numbered statuses r ≡ Some it) × (it ≢ status.Ended))
 
 -- a content that stays, of a record that is not ended
-stays : (statuses others : List Status) (contents : ByteMap) (r : ℕ) (was it : Status) → numbered statuses r ≡ Some was → was ≢ status.Ended → numbered others r ≡ Some it → it ≢ status.Ended → ContentStands statuses contents r → ContentStands others contents r
+stays : (statuses others : List Status) (contents : ByteMap) (r : ℕ) (was it : Status) → numbered statuses r ≡ Some was → was ≢ status.Ended → numbered others r ≡ Some it → it ≢ status.Ended → ContentAgrees statuses contents r → ContentAgrees others contents r
 stays statuses others contents r was it e alive new kept old = (λ some. (it, new, kept), λ is. old.1 (was, e, alive))
 
 -- a content that is gone, of an ended record
-gone : (statuses : List Status) (contents : ByteMap) (r : ℕ) → get contents r ≡ None → numbered statuses r ≡ Some status.Ended → ContentStands statuses contents r
+gone : (statuses : List Status) (contents : ByteMap) (r : ℕ) → get contents r ≡ None → numbered statuses r ≡ Some status.Ended → ContentAgrees statuses contents r
 gone statuses contents r none e = (
   λ some. let no : false ≡ true = sym (ap is_some none) ∙ some in absurd cc,
   λ is. absurd (is.2 (one_there (numbered statuses r) is.0 status.Ended is.1 e)),
 )
 
-content_here : (statuses : List Status) (contents : ByteMap) (r : ℕ) (was : Status) (o : Outcome) → numbered statuses r ≡ Some was → was ≢ status.Ended → ContentStands statuses contents r → ContentStands (statuses_with statuses r (Some o)) (contents_with contents r (Some o)) r
+content_here : (statuses : List Status) (contents : ByteMap) (r : ℕ) (was : Status) (o : Outcome) → numbered statuses r ≡ Some was → was ≢ status.Ended → ContentAgrees statuses contents r → ContentAgrees (statuses_with statuses r (Some o)) (contents_with contents r (Some o)) r
 content_here statuses contents r was Sent e alive old = stays statuses _ contents r was status.Sent e alive (status_here statuses r was Sent e) (λ same. absurd cc) old
 content_here statuses contents r was Skipped e alive old = old
 content_here statuses contents r was Destroyed e alive old = gone _ _ r (removed_here nat_cmp_total nat_cmp-IsAntisymmetric contents r) (status_here statuses r was Destroyed e)
 content_here statuses contents r was Transferred e alive old = gone _ _ r (removed_here nat_cmp_total nat_cmp-IsAntisymmetric contents r) (status_here statuses r was Transferred e)
 
-content_left : (statuses : List Status) (contents : ByteMap) (r q : ℕ) (o : Outcome) → q ≢ r → ContentStands statuses contents q → ContentStands (statuses_with statuses r (Some o)) (contents_with contents r (Some o)) q
+content_left : (statuses : List Status) (contents : ByteMap) (r q : ℕ) (o : Outcome) → q ≢ r → ContentAgrees statuses contents q → ContentAgrees (statuses_with statuses r (Some o)) (contents_with contents r (Some o)) q
 content_left statuses contents r q o other old = (
   λ some. let is = old.0 (ap is_some (sym (content_elsewhere contents r q o other)) ∙ some) in (is.0, status_elsewhere statuses r q o other ∙ is.1, is.2),
   λ is. ap is_some (content_elsewhere contents r q o other) ∙ old.1 (is.0, sym (status_elsewhere statuses r q o other) ∙ is.1, is.2),
 )
 
-pub ContentsStand-outcome : (statuses : List Status) (contents : ByteMap) (r : ℕ) (was : Status) (o : Outcome) → numbered statuses r ≡ Some was → was ≢ status.Ended → ContentsStand statuses contents → ContentsStand (statuses_with statuses r (Some o)) (contents_with contents r (Some o))
-ContentsStand-outcome statuses contents r was o e alive old q = elim (same_or_not q r) [
-  | inl same ↦ subst (λ (n : ℕ). ContentStands (statuses_with statuses r (Some o)) (contents_with contents r (Some o)) n) (sym same) (content_here statuses contents r was o e alive (old r))
+pub ContentsAgree-outcome : (statuses : List Status) (contents : ByteMap) (r : ℕ) (was : Status) (o : Outcome) → numbered statuses r ≡ Some was → was ≢ status.Ended → ContentsAgree statuses contents → ContentsAgree (statuses_with statuses r (Some o)) (contents_with contents r (Some o))
+ContentsAgree-outcome statuses contents r was o e alive old q = elim (same_or_not q r) [
+  | inl same ↦ subst (λ (n : ℕ). ContentAgrees (statuses_with statuses r (Some o)) (contents_with contents r (Some o)) n) (sym same) (content_here statuses contents r was o e alive (old r))
   | inr other ↦ content_left statuses contents r q o other (old q)
 ]

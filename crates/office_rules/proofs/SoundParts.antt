@@ -5,21 +5,21 @@ use Rattle.std.specs.FinMap.{get}
 use Rattle.std.proofs.lemmas.Int.{ints}
 use Rattle.office_days.specs.Limits.{IsDayNumber}
 use Rattle.office_terms.specs.Disposal.{is_disposal}
-use Rattle.office_terms.specs.Forms.{IsFormedTree}
+use Rattle.office_terms.specs.Forms.{IsWellFormedTree}
 use Rattle.office_terms.specs.Lists.{edited}
-use Rattle.office_terms.specs.Sound.{AreEventsSound, FitsLimits, NamesStand}
+use Rattle.office_terms.specs.Sound.{AreEventsSound, FitsLimits, NamesExist}
 use Rattle.office_terms.specs.Tree.{TreeState}
 use Rattle.office_terms.specs.declared.aggregation.Aggregation.{Aggregation}
 use Rattle.office_terms.specs.declared.head.Confirmation.{Confirmation}
 use Rattle.office_terms.specs.declared.head.Record.{Record}
 use Rattle.office_terms.proofs.Forming.{EachNumbered}
 use Rattle.office_terms.proofs.Places.{numbered_push, numbered_edited, length-edited}
-use Rattle.office_holds.specs.Forms.{AreFormedHolds, FitsHoldLimits}
+use Rattle.office_holds.specs.Forms.{AreWellFormedHolds, FitsHoldLimits}
 use Rattle.office_holds.specs.Holds.{HoldMap}
-use Rattle.office_holds.specs.Sound.{TargetsStand, NoHoldIsAfter}
-use Rattle.office_holds.proofs.Keeping.{TargetsStand-more, NoHoldIsAfter-later}
+use Rattle.office_holds.specs.Sound.{TargetsExist, NoHoldIsAfter}
+use Rattle.office_holds.proofs.Keeping.{TargetsExist-more, NoHoldIsAfter-later}
 use Rattle.office_proof.specs.declared.entry.Entry.{Entry}
-use Rattle.office_rules.specs.Sound.{IsSound, IsWithinLimits, IsNamedEntry, AllNamesStand, NoDayIsAfter}
+use Rattle.office_rules.specs.Sound.{IsSound, IsWithinLimits, IsNamedEntry, AllNamesExist, NoDayIsAfter}
 use Rattle.office_rules.specs.State.{State}
 
 -- ---- days
@@ -84,9 +84,9 @@ abbrev pub NamesDisposal : Option Confirmation → Type 0
 NamesDisposal confirmation = IfSome confirmation (λ confirmation. IsTrue (is_disposal confirmation.action))
 
 -- limits: the new tree is within them and formed, and so is the day
-pub limits_after : (s : State) (day : ℤ) (new : TreeState) → IsSound s → FitsLimits new.schedules new.classes new.aggregations new.records → length new.statuses ≡ length new.records → IsFormedTree new → IsDayNumber day
+pub limits_after : (s : State) (day : ℤ) (new : TreeState) → IsSound s → FitsLimits new.schedules new.classes new.aggregations new.records → length new.statuses ≡ length new.records → IsWellFormedTree new → IsDayNumber day
     → IsWithinLimits new s.office.holds s.office.runs s.office.entries day
-limits_after s day new sound few statuses formed day_formed = record {
+limits_after s day new sound few statuses formed day_well_formed = record {
   tree_few = few;
   tree_forms = formed;
   statuses = statuses;
@@ -95,7 +95,7 @@ limits_after s day new sound few statuses formed day_formed = record {
   runs_few = sound.limits.runs_few;
   run_forms = sound.limits.run_forms;
   entry_forms = sound.limits.entry_forms;
-  day_form = day_formed;
+  day_form = day_well_formed;
 }
 
 -- no schedule or class goes, and there are no fewer aggregations and records
@@ -127,12 +127,12 @@ entries_named s new sound grows run r e is =
       hold = old.hold;
     }
 
--- names: those of the new tree stand, and none goes that a hold or an entry names
-pub names_after : (s : State) (new : TreeState) → IsSound s → NamesStand new.schedules new.classes new.aggregations new.records → Grows s.office.tree new
-    → AllNamesStand new s.office.holds s.office.runs s.office.entries
+-- names: those of the new tree are, and none goes that a hold or an entry names
+pub names_after : (s : State) (new : TreeState) → IsSound s → NamesExist new.schedules new.classes new.aggregations new.records → Grows s.office.tree new
+    → AllNamesExist new s.office.holds s.office.runs s.office.entries
 names_after s new sound names grows = record {
   of_tree = names;
-  of_holds = TargetsStand-more s.office.holds s.office.tree.classes new.classes (length s.office.tree.aggregations) (length s.office.tree.records) (length new.aggregations) (length new.records)
+  of_holds = TargetsExist-more s.office.holds s.office.tree.classes new.classes (length s.office.tree.aggregations) (length s.office.tree.records) (length new.aggregations) (length new.records)
       sound.names.of_holds grows.classes grows.aggregations grows.records;
   of_entries = entries_named s new sound grows;
 }
@@ -155,8 +155,8 @@ days_after s day new sound up closed heads =
 -- ---- an act on the holds
 
 -- limits: the new holds are within them and formed, and so is the day
-pub limits_holding : (s : State) (day : ℤ) (holds : HoldMap) → IsSound s → FitsHoldLimits holds → AreFormedHolds holds → IsDayNumber day → IsWithinLimits s.office.tree holds s.office.runs s.office.entries day
-limits_holding s day holds sound few formed day_formed = record {
+pub limits_holding : (s : State) (day : ℤ) (holds : HoldMap) → IsSound s → FitsHoldLimits holds → AreWellFormedHolds holds → IsDayNumber day → IsWithinLimits s.office.tree holds s.office.runs s.office.entries day
+limits_holding s day holds sound few formed day_well_formed = record {
   tree_few = sound.limits.tree_few;
   tree_forms = sound.limits.tree_forms;
   statuses = sound.limits.statuses;
@@ -165,7 +165,7 @@ limits_holding s day holds sound few formed day_formed = record {
   runs_few = sound.limits.runs_few;
   run_forms = sound.limits.run_forms;
   entry_forms = sound.limits.entry_forms;
-  day_form = day_formed;
+  day_form = day_well_formed;
 }
 
 hold_kept : (old new : HoldMap) (o : Option (List ℕ)) → ((code : List ℕ) → IsSome (get old code) → IsSome (get new code)) → IfSome o (λ code. IsSome (get old code)) → IfSome o (λ code. IsSome (get new code))
@@ -173,8 +173,8 @@ hold_kept old new None keeps h = tt
 hold_kept old new (Some code) keeps h = keeps code h
 
 -- names: the targets of the new holds are there, and no hold goes that an entry names
-pub names_holding : (s : State) (holds : HoldMap) → IsSound s → TargetsStand holds s.office.tree.classes (length s.office.tree.aggregations) (length s.office.tree.records)
-    → ((code : List ℕ) → IsSome (get s.office.holds code) → IsSome (get holds code)) → AllNamesStand s.office.tree holds s.office.runs s.office.entries
+pub names_holding : (s : State) (holds : HoldMap) → IsSound s → TargetsExist holds s.office.tree.classes (length s.office.tree.aggregations) (length s.office.tree.records)
+    → ((code : List ℕ) → IsSome (get s.office.holds code) → IsSome (get holds code)) → AllNamesExist s.office.tree holds s.office.runs s.office.entries
 names_holding s holds sound targets keeps = record {
   of_tree = sound.names.of_tree;
   of_holds = targets;

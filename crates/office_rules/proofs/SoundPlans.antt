@@ -4,7 +4,7 @@ use Rattle.std.specs.Prelude.{slice_get, IsSome}
 use Rattle.std.specs.Option.{is_some}
 use Rattle.std.specs.FinMap.{FinMap, get}
 use Rattle.office_terms.specs.Lists.{numbered}
-use Rattle.office_terms.specs.Sound.{IsForest, NamesStand, Names}
+use Rattle.office_terms.specs.Sound.{IsForest, NamesExist, Names}
 use Rattle.office_terms.specs.Tree.{TreeState, code_cmp, aggregation_class_in, class_of, plan_of}
 use Rattle.office_terms.specs.declared.aggregation.Aggregation.{Aggregation}
 use Rattle.office_terms.specs.declared.head.Record.{Record}
@@ -31,7 +31,7 @@ named_is things None code e h = absurd cc
 named_is things (Some other) code e h = let same : other ≡ code = cc in ap (λ c. is_some (get things c)) (sym same) ∙ h
 
 -- where each nearer aggregation has one, so has this
-class_at : (tree : TreeState) → ArePlaced tree.aggregations → NamesStand tree.schedules tree.classes tree.aggregations tree.records → (a : ℕ) (it : Aggregation) (own : Option (List ℕ)) (parent : Option ℕ)
+class_at : (tree : TreeState) → ArePlaced tree.aggregations → NamesExist tree.schedules tree.classes tree.aggregations tree.records → (a : ℕ) (it : Aggregation) (own : Option (List ℕ)) (parent : Option ℕ)
     → 0 < a → a ≤ length tree.aggregations → numbered tree.aggregations a ≡ Some it → it.class ≡ own → it.parent ≡ parent
     → ((p : ℕ) → 0 < p → p < a → IsThere tree.classes (aggregation_class_in tree.aggregations p)) → IsThere tree.classes (aggregation_class_in tree.aggregations a)
 class_at tree placed names a it (Some code) parent low high e own up above =
@@ -42,29 +42,29 @@ class_at tree placed names a it None (Some p) low high e own up above =
     let next = above p within.0 within.1 in
     (next.0, walk_on tree.aggregations placed a p it low e own up ∙ next.1, next.2)
 
-class_from : (tree : TreeState) → ArePlaced tree.aggregations → NamesStand tree.schedules tree.classes tree.aggregations tree.records → (steps a : ℕ) → 0 < a → a ≤ steps → a ≤ length tree.aggregations → IsThere tree.classes (aggregation_class_in tree.aggregations a)
+class_from : (tree : TreeState) → ArePlaced tree.aggregations → NamesExist tree.schedules tree.classes tree.aggregations tree.records → (steps a : ℕ) → 0 < a → a ≤ steps → a ≤ length tree.aggregations → IsThere tree.classes (aggregation_class_in tree.aggregations a)
 class_from tree placed names zero a low few high = absurd (omega arith)
 class_from tree placed names (suc steps) a low few high =
     let here = numbered_there tree.aggregations a low high in
     class_at tree placed names a here.0 here.0.class here.0.parent low high here.1 refl refl (λ p low_p less. class_from tree placed names steps p low_p (omega arith) (omega arith))
 
-class_by : (tree : TreeState) → ArePlaced tree.aggregations → NamesStand tree.schedules tree.classes tree.aggregations tree.records → (r : ℕ) (head : Record) (own : Option (List ℕ)) → numbered tree.records r ≡ Some head → head.class ≡ own → IsThere tree.classes (class_of tree r)
+class_by : (tree : TreeState) → ArePlaced tree.aggregations → NamesExist tree.schedules tree.classes tree.aggregations tree.records → (r : ℕ) (head : Record) (own : Option (List ℕ)) → numbered tree.records r ≡ Some head → head.class ≡ own → IsThere tree.classes (class_of tree r)
 class_by tree placed names r head (Some code) e own =
     (code, class_own tree.aggregations tree.records r head code e own, named_is tree.classes head.class code own (names.record_classes r head e))
 class_by tree placed names r head None e own =
-    let home = names.homes r head e in
-    let of_home = class_from tree placed names head.aggregation head.aggregation home.0 (omega arith) home.1 in
-    (of_home.0, class_above tree.aggregations tree.records r head e own ∙ of_home.1, of_home.2)
+    let container = names.child_lists r head e in
+    let of_container = class_from tree placed names head.aggregation head.aggregation container.0 (omega arith) container.1 in
+    (of_container.0, class_above tree.aggregations tree.records r head e own ∙ of_container.1, of_container.2)
 
-pub class_there : (tree : TreeState) → IsForest tree.aggregations → NamesStand tree.schedules tree.classes tree.aggregations tree.records → (r : ℕ) (head : Record) → numbered tree.records r ≡ Some head → IsThere tree.classes (class_of tree r)
+pub class_there : (tree : TreeState) → IsForest tree.aggregations → NamesExist tree.schedules tree.classes tree.aggregations tree.records → (r : ℕ) (head : Record) → numbered tree.records r ≡ Some head → IsThere tree.classes (class_of tree r)
 class_there tree forest names r head e = class_by tree (placed_in tree.aggregations forest names.root_classes) names r head head.class e refl
 
-plan_by : (tree : TreeState) → NamesStand tree.schedules tree.classes tree.aggregations tree.records → (r : ℕ) (head : Record) (own : Option (List ℕ)) → IsThere tree.classes (class_of tree r) → numbered tree.records r ≡ Some head → head.schedule ≡ own → IsThere tree.schedules (plan_of tree r)
+plan_by : (tree : TreeState) → NamesExist tree.schedules tree.classes tree.aggregations tree.records → (r : ℕ) (head : Record) (own : Option (List ℕ)) → IsThere tree.classes (class_of tree r) → numbered tree.records r ≡ Some head → head.schedule ≡ own → IsThere tree.schedules (plan_of tree r)
 plan_by tree names r head (Some code) class e own =
     (code, plan_own tree.classes tree.aggregations tree.records r head code e own, named_is tree.schedules head.schedule code own (names.record_schedules r head e))
 plan_by tree names r head None class e own =
     let it = some_is (get tree.classes class.0) class.2 in
     (it.0.schedule, plan_class tree.classes tree.aggregations tree.records r head class.0 (Some it.0) e own class.1 it.1, names.class_schedules class.0 it.0 it.1)
 
-pub plan_there : (tree : TreeState) → IsForest tree.aggregations → NamesStand tree.schedules tree.classes tree.aggregations tree.records → (r : ℕ) (head : Record) → numbered tree.records r ≡ Some head → IsThere tree.schedules (plan_of tree r)
+pub plan_there : (tree : TreeState) → IsForest tree.aggregations → NamesExist tree.schedules tree.classes tree.aggregations tree.records → (r : ℕ) (head : Record) → numbered tree.records r ≡ Some head → IsThere tree.schedules (plan_of tree r)
 plan_there tree forest names r head e = plan_by tree names r head head.schedule (class_there tree forest names r head e) e refl

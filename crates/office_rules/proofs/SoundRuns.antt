@@ -15,7 +15,7 @@ use Rattle.office_rules.specs.Conditions.{conditions_of_open_run, refusals_of_op
 use Rattle.office_rules.specs.Effects.{after_open_run, new_run}
 use Rattle.office_rules.specs.Meanings.{IsAccepted}
 use Rattle.office_rules.specs.Runs.{open_run, open_by, closed, closed_runs, certificate_of}
-use Rattle.office_rules.specs.Sound.{IsSound, IsWithinLimits, IsFormedRun, AllNamesStand, IsNamedEntry, EntriesStand, RunsStand, NoDayIsAfter}
+use Rattle.office_rules.specs.Sound.{IsSound, IsWithinLimits, IsWellFormedRun, AllNamesExist, IsNamedEntry, EntriesAgree, RunsAgree, NoDayIsAfter}
 use Rattle.office_rules.specs.State.{State, Office, with_office}
 use Rattle.office_rules.specs.declared.run.Run.{Run}
 use Rattle.office_rules.proofs.Accepted.{dated_accepted}
@@ -25,7 +25,7 @@ use Rattle.office_rules.proofs.SoundParts.{as_many, days_later, events_later}
 -- ---- the open run
 
 -- a run that is there and not closed is the open one
-open_is : (s : Office) (run : ℕ) (it : Run) → RunsStand s.runs s.certificates → numbered s.runs run ≡ Some it → it.is_closed ≡ false → open_run s ≡ Some run
+open_is : (s : Office) (run : ℕ) (it : Run) → RunsAgree s.runs s.certificates → numbered s.runs run ≡ Some it → it.is_closed ≡ false → open_run s ≡ Some run
 open_is s run it runs e going =
     let last = runs.last run it e going in
     ap (λ n. open_by n (numbered s.runs n)) (sym last) ∙ ap (open_by run) e ∙ ap (λ b. cond b None (Some run)) going
@@ -65,19 +65,19 @@ open_run_limits s day by sound form text few = record {
   holds_few = sound.limits.holds_few;
   hold_forms = sound.limits.hold_forms;
   runs_few = omega (arith, few, length-append s.office.runs (new_run day by ∷ []));
-  run_forms = pushed_all (λ _ it. IsFormedRun it) s.office.runs (new_run day by) sound.limits.run_forms (record { day = form; by = text; cursor = omega arith });
+  run_forms = pushed_all (λ _ it. IsWellFormedRun it) s.office.runs (new_run day by) sound.limits.run_forms (record { day = form; by = text; cursor = omega arith });
   entry_forms = sound.limits.entry_forms;
   day_form = form;
 }
 
-open_run_names : (s : State) (new : Run) → IsSound s → AllNamesStand s.office.tree s.office.holds (s.office.runs ++ new ∷ []) s.office.entries
+open_run_names : (s : State) (new : Run) → IsSound s → AllNamesExist s.office.tree s.office.holds (s.office.runs ++ new ∷ []) s.office.entries
 open_run_names s new sound = record {
   of_tree = sound.names.of_tree;
   of_holds = sound.names.of_holds;
   of_entries = λ run r e there. IsNamedEntry-more s (length (s.office.runs ++ new ∷ [])) run r e (omega (arith, length-append s.office.runs (new ∷ []))) (sound.names.of_entries run r e there);
 }
 
-open_run_entries : (s : State) (new : Run) → IsSound s → EntriesStand s.office.tree.statuses (s.office.runs ++ new ∷ []) s.office.entries
+open_run_entries : (s : State) (new : Run) → IsSound s → EntriesAgree s.office.tree.statuses (s.office.runs ++ new ∷ []) s.office.entries
 open_run_entries s new sound = record {
   keyed = sound.entries.keyed;
   ended = sound.entries.ended;
@@ -90,7 +90,7 @@ open_run_entries s new sound = record {
   ];
 }
 
-open_run_runs : (s : State) (day : ℤ) (by : List ℕ) → IsSound s → is_some (open_run s.office) ≡ false → RunsStand (s.office.runs ++ new_run day by ∷ []) s.office.certificates
+open_run_runs : (s : State) (day : ℤ) (by : List ℕ) → IsSound s → is_some (open_run s.office) ≡ false → RunsAgree (s.office.runs ++ new_run day by ∷ []) s.office.certificates
 open_run_runs s day by sound none = record {
   last = λ run it e going. elim (numbered_push s.office.runs (new_run day by) it run e) [
     | inl old ↦ let is : open_run s.office ≡ Some run = open_is s.office run it sound.runs old going in absurd cc
@@ -128,7 +128,7 @@ sound_open_run s day by sound form text accepted =
       names = open_run_names s (new_run day by) sound;
       closed = sound.closed;
       contents = sound.contents;
-      papers = sound.papers;
+      documents = sound.documents;
       entries = open_run_entries s (new_run day by) sound;
       runs = open_run_runs s day by sound none.1.0;
       days = open_run_days s day by sound no.0;
@@ -153,21 +153,21 @@ closed_limits s run sound = record {
       let came = numbered_edited s.office.runs run as_closed it n e in
       let old = sound.limits.run_forms n came.0 came.1 in
       elim came.2 [
-        | inl same ↦ subst IsFormedRun (sym same) old
-        | inr changed ↦ subst IsFormedRun (sym changed.1) (record { day = old.day; by = old.by; cursor = old.cursor })
+        | inl same ↦ subst IsWellFormedRun (sym same) old
+        | inr changed ↦ subst IsWellFormedRun (sym changed.1) (record { day = old.day; by = old.by; cursor = old.cursor })
       ];
   entry_forms = sound.limits.entry_forms;
   day_form = sound.limits.day_form;
 }
 
-closed_names : (s : State) (run : ℕ) → IsSound s → AllNamesStand s.office.tree s.office.holds (closed_runs s.office.runs run) s.office.entries
+closed_names : (s : State) (run : ℕ) → IsSound s → AllNamesExist s.office.tree s.office.holds (closed_runs s.office.runs run) s.office.entries
 closed_names s run sound = record {
   of_tree = sound.names.of_tree;
   of_holds = sound.names.of_holds;
   of_entries = λ n r e there. IsNamedEntry-more s (length (closed_runs s.office.runs run)) n r e (omega (arith, length-edited s.office.runs run as_closed)) (sound.names.of_entries n r e there);
 }
 
-closed_entries : (s : State) (run : ℕ) → IsSound s → EntriesStand s.office.tree.statuses (closed_runs s.office.runs run) s.office.entries
+closed_entries : (s : State) (run : ℕ) → IsSound s → EntriesAgree s.office.tree.statuses (closed_runs s.office.runs run) s.office.entries
 closed_entries s run sound = record {
   keyed = sound.entries.keyed;
   ended = sound.entries.ended;
@@ -220,8 +220,8 @@ closed_certified s run n certificate sound is_open =
       ],
     )
 
-closed_runs_stand : (s : State) (run : ℕ) (certificate : List ℕ) → IsSound s → IsOpenIn s.office.runs run → RunsStand (closed_runs s.office.runs run) (insert s.office.certificates run certificate)
-closed_runs_stand s run certificate sound is_open = record {
+closed_runs_agree : (s : State) (run : ℕ) (certificate : List ℕ) → IsSound s → IsOpenIn s.office.runs run → RunsAgree (closed_runs s.office.runs run) (insert s.office.certificates run certificate)
+closed_runs_agree s run certificate sound is_open = record {
   last = λ n it e going.
       let came = numbered_edited s.office.runs run as_closed it n e in
       elim came.2 [
@@ -239,9 +239,9 @@ sound_closed s run sound e = record {
   names = closed_names s run sound;
   closed = sound.closed;
   contents = sound.contents;
-  papers = sound.papers;
+  documents = sound.documents;
   entries = closed_entries s run sound;
-  runs = closed_runs_stand s run (certificate_of s.office run) sound (open_there s.office run e);
+  runs = closed_runs_agree s run (certificate_of s.office run) sound (open_there s.office run e);
   days = closed_days s run sound;
   events = sound.events;
   refs = sound.refs;

@@ -9,19 +9,19 @@ use Rattle.office_terms.specs.declared.head.Record.{Record}
 use Rattle.office_terms.specs.declared.status.Status.{Status}
 use Rattle.office_terms.specs.declared.status.Status.TheVariants.{Here, Received, Ended}
 use Rattle.office_terms.proofs.Places.{numbered_edited, numbered_within, length-edited}
-use Rattle.office_proof.specs.Forms.{IsFormedEntry}
+use Rattle.office_proof.specs.Forms.{IsWellFormedEntry}
 use Rattle.office_proof.specs.Outcomes.{is_ending}
 use Rattle.office_proof.specs.declared.entry.Entry.{Entry}
 use Rattle.office_proof.specs.declared.outcome.Outcome.{Outcome}
 use Rattle.office_proof.specs.declared.outcome.Outcome.TheVariants.{Transferred, Skipped}
 use Rattle.office_rules.specs.Disposing.{entry_of, outcome_of}
 use Rattle.office_rules.specs.Runs.{open_run, run_step, step_at, next_ready, with_outcomes, statuses_with, contents_with, entries_with, with_cursor}
-use Rattle.office_rules.specs.Sound.{IsSound, IsWithinLimits, IsFormedRun, AllNamesStand, IsNamedEntry, ContentsStand, PapersStand, EntriesStand, RunsStand, NoDayIsAfter}
+use Rattle.office_rules.specs.Sound.{IsSound, IsWithinLimits, IsWellFormedRun, AllNamesExist, IsNamedEntry, ContentsAgree, DocumentsAgree, EntriesAgree, RunsAgree, NoDayIsAfter}
 use Rattle.office_rules.specs.State.{State, EntryMap}
 use Rattle.office_rules.specs.declared.run.Run.{Run}
 use Rattle.office_rules.proofs.SoundMaps.{one_there, entry_total, entry_cmp-IsAntisymmetric, put_cases, put_here, put_elsewhere, same_or_not, edited_here, edited_elsewhere}
-use Rattle.office_rules.proofs.SoundNewEntry.{new_entry_formed, new_entry_named, new_entry_hold}
-use Rattle.office_rules.proofs.SoundOutcomes.{status_after, length-statuses_with, status_here, status_elsewhere, ends, ended_by_it, still_received, ContentsStand-outcome}
+use Rattle.office_rules.proofs.SoundNewEntry.{new_entry_well_formed, new_entry_named, new_entry_hold}
+use Rattle.office_rules.proofs.SoundOutcomes.{status_after, length-statuses_with, status_here, status_elsewhere, ends, ended_by_it, still_received, ContentsAgree-outcome}
 use Rattle.office_rules.proofs.SoundRuns.{IsOpenIn, open_there, sound_closed}
 use Rattle.office_rules.proofs.SoundTaken.{IsTaken, Taken, taken}
 
@@ -127,12 +127,12 @@ module _ (s : State) (run r : ℕ) (head : Record) (was : Status) (confirmation 
     holds_few = sound.limits.holds_few;
     hold_forms = sound.limits.hold_forms;
     runs_few = omega (arith, sound.limits.runs_few, length-edited s.office.runs run (to r));
-    run_forms = kept_runs IsFormedRun s.office.runs run r (λ it h. record { day = h.day; by = h.by; cursor = few_enough }) sound.limits.run_forms;
-    entry_forms = all_entries (λ a q e. IsFormedEntry e) sound.limits.entry_forms (new_entry_formed s run r head was confirmation o sound t);
+    run_forms = kept_runs IsWellFormedRun s.office.runs run r (λ it h. record { day = h.day; by = h.by; cursor = few_enough }) sound.limits.run_forms;
+    entry_forms = all_entries (λ a q e. IsWellFormedEntry e) sound.limits.entry_forms (new_entry_well_formed s run r head was confirmation o sound t);
     day_form = sound.limits.day_form;
   }
 
-  step_names : AllNamesStand (record (s.office.tree) { statuses = new_statuses }) s.office.holds new_runs new_entries
+  step_names : AllNamesExist (record (s.office.tree) { statuses = new_statuses }) s.office.holds new_runs new_entries
   step_names =
       let named : ℕ → ℕ → ℕ → Entry → Type 0 = λ count a q e. IsNamedEntry s.office.tree.schedules s.office.tree.classes s.office.holds count (length s.office.tree.records) a q e in
       record {
@@ -143,13 +143,13 @@ module _ (s : State) (run r : ℕ) (head : Record) (was : Status) (confirmation 
             (all_entries (named (length s.office.runs)) sound.names.of_entries (new_entry_named s run r head was confirmation o sound t is_open) a q e there);
       }
 
-  step_contents : ContentsStand new_statuses (contents_with s.contents r (Some o))
-  step_contents = ContentsStand-outcome s.office.tree.statuses s.contents r was o t.status t.not_ended sound.contents
+  step_contents : ContentsAgree new_statuses (contents_with s.contents r (Some o))
+  step_contents = ContentsAgree-outcome s.office.tree.statuses s.contents r was o t.status t.not_ended sound.contents
 
   step_confirmed : (q : ℕ) (it : Record) (now : Status) → numbered s.office.tree.records q ≡ Some it → numbered new_statuses q ≡ Some now → now ≢ Here → IsSome it.confirmation
   step_confirmed q it now e is away = elim (same_or_not q r) [
     | inl same ↦ ap (λ (x : Record). is_some x.confirmation) (one_there (numbered s.office.tree.records r) it head (ap (numbered s.office.tree.records) (sym same) ∙ e) t.there) ∙ ap is_some t.confirmed
-    | inr other ↦ sound.papers.confirmed q it now e (sym (status_elsewhere s.office.tree.statuses r q o other) ∙ is) away
+    | inr other ↦ sound.documents.confirmed q it now e (sym (status_elsewhere s.office.tree.statuses r q o other) ∙ is) away
   ]
 
   -- the status of the record after its outcome
@@ -159,18 +159,18 @@ module _ (s : State) (run r : ℕ) (head : Record) (was : Status) (confirmation 
 
   step_received : (q : ℕ) (it : Record) → numbered s.office.tree.records q ≡ Some it → numbered new_statuses q ≡ Some Received → IsSome it.receipt
   step_received q it e is = elim (same_or_not q r) [
-    | inl same ↦ sound.papers.received r it (ap (numbered s.office.tree.records) (sym same) ∙ e) (t.status ∙ ap Some (still_received was o (now_is q Received same is)))
-    | inr other ↦ sound.papers.received q it e (sym (status_elsewhere s.office.tree.statuses r q o other) ∙ is)
+    | inl same ↦ sound.documents.received r it (ap (numbered s.office.tree.records) (sym same) ∙ e) (t.status ∙ ap Some (still_received was o (now_is q Received same is)))
+    | inr other ↦ sound.documents.received q it e (sym (status_elsewhere s.office.tree.statuses r q o other) ∙ is)
   ]
 
-  step_papers : PapersStand s.office.tree.records new_statuses new_entries
-  step_papers = record {
+  step_documents : DocumentsAgree s.office.tree.records new_statuses new_entries
+  step_documents = record {
     confirmed = step_confirmed;
-    disposal = sound.papers.disposal;
+    disposal = sound.documents.disposal;
     received = step_received;
     transferred = λ a q e it there. all_entries (λ a q e. e.outcome ≡ Transferred → numbered s.office.tree.records q ≡ Some it → IsSome it.receipt)
-        (λ a q e old out at. sound.papers.transferred a q e it old out at)
-        (λ out at. sound.papers.received r it at (t.status ∙ ap Some (t.received out))) a q e there;
+        (λ a q e old out at. sound.documents.transferred a q e it old out at)
+        (λ out at. sound.documents.received r it at (t.status ∙ ap Some (t.received out))) a q e there;
   }
 
   step_ended : (q : ℕ) → numbered new_statuses q ≡ Some Ended → (a : ℕ) × (e : Entry) × (get new_entries (a, q) ≡ Some e) × IsTrue (is_ending e.outcome)
@@ -210,7 +210,7 @@ module _ (s : State) (run r : ℕ) (head : Record) (was : Status) (confirmation 
   step_passed : (a q : ℕ) (e : Entry) (it : Run) → get new_entries (a, q) ≡ Some e → numbered new_runs a ≡ Some it → q ≤ it.cursor
   step_passed a q e it there at = all_entries (λ a q e. numbered new_runs a ≡ Some it → q ≤ it.cursor) (passed_old it) (passed_new it) a q e there at
 
-  step_entries : EntriesStand new_statuses new_runs new_entries
+  step_entries : EntriesAgree new_statuses new_runs new_entries
   step_entries = record {
     keyed = all_entries (λ a q e. (e.run ≡ a) × (e.record_no ≡ q)) sound.entries.keyed (refl, refl);
     ended = step_ended;
@@ -222,7 +222,7 @@ module _ (s : State) (run r : ℕ) (head : Record) (was : Status) (confirmation 
     passed = step_passed;
   }
 
-  step_runs : RunsStand new_runs s.office.certificates
+  step_runs : RunsAgree new_runs s.office.certificates
   step_runs = record {
     last = λ n it e going.
         let came = numbered_edited s.office.runs run (to r) it n e in
@@ -252,7 +252,7 @@ module _ (s : State) (run r : ℕ) (head : Record) (was : Status) (confirmation 
     names = step_names;
     closed = sound.closed;
     contents = step_contents;
-    papers = step_papers;
+    documents = step_documents;
     entries = step_entries;
     runs = step_runs;
     days = step_days;

@@ -133,7 +133,7 @@ taken_by s run r head None sound above there status ready = absurd cc
 taken_by s run r head (Some Here) sound above there status ready = taken_here s run r head above there status ready
 taken_by s run r head (Some Sent) sound above there status ready = absurd cc
 taken_by s run r head (Some Received) sound above there status ready =
-    taken_of s run r head Received above there status (sound.papers.confirmed r head Received there status (λ e. absurd cc)) (comes_received (action_of s.office.tree r) (is_held s.office.holds s.office.tree r))
+    taken_of s run r head Received above there status (sound.documents.confirmed r head Received there status (λ e. absurd cc)) (comes_received (action_of s.office.tree r) (is_held s.office.holds s.office.tree r))
 taken_by s run r head (Some Ended) sound above there status ready = absurd cc
 
 pub taken : (s : State) (run r : ℕ) → IsSound s → next_ready s.office run ≡ Some r → Taken s run r

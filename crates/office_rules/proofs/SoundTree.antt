@@ -8,20 +8,20 @@ use Rattle.std.specs.Ordering.{eq_by_cmp, nat_cmp}
 use Rattle.office_days.specs.Limits.{IsDayNumber}
 use Rattle.office_terms.specs.Conditions.{conditions_of_add_aggregation, conditions_of_close_aggregation, conditions_of_add_record}
 use Rattle.office_terms.specs.Effects.{added_aggregation, closed_aggregation, added_record}
-use Rattle.office_terms.specs.Forms.{IsCode, IsText, IsFormedRecord}
+use Rattle.office_terms.specs.Forms.{IsCode, IsText, IsWellFormedRecord}
 use Rattle.office_terms.specs.Lists.{numbered}
 use Rattle.office_terms.specs.declared.aggregation.Aggregation.{Aggregation}
 use Rattle.office_terms.specs.declared.head.Record.{Record}
 use Rattle.office_terms.specs.declared.status.Status.{Status}
 use Rattle.office_terms.specs.declared.status.Status.TheVariants.{Here, Received, Ended}
-use Rattle.office_terms.proofs.Forming.{IsFormed-add_aggregation, IsFormed-close_aggregation, IsFormed-add_record}
+use Rattle.office_terms.proofs.Forming.{IsWellFormed-add_aggregation, IsWellFormed-close_aggregation, IsWellFormed-add_record}
 use Rattle.office_terms.proofs.Keeping.{IsSound-add_aggregation, IsSound-close_aggregation, IsSound-add_record}
 use Rattle.office_terms.proofs.Refs.{RefsDiffer-add_aggregation, RefsDiffer-close_aggregation, RefsDiffer-add_record}
 use Rattle.office_terms.proofs.Places.{numbered_push, numbered_within}
 use Rattle.office_rules.specs.Conditions.{refusals_of_add_aggregation, refusals_of_close_aggregation, refusals_of_add_record}
 use Rattle.office_rules.specs.Effects.{after_add_aggregation, after_close_aggregation, new_head, with_new_record}
-use Rattle.office_rules.specs.Meanings.{IsAccepted, IsFormedNewRecord}
-use Rattle.office_rules.specs.Sound.{IsSound, ContentsStand, PapersStand, EntriesStand}
+use Rattle.office_rules.specs.Meanings.{IsAccepted, IsWellFormedNewRecord}
+use Rattle.office_rules.specs.Sound.{IsSound, ContentsAgree, DocumentsAgree, EntriesAgree}
 use Rattle.office_rules.specs.State.{State, EntryMap, ByteMap, with_office}
 use Rattle.office_rules.specs.declared.new_record.NewRecord.{NewRecord}
 use Rattle.office_rules.specs.declared.run.Run.{Run}
@@ -33,19 +33,19 @@ use Rattle.office_rules.proofs.SoundParts.{IsClosedBy, IsHeadBy, closed_by, head
 -- ---- aggregations
 
 pub sound_add_aggregation : (s : State) (day : ℤ) (ref_text title : List ℕ) (parent : Option ℕ) (class : Option (List ℕ)) → IsSound s → IsDayNumber day → IsText ref_text → IsText title → IfSome class IsCode → IsAccepted (refusals_of_add_aggregation s.office day ref_text parent class) → IsSound (with_office s (after_add_aggregation s.office day ref_text title parent class))
-sound_add_aggregation s day ref_text title parent class sound day_formed ref_formed title_formed class_formed accepted =
+sound_add_aggregation s day ref_text title parent class sound day_well_formed ref_well_formed title_well_formed class_well_formed accepted =
     let t = s.office.tree in
     let no = dated_accepted s.office day (conditions_of_add_aggregation t ref_text parent class) accepted in
     let it : Aggregation = record { ref_text = ref_text; title = title; parent = parent; class = class; closed = None } in
     let new = added_aggregation t ref_text title parent class in
     let of_tree = IsSound-add_aggregation t ref_text title parent class (tree_sound s sound) no.1 in
     record {
-      limits = limits_after s day new sound of_tree.limits of_tree.statuses (IsFormed-add_aggregation t ref_text title parent class sound.limits.tree_forms ref_formed title_formed class_formed) day_formed;
+      limits = limits_after s day new sound of_tree.limits of_tree.statuses (IsWellFormed-add_aggregation t ref_text title parent class sound.limits.tree_forms ref_well_formed title_well_formed class_well_formed) day_well_formed;
       forest = of_tree.forest;
       names = names_after s new sound of_tree.names (record { schedules = λ c there. there; classes = λ c there. there; aggregations = more_pushed t.aggregations it; records = as_many (length t.records) });
       closed = of_tree.closed;
       contents = sound.contents;
-      papers = sound.papers;
+      documents = sound.documents;
       entries = sound.entries;
       runs = sound.runs;
       days = days_after s day new sound no.0 (each_push (IsClosedBy day) t.aggregations it (closed_by s day sound no.0) tt) (heads_by s day sound no.0);
@@ -54,19 +54,19 @@ sound_add_aggregation s day ref_text title parent class sound day_formed ref_for
     }
 
 pub sound_close_aggregation : (s : State) (day : ℤ) (a : ℕ) → IsSound s → IsDayNumber day → IsAccepted (refusals_of_close_aggregation s.office day a) → IsSound (with_office s (after_close_aggregation s.office day a))
-sound_close_aggregation s day a sound day_formed accepted =
+sound_close_aggregation s day a sound day_well_formed accepted =
     let t = s.office.tree in
     let no = dated_accepted s.office day (conditions_of_close_aggregation t a) accepted in
     let close : Aggregation → Aggregation = λ it. record it { closed = Some day } in
     let new = closed_aggregation t a day in
     let of_tree = IsSound-close_aggregation t a day (tree_sound s sound) no.1 in
     record {
-      limits = limits_after s day new sound of_tree.limits of_tree.statuses (IsFormed-close_aggregation t a day sound.limits.tree_forms day_formed) day_formed;
+      limits = limits_after s day new sound of_tree.limits of_tree.statuses (IsWellFormed-close_aggregation t a day sound.limits.tree_forms day_well_formed) day_well_formed;
       forest = of_tree.forest;
       names = names_after s new sound of_tree.names (record { schedules = λ c there. there; classes = λ c there. there; aggregations = no_fewer_edited t.aggregations a close; records = as_many (length t.records) });
       closed = of_tree.closed;
       contents = sound.contents;
-      papers = sound.papers;
+      documents = sound.documents;
       entries = sound.entries;
       runs = sound.runs;
       days = days_after s day new sound no.0 (each_edited (IsClosedBy day) t.aggregations a close (closed_by s day sound no.0) (λ it old. ≤ℤ_refl day)) (heads_by s day sound no.0);
@@ -76,12 +76,12 @@ sound_close_aggregation s day a sound day_formed accepted =
 
 -- ---- a new record
 
-head_formed : (day : ℤ) (new : NewRecord) → IsDayNumber day → IsFormedNewRecord new → IsFormedRecord (new_head day new)
-head_formed day new day_formed formed = record {
+head_well_formed : (day : ℤ) (new : NewRecord) → IsDayNumber day → IsWellFormedNewRecord new → IsWellFormedRecord (new_head day new)
+head_well_formed day new day_well_formed formed = record {
   ref_text = formed.ref_text;
   title = formed.title;
   originated = formed.originated;
-  added = day_formed;
+  added = day_well_formed;
   class = formed.class;
   schedule = formed.schedule;
   length_few = formed.content_few;
@@ -129,26 +129,26 @@ module _ (statuses : List Status) (count : ℕ) (few : length statuses ≡ count
       (Here, ap (numbered with_new) same ∙ last_pushed statuses Here count (sym few), λ e. absurd cc)
   new_is_here r false v old tie had some = let before = had some in (before.0, numbered_pushed statuses Here before.0 r before.1, before.2)
 
-  contents_pushed : (contents : ByteMap) (content : List ℕ) → ContentsStand statuses contents → ContentsStand with_new (insert contents (suc count) content)
-  contents_pushed contents content stand r =
+  contents_pushed : (contents : ByteMap) (content : List ℕ) → ContentsAgree statuses contents → ContentsAgree with_new (insert contents (suc count) content)
+  contents_pushed contents content represent r =
       let found : get (insert contents (suc count) content) r ≡ cond (eq_by_cmp nat_cmp r (suc count)) (Some content) (get contents r) = get-insert nat_cmp_total contents (suc count) content r in (
-        λ some. new_is_here r (eq_by_cmp nat_cmp r (suc count)) content (get contents r) refl (stand r).0 (subst (λ (o : Option (List ℕ)). IsSome o) found some),
+        λ some. new_is_here r (eq_by_cmp nat_cmp r (suc count)) content (get contents r) refl (represent r).0 (subst (λ (o : Option (List ℕ)). IsSome o) found some),
         λ is. subst (λ (o : Option (List ℕ)). IsSome o) (sym found) (elim (numbered_push statuses Here is.0 r is.1) [
-          | inl old ↦ some_still (eq_by_cmp nat_cmp r (suc count)) content (get contents r) ((stand r).1 (is.0, old, is.2))
+          | inl old ↦ some_still (eq_by_cmp nat_cmp r (suc count)) content (get contents r) ((represent r).1 (is.0, old, is.2))
           | inr new ↦
               let same : r ≡ suc count = omega (arith, new.0, few) in
               some_here (eq_by_cmp nat_cmp r (suc count)) content (get contents r) (ap (λ n. eq_by_cmp nat_cmp n (suc count)) same ∙ (eq_by_cmp_equiv nat_cmp_total).refl (suc count))
         ]),
       )
 
-  entries_pushed : (runs : List Run) (entries : EntryMap) → EntriesStand statuses runs entries → EntriesStand with_new runs entries
-  entries_pushed runs entries stand = record {
-    keyed = stand.keyed;
-    ended = λ r is. elim (numbered_push statuses Here Ended r is) [ inl old ↦ stand.ended r old | inr new ↦ let other : Here ≡ Ended = new.1 in absurd cc ];
-    once = stand.once;
-    no_other = λ run r e there ending. numbered_pushed statuses Here Ended r (stand.no_other run r e there ending);
-    holds = stand.holds;
-    passed = stand.passed;
+  entries_pushed : (runs : List Run) (entries : EntryMap) → EntriesAgree statuses runs entries → EntriesAgree with_new runs entries
+  entries_pushed runs entries represent = record {
+    keyed = represent.keyed;
+    ended = λ r is. elim (numbered_push statuses Here Ended r is) [ inl old ↦ represent.ended r old | inr new ↦ let other : Here ≡ Ended = new.1 in absurd cc ];
+    once = represent.once;
+    no_other = λ run r e there ending. numbered_pushed statuses Here Ended r (represent.no_other run r e there ending);
+    holds = represent.holds;
+    passed = represent.passed;
   }
 
   -- a status of a new record's number is the new one
@@ -161,41 +161,41 @@ module _ (statuses : List Status) (count : ℕ) (few : length statuses ≡ count
   old_at : (r : ℕ) (status : Status) → r ≤ count → numbered with_new r ≡ Some status → numbered statuses r ≡ Some status
   old_at r status low e = elim (numbered_push statuses Here status r e) [ inl old ↦ old | inr new ↦ absurd (omega (arith, new.0, few, low)) ]
 
-papers_pushed : (records : List Record) (statuses : List Status) (entries : EntryMap) (head : Record) → length statuses ≡ length records → NamesDisposal head.confirmation → PapersStand records statuses entries
-    → ((run r : ℕ) (e : Entry) → get entries (run, r) ≡ Some e → r ≤ length records) → PapersStand (records ++ head ∷ []) (statuses ++ Here ∷ []) entries
-papers_pushed records statuses entries new few fresh papers within = record {
+documents_pushed : (records : List Record) (statuses : List Status) (entries : EntryMap) (head : Record) → length statuses ≡ length records → NamesDisposal head.confirmation → DocumentsAgree records statuses entries
+    → ((run r : ℕ) (e : Entry) → get entries (run, r) ≡ Some e → r ≤ length records) → DocumentsAgree (records ++ head ∷ []) (statuses ++ Here ∷ []) entries
+documents_pushed records statuses entries new few fresh documents within = record {
   confirmed = λ r head status e at away. elim (numbered_push records new head r e) [
-    | inl old ↦ papers.confirmed r head status old (old_at statuses (length records) few r status (numbered_within records r head old).1 at) away
+    | inl old ↦ documents.confirmed r head status old (old_at statuses (length records) few r status (numbered_within records r head old).1 at) away
     | inr last ↦ absurd (away (here_at statuses (length records) few r status last.0 at))
   ];
   disposal = λ r head e. elim (numbered_push records new head r e) [
-    | inl old ↦ papers.disposal r head old
+    | inl old ↦ documents.disposal r head old
     | inr last ↦ subst (λ (k : Record). NamesDisposal k.confirmation) last.1 fresh
   ];
   received = λ r head e at. elim (numbered_push records new head r e) [
-    | inl old ↦ papers.received r head old (old_at statuses (length records) few r Received (numbered_within records r head old).1 at)
+    | inl old ↦ documents.received r head old (old_at statuses (length records) few r Received (numbered_within records r head old).1 at)
     | inr last ↦ let other : Received ≡ Here = here_at statuses (length records) few r Received last.0 at in absurd cc
   ];
   transferred = λ run r entry head there is e. elim (numbered_push records new head r e) [
-    | inl old ↦ papers.transferred run r entry head there is old
+    | inl old ↦ documents.transferred run r entry head there is old
     | inr last ↦ absurd (omega (arith, last.0, within run r entry there))
   ];
 }
 
-pub sound_add_record : (s : State) (day : ℤ) (new : NewRecord) → IsSound s → IsDayNumber day → IsFormedNewRecord new → IsAccepted (refusals_of_add_record s.office day new) → IsSound (with_new_record s day new)
-sound_add_record s day new sound day_formed formed accepted =
+pub sound_add_record : (s : State) (day : ℤ) (new : NewRecord) → IsSound s → IsDayNumber day → IsWellFormedNewRecord new → IsAccepted (refusals_of_add_record s.office day new) → IsSound (with_new_record s day new)
+sound_add_record s day new sound day_well_formed formed accepted =
     let t = s.office.tree in
     let no = dated_accepted s.office day (conditions_of_add_record t new.ref_text new.aggregation new.class new.schedule) accepted in
     let head = new_head day new in
     let few = sound.limits.statuses in
     let of_tree = IsSound-add_record t head (tree_sound s sound) no.1 in
     record {
-      limits = limits_after s day (added_record t head) sound of_tree.limits of_tree.statuses (IsFormed-add_record t head sound.limits.tree_forms (head_formed day new day_formed formed)) day_formed;
+      limits = limits_after s day (added_record t head) sound of_tree.limits of_tree.statuses (IsWellFormed-add_record t head sound.limits.tree_forms (head_well_formed day new day_well_formed formed)) day_well_formed;
       forest = sound.forest;
       names = names_after s (added_record t head) sound of_tree.names (record { schedules = λ c there. there; classes = λ c there. there; aggregations = as_many (length t.aggregations); records = more_pushed t.records head });
       closed = sound.closed;
       contents = contents_pushed t.statuses (length t.records) few s.contents new.content.items sound.contents;
-      papers = papers_pushed t.records t.statuses s.office.entries head few tt sound.papers (λ run r e there. (sound.names.of_entries run r e there).record_there.1);
+      documents = documents_pushed t.records t.statuses s.office.entries head few tt sound.documents (λ run r e there. (sound.names.of_entries run r e there).record_there.1);
       entries = entries_pushed t.statuses (length t.records) few s.office.runs s.office.entries sound.entries;
       runs = sound.runs;
       days = days_after s day (added_record t head) sound no.0 (closed_by s day sound no.0)

@@ -6,8 +6,8 @@ use Rattle.office_terms.specs.declared.class.Class.{Class}
 use Rattle.office_terms.specs.declared.schedule.Schedule.{Schedule}
 use Rattle.office_rules.specs.Acts.{step}
 use Rattle.office_rules.specs.Conditions.{same_record}
-use Rattle.office_rules.specs.Forms.{IsFormedAct}
-use Rattle.office_rules.specs.Meanings.{IsFormedNewRecord}
+use Rattle.office_rules.specs.Forms.{IsWellFormedAct}
+use Rattle.office_rules.specs.Meanings.{IsWellFormedNewRecord}
 use Rattle.office_rules.specs.Runs.{open_run, step_of}
 use Rattle.office_rules.specs.Sound.{IsSound}
 use Rattle.office_rules.specs.State.{State}
@@ -29,7 +29,7 @@ pub kept_by : (P : State → Type 0) (refusal : Option Refusal) (before : State)
 kept_by P None before answer next old new = new refl
 kept_by P (Some refusal) before answer next old new = old
 
-sound_add : (same : Option ℕ) (s : State) (day : ℤ) (new : NewRecord) → IsSound s → IsDayNumber day → IsFormedNewRecord new → IsSound (by_same_record same s day new).1
+sound_add : (same : Option ℕ) (s : State) (day : ℤ) (new : NewRecord) → IsSound s → IsDayNumber day → IsWellFormedNewRecord new → IsSound (by_same_record same s day new).1
 sound_add None s day new sound at formed = kept_by IsSound _ _ _ _ sound (sound_add_record s day new sound at formed)
 sound_add (Some r) s day new sound at formed = sound
 
@@ -37,7 +37,7 @@ sound_run : (s : State) (run : Option ℕ) → IsSound s → open_run s.office �
 sound_run s None sound e = sound
 sound_run s (Some run) sound e = sound_run_step s run sound e
 
-pub sound_step : (s : State) (a : Act) → IsSound s → IsFormedAct a → IsSound (step s a).1
+pub sound_step : (s : State) (a : Act) → IsSound s → IsWellFormedAct a → IsSound (step s a).1
 unfolding step
 sound_step s (act.AddSchedule day code trigger period offset action) sound formed =
     let schedule : Schedule = record { trigger = trigger; period = period; offset = offset; action = action } in

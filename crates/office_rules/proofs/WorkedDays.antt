@@ -15,7 +15,7 @@ use Rattle.office_rules.specs.Worked.{filing_day, filing_due, yearly, by_event, 
 abbrev date : ℕ → ℕ → ℕ → CivilDay
 date year month day = record { year = year; month = month; day = day }
 
--- the day after a day by where it stands in its month and its year
+-- the day after a day by where it is in its month and its year
 follows : (year month day : ℕ) (more early : Bool) → nat_lt day (month_length year month) ≡ more → nat_lt month 12 ≡ early → next_day (date year month day) ≡ (if more then date year month (day + 1) else (if early then date year (month + 1) 1 else date (year + 1) 1 1))
 follows year month day more early m e = λ i. if m i then date year month (day + 1) else (if e i then date year (month + 1) 1 else date (year + 1) 1 1)
 

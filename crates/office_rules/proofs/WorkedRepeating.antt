@@ -17,14 +17,14 @@ use Rattle.office_rules.specs.declared.answer.Answer.TheVariants.{Number, Same, 
 use Rattle.office_rules.specs.declared.new_record.NewRecord.{NewRecord}
 use Rattle.office_rules.proofs.WorkedTransfer.{fails}
 
--- the comparison with a head, told by what is asked
+-- the comparison with a head, reported by what is asked
 abbrev compared : List ℕ → List ℕ → ℕ → List ℕ → Record → Bool
-compared name words home bytes head =
+compared name words container bytes head =
     bytes_eq name head.ref_text && bytes_eq words head.title && int_eq filing_day head.originated
-    && home == head.aggregation && length bytes == head.length && bytes_eq (sha256 bytes) head.digest
+    && container == head.aggregation && length bytes == head.length && bytes_eq (sha256 bytes) head.digest
 
-compares : (new : NewRecord) (name words : List ℕ) (home : ℕ) (bytes : List ℕ) (head : Record) → AsksFor new name words home bytes → is_same_record new head ≡ compared name words home bytes head
-compares new name words home bytes head h =
+compares : (new : NewRecord) (name words : List ℕ) (container : ℕ) (bytes : List ℕ) (head : Record) → AsksFor new name words container bytes → is_same_record new head ≡ compared name words container bytes head
+compares new name words container bytes head h =
     λ i. bytes_eq (h.ref_text i) head.ref_text && bytes_eq (h.title i) head.title && int_eq (h.originated i) head.originated
     && h.aggregation i == head.aggregation && length (h.content i) == head.length && bytes_eq (sha256 (h.content i)) head.digest
 
@@ -49,8 +49,8 @@ is_other new title other h =
     let three = compares new (codes "r1") title 1 (codes "abc") (head_with (codes "r3") 1 (codes "abc")) h in
     λ i. of_three (one i) (two i) (three i)
 
-pub is_told : (s : State) (new : NewRecord) → s.office ≡ base_office → AsksFor new (codes "r1") (codes "r1") 1 (codes "abc") → step_add_record s filing_day new ≡ (Same 1, s)
-is_told s new base h = ap (λ o. by_same_record o s filing_day new) (ap (λ (o : Office). same_record o new) base ∙ is_same new h)
+pub is_reported : (s : State) (new : NewRecord) → s.office ≡ base_office → AsksFor new (codes "r1") (codes "r1") 1 (codes "abc") → step_add_record s filing_day new ≡ (Same 1, s)
+is_reported s new base h = ap (λ o. by_same_record o s filing_day new) (ap (λ (o : Office). same_record o new) base ∙ is_same new h)
 
 exists : (new : NewRecord) (title : List ℕ) → AsksFor new (codes "r1") title 1 (codes "abc") → first_of (refusals_of_add_record base_office filing_day new) ≡ Some Exists
 exists new title h = λ i. first_of (dated base_office filing_day (conditions_of_add_record base_office.tree (h.ref_text i) new.aggregation new.class new.schedule))

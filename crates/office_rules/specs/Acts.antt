@@ -45,7 +45,7 @@ abbrev pub answers : State → List Act → List Answer
 answers s [] = []
 answers s (a ∷ rest) = (step s a).0 ∷ answers (step s a).1 rest
 
--- an answer that tells of what was changed: no refusal, and not that a record was added before
+-- an answer that reports of what was changed: no refusal, and not that a record was added before
 abbrev pub is_of_change : Answer → Bool
 is_of_change answer.Done = true
 is_of_change (answer.Number n) = true
@@ -67,18 +67,18 @@ abbrev pub LeadsTo : Office → (ByteMap → Answer × State) → Decision → T
 LeadsTo s next (decision.Stay answer) = (contents : ByteMap) → next contents ≡ (answer, with_contents s contents)
 LeadsTo s next (decision.Go change) = IsChangeTo s next change
 
--- a decision tells of a change exactly where it is one: where nothing is to be done the answer is a refusal, or that the record was added before
-abbrev pub TellsItsKind : Decision → Type 0
-TellsItsKind (decision.Stay answer) = is_of_change answer ≡ false
-TellsItsKind (decision.Go change) = is_of_change change.answer ≡ true
+-- a decision reports of a change exactly where it is one: where nothing is to be done the answer is a refusal, or that the record was added before
+abbrev pub ReportsItsKind : Decision → Type 0
+ReportsItsKind (decision.Stay answer) = is_of_change answer ≡ false
+ReportsItsKind (decision.Go change) = is_of_change change.answer ≡ true
 
--- a decision that is right: it leads there, and tells of a change exactly where it is one
+-- a decision that is right: it leads there, and reports of a change exactly where it is one
 abbrev pub IsDecidedTo : Office → (ByteMap → Answer × State) → Decision → Type 0
-IsDecidedTo s next d = LeadsTo s next d × TellsItsKind d
+IsDecidedTo s next d = LeadsTo s next d × ReportsItsKind d
 
 -- a decision to do these writes, with that answer
 abbrev pub IsGoing : Answer → List RowWrite → Decision → Type 0
-IsGoing answer writes (decision.Stay told) = ⊥
+IsGoing answer writes (decision.Stay reported) = ⊥
 IsGoing answer writes (decision.Go change) = (change.answer ≡ answer) × (change.writes.items ≡ writes)
 
 -- a decision leads where an act does: to that one's step, whatever the contents

@@ -77,7 +77,7 @@ target_status tree (target.Class code) = None
 target_status tree (target.Aggregation a) = None
 target_status tree (target.Record r) = status_of tree r
 
--- what the tree tells of a target: it is not there; it is an ended record
+-- what the tree reports of a target: it is not there; it is an ended record
 abbrev pub conditions_of_target : TreeState → Target → List (Refusal × Bool)
 conditions_of_target tree target = (NoSuch, lacks_target tree target) ∷ (Ended, holds_of (target_status tree target) is_ended) ∷ []
 

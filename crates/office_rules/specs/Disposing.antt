@@ -40,7 +40,7 @@ outcome_by _ _ _ = None
 abbrev pub outcome_of : Office → ℕ → Option Outcome
 outcome_of s r = outcome_by (status_of s.tree r) (action_of s.tree r) (is_held s.holds s.tree r)
 
--- a hold is told of a skipped record alone
+-- a hold is reported of a skipped record alone
 abbrev pub hold_by : Outcome → Option (List ℕ) → Option (List ℕ)
 hold_by outcome.Skipped hold = hold
 hold_by _ hold = None

@@ -3,7 +3,7 @@ pub mod Conditions
 pub mod Disposing
 pub mod Effects
 pub mod Forms
-pub mod Founding
+pub mod Loading
 pub mod Giving
 pub mod Meanings
 pub mod Readings

@@ -1,4 +1,4 @@
--- Words in which the laws are told. Source: own.
+-- Words in which the laws are reported. Source: own.
 use Rattle.std.specs.Prelude.{◌≡◌, ◌<◌, ◌≤◌, ℕ, Bool, true, List, length, Option, Some, None, IsTrue}
 use Rattle.office_base.specs.declared.refusal.Refusal.{Refusal}
 use Rattle.office_terms.specs.Conditions.{first_of}
@@ -18,11 +18,11 @@ use Rattle.std.specs.Prelude.{IfSome}
 abbrev pub IsAccepted : List (Refusal × Bool) → Type 0
 IsAccepted conditions = first_of conditions ≡ None
 
--- the record is held, as the office stands
+-- the record is held, as the office is
 abbrev pub IsHeldIn : Office → ℕ → Type 0
 IsHeldIn s r = is_held s.holds s.tree r ≡ true
 
--- the record whose end an answer tells
+-- the record whose end an answer reports
 abbrev pub ended_by : Answer → Option ℕ
 ended_by (Step r Destroyed) = Some r
 ended_by (Step r Transferred) = Some r
@@ -35,7 +35,7 @@ pub record IsCandidate (s : Office) (run r : ℕ) : Type 0 where
   pub ready : IsTrue (is_ready s (run_day s run) r)
 
 -- the forms of what is asked with a new record
-pub record IsFormedNewRecord (new : NewRecord) : Type 0 where
+pub record IsWellFormedNewRecord (new : NewRecord) : Type 0 where
   pub ref_text : IsText new.ref_text
   pub title : IsText new.title
   pub originated : IsDayNumber new.originated

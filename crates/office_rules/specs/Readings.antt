@@ -1,4 +1,4 @@
--- What is read of the office. Source: own; what is told of a record is MoReq2010's, its record, disposal scheduling and
+-- What is read of the office. Source: own; what is reported of a record is MoReq2010's, its record, disposal scheduling and
 -- disposal holding services.
 use Rattle.std.specs.Prelude.{◌≡◌, ◌↔◌, IsTrue, ℕ, ◌==◌, Bool, not, ◌&&◌, List, [], Option, Some, None, ℤ, pos, int_le, int_lt, if◌then◌else◌}
 use Rattle.std.specs.List.{find, Contains}
@@ -28,7 +28,7 @@ ending_entry s r = find (λ e. e.record_no == r && is_ending e.outcome) (values 
 abbrev pub all_entries_of : Office → List Entry
 all_entries_of s = values s.entries
 
--- what is told of a record: its head and status, and of its class, plan, due day, hold and confirmation what the office says now
+-- what is reported of a record: its head and status, and of its class, plan, due day, hold and confirmation what the office says now
 abbrev pub view_of : Office → ℕ → Record → Status → RecordView
 view_of s r head status = record {
   number = r;

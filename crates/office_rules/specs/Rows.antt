@@ -1,4 +1,4 @@
--- The rows of the tables that a state stands for. Source: own.
+-- The rows of the tables that represent a state. Source: own.
 use Rattle.std.specs.Prelude.{ℕ, Bool, ◌&&◌, ◌||◌, not, List, [], ◌∷◌, map, ℤ}
 use Rattle.std.specs.Option.{option_map}
 use Rattle.std.specs.Ordering.{nat_cmp, eq_by_cmp}
@@ -14,7 +14,7 @@ use Rattle.office_terms.specs.declared.event.Event.{Event}
 use Rattle.office_terms.specs.declared.head.Record.{Record}
 use Rattle.office_terms.specs.declared.schedule.Schedule.{Schedule}
 use Rattle.office_terms.specs.declared.status.Status.{Status}
-use Rattle.office_holds.specs.Founding.{is_pair}
+use Rattle.office_holds.specs.Loading.{is_pair}
 use Rattle.office_holds.specs.Holds.{HoldMap, has_target}
 use Rattle.office_holds.specs.Rows.{hold_row}
 use Rattle.office_terms.specs.declared.hold_row.HoldRow.{HoldRow}
@@ -74,7 +74,7 @@ record_rows (head ∷ heads) (status ∷ statuses) = record_row head status ∷ 
 abbrev pub targets_of : HoldMap → List ℕ → Target → Bool
 targets_of holds code target = holds_of (get holds code) (λ hold. has_target hold target)
 
--- the rows that a state stands for
+-- the rows that represent a state
 unfoldable pub rows_of : State → TableRows
 rows_of s = record {
   day = s.office.day;

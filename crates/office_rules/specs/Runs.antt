@@ -112,7 +112,7 @@ unfoldable pub spent_list : TreeState → List Entry → List ℕ
 spent_list tree entries =
     filter (λ a. is_spent tree a && list_any (is_ended_in entries) (records_below tree a)) (numbers_after 0 (length tree.aggregations))
 
--- the certificate of a run, as the office stands
+-- the certificate of a run, as the office is
 abbrev pub certificate_of : Office → ℕ → List ℕ
 certificate_of s run =
     certificate_text s.tree run (run_day s run) (opened_by s run) (entries_of s run) (spent_list s.tree (entries_of s run))
@@ -130,7 +130,7 @@ closed s run = record s { office = record (s.office) { runs = closed_runs s.offi
 abbrev pub whole : State → ℕ → State
 whole s run = closed (with_outcomes s run (candidates s.office run)) run
 
--- a state on the way of the run from s: the outcomes and entries of its first n candidates stand alone, or the run is whole
+-- a state on the way of the run from s: the outcomes and entries of its first n candidates are alone, or the run is whole
 abbrev pub IsMidway : State → ℕ → State → Type 0
 IsMidway s run t = ((n : ℕ) × (n ≤ length (candidates s.office run)) × (t ≡ with_outcomes s run (take n (candidates s.office run)))) ⊎ (t ≡ whole s run)
 

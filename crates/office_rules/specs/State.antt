@@ -9,7 +9,7 @@ use Rattle.office_holds.specs.Holds.{HoldMap}
 use Rattle.office_proof.specs.declared.entry.Entry.{Entry}
 use Rattle.office_rules.specs.declared.run.Run.{Run}
 
--- entries stand by run, then record
+-- entries are by run, then record
 abbrev pub entry_cmp : ℕ × ℕ → ℕ × ℕ → Ordering
 entry_cmp x y = ordering_then (nat_cmp x.0 y.0) (nat_cmp x.1 y.1)
 
@@ -21,7 +21,7 @@ EntryMap = FinMap entry_cmp Entry
 abbrev pub ByteMap : Type 0
 ByteMap = FinMap nat_cmp (List ℕ)
 
--- the office without contents; run n stands at place n - 1
+-- the office without contents; run n is at place n - 1
 pub record Office : Type 0 where
   pub tree : TreeState
   pub holds : HoldMap

@@ -50,7 +50,7 @@ by_same_record (Some r) s day new = (Same r, s)
 by_same_record None s day new =
     stepped (refusals_of_add_record s.office day new) s (Number (suc (length s.office.tree.records))) (with_new_record s day new)
 
--- the number of the same record, which is told before all refusals and changes nothing; else the new record's number
+-- the number of the same record, which is reported before all refusals and changes nothing; else the new record's number
 abbrev pub step_add_record : State → ℤ → NewRecord → Answer × State
 step_add_record s day new = by_same_record (same_record s.office new) s day new
 

@@ -1,4 +1,4 @@
--- The rows of the tables as they come from a file, and when they stand for a state. Source: own.
+-- The rows of the tables as they come from a file, and when they represent a state. Source: own.
 use Rattle.std.specs.Prelude.{◌≡◌, ◌≢◌, ◌∷◌, ◌++◌, [], ℕ, ℤ, List, map}
 use Rattle.std.specs.List.{fold, list_any}
 use Rattle.std.specs.String.{string_bytes}
@@ -6,7 +6,7 @@ use Rattle.office_terms.specs.declared.aggregation.Aggregation.{Aggregation}
 use Rattle.office_terms.specs.declared.class.Class.{Class}
 use Rattle.office_terms.specs.declared.event.Event.{Event}
 use Rattle.office_terms.specs.declared.schedule.Schedule.{Schedule}
-use Rattle.office_holds.specs.Founding.{is_pair}
+use Rattle.office_holds.specs.Loading.{is_pair}
 use Rattle.office_terms.specs.declared.hold_row.HoldRow.{HoldRow}
 use Rattle.office_terms.specs.declared.target.Target.{Target}
 use Rattle.office_proof.specs.declared.entry.Entry.{Entry}
@@ -74,8 +74,8 @@ lists_of t = record {
   certificates = map (λ e. (e.0, string_bytes e.1)) t.certificates.items;
 }
 
--- each table has exactly the rows that the state stands for, in the order of their keys, targets in any order; of contents the keys; an entry's key stands in it
-pub record StandsFor (t : TableLists) (s : State) : Type 0 where
+-- each table has exactly the rows that represent the state, in the order of their keys, targets in any order; of contents the keys; an entry's key is in it
+pub record Represents (t : TableLists) (s : State) : Type 0 where
   pub day : t.days ≡ (rows_of s).day ∷ []
   pub schedules : t.schedules ≡ (rows_of s).schedules
   pub classes : t.classes ≡ (rows_of s).classes
@@ -89,26 +89,26 @@ pub record StandsFor (t : TableLists) (s : State) : Type 0 where
   pub entries : map (λ e. ((e.run, e.record_no), e)) t.entries ≡ (rows_of s).entries_by
   pub certificates : t.certificates ≡ (rows_of s).certificates
 
--- rows that stand for no sound state
-abbrev pub StandForNone : TableLists → Type 0
-StandForNone t = (s : State) → StandsFor t s → IsSound s → ⊥
+-- rows that represent no sound state
+abbrev pub RepresentNone : TableLists → Type 0
+RepresentNone t = (s : State) → Represents t s → IsSound s → ⊥
 
 -- the list begins with those
-abbrev pub IsFront : {A : Type 0} → List A → List A → Type 0
-IsFront front xs = (rest : List _) × (xs ≡ front ++ rest)
+abbrev pub IsPrefix : {A : Type 0} → List A → List A → Type 0
+IsPrefix prefix xs = (rest : List _) × (xs ≡ prefix ++ rest)
 
 -- the rows that have come are the first of these tables, each table by itself; where targets came, all holds had come before them
-pub record Begins (front t : TableLists) : Type 0 where
-  pub days : IsFront front.days t.days
-  pub schedules : IsFront front.schedules t.schedules
-  pub classes : IsFront front.classes t.classes
-  pub aggregations : IsFront front.aggregations t.aggregations
-  pub records : IsFront front.records t.records
-  pub events : IsFront front.events t.events
-  pub contents : IsFront front.contents t.contents
-  pub holds : IsFront front.holds t.holds
-  pub all_holds : front.targets ≢ [] → t.holds ≡ front.holds
-  pub targets : IsFront front.targets t.targets
-  pub runs : IsFront front.runs t.runs
-  pub entries : IsFront front.entries t.entries
-  pub certificates : IsFront front.certificates t.certificates
+pub record Begins (prefix t : TableLists) : Type 0 where
+  pub days : IsPrefix prefix.days t.days
+  pub schedules : IsPrefix prefix.schedules t.schedules
+  pub classes : IsPrefix prefix.classes t.classes
+  pub aggregations : IsPrefix prefix.aggregations t.aggregations
+  pub records : IsPrefix prefix.records t.records
+  pub events : IsPrefix prefix.events t.events
+  pub contents : IsPrefix prefix.contents t.contents
+  pub holds : IsPrefix prefix.holds t.holds
+  pub all_holds : prefix.targets ≢ [] → t.holds ≡ prefix.holds
+  pub targets : IsPrefix prefix.targets t.targets
+  pub runs : IsPrefix prefix.runs t.runs
+  pub entries : IsPrefix prefix.entries t.entries
+  pub certificates : IsPrefix prefix.certificates t.certificates

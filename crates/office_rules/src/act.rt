@@ -97,7 +97,7 @@ pub enum Act {
         schedule: Option<Code>,
         by: Text,
     },
-    /// Tells a receiver's receipt for a record that was sent; `digest` is that of what was received.
+    /// Reports a receiver's receipt for a record that was sent; `digest` is that of what was received.
     Receipt {
         day: Day,
         record_no: RecordNo,

@@ -2,7 +2,7 @@
 use office_proof::Entry;
 use office_terms::Text;
 
-/// An entry of a run, as the register of entries tells it: the entry and, of its record, what its head says of ref
+/// An entry of a run, as the register of entries reports it: the entry and, of its record, what its head says of ref
 /// and content, borrowed from the office.
 #[derive(Clone, Copy)]
 pub struct EntryRow<'a> {

@@ -3,103 +3,103 @@
 ghost use Rattle.std.specs.Prelude.{◌≤◌, IfSome};
 ghost use Rattle.office_days.specs.Limits.{IsDayNumber, longest};
 ghost use Rattle.office_terms.specs.Forms.{IsCode, IsText};
-ghost use Rattle.office_holds.specs.Forms.{IsFormedTarget};
+ghost use Rattle.office_holds.specs.Forms.{IsWellFormedTarget};
 ghost use Rattle.office_rules.specs.Acts.{IsOnAggregations, IsOnHolds, IsOnRecords, IsOnRuns, IsOnSchedules};
-ghost use Rattle.office_rules.specs.Forms.{IsFormedAct};
-ghost use Rattle.office_rules.specs.Meanings.{IsFormedNewRecord};
+ghost use Rattle.office_rules.specs.Forms.{IsWellFormedAct};
+ghost use Rattle.office_rules.specs.Meanings.{IsWellFormedNewRecord};
 
 use crate::{Act, NewRecord};
 use office_days::{Day, Period};
 use office_terms::{Code, Target, Text};
 
 /// A code is of its form.
-fn formed_code(code: &Code)
+fn well_formed_code(code: &Code)
     ensures { IsCode code.now }
 {
     let _ = code.text();
 }
 
 /// And so is one where there may be none.
-fn formed_code_or_none(code: &Option<Code>)
+fn well_formed_code_or_none(code: &Option<Code>)
     ensures { IfSome code.now IsCode }
 {
     if let Some(code) = code {
-        formed_code(code);
+        well_formed_code(code);
     }
 }
 
 /// A text is of its form.
-fn formed_text(text: &Text)
+fn well_formed_text(text: &Text)
     ensures { IsText text.now }
 {
     let _ = text.text();
 }
 
 /// A day is one that may be handed in.
-fn formed_day(day: Day)
+fn well_formed_day(day: Day)
     ensures { IsDayNumber day }
 {
     let _ = day.number();
 }
 
 /// A period is within the limit of its unit.
-fn formed_period(period: Period)
+fn well_formed_period(period: Period)
     ensures { period.count ≤ longest period.unit }
 {
     let _ = period.count();
 }
 
 /// A target's code is of its form.
-fn formed_target(target: &Target)
-    ensures { IsFormedTarget target.now }
+fn well_formed_target(target: &Target)
+    ensures { IsWellFormedTarget target.now }
 {
     match target {
-        Target::Class(code) => formed_code(code),
+        Target::Class(code) => well_formed_code(code),
         Target::Aggregation(_) | Target::Record(_) => {}
     }
 }
 
 /// The members of a new record are of their forms, and its content is not too long.
-fn formed_new_record(new: &NewRecord)
-    ensures { IsFormedNewRecord new.now }
+fn well_formed_new_record(new: &NewRecord)
+    ensures { IsWellFormedNewRecord new.now }
 {
-    formed_text(&new.ref_text);
-    formed_text(&new.title);
-    formed_day(new.originated);
-    formed_code_or_none(&new.class);
-    formed_code_or_none(&new.schedule);
+    well_formed_text(&new.ref_text);
+    well_formed_text(&new.title);
+    well_formed_day(new.originated);
+    well_formed_code_or_none(&new.class);
+    well_formed_code_or_none(&new.schedule);
 }
 
 impl Act {
-    /// Tells in proofs that what an act asks for is of its form; a call does nothing.
+    /// Gives proofs the fact that what an act asks for is of its form; a call does nothing.
     pub fn formed(&self)
-        ensures { IsFormedAct self.now }
+        ensures { IsWellFormedAct self.now }
     {
         match self {
             Act::AddSchedule { .. } | Act::AddClass { .. } | Act::SetClassSchedule { .. } => {
-                self.formed_on_schedules()
+                self.well_formed_on_schedules()
             }
             Act::AddAggregation { .. } | Act::CloseAggregation { .. } | Act::Reclassify { .. } => {
-                self.formed_on_aggregations()
+                self.well_formed_on_aggregations()
             }
             Act::AddRecord { .. }
             | Act::SetRecordSchedule { .. }
             | Act::Confirm { .. }
             | Act::Review { .. }
             | Act::Receipt { .. }
-            | Act::Event { .. } => self.formed_on_records(),
+            | Act::Event { .. } => self.well_formed_on_records(),
             Act::PlaceHold { .. }
             | Act::HoldOn { .. }
             | Act::HoldOff { .. }
-            | Act::LiftHold { .. } => self.formed_on_holds(),
-            Act::OpenRun { .. } | Act::RunStep => self.formed_on_runs(),
+            | Act::LiftHold { .. } => self.well_formed_on_holds(),
+            Act::OpenRun { .. } | Act::RunStep => self.well_formed_on_runs(),
         }
     }
 
     /// An act on schedules and classes is of its form.
-    fn formed_on_schedules(&self)
+    fn well_formed_on_schedules(&self)
         requires { IsOnSchedules self.now }
-        ensures { IsFormedAct self.now }
+        ensures { IsWellFormedAct self.now }
     {
         match self {
             Act::AddSchedule {
@@ -108,9 +108,9 @@ impl Act {
                 period,
                 ..
             } => {
-                formed_day(*day);
-                formed_code(code);
-                formed_period(*period);
+                well_formed_day(*day);
+                well_formed_code(code);
+                well_formed_period(*period);
             }
             Act::AddClass {
                 day,
@@ -118,28 +118,28 @@ impl Act {
                 title,
                 schedule,
             } => {
-                formed_day(*day);
-                formed_code(code);
-                formed_text(title);
-                formed_code(schedule);
+                well_formed_day(*day);
+                well_formed_code(code);
+                well_formed_text(title);
+                well_formed_code(schedule);
             }
             Act::SetClassSchedule {
                 day,
                 class,
                 schedule,
             } => {
-                formed_day(*day);
-                formed_code(class);
-                formed_code(schedule);
+                well_formed_day(*day);
+                well_formed_code(class);
+                well_formed_code(schedule);
             }
             _ => unreachable!(),
         }
     }
 
     /// An act on aggregations, or on an own class, is of its form.
-    fn formed_on_aggregations(&self)
+    fn well_formed_on_aggregations(&self)
         requires { IsOnAggregations self.now }
-        ensures { IsFormedAct self.now }
+        ensures { IsWellFormedAct self.now }
     {
         match self {
             Act::AddAggregation {
@@ -149,37 +149,37 @@ impl Act {
                 class,
                 ..
             } => {
-                formed_day(*day);
-                formed_text(ref_text);
-                formed_text(title);
-                formed_code_or_none(class);
+                well_formed_day(*day);
+                well_formed_text(ref_text);
+                well_formed_text(title);
+                well_formed_code_or_none(class);
             }
-            Act::CloseAggregation { day, .. } => formed_day(*day),
+            Act::CloseAggregation { day, .. } => well_formed_day(*day),
             Act::Reclassify { day, class, .. } => {
-                formed_day(*day);
-                formed_code_or_none(class);
+                well_formed_day(*day);
+                well_formed_code_or_none(class);
             }
             _ => unreachable!(),
         }
     }
 
     /// A new record, or an act on a record, is of its form.
-    fn formed_on_records(&self)
+    fn well_formed_on_records(&self)
         requires { IsOnRecords self.now }
-        ensures { IsFormedAct self.now }
+        ensures { IsWellFormedAct self.now }
     {
         match self {
             Act::AddRecord { day, record } => {
-                formed_day(*day);
-                formed_new_record(record);
+                well_formed_day(*day);
+                well_formed_new_record(record);
             }
             Act::SetRecordSchedule { day, schedule, .. } => {
-                formed_day(*day);
-                formed_code_or_none(schedule);
+                well_formed_day(*day);
+                well_formed_code_or_none(schedule);
             }
             Act::Confirm { day, by, .. } | Act::Receipt { day, by, .. } => {
-                formed_day(*day);
-                formed_text(by);
+                well_formed_day(*day);
+                well_formed_text(by);
             }
             Act::Review {
                 day,
@@ -187,9 +187,9 @@ impl Act {
                 by,
                 ..
             } => {
-                formed_day(*day);
-                formed_code_or_none(schedule);
-                formed_text(by);
+                well_formed_day(*day);
+                well_formed_code_or_none(schedule);
+                well_formed_text(by);
             }
             Act::Event {
                 day,
@@ -197,18 +197,18 @@ impl Act {
                 by,
                 ..
             } => {
-                formed_day(*day);
-                formed_day(*occurred);
-                formed_text(by);
+                well_formed_day(*day);
+                well_formed_day(*occurred);
+                well_formed_text(by);
             }
             _ => unreachable!(),
         }
     }
 
     /// An act on holds is of its form.
-    fn formed_on_holds(&self)
+    fn well_formed_on_holds(&self)
         requires { IsOnHolds self.now }
-        ensures { IsFormedAct self.now }
+        ensures { IsWellFormedAct self.now }
     {
         match self {
             Act::PlaceHold {
@@ -217,19 +217,19 @@ impl Act {
                 reason,
                 by,
             } => {
-                formed_day(*day);
-                formed_code(code);
-                formed_text(reason);
-                formed_text(by);
+                well_formed_day(*day);
+                well_formed_code(code);
+                well_formed_text(reason);
+                well_formed_text(by);
             }
             Act::HoldOn {
                 day,
                 hold: code,
                 target,
             } => {
-                formed_day(*day);
-                formed_code(code);
-                formed_target(target);
+                well_formed_day(*day);
+                well_formed_code(code);
+                well_formed_target(target);
             }
             Act::HoldOff {
                 day,
@@ -237,22 +237,22 @@ impl Act {
                 ..
             }
             | Act::LiftHold { day, hold: code } => {
-                formed_day(*day);
-                formed_code(code);
+                well_formed_day(*day);
+                well_formed_code(code);
             }
             _ => unreachable!(),
         }
     }
 
     /// An act on runs is of its form.
-    fn formed_on_runs(&self)
+    fn well_formed_on_runs(&self)
         requires { IsOnRuns self.now }
-        ensures { IsFormedAct self.now }
+        ensures { IsWellFormedAct self.now }
     {
         match self {
             Act::OpenRun { day, by } => {
-                formed_day(*day);
-                formed_text(by);
+                well_formed_day(*day);
+                well_formed_text(by);
             }
             Act::RunStep => {}
             _ => unreachable!(),

@@ -1,8 +1,8 @@
 //! The rows of tables that are in memory, given one after another to what takes rows in.
 ghost use Rattle.std.specs.Prelude.{◌≡◌, IfOk, OnOk, map};
 ghost use Rattle.office_base.specs.Rows.{OnDamaged};
-ghost use Rattle.office_rules.specs.Giving.{IsSameRow, StandForNoneFrom, up_to_classes, up_to_contents, up_to_targets};
-ghost use Rattle.office_rules.specs.Tables.{Begins, StandForNone, TableLists, lists_of, no_rows, with_row, with_rows};
+ghost use Rattle.office_rules.specs.Giving.{IsSameRow, RepresentNoneFrom, up_to_classes, up_to_contents, up_to_targets};
+ghost use Rattle.office_rules.specs.Tables.{Begins, RepresentNone, TableLists, lists_of, no_rows, with_row, with_rows};
 ghost use Rattle.office_rules.specs.declared.table_row.Row.TheVariants as of_table;
 
 use crate::copies::copy_entry;
@@ -12,7 +12,7 @@ use office_proof::{Entry, RunNo};
 use office_terms::{AggNo, Aggregation, Class, Code, Event, HoldRow, RecordNo, Schedule, Target};
 use std::alloc::Global;
 
-/// What stands in a table that is in memory.
+/// What is in a table that is in memory.
 trait Kept: Sized {
     ghost use Rattle.office_rules.specs.declared.table_row.Row.{Row};
 
@@ -144,7 +144,7 @@ impl Kept for (RunNo, String) {
 /// Gives a copy of one row.
 fn give<T: Kept, I: Intake>(alloc: Global, row: &T, intake: &mut I) -> Result<(), Rebuild>
     ensures ok { OnOk result (I.content intake.new ≡ with_row (I.content intake.old) (T.row_of row.now)) }
-    ensures damaged { OnDamaged result ((t : TableLists) → Begins (with_row (I.content intake.old) (T.row_of row.now)) t → StandForNone t) }
+    ensures damaged { OnDamaged result ((t : TableLists) → Begins (with_row (I.content intake.old) (T.row_of row.now)) t → RepresentNone t) }
 {
     match row.copied(alloc) {
         Ok(copy) => intake.row(copy),
@@ -155,7 +155,7 @@ fn give<T: Kept, I: Intake>(alloc: Global, row: &T, intake: &mut I) -> Result<()
 /// Gives copies of all the rows of a table, in their order.
 fn give_all<T: Kept, I: Intake>(alloc: Global, rows: &[T], intake: &mut I) -> Result<(), Rebuild>
     ensures ok { OnOk result (I.content intake.new ≡ with_rows (I.content intake.old) (map T.row_of rows.now)) }
-    ensures damaged { OnDamaged result (StandForNoneFrom (I.content intake.old) T.row_of rows.now) }
+    ensures damaged { OnDamaged result (RepresentNoneFrom (I.content intake.old) T.row_of rows.now) }
 {
     for row in rows {
         give(alloc, row, intake)?;
@@ -168,7 +168,7 @@ impl Tables {
     fn give_plan<I: Intake>(&self, alloc: Global, intake: &mut I) -> Result<(), Rebuild>
         requires { I.content intake.old ≡ no_rows }
         ensures ok { OnOk result (I.content intake.new ≡ up_to_classes (lists_of self.now)) }
-        ensures damaged { OnDamaged result (StandForNone (lists_of self.now)) }
+        ensures damaged { OnDamaged result (RepresentNone (lists_of self.now)) }
     {
         intake.row(Row::Office { day: self.day })?;
         give_all(alloc, &self.schedules, intake)?;
@@ -179,7 +179,7 @@ impl Tables {
     fn give_records<I: Intake>(&self, alloc: Global, intake: &mut I) -> Result<(), Rebuild>
         requires { I.content intake.old ≡ up_to_classes (lists_of self.now) }
         ensures ok { OnOk result (I.content intake.new ≡ up_to_contents (lists_of self.now)) }
-        ensures damaged { OnDamaged result (StandForNone (lists_of self.now)) }
+        ensures damaged { OnDamaged result (RepresentNone (lists_of self.now)) }
     {
         give_all(alloc, &self.aggregations, intake)?;
         give_all(alloc, &self.records, intake)?;
@@ -191,7 +191,7 @@ impl Tables {
     fn give_holds<I: Intake>(&self, alloc: Global, intake: &mut I) -> Result<(), Rebuild>
         requires { I.content intake.old ≡ up_to_contents (lists_of self.now) }
         ensures ok { OnOk result (I.content intake.new ≡ up_to_targets (lists_of self.now)) }
-        ensures damaged { OnDamaged result (StandForNone (lists_of self.now)) }
+        ensures damaged { OnDamaged result (RepresentNone (lists_of self.now)) }
     {
         give_all(alloc, &self.holds, intake)?;
         give_all(alloc, &self.targets, intake)
@@ -201,7 +201,7 @@ impl Tables {
     fn give_runs<I: Intake>(&self, alloc: Global, intake: &mut I) -> Result<(), Rebuild>
         requires { I.content intake.old ≡ up_to_targets (lists_of self.now) }
         ensures ok { OnOk result (I.content intake.new ≡ lists_of self.now) }
-        ensures damaged { OnDamaged result (StandForNone (lists_of self.now)) }
+        ensures damaged { OnDamaged result (RepresentNone (lists_of self.now)) }
     {
         give_all(alloc, &self.runs, intake)?;
         give_all(alloc, &self.entries, intake)?;
@@ -209,11 +209,11 @@ impl Tables {
     }
 
     /// Gives copies of all the rows, in the order in which an intake takes them; damaged only where the
-    /// tables stand for no state.
+    /// tables represent no state.
     pub fn give<I: Intake>(&self, alloc: Global, intake: &mut I) -> Result<(), Rebuild>
         requires { I.content intake.old ≡ no_rows }
         ensures ok { OnOk result (I.content intake.new ≡ lists_of self.now) }
-        ensures damaged { OnDamaged result (StandForNone (lists_of self.now)) }
+        ensures damaged { OnDamaged result (RepresentNone (lists_of self.now)) }
     {
         self.give_plan(alloc, intake)?;
         self.give_records(alloc, intake)?;

@@ -12,7 +12,7 @@ use office_terms::{
 };
 use std::alloc::Global;
 
-/// The columns of a record: those of its review, its confirmation and its receipt stand each by
+/// The columns of a record: those of its review, its confirmation and its receipt are each by
 /// itself, as they do in a table, where nothing but a check keeps a group of them together.
 #[derive(Drop)]
 pub struct RecordRow {
@@ -37,7 +37,7 @@ pub struct RecordRow {
 }
 
 impl RecordRow {
-    /// Those who reviewed, who confirmed and who told the receipt, each once more.
+    /// Those who reviewed, who confirmed and who reported the receipt, each once more.
     fn copy_people(
         &self,
         alloc: Global,

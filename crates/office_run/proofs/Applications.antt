@@ -17,7 +17,7 @@ use Rattle.office_run.specs.Endings.{ending_of_acts, is_refusal}
 use Rattle.office_run.specs.declared.ending.Ending.{Ending}
 use Rattle.office_run.specs.declared.ending.Ending.TheVariants as how
 
--- what is performed of the states that are told in one way is so of those told in another
+-- what is performed of the states that are reported in one way is so of those reported in another
 pub performs_of : (Of Others : (State → Type 0) → Type 0) → ((P : State → Type 0) → Of P → Others P) → (acts : List Act) (new : FileState) (written after : Option (List ℕ)) (e : Ending) → Performs Of acts new written after e → Performs Others acts new written after e
 performs_of Of Others to acts new written after how.Done h = to _ h
 performs_of Of Others to acts new written after how.SomeRefused h = to _ h
@@ -38,35 +38,35 @@ pub applies_of : (Of Others : (State → Type 0) → Type 0) → ((P : State →
 applies_of Of Others to text new written after e (inl unread) = inl (unread.0, to _ unread.1, unread.2)
 applies_of Of Others to text new written after e (inr done) = inr (done.0, done.1, performs_of Of Others to done.0 new written after e done.2)
 
--- acts that were all done and whose answers are told, by whether one of these is a refusal
+-- acts that were all done and whose answers are reported, by whether one of these is a refusal
 answered_performs : (A : Type 0) (B : State → Type 0) (acts : List Act) (new : FileState) (written after : Option (List ℕ)) (given : List Answer) (some : Bool) → list_any is_refusal given ≡ some
     → Appends written after (answer_lines given) → ((t : State) → A → B t → AreDone acts new t × (given ≡ answers t acts))
     → Performs (λ P. (t : State) → A → B t → P t) acts new written after (if some then how.SomeRefused else how.Done)
-answered_performs A B acts new written after given true some told done = λ t a b. let it = done t a b in
-    record { done = it.0; told = subst (λ (x : List Answer). Appends written after (answer_lines x)) it.1 told; refused = ap (list_any is_refusal) (sym it.1) ∙ some }
-answered_performs A B acts new written after given false some told done = λ t a b. let it = done t a b in
-    record { done = it.0; told = subst (λ (x : List Answer). Appends written after (answer_lines x)) it.1 told; refused = ap (list_any is_refusal) (sym it.1) ∙ some }
+answered_performs A B acts new written after given true some reported done = λ t a b. let it = done t a b in
+    record { done = it.0; reported = subst (λ (x : List Answer). Appends written after (answer_lines x)) it.1 reported; refused = ap (list_any is_refusal) (sym it.1) ∙ some }
+answered_performs A B acts new written after given false some reported done = λ t a b. let it = done t a b in
+    record { done = it.0; reported = subst (λ (x : List Answer). Appends written after (answer_lines x)) it.1 reported; refused = ap (list_any is_refusal) (sym it.1) ∙ some }
 
--- acts whose answers are told, all of them or those before a fault
-pub told_performs : (A : Type 0) (B : State → Type 0) (acts : List Act) (new : FileState) (written after : Option (List ℕ)) (done : Result (Unit {0}) Fault) (given : List Answer) (e : Ending) → e ≡ ending_of_acts done given
+-- acts whose answers are reported, all of them or those before a fault
+pub reported_performs : (A : Type 0) (B : State → Type 0) (acts : List Act) (new : FileState) (written after : Option (List ℕ)) (done : Result (Unit {0}) Fault) (given : List Answer) (e : Ending) → e ≡ ending_of_acts done given
     → Appends written after (answer_lines given)
     → ((t : State) → A → B t → OnOk done (AreDone acts new t × (given ≡ answers t acts)))
     → ((t : State) → A → B t → IfErr done (λ f. (n : ℕ) × AreStopped f acts n new t × (given ≡ answers t (take n acts))))
     → Performs (λ P. (t : State) → A → B t → P t) acts new written after e
-told_performs A B acts new written after (Ok it) given e is told done stopped =
+reported_performs A B acts new written after (Ok it) given e is reported done stopped =
     subst (λ (x : Ending). Performs (λ P. (t : State) → A → B t → P t) acts new written after x) (sym is)
-    (answered_performs A B acts new written after given (list_any is_refusal given) refl told done)
-told_performs A B acts new written after (Err f) given e is told done stopped =
+    (answered_performs A B acts new written after given (list_any is_refusal given) refl reported done)
+reported_performs A B acts new written after (Err f) given e is reported done stopped =
     subst (λ (x : Ending). Performs (λ P. (t : State) → A → B t → P t) acts new written after x) (sym is)
-    (λ t a b. let stop = stopped t a b in (stop.0, record { stopped = stop.1; told = subst (λ (x : List Answer). Appends written after (answer_lines x)) stop.2 told }))
+    (λ t a b. let stop = stopped t a b in (stop.0, record { stopped = stop.1; reported = subst (λ (x : List Answer). Appends written after (answer_lines x)) stop.2 reported }))
 
--- acts whose answers were not told whole
-pub untold_performs : (A : Type 0) (B : State → Type 0) (acts : List Act) (new : FileState) (written after : Option (List ℕ)) (done : Result (Unit {0}) Fault) (given : List Answer)
+-- acts whose answers were not reported whole
+pub unreported_performs : (A : Type 0) (B : State → Type 0) (acts : List Act) (new : FileState) (written after : Option (List ℕ)) (done : Result (Unit {0}) Fault) (given : List Answer)
     → ((t : State) → A → B t → OnOk done (AreDone acts new t × (given ≡ answers t acts)))
     → ((t : State) → A → B t → IfErr done (λ f. (n : ℕ) × AreStopped f acts n new t × (given ≡ answers t (take n acts))))
     → Performs (λ P. (t : State) → A → B t → P t) acts new written after how.File
-untold_performs A B acts new written after (Ok it) given done stopped = λ t a b. inl (done t a b).0
-untold_performs A B acts new written after (Err f) given done stopped = λ t a b. let stop = stopped t a b in inr (f, stop.0, stop.1)
+unreported_performs A B acts new written after (Ok it) given done stopped = λ t a b. inl (done t a b).0
+unreported_performs A B acts new written after (Err f) given done stopped = λ t a b. let stop = stopped t a b in inr (f, stop.0, stop.1)
 
 -- the acts of a text that were performed were applied
 pub performs_applies : (Of : (State → Type 0) → Type 0) (text : List ℕ) (new : FileState) (written after : Option (List ℕ)) (e : Ending) (acts items : List Act) → acts ≡ items → acts_in text ≡ Ok (map asked items)

@@ -22,18 +22,18 @@ module _ {S : Type 0} (g : Ghosts S) (conn : Held S) (desk : DeskState S) (it : 
 
   -- what is so of each state with the office of the desk is so of the one that was opened
   pub of_office : (P : State → Type 0) → ((s : State) → s.office ≡ desk.office → P s) → IsOfOpened (state g conn) (state g desk.held) P
-  of_office P told = record {
-    made = λ clean blank. told empty_state (sym ((it.finds clean).made blank).office);
-    found = λ clean rest. let f = (it.finds clean).found edition.Two rest in (f.0, f.1, told f.0 (sym f.2.office));
-    moved = λ clean rest. let f = (it.finds clean).found edition.One rest in (f.0, f.1, told f.0 (sym f.2.office));
+  of_office P reported = record {
+    made = λ clean blank. reported empty_state (sym ((it.finds clean).made blank).office);
+    found = λ clean rest. let f = (it.finds clean).found edition.Two rest in (f.0, f.1, reported f.0 (sym f.2.office));
+    moved = λ clean rest. let f = (it.finds clean).found edition.One rest in (f.0, f.1, reported f.0 (sym f.2.office));
   }
 
-  -- what is so of each state at which the desk stood is so of the one that was opened, once something was done at the desk
+  -- what is so of each state at which the desk was is so of the one that was opened, once something was done at the desk
   pub of_desk : (after : DeskState S) → (HasCleanDisk (state g after.held) → HasCleanDisk (state g desk.held)) → (P : State → Type 0) → AtDesk g desk after P → IsOfOpened (state g conn) (state g after.held) P
-  of_desk after was_clean P told = record {
-    made = λ clean blank. told empty_state clean ((it.finds (was_clean clean)).made blank);
-    found = λ clean rest. let f = (it.finds (was_clean clean)).found edition.Two rest in (f.0, f.1, told f.0 clean f.2);
-    moved = λ clean rest. let f = (it.finds (was_clean clean)).found edition.One rest in (f.0, f.1, told f.0 clean f.2);
+  of_desk after was_clean P reported = record {
+    made = λ clean blank. reported empty_state clean ((it.finds (was_clean clean)).made blank);
+    found = λ clean rest. let f = (it.finds (was_clean clean)).found edition.Two rest in (f.0, f.1, reported f.0 clean f.2);
+    moved = λ clean rest. let f = (it.finds (was_clean clean)).found edition.One rest in (f.0, f.1, reported f.0 clean f.2);
   }
 
   -- it is the desk of the connection that a service has

@@ -7,7 +7,7 @@ use Rattle.office_run.specs.Running.{InitEnds, version_line}
 use Rattle.office_run.specs.declared.ending.Ending.{Ending}
 use Rattle.office_run.specs.declared.ending.Ending.TheVariants.{Done, File}
 
--- an office that was opened ends as the telling of its version
+-- an office that was opened ends as the reporting of its version
 pub opened-ends : (old new : FileState) (written after : Option (List ℕ)) (e : Ending) → (e ≡ Done) ⊎ (e ≡ File) → (e ≡ Done → Appends written after version_line) → IsOpened old new → InitEnds old new written after e
-opened-ends old new written after e (inl done) told opened = subst (λ (x : Ending). InitEnds old new written after x) (sym done) (opened, told done)
-opened-ends old new written after e (inr file) told opened = subst (λ (x : Ending). InitEnds old new written after x) (sym file) opened
+opened-ends old new written after e (inl done) reported opened = subst (λ (x : Ending). InitEnds old new written after x) (sym done) (opened, reported done)
+opened-ends old new written after e (inr file) reported opened = subst (λ (x : Ending). InitEnds old new written after x) (sym file) opened

@@ -10,7 +10,7 @@ use Rattle.office_run.specs.Exporting.{Exports, IsRegister}
 use Rattle.office_run.specs.declared.ending.Ending.{Ending}
 use Rattle.office_run.specs.declared.ending.Ending.TheVariants as how
 
--- an export that is so of the states that are told in one way is so of those told in another
+-- an export that is so of the states that are reported in one way is so of those reported in another
 pub exports_of : (Of Others : (State → Type 0) → Type 0) → ((P : State → Type 0) → Of P → Others P) → (it : Register) (written after : Option (List ℕ)) (e : Ending) → Exports Of it written after e → Exports Others it written after e
 exports_of Of Others to it written after how.Done h = to _ h
 exports_of Of Others to it written after (how.Refused refusal) h = h
@@ -26,20 +26,20 @@ exports_of Of Others to it written after how.SomeFailed h = h
 exports_of Of Others to it written after how.File h = h
 exports_of Of Others to it written after (how.Fault f) h = h
 
-not_gone : (is_given_up : Bool) → is_given_up ≡ false → IsTrue is_given_up → ⊥
+not_gone : (is_poisoned : Bool) → is_poisoned ≡ false → IsTrue is_poisoned → ⊥
 not_gone true still gone = absurd cc
 not_gone false still gone = let no : false ≡ true = gone in absurd cc
 
-stopped : (Of : (State → Type 0) → Type 0) (it : Register) (written after : Option (List ℕ)) (stop : ExportStop) (is_given_up : Bool) → is_given_up ≡ false
-    → (stop ≡ export.Io) ⊎ ((stop ≡ export.Fault fault.Memory) ⊎ (stop ≡ export.Fault fault.Reopen) × IsTrue is_given_up) → Exports Of it written after (ending_of_export (Err stop))
-stopped Of it written after stop is_given_up still (inl io) = subst (λ (x : ExportStop). Exports Of it written after (ending_of_export (Err x))) (sym io) tt
-stopped Of it written after stop is_given_up still (inr (inl memory)) = subst (λ (x : ExportStop). Exports Of it written after (ending_of_export (Err x))) (sym memory) refl
-stopped Of it written after stop is_given_up still (inr (inr gone)) = absurd (not_gone is_given_up still gone.1)
+stopped : (Of : (State → Type 0) → Type 0) (it : Register) (written after : Option (List ℕ)) (stop : ExportStop) (is_poisoned : Bool) → is_poisoned ≡ false
+    → (stop ≡ export.Io) ⊎ ((stop ≡ export.Fault fault.Memory) ⊎ (stop ≡ export.Fault fault.Reopen) × IsTrue is_poisoned) → Exports Of it written after (ending_of_export (Err stop))
+stopped Of it written after stop is_poisoned still (inl io) = subst (λ (x : ExportStop). Exports Of it written after (ending_of_export (Err x))) (sym io) tt
+stopped Of it written after stop is_poisoned still (inr (inl memory)) = subst (λ (x : ExportStop). Exports Of it written after (ending_of_export (Err x))) (sym memory) refl
+stopped Of it written after stop is_poisoned still (inr (inr gone)) = absurd (not_gone is_poisoned still gone.1)
 
 -- an export ends as the register was written
-pub exported : (old : Office) (it : Register) (written after : Option (List ℕ)) (is_given_up : Bool) (x : Result (Unit {0}) ExportStop) (e : Ending) → is_given_up ≡ false → e ≡ ending_of_export x
+pub exported : (old : Office) (it : Register) (written after : Option (List ℕ)) (is_poisoned : Bool) (x : Result (Unit {0}) ExportStop) (e : Ending) → is_poisoned ≡ false → e ≡ ending_of_export x
     → OnOk x (IsRegister it written after old)
-    → IfErr x (λ stop. (stop ≡ export.Io) ⊎ ((stop ≡ export.Fault fault.Memory) ⊎ (stop ≡ export.Fault fault.Reopen) × IsTrue is_given_up))
+    → IfErr x (λ stop. (stop ≡ export.Io) ⊎ ((stop ≡ export.Fault fault.Memory) ⊎ (stop ≡ export.Fault fault.Reopen) × IsTrue is_poisoned))
     → Exports (λ P. (s : State) → s.office ≡ old → P s) it written after e
-exported old it written after is_given_up (Ok done) e still is ok err = rw is (λ s same. subst (IsRegister it written after) (sym same) ok)
-exported old it written after is_given_up (Err stop) e still is ok err = rw is (stopped (λ P. (s : State) → s.office ≡ old → P s) it written after stop is_given_up still err)
+exported old it written after is_poisoned (Ok done) e still is ok err = rw is (λ s same. subst (IsRegister it written after) (sym same) ok)
+exported old it written after is_poisoned (Err stop) e still is ok err = rw is (stopped (λ P. (s : State) → s.office ≡ old → P s) it written after stop is_poisoned still err)

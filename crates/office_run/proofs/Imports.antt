@@ -5,13 +5,13 @@ use Rattle.sqlite.specs.State.{State as FileState, HasCleanDisk}
 use Rattle.sqlite_trees.specs.declared.store.Store.{Ghosts}
 use Rattle.office_rules.specs.State.{State}
 use Rattle.office_rules.specs.Rows.{rows_of}
-use Rattle.office_store.specs.Stands.{HoldsRows}
+use Rattle.office_store.specs.RepresentsRows.{HoldsRows}
 use Rattle.office_store.specs.declared.fault.Fault.{Fault}
 use Rattle.office_store.specs.declared.fault.Fault.TheVariants as fault
 use Rattle.office_desk.specs.Desk.{DeskState}
-use Rattle.office_desk.specs.Leaving.{StandsAt}
+use Rattle.office_desk.specs.Leaving.{IsAt}
 use Rattle.office_csv.specs.ImportRows.{Fields}
-use Rattle.office_wire.specs.Importing.{AreFrontRows, AreSomeRows, EndsImport, Imports, IsRowStopped, Stops}
+use Rattle.office_wire.specs.Importing.{ArePrefixRows, AreSomeRows, EndsImport, Imports, IsRowStopped, Stops}
 use Rattle.office_wire.specs.declared.importing.ImportStop.{ImportStop}
 use Rattle.office_wire.specs.declared.importing.ImportStop.TheVariants as import
 use Rattle.office_run.specs.Endings.{ending_of_import}
@@ -19,7 +19,7 @@ use Rattle.office_run.specs.Importing.{AreAllSaved, ImportsAt, IsRowCut}
 use Rattle.office_run.specs.declared.ending.Ending.{Ending}
 use Rattle.office_run.specs.declared.ending.Ending.TheVariants as how
 
--- what is imported into the states that are told in one way is so into those told in another
+-- what is imported into the states that are reported in one way is so into those reported in another
 pub imports_of : (Of Others : (State → Type 0) → Type 0) → ((P : State → Type 0) → Of P → Others P) → (day : ℤ) (text : Option (List ℕ)) (new : FileState) (written after : Option (List ℕ)) (e : Ending) → ImportsAt Of day text new written after e → ImportsAt Others day text new written after e
 imports_of Of Others to day text new written after how.Done h = to _ h
 imports_of Of Others to day text new written after how.SomeRefused h = to _ h
@@ -37,38 +37,38 @@ imports_of Of Others to day text new written after how.SomeFailed h = h
 
 saved : {S : Type 0} (g : Ghosts S) (day : ℤ) (text : Option (List ℕ)) (t : State) (refused : ℕ) (desk : DeskState S) (written after : Option (List ℕ)) (none : Bool) → (refused == 0) ≡ none → Imports g day t text refused desk written after → AreAllSaved day text none (state g desk.held) written after t
 saved g day text t refused desk written after none is it =
-    (it.0, it.1, it.2, it.3, record { done = it.4.done; saved = it.4.stands.rows; told = it.4.told }, ap (λ (n : ℕ). n == 0) (sym it.5) ∙ is)
+    (it.0, it.1, it.2, it.3, record { done = it.4.done; saved = it.4.represents.rows; reported = it.4.reported }, ap (λ (n : ℕ). n == 0) (sym it.5) ∙ is)
 
 all_done : {S : Type 0} (g : Ghosts S) (day : ℤ) (text : Option (List ℕ)) (refused : ℕ) (old desk : DeskState S) (written after : Option (List ℕ)) (none : Bool) → (refused == 0) ≡ none
-    → ((t : State) → HasCleanDisk (state g desk.held) → StandsAt g t old → Imports g day t text refused desk written after)
-    → ImportsAt (λ P. (t : State) → HasCleanDisk (state g desk.held) → StandsAt g t old → P t) day text (state g desk.held) written after (if none then how.Done else how.SomeRefused)
-all_done g day text refused old desk written after true is h = λ t clean stands. saved g day text t refused desk written after true is (h t clean stands)
-all_done g day text refused old desk written after false is h = λ t clean stands. saved g day text t refused desk written after false is (h t clean stands)
+    → ((t : State) → HasCleanDisk (state g desk.held) → IsAt g t old → Imports g day t text refused desk written after)
+    → ImportsAt (λ P. (t : State) → HasCleanDisk (state g desk.held) → IsAt g t old → P t) day text (state g desk.held) written after (if none then how.Done else how.SomeRefused)
+all_done g day text refused old desk written after true is h = λ t clean represents. saved g day text t refused desk written after true is (h t clean represents)
+all_done g day text refused old desk written after false is h = λ t clean represents. saved g day text t refused desk written after false is (h t clean represents)
 
 row_cut : {S : Type 0} (g : Ghosts S) (day : ℤ) (u : State) (row : Fields) (f : Fault) (desk : DeskState S) → IsRowStopped g day u row f desk → IsRowCut day u row f (state g desk.held)
 row_cut g day u row f desk (inl it) = inl (it.0, it.1.rows)
 row_cut g day u row f desk (inr it) = inr (it.0, it.1, it.2, it.3, it.4.1)
 
 cut : {S : Type 0} (g : Ghosts S) (day : ℤ) (text : Option (List ℕ)) (u : State) (rows : List Fields) (f : Fault) (desk : DeskState S)
-    → (f ≡ fault.Memory) × AreFrontRows text rows × StandsAt g u desk ⊎ ((row : Fields) × AreSomeRows text (rows ++ row ∷ []) × IsRowStopped g day u row f desk)
-    → (f ≡ fault.Memory) × AreFrontRows text rows × HoldsRows (rows_of u) (state g desk.held) ⊎ ((row : Fields) × AreSomeRows text (rows ++ row ∷ []) × IsRowCut day u row f (state g desk.held))
+    → (f ≡ fault.Memory) × ArePrefixRows text rows × IsAt g u desk ⊎ ((row : Fields) × AreSomeRows text (rows ++ row ∷ []) × IsRowStopped g day u row f desk)
+    → (f ≡ fault.Memory) × ArePrefixRows text rows × HoldsRows (rows_of u) (state g desk.held) ⊎ ((row : Fields) × AreSomeRows text (rows ++ row ∷ []) × IsRowCut day u row f (state g desk.held))
 cut g day text u rows f desk (inl it) = inl (it.0, it.1, it.2.rows)
 cut g day text u rows f desk (inr it) = inr (it.0, it.1, row_cut g day u it.0 f desk it.2)
 
 stopped : {S : Type 0} (g : Ghosts S) (day : ℤ) (text : Option (List ℕ)) (old desk : DeskState S) (written after : Option (List ℕ)) (why : ImportStop)
-    → ((t : State) → HasCleanDisk (state g desk.held) → StandsAt g t old → Stops g day t text why desk written after)
-    → ImportsAt (λ P. (t : State) → HasCleanDisk (state g desk.held) → StandsAt g t old → P t) day text (state g desk.held) written after (ending_of_import (Err why))
-stopped g day text old desk written after import.Header h = λ t clean stands. let it = h t clean stands in (it.0, it.1.rows, it.2)
-stopped g day text old desk written after (import.Row number) h = λ t clean stands. let it = h t clean stands in
-    (it.0, it.1, it.2, it.3, record { done = it.4.done; saved = it.4.stands.rows; told = it.4.told }, it.5)
-stopped g day text old desk written after (import.Fault f) h = λ t clean stands. let it = h t clean stands in
+    → ((t : State) → HasCleanDisk (state g desk.held) → IsAt g t old → Stops g day t text why desk written after)
+    → ImportsAt (λ P. (t : State) → HasCleanDisk (state g desk.held) → IsAt g t old → P t) day text (state g desk.held) written after (ending_of_import (Err why))
+stopped g day text old desk written after import.Header h = λ t clean represents. let it = h t clean represents in (it.0, it.1.rows, it.2)
+stopped g day text old desk written after (import.Row number) h = λ t clean represents. let it = h t clean represents in
+    (it.0, it.1, it.2, it.3, record { done = it.4.done; saved = it.4.represents.rows; reported = it.4.reported }, it.5)
+stopped g day text old desk written after (import.Fault f) h = λ t clean represents. let it = h t clean represents in
     (it.0, it.1, it.2, it.3, it.4, cut g day text it.2 it.0 f desk it.5)
-stopped g day text old desk written after import.Io h = λ t clean stands. let it = h t clean stands in
+stopped g day text old desk written after import.Io h = λ t clean represents. let it = h t clean represents in
     (it.0, it.1, it.2, it.3, it.4, it.5.rows)
 
 -- an import ends as it was done
 pub imported : {S : Type 0} (g : Ghosts S) (day : ℤ) (text : Option (List ℕ)) (old desk : DeskState S) (written after : Option (List ℕ)) (x : Result ℕ ImportStop) (e : Ending) → e ≡ ending_of_import x
-    → ((t : State) → HasCleanDisk (state g desk.held) → StandsAt g t old → EndsImport g day t text x desk written after)
-    → ImportsAt (λ P. (t : State) → HasCleanDisk (state g desk.held) → StandsAt g t old → P t) day text (state g desk.held) written after e
+    → ((t : State) → HasCleanDisk (state g desk.held) → IsAt g t old → EndsImport g day t text x desk written after)
+    → ImportsAt (λ P. (t : State) → HasCleanDisk (state g desk.held) → IsAt g t old → P t) day text (state g desk.held) written after e
 imported g day text old desk written after (Ok refused) e is did = rw is (all_done g day text refused old desk written after (refused == 0) refl did)
 imported g day text old desk written after (Err why) e is did = rw is (stopped g day text old desk written after why did)

@@ -15,7 +15,7 @@ use Rattle.sqlite.specs.State.{HasCleanDisk}
 use Rattle.sqlite.proofs.Theorems.{opens_again}
 use Rattle.office_rules.specs.Rows.{rows_of}
 use Rattle.office_rules.specs.State.{State}
-use Rattle.office_store.specs.Stands.{StandsIn}
+use Rattle.office_store.specs.RepresentsRows.{RepresentsRowsIn}
 use Rattle.office_words.specs.Orders.{Ordered}
 use Rattle.office_run.specs.Files.{HeldOffice, IsLeftOf, RunsInFiles, ServesInFiles}
 use Rattle.office_run.specs.NextWord.{HoldsOfficeAt, IsLeftBy, IsServedTo, LeavesAt, LeavesFilesAt}
@@ -62,7 +62,7 @@ word_leaves one stay ends image s order text written after ending left holds (in
     files_at (IsLeftBy order text written after ending s) last
     (λ clean.
     let was = over.opened.rest clean ed holds.trees held in
-    word_left one stay ends over_files over.was last s clean holds.office.sound ed was.0 (subst (StandsIn ed (rows_of s)) (sym was.1) holds.office.rows) order text written after ending over.ends)
+    word_left one stay ends over_files over.was last s clean holds.office.sound ed was.0 (subst (RepresentsRowsIn ed (rows_of s)) (sym was.1) holds.office.rows) order text written after ending over.ends)
     over.stays left is_left
 
 -- and so does a service
@@ -75,5 +75,5 @@ service_leaves one stay ends image s port count written after ending left holds 
     files_at (IsServedTo s) last
     (λ clean.
     let was = over.opened.rest clean ed holds.trees held in
-    service_left one stay ends over_files over.was last s clean holds.office.sound ed was.0 (subst (StandsIn ed (rows_of s)) (sym was.1) holds.office.rows) port count written after ending over.ends)
+    service_left one stay ends over_files over.was last s clean holds.office.sound ed was.0 (subst (RepresentsRowsIn ed (rows_of s)) (sym was.1) holds.office.rows) port count written after ending over.ends)
     over.stays left is_left

@@ -10,7 +10,7 @@ use Rattle.sqlite_trees.specs.declared.store.Store.{Ghosts}
 use Rattle.sqlite.specs.State.{State as FileState, HasCleanDisk}
 use Rattle.office_base.specs.declared.refusal.Refusal.{Refusal}
 use Rattle.office_rules.specs.Acts.{after as after_acts, answers, step}
-use Rattle.office_rules.specs.Forms.{IsFormedAct}
+use Rattle.office_rules.specs.Forms.{IsWellFormedAct}
 use Rattle.office_rules.specs.Rows.{rows_of}
 use Rattle.office_rules.specs.Runs.{after_steps, candidates, open_run, whole}
 use Rattle.office_rules.specs.Sound.{IsSound}
@@ -21,18 +21,18 @@ use Rattle.office_rules.specs.declared.answer.Answer.{Answer}
 use Rattle.office_sql.specs.declared.editions.Edition.{Edition}
 use Rattle.office_sql.specs.declared.editions.Edition.TheVariants as edition
 use Rattle.office_sql.specs.Office.{IsAtRestOver, IsOfficeIn}
-use Rattle.office_store.specs.Stands.{HoldsRows, Stands, StandsIn}
+use Rattle.office_store.specs.RepresentsRows.{HoldsRows, RepresentsRows, RepresentsRowsIn}
 use Rattle.office_store.specs.declared.fault.Fault.{Fault}
 use Rattle.office_store.specs.declared.fault.Fault.TheVariants as fault
-use Rattle.office_desk.specs.Headline.{AreFormed}
+use Rattle.office_desk.specs.Headline.{AreWellFormed}
 use Rattle.office_desk.specs.Leaving.{StopsLeaving}
-use Rattle.office_desk.specs.Opening.{StandForIn}
+use Rattle.office_desk.specs.Opening.{RepresentIn}
 use Rattle.office_desk.proofs.RunSteps.{step_run}
 use Rattle.office_json.specs.Acts.{AskedRecord, asked}
 use Rattle.office_json.specs.Answers.{answer_lines}
 use Rattle.office_json.specs.Lists.{acts_in}
 use Rattle.office_csv.specs.ImportRows.{Fields, record_asked}
-use Rattle.office_wire.specs.Importing.{AreFrontRows, AreRowsDone, AreSomeRows, IsAnsweredBy, lines_from}
+use Rattle.office_wire.specs.Importing.{ArePrefixRows, AreRowsDone, AreSomeRows, IsAnsweredBy, lines_from}
 use Rattle.office_words.specs.Orders.{Ordered, application_ordered, certificate_ordered, due_day_ordered, exportation_ordered, importation_ordered, init_file_ordered, nothing_ordered, overdue_ordered, plan_file_ordered, resumption_ordered, service_ordered}
 use Rattle.office_words.specs.declared.register.Register.{Register}
 use Rattle.office_words.specs.declared.register.Register.TheVariants as register
@@ -50,23 +50,23 @@ use Rattle.office_run.specs.declared.ending.Ending.TheVariants as how
 -- ---- what the laws say
 
 abbrev pub IsOneDatabase : Type 0
-IsOneDatabase = (ed : Edition) (s u : State) (db : Trees) → IsSound s → IsSound u → StandsIn ed (rows_of s) db → StandsIn ed (rows_of u) db → s ≡ u
+IsOneDatabase = (ed : Edition) (s u : State) (db : Trees) → IsSound s → IsSound u → RepresentsRowsIn ed (rows_of s) db → RepresentsRowsIn ed (rows_of u) db → s ≡ u
 
 abbrev pub StaySound : Type 0
-StaySound = (s : State) (a : Act) → IsSound s → IsFormedAct a → IsSound (step s a).1
+StaySound = (s : State) (a : Act) → IsSound s → IsWellFormedAct a → IsSound (step s a).1
 
 abbrev pub IsEnded : Type 0
 IsEnded = (s : State) (run : ℕ) → open_run s.office ≡ Some run → after_steps s (suc (length (candidates s.office run))) ≡ whole s run
 
 -- ---- states stay sound
 
-pub formed_front : (n : ℕ) (acts : List Act) → AreFormed acts → AreFormed (take n acts)
-formed_front zero acts all = tt
-formed_front (suc n) [] all = tt
-formed_front (suc n) (a ∷ acts) (is, all) = (is, formed_front n acts all)
+pub well_formed_prefix : (n : ℕ) (acts : List Act) → AreWellFormed acts → AreWellFormed (take n acts)
+well_formed_prefix zero acts all = tt
+well_formed_prefix (suc n) [] all = tt
+well_formed_prefix (suc n) (a ∷ acts) (is, all) = (is, well_formed_prefix n acts all)
 
 module _ (stay : StaySound) where
-  pub sound_acts : (acts : List Act) (s : State) → IsSound s → AreFormed acts → IsSound (after_acts s acts)
+  pub sound_acts : (acts : List Act) (s : State) → IsSound s → AreWellFormed acts → IsSound (after_acts s acts)
   sound_acts [] s sound formed = sound
   sound_acts (a ∷ acts) s sound (is, rest) = sound_acts acts (step s a).1 (stay s a sound is) rest
 
@@ -75,12 +75,12 @@ module _ (stay : StaySound) where
   sound_steps (suc n) s sound = sound_steps n _ (subst IsSound (step_run s) (stay s act.RunStep sound tt))
 
   sound_row : (day : ℤ) (s t : State) (answer : Answer) (x : Result AskedRecord Refusal) → IsAnsweredBy day s x answer t → IsSound s → IsSound t
-  sound_row day s t answer (Ok new) (a, adding, told, is) sound = subst IsSound (sym is) (stay s a sound adding.0)
-  sound_row day s t answer (Err why) (told, is) sound = subst IsSound (sym is) sound
+  sound_row day s t answer (Ok new) (a, adding, reported, is) sound = subst IsSound (sym is) (stay s a sound adding.0)
+  sound_row day s t answer (Err why) (reported, is) sound = subst IsSound (sym is) sound
 
   sound_rows : (day : ℤ) (s t : State) (rows : List Fields) (answers : List Answer) → AreRowsDone day s rows answers t → IsSound s → IsSound t
   sound_rows day s t [] answers (none, is) sound = subst IsSound (sym is) sound
-  sound_rows day s t (row ∷ rows) answers (answer, rest, m, told, one, all) sound = sound_rows day m t rows rest all (sound_row day s m answer (record_asked row) one sound)
+  sound_rows day s t (row ∷ rows) answers (answer, rest, m, reported, one, all) sound = sound_rows day m t rows rest all (sound_row day s m answer (record_asked row) one sound)
 
 -- ---- what a crash leaves
 
@@ -92,7 +92,7 @@ at_rows new u sound holds db may =
       edition = edition.Two;
       office = subst (λ (t : Trees). IsOfficeIn edition.Two t) is (new.now.schema, holds.rest.office);
       sound = sound;
-      rows = subst (λ (t : Trees). Stands (rows_of u) t) is holds.stands;
+      rows = subst (λ (t : Trees). RepresentsRows (rows_of u) t) is holds.represents;
     }
 
 -- or those of one of two states, by the fault
@@ -108,36 +108,36 @@ at_stop new v w fault.Version sv sw left db may = absurd left
 
 module _ (one : IsOneDatabase) (stay : StaySound) (ends : IsEnded) (old new : FileState) (s : State) (clean : HasCleanDisk new) (sound : IsSound s) where
   -- the state at which the office was found is the one at which it was
-  pub found_same : (ed : Edition) (t : State) → StandsIn ed (rows_of s) old.now.trees → StandForIn ed old.now.trees t → t ≡ s
+  pub found_same : (ed : Edition) (t : State) → RepresentsRowsIn ed (rows_of s) old.now.trees → RepresentIn ed old.now.trees t → t ≡ s
   found_same ed t rows found = one ed t s old.now.trees found.sound sound found.rows rows
 
-  pub of_opened : (ed : Edition) (P : State → Type 0) → IsAtRestOver ed old → StandsIn ed (rows_of s) old.now.trees → IsOfOpened old new P → P s
+  pub of_opened : (ed : Edition) (P : State → Type 0) → IsAtRestOver ed old → RepresentsRowsIn ed (rows_of s) old.now.trees → IsOfOpened old new P → P s
   of_opened edition.One P rest rows it = let m = it.moved clean rest in subst P (found_same edition.One m.0 rows m.1) m.2
   of_opened edition.Two P rest rows it = let m = it.found clean rest in subst P (found_same edition.Two m.0 rows m.1) m.2
 
-  rows_opened : (ed : Edition) → IsAtRestOver ed old → StandsIn ed (rows_of s) old.now.trees → IsOpened old new → HoldsRows (rows_of s) new
+  rows_opened : (ed : Edition) → IsAtRestOver ed old → RepresentsRowsIn ed (rows_of s) old.now.trees → IsOpened old new → HoldsRows (rows_of s) new
   rows_opened edition.One rest rows it = let m = it.moved clean rest in subst (λ (t : State). HoldsRows (rows_of t) new) (found_same edition.One m.0 rows m.1) m.2
   rows_opened edition.Two rest rows it = let m = it.found clean rest in subst (λ (t : State). HoldsRows (rows_of t) new) (found_same edition.Two m.0 rows m.1) m.2
 
   -- what was there before
-  at_before : (ed : Edition) → IsAtRestOver ed old → StandsIn ed (rows_of s) old.now.trees → (db : Trees) → old.may_leave db → IsOfficeAt db s
+  at_before : (ed : Edition) → IsAtRestOver ed old → RepresentsRowsIn ed (rows_of s) old.now.trees → (db : Trees) → old.may_leave db → IsOfficeAt db s
   at_before ed rest rows db may =
       let is = sym (rest.only db may) in
       record {
         edition = ed;
         office = subst (λ (t : Trees). IsOfficeIn ed t) is (old.now.schema, rest.office);
         sound = sound;
-        rows = subst (λ (t : Trees). StandsIn ed (rows_of s) t) is rows;
+        rows = subst (λ (t : Trees). RepresentsRowsIn ed (rows_of s) t) is rows;
       }
 
-  pub at_unopened : (ed : Edition) (f : Fault) → IsAtRestOver ed old → StandsIn ed (rows_of s) old.now.trees → IsUnopened f old new → (db : Trees) → new.may_leave db → IsOfficeAt db s
+  pub at_unopened : (ed : Edition) (f : Fault) → IsAtRestOver ed old → RepresentsRowsIn ed (rows_of s) old.now.trees → IsUnopened f old new → (db : Trees) → new.may_leave db → IsOfficeAt db s
   at_unopened edition.One f rest rows it db may = elim (it.leaves_old clean rest db may) [
     | inl before ↦ at_before edition.One rest rows db before
-    | inr next ↦ record { edition = edition.Two; office = next.3; sound = sound; rows = subst (λ (t : State). Stands (rows_of t) db) (found_same edition.One next.0 rows next.1) next.2 }
+    | inr next ↦ record { edition = edition.Two; office = next.3; sound = sound; rows = subst (λ (t : State). RepresentsRows (rows_of t) db) (found_same edition.One next.0 rows next.1) next.2 }
   ]
   at_unopened edition.Two f rest rows it db may = at_before edition.Two rest rows db (it.leaves clean rest db may)
 
-  module _ (ed : Edition) (rest : IsAtRestOver ed old) (rows : StandsIn ed (rows_of s) old.now.trees) where
+  module _ (ed : Edition) (rest : IsAtRestOver ed old) (rows : RepresentsRowsIn ed (rows_of s) old.now.trees) where
     -- the state is left
     same_left : ((db : Trees) → new.may_leave db → IsOfficeAt db s) → LeavesAt (λ u. u ≡ s) new
     same_left at db may = (s, refl, at db may)
@@ -185,8 +185,8 @@ module _ (one : IsOneDatabase) (stay : StaySound) (ends : IsEnded) (old new : Fi
       ActsLeft ending u = IsUntouched written after s u ⊎ AreActsDone text written after ending s u
 
       module _ (acts : List Act) (read : acts_in text ≡ Ok (map asked acts)) where
-        all_left : (ending : Ending) → AreFormed acts → HoldsRows (rows_of (after_acts s acts)) new → (ending ≡ how.File) ⊎ Appends written after (answer_lines (answers s acts)) → LeavesAt (ActsLeft ending) new
-        all_left ending formed holds told db may =
+        all_left : (ending : Ending) → AreWellFormed acts → HoldsRows (rows_of (after_acts s acts)) new → (ending ≡ how.File) ⊎ Appends written after (answer_lines (answers s acts)) → LeavesAt (ActsLeft ending) new
+        all_left ending formed holds reported db may =
             let all : acts ≡ take (length acts) acts = sym (take-length acts) in (
               after_acts s acts,
               inr (record {
@@ -194,26 +194,26 @@ module _ (one : IsOneDatabase) (stay : StaySound) (ends : IsEnded) (old new : Fi
                 read = read;
                 count = length acts;
                 within = omega arith;
-                answered = subst (λ (xs : List Act). (ending ≡ how.File) ⊎ Appends written after (answer_lines (answers s xs))) all told;
+                answered = subst (λ (xs : List Act). (ending ≡ how.File) ⊎ Appends written after (answer_lines (answers s xs))) all reported;
                 state = inl (ap (after_acts s) all);
               }),
               at_rows new (after_acts s acts) (sound_acts stay acts s sound formed) holds db may,
             )
 
         stopped_left : (ending : Ending) (f : Fault) (n : ℕ) → AreStopped f acts n new s → (ending ≡ how.File) ⊎ Appends written after (answer_lines (answers s (take n acts))) → LeavesAt (ActsLeft ending) new
-        stopped_left ending f n it told db may =
+        stopped_left ending f n it reported db may =
             let v = after_acts s (take n acts) in
             let w = after_acts s (take (n + 1) acts) in
-            let sound_at = λ (k : ℕ). sound_acts stay (take k acts) s sound (formed_front k acts it.formed) in
+            let sound_at = λ (k : ℕ). sound_acts stay (take k acts) s sound (well_formed_prefix k acts it.formed) in
             elim (at_stop new v w f (sound_at n) (sound_at (n + 1)) it.leaves db may) [
-              | inl here ↦ (v, inr (record { acts = acts; read = read; count = n; within = it.within; answered = told; state = inl refl }), here)
-              | inr next ↦ (w, inr (record { acts = acts; read = read; count = n; within = it.within; answered = told; state = inr refl }), next)
+              | inl here ↦ (v, inr (record { acts = acts; read = read; count = n; within = it.within; answered = reported; state = inl refl }), here)
+              | inr next ↦ (w, inr (record { acts = acts; read = read; count = n; within = it.within; answered = reported; state = inr refl }), next)
             ]
 
         performs_left : (ending : Ending) → Performs (λ P. P s) acts new written after ending → LeavesAt (ActsLeft ending) new
-        performs_left how.Done it = all_left how.Done it.done.formed it.done.rows (inr it.told)
-        performs_left how.SomeRefused it = all_left how.SomeRefused it.done.formed it.done.rows (inr it.told)
-        performs_left (how.Fault f) it = stopped_left (how.Fault f) f it.0 it.1.stopped (inr it.1.told)
+        performs_left how.Done it = all_left how.Done it.done.formed it.done.rows (inr it.reported)
+        performs_left how.SomeRefused it = all_left how.SomeRefused it.done.formed it.done.rows (inr it.reported)
+        performs_left (how.Fault f) it = stopped_left (how.Fault f) f it.0 it.1.stopped (inr it.1.reported)
         performs_left how.File (inl it) = all_left how.File it.formed it.rows (inl refl)
         performs_left how.File (inr it) = stopped_left how.File it.0 it.1 it.2 (inl refl)
         performs_left (how.Refused refusal) it = absurd it
@@ -254,43 +254,43 @@ module _ (one : IsOneDatabase) (stay : StaySound) (ends : IsEnded) (old new : Fi
       RowsLeft ending u = IsUntouched written after s u ⊎ AreRowsAdded day text written after ending s u
 
       -- rows were added, and no more
-      added : (ending : Ending) (fs : List Fields) (told : List Answer) (u : State) → AreFrontRows text fs → AreRowsDone day s fs told u → (ending ≡ how.File) ⊎ Appends written after (lines_from 0 told) → HoldsRows (rows_of u) new → LeavesAt (RowsLeft ending) new
-      added ending fs told u front done lines holds db may = (
+      added : (ending : Ending) (fs : List Fields) (reported : List Answer) (u : State) → ArePrefixRows text fs → AreRowsDone day s fs reported u → (ending ≡ how.File) ⊎ Appends written after (lines_from 0 reported) → HoldsRows (rows_of u) new → LeavesAt (RowsLeft ending) new
+      added ending fs reported u prefix done lines holds db may = (
         u,
         inr (record {
           rows = fs;
-          answers = told;
+          answers = reported;
           reached = u;
-          begins = ([], subst (AreFrontRows text) (sym (append-nil fs)) front);
+          begins = ([], subst (ArePrefixRows text) (sym (append-nil fs)) prefix);
           done = done;
           answered = lines;
           state = inl refl;
         }),
-        at_rows new u (sound_rows stay day s u fs told done sound) holds db may,
+        at_rows new u (sound_rows stay day s u fs reported done sound) holds db may,
       )
 
-      cut_row : (ending : Ending) (fs : List Fields) (told : List Answer) (u : State) (row : Fields) (f : Fault) → AreSomeRows text (fs ++ row ∷ []) → AreRowsDone day s fs told u → Appends written after (lines_from 0 told) → IsRowCut day u row f new → LeavesAt (RowsLeft ending) new
-      cut_row ending fs told u row f some done lines (inl it) db may = (
+      cut_row : (ending : Ending) (fs : List Fields) (reported : List Answer) (u : State) (row : Fields) (f : Fault) → AreSomeRows text (fs ++ row ∷ []) → AreRowsDone day s fs reported u → Appends written after (lines_from 0 reported) → IsRowCut day u row f new → LeavesAt (RowsLeft ending) new
+      cut_row ending fs reported u row f some done lines (inl it) db may = (
         u,
         inr (record {
           rows = fs;
-          answers = told;
+          answers = reported;
           reached = u;
           begins = (row ∷ [], inr some);
           done = done;
           answered = inr lines;
           state = inl refl;
         }),
-        at_rows new u (sound_rows stay day s u fs told done sound) it.1 db may,
+        at_rows new u (sound_rows stay day s u fs reported done sound) it.1 db may,
       )
-      cut_row ending fs told u row f some done lines (inr (new_record, a, is, adding, left)) db may =
-          let sound_u = sound_rows stay day s u fs told done sound in
+      cut_row ending fs reported u row f some done lines (inr (new_record, a, is, adding, left)) db may =
+          let sound_u = sound_rows stay day s u fs reported done sound in
           elim (at_stop new u (step u a).1 f sound_u (stay u a sound_u adding.0) left db may) [
             | inl here ↦ (
               u,
               inr (record {
                 rows = fs;
-                answers = told;
+                answers = reported;
                 reached = u;
                 begins = (row ∷ [], inr some);
                 done = done;
@@ -303,7 +303,7 @@ module _ (one : IsOneDatabase) (stay : StaySound) (ends : IsEnded) (old new : Fi
               (step u a).1,
               inr (record {
                 rows = fs;
-                answers = told;
+                answers = reported;
                 reached = u;
                 begins = (row ∷ [], inr some);
                 done = done;
@@ -315,13 +315,13 @@ module _ (one : IsOneDatabase) (stay : StaySound) (ends : IsEnded) (old new : Fi
           ]
 
       imports_left : (ending : Ending) → ImportsAt (λ P. P s) day text new written after ending → LeavesAt (RowsLeft ending) new
-      imports_left how.Done (fs, told, u, (r, left, first, ended), it, none) = added how.Done fs told u (inr (r, left, first)) it.done (inr it.told) it.saved
-      imports_left how.SomeRefused (fs, told, u, (r, left, first, ended), it, none) = added how.SomeRefused fs told u (inr (r, left, first)) it.done (inr it.told) it.saved
+      imports_left how.Done (fs, reported, u, (r, left, first, ended), it, none) = added how.Done fs reported u (inr (r, left, first)) it.done (inr it.reported) it.saved
+      imports_left how.SomeRefused (fs, reported, u, (r, left, first, ended), it, none) = added how.SomeRefused fs reported u (inr (r, left, first)) it.done (inr it.reported) it.saved
       imports_left how.CsvHeader it = untouched (RowsLeft how.CsvHeader) written after inl it.2 (at_rows new s sound it.1)
-      imports_left (how.CsvRow number) (fs, told, u, (r, left, first, bad), it, is) = added (how.CsvRow number) fs told u (inr (r, left, first)) it.done (inr it.told) it.saved
-      imports_left (how.Fault f) (fs, told, u, done, lines, inl it) = added (how.Fault f) fs told u it.1 done (inr lines) it.2
-      imports_left (how.Fault f) (fs, told, u, done, lines, inr it) = cut_row (how.Fault f) fs told u it.0 f it.1 done lines it.2
-      imports_left how.File (fs, told, u, front, done, holds) = added how.File fs told u front done (inl refl) holds
+      imports_left (how.CsvRow number) (fs, reported, u, (r, left, first, bad), it, is) = added (how.CsvRow number) fs reported u (inr (r, left, first)) it.done (inr it.reported) it.saved
+      imports_left (how.Fault f) (fs, reported, u, done, lines, inl it) = added (how.Fault f) fs reported u it.1 done (inr lines) it.2
+      imports_left (how.Fault f) (fs, reported, u, done, lines, inr it) = cut_row (how.Fault f) fs reported u it.0 f it.1 done lines it.2
+      imports_left how.File (fs, reported, u, prefix, done, holds) = added how.File fs reported u prefix done (inl refl) holds
       imports_left (how.Refused refusal) it = absurd it
       imports_left (how.LineRefused line refusal) it = absurd it
       imports_left (how.ActRefused place refusal) it = absurd it
@@ -364,7 +364,7 @@ module _ (one : IsOneDatabase) (stay : StaySound) (ends : IsEnded) (old new : Fi
     none_taken ending other at db may = (s, record { count = 0; state = refl; closed = λ done. absurd (other done) }, at db may)
 
     resumes_left : (written after : Option (List ℕ)) (ending : Ending) → Resumes (IsOfOpened old new) new written after ending → LeavesAt (AreStepsTaken ending s) new
-    resumes_left written after how.Done (run, it, told) = let at = of_opened ed _ rest rows it in whole_left how.Done run at.was_open at.is_whole
+    resumes_left written after how.Done (run, it, reported) = let at = of_opened ed _ rest rows it in whole_left how.Done run at.was_open at.is_whole
     resumes_left written after how.File (run, it) = let at = of_opened ed _ rest rows it in whole_left how.File run at.was_open at.is_whole
     resumes_left written after (how.Refused refusal) (is, it, same) = none_taken (how.Refused refusal) (λ done. cc) (at_rows new s sound (of_opened ed _ rest rows it).rows)
     resumes_left written after (how.Fault f) (it, same) =
@@ -390,7 +390,7 @@ module _ (one : IsOneDatabase) (stay : StaySound) (ends : IsEnded) (old new : Fi
 
 -- ---- each word
 
-module _ (one : IsOneDatabase) (stay : StaySound) (ends : IsEnded) {S : Type 0} (g : Ghosts S) (old new : Held S) (s : State) (clean : HasCleanDisk (state g new)) (sound : IsSound s) (ed : Edition) (rest : IsAtRestOver ed (state g old)) (rows : StandsIn ed (rows_of s) (state g old).now.trees) where
+module _ (one : IsOneDatabase) (stay : StaySound) (ends : IsEnded) {S : Type 0} (g : Ghosts S) (old new : Held S) (s : State) (clean : HasCleanDisk (state g new)) (sound : IsSound s) (ed : Edition) (rest : IsAtRestOver ed (state g old)) (rows : RepresentsRowsIn ed (rows_of s) (state g old).now.trees) where
   -- where the connection is as it was
   same_held : new ≡ old → LeavesAt (λ u. u ≡ s) (state g new)
   same_held same = subst (λ (h : Held S). LeavesAt (λ u. u ≡ s) (state g h)) (sym same) (λ db may. (s, refl, at_before one stay ends (state g old) (state g new) s clean sound ed rest rows db may))

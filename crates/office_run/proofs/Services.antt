@@ -21,4 +21,4 @@ clean_turns g (suc n) failed ended old new (m, earlier, status, turns, turn, end
 
 pub clean_served : {S : Type 0} (g : Ghosts S) (port count : ℕ) (old new : DeskState S) (written after : Option (List ℕ)) (e : Ending) → ServesAt g port count old new written after e → HasCleanDisk (state g new.held) → HasCleanDisk (state g old.held)
 clean_served g port count old new written after e (inl it) clean = subst (λ (d : DeskState _). HasCleanDisk (state g d.held)) it.1 clean
-clean_served g port count old new written after e (inr (n, failed, ended, told, turns, few, all, is)) clean = clean_turns g n failed ended old new turns clean
+clean_served g port count old new written after e (inr (n, failed, ended, reported, turns, few, all, is)) clean = clean_turns g n failed ended old new turns clean

@@ -5,7 +5,7 @@ use Rattle.sqlite.specs.State.{State as FileState, HasCleanDisk}
 use Rattle.sqlite_trees.specs.declared.store.Store.{Ghosts}
 use Rattle.office_rules.specs.State.{State}
 use Rattle.office_desk.specs.Desk.{DeskState}
-use Rattle.office_desk.specs.Leaving.{StandsAt}
+use Rattle.office_desk.specs.Leaving.{IsAt}
 use Rattle.office_run.specs.Endings.{exit_status}
 use Rattle.office_run.specs.declared.ending.Ending.{Ending}
 
@@ -29,9 +29,9 @@ pub record Exits (status : ℕ) (Ends : Ending → Type 0) : Type 0 where
   pub is : status ≡ exit_status ending
   pub ends : Ends ending
 
--- so it is of each state at which the desk stood, where the disk is clean then
+-- so it is of each state at which the desk was, where the disk is clean then
 abbrev pub AtDesk : {S : Type 0} → Ghosts S → DeskState S → DeskState S → (State → Type 0) → Type 0
-AtDesk g old new P = (t : State) → HasCleanDisk (state g new.held) → StandsAt g t old → P t
+AtDesk g old new P = (t : State) → HasCleanDisk (state g new.held) → IsAt g t old → P t
 
 -- something was done at a desk, and ends so, by what its tables show and what the writer has before and after; where the disk is clean then, it was clean before
 pub record DoneAt {S O : Type 0} (g : Ghosts S) (old new : DeskState S) (contents : O → Option (List ℕ)) (out after : O) (ending : Ending)

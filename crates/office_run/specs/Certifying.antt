@@ -14,7 +14,7 @@ use Rattle.office_run.specs.Opening.{IsNotOpened, IsOfOpened, IsOpened}
 abbrev pub IsCertificate : ℕ → Option (List ℕ) → State → Type 0
 IsCertificate run text s = get s.office.certificates run ≡ text
 
--- the telling of a certificate at an open desk, by its ending; Of tells of which states it is so
+-- the reporting of a certificate at an open desk, by its ending; Of says of which states it is so
 abbrev pub Certifies : ((State → Type 0) → Type 0) → ℕ → Option (List ℕ) → Option (List ℕ) → Ending → Type 0
 Certifies Of run written after how.Done = (text : List ℕ) × Of (IsCertificate run (Some text)) × Appends written after text
 Certifies Of run written after (how.Refused refusal) = (refusal ≡ refused.NoSuch) × Of (IsCertificate run None) × (after ≡ written)

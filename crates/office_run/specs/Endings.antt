@@ -1,4 +1,4 @@
--- What the program tells its caller at the end. Source: own.
+-- What the program reports its caller at the end. Source: own.
 use Rattle.std.specs.Prelude.{ℕ, List, [], ◌∷◌, ◌++◌, codes, Option, Some, None, Result, Ok, Err, if◌then◌else◌, ◌==◌, Bool, true, false}
 use Rattle.std.specs.Fmt.{decimal}
 use Rattle.std.specs.List.{list_any}
@@ -19,13 +19,13 @@ use Rattle.office_wire.specs.declared.registers.ExportStop.TheVariants as export
 use Rattle.office_base.specs.declared.stop.Stop.{Stop}
 use Rattle.office_base.specs.declared.stop.Stop.TheVariants as stop
 
--- a refusal is told as such, and a writer's error as that of a file
+-- a refusal is reported as such, and a writer's error as that of a file
 abbrev pub ending_of : Result (Option Refusal) Io → Ending
 ending_of (Ok None) = Done
 ending_of (Ok (Some refusal)) = Refused refusal
 ending_of (Err failed) = File
 
--- a line that is refused is told with its number, want of memory as fault 30
+-- a line that is refused is reported with its number, lack of memory as fault 30
 abbrev pub ending_of_plan : Result (Option (ℕ × Refusal)) Stop → Ending
 ending_of_plan (Ok None) = Done
 ending_of_plan (Ok (Some p)) = LineRefused p.0 p.1
@@ -37,12 +37,12 @@ abbrev pub is_refusal : Answer → Bool
 is_refusal (answer.Refused refusal) = true
 is_refusal _ = false
 
--- a fault is told as such, and a refusal among the answers by the exit status alone
+-- a fault is reported as such, and a refusal among the answers by the exit status alone
 abbrev pub ending_of_acts : Result (Unit {0}) AnyFault → List Answer → Ending
 ending_of_acts (Ok done) given = if list_any is_refusal given then SomeRefused else Done
 ending_of_acts (Err f) given = Fault f
 
--- a row that is refused is told by the exit status alone, and what stopped an import as such
+-- a row that is refused is reported by the exit status alone, and what stopped an import as such
 abbrev pub ending_of_import : Result ℕ ImportStop → Ending
 ending_of_import (Ok refused) = if refused == 0 then Done else SomeRefused
 ending_of_import (Err import.Header) = CsvHeader
@@ -50,15 +50,15 @@ ending_of_import (Err (import.Row number)) = CsvRow number
 ending_of_import (Err (import.Fault f)) = Fault f
 ending_of_import (Err import.Io) = File
 
--- what stopped an export is told as such
+-- what stopped an export is reported as such
 abbrev pub ending_of_export : Result (Unit {0}) ExportStop → Ending
 ending_of_export (Ok done) = Done
 ending_of_export (Err (export.Fault f)) = Fault f
 ending_of_export (Err export.Io) = File
 
--- a service that was given up is told as the fault by which a desk answers no more, and a connection that failed by the exit status alone
+-- a service that was poisoned is reported as the fault by which a desk answers no more, and a connection that failed by the exit status alone
 abbrev pub ending_of_service : Bool → Bool → Ending
-ending_of_service has_failed is_given_up = if is_given_up then Fault fault.Reopen else if has_failed then SomeFailed else Done
+ending_of_service has_failed is_poisoned = if is_poisoned then Fault fault.Reopen else if has_failed then SomeFailed else Done
 
 -- 0 done, 1 something refused, 2 bad words, 3 a file, the store or a connection, 4 memory
 abbrev pub exit_status : Ending → ℕ

@@ -54,7 +54,7 @@ EndsInFiles {D} {g} left image Ends written after ending =
     ((ending ≡ how.Fault fault.Store) × (left ≡ files.Unopened) × (after ≡ written))
     ⊎ ((last : Held (FileStore D g)) × EndsOver image Ends last × IsLeftOf last left)
 
--- an order on the office in files that held this, where the reader tells the text that it reads
+-- an order on the office in files that held this, where the reader reports the text that it reads
 abbrev pub RunsInFiles : {D : Type 0} {g : Ghosts D} → FilesLeft D g → Image → Ordered → Option (List ℕ) → Option (List ℕ) → Option (List ℕ) → Ending → Type 0
 RunsInFiles left image order text written after ending = EndsInFiles left image (λ was last. RunEnds over_files order text was last written after ending) written after ending
 

@@ -9,14 +9,14 @@ use Rattle.office_rules.specs.Rows.{rows_of}
 use Rattle.office_rules.specs.State.{State}
 use Rattle.office_rules.specs.declared.act.Act.{Act}
 use Rattle.office_rules.specs.declared.answer.Answer.{Answer}
-use Rattle.office_store.specs.Stands.{HoldsRows}
+use Rattle.office_store.specs.RepresentsRows.{HoldsRows}
 use Rattle.office_store.specs.declared.fault.Fault.{Fault}
 use Rattle.office_store.specs.declared.fault.Fault.TheVariants as fault
 use Rattle.office_desk.specs.Leaving.{StopsLeaving}
 use Rattle.office_json.specs.Acts.{AskedRecord}
 use Rattle.office_csv.specs.ImportRows.{Fields, record_asked}
 use Rattle.office_csv.specs.ImportText.{LacksHeader}
-use Rattle.office_wire.specs.Importing.{IsAdding, AreAllRows, AreFrontRows, AreRowsBeforeBad, AreRowsDone, AreSomeRows, lines_from, refused_count}
+use Rattle.office_wire.specs.Importing.{IsAdding, AreAllRows, ArePrefixRows, AreRowsBeforeBad, AreRowsDone, AreSomeRows, lines_from, refused_count}
 use Rattle.office_run.specs.Opening.{IsNotOpened, IsOfOpened}
 use Rattle.office_run.specs.declared.ending.Ending.{Ending}
 use Rattle.office_run.specs.declared.ending.Ending.TheVariants as how
@@ -25,48 +25,48 @@ use Rattle.office_run.specs.declared.ending.Ending.TheVariants as how
 pub record AreSaved (day : ℤ) (rows : List Fields) (answers : List Answer) (u : State) (new : FileState) (written after : Option (List ℕ)) (t : State) : Type 0 where
   pub done : AreRowsDone day t rows answers u
   pub saved : HoldsRows (rows_of u) new
-  pub told : Appends written after (lines_from 0 answers)
+  pub reported : Appends written after (lines_from 0 answers)
 
 -- all rows of the text were done, and some of them are refused, or none is
 abbrev pub AreAllSaved : ℤ → Option (List ℕ) → Bool → FileState → Option (List ℕ) → Option (List ℕ) → State → Type 0
 AreAllSaved day text none_refused new written after t =
     (rows : List Fields) × (answers : List Answer) × (u : State) × AreAllRows text rows × AreSaved day rows answers u new written after t × ((refused_count answers == 0) ≡ none_refused)
 
--- those before a row of another number of fields, or one that is not UTF-8, whose number is told
+-- those before a row of another number of fields, or one that is not UTF-8, whose number is reported
 abbrev pub AreSavedBeforeBad : ℤ → Option (List ℕ) → ℕ → FileState → Option (List ℕ) → Option (List ℕ) → State → Type 0
 AreSavedBeforeBad day text number new written after t =
     (rows : List Fields) × (answers : List Answer) × (u : State) × AreRowsBeforeBad text rows × AreSaved day rows answers u new written after t × (number ≡ length rows + 1)
 
--- a fault stopped a row: memory was wanting to read it, or a crash leaves the tables before its act or after it
+-- a fault stopped a row: memory ran out to read it, or a crash leaves the tables before its act or after it
 abbrev pub IsRowCut : ℤ → State → Fields → Fault → FileState → Type 0
 IsRowCut day u row f new =
     ((f ≡ fault.Memory) × HoldsRows (rows_of u) new)
     ⊎ ((record_read : AskedRecord) × (act : Act) × (record_asked row ≡ Ok record_read) × IsAdding day record_read act
     × StopsLeaving u (step u act).1 f new)
 
--- a fault stopped the import after some rows: memory was wanting for the next one, or that one was cut
+-- a fault stopped the import after some rows: memory ran out for the next one, or that one was cut
 abbrev pub AreCutShort : ℤ → Option (List ℕ) → Fault → FileState → Option (List ℕ) → Option (List ℕ) → State → Type 0
 AreCutShort day text f new written after t =
     (rows : List Fields) × (answers : List Answer) × (u : State) × AreRowsDone day t rows answers u × Appends written after (lines_from 0 answers)
-    × ((f ≡ fault.Memory) × AreFrontRows text rows × HoldsRows (rows_of u) new ⊎ ((row : Fields) × AreSomeRows text (rows ++ row ∷ []) × IsRowCut day u row f new))
+    × ((f ≡ fault.Memory) × ArePrefixRows text rows × HoldsRows (rows_of u) new ⊎ ((row : Fields) × AreSomeRows text (rows ++ row ∷ []) × IsRowCut day u row f new))
 
 -- reading or writing failed after some rows
-abbrev pub AreUntold : ℤ → Option (List ℕ) → FileState → State → Type 0
-AreUntold day text new t =
-    (rows : List Fields) × (answers : List Answer) × (u : State) × AreFrontRows text rows × AreRowsDone day t rows answers u × HoldsRows (rows_of u) new
+abbrev pub AreUnreported : ℤ → Option (List ℕ) → FileState → State → Type 0
+AreUnreported day text new t =
+    (rows : List Fields) × (answers : List Answer) × (u : State) × ArePrefixRows text rows × AreRowsDone day t rows answers u × HoldsRows (rows_of u) new
 
 -- nothing was done, since the first row does not name the columns
 abbrev pub IsUnheaded : Option (List ℕ) → FileState → Option (List ℕ) → Option (List ℕ) → State → Type 0
 IsUnheaded text new written after t = LacksHeader StartRecord text × HoldsRows (rows_of t) new × (after ≡ written)
 
--- the rows of a text at an open desk, by the ending; Of tells of which states it is so
+-- the rows of a text at an open desk, by the ending; Of says of which states it is so
 abbrev pub ImportsAt : ((State → Type 0) → Type 0) → ℤ → Option (List ℕ) → FileState → Option (List ℕ) → Option (List ℕ) → Ending → Type 0
 ImportsAt Of day text new written after how.Done = Of (AreAllSaved day text true new written after)
 ImportsAt Of day text new written after how.SomeRefused = Of (AreAllSaved day text false new written after)
 ImportsAt Of day text new written after how.CsvHeader = Of (IsUnheaded text new written after)
 ImportsAt Of day text new written after (how.CsvRow number) = Of (AreSavedBeforeBad day text number new written after)
 ImportsAt Of day text new written after (how.Fault f) = Of (AreCutShort day text f new written after)
-ImportsAt Of day text new written after how.File = Of (AreUntold day text new)
+ImportsAt Of day text new written after how.File = Of (AreUnreported day text new)
 ImportsAt Of day text new written after (how.Refused refusal) = ⊥
 ImportsAt Of day text new written after (how.LineRefused line refusal) = ⊥
 ImportsAt Of day text new written after (how.ActRefused place refusal) = ⊥

@@ -20,14 +20,14 @@ use Rattle.office_rules.specs.declared.act.Act.{Act}
 use Rattle.office_rules.specs.declared.answer.Answer.{Answer}
 use Rattle.office_sql.specs.declared.editions.Edition.{Edition}
 use Rattle.office_sql.specs.Office.{IsOfficeIn}
-use Rattle.office_store.specs.Stands.{StandsIn}
-use Rattle.office_desk.specs.Headline.{AreFormed}
+use Rattle.office_store.specs.RepresentsRows.{RepresentsRowsIn}
+use Rattle.office_desk.specs.Headline.{AreWellFormed}
 use Rattle.office_words.specs.Orders.{Ordered, application_ordered, certificate_ordered, due_day_ordered, exportation_ordered, importation_ordered, init_file_ordered, nothing_ordered, overdue_ordered, plan_file_ordered, resumption_ordered, service_ordered}
 use Rattle.office_json.specs.Acts.{asked}
 use Rattle.office_json.specs.Answers.{answer_lines}
 use Rattle.office_json.specs.Lists.{acts_in}
 use Rattle.office_csv.specs.ImportRows.{Fields}
-use Rattle.office_wire.specs.Importing.{AreFrontRows, AreRowsDone, IsRowDone, lines_from}
+use Rattle.office_wire.specs.Importing.{ArePrefixRows, AreRowsDone, IsRowDone, lines_from}
 use Rattle.office_run.specs.declared.ending.Ending.{Ending}
 use Rattle.office_run.specs.declared.ending.Ending.TheVariants as how
 use Rattle.office_run.specs.declared.opening.FilesLeft.{FilesLeft}
@@ -38,7 +38,7 @@ pub record IsOfficeAt (tables : Trees) (u : State) : Type 0 where
   pub edition : Edition
   pub office : IsOfficeIn edition tables
   pub sound : IsSound u
-  pub rows : StandsIn edition (rows_of u) tables
+  pub rows : RepresentsRowsIn edition (rows_of u) tables
 
 -- the two files hold an office at this state
 pub record HoldsOfficeAt (image : Image) (u : State) : Type 0 where
@@ -70,7 +70,7 @@ pub record AreRowsAdded (day : ℤ) (text : Option (List ℕ)) (written after : 
   pub rows : List Fields
   pub answers : List Answer
   pub reached : State
-  pub begins : (more : List Fields) × AreFrontRows text (rows ++ more)
+  pub begins : (more : List Fields) × ArePrefixRows text (rows ++ more)
   pub done : AreRowsDone day s rows answers reached
   pub answered : (ending ≡ how.File) ⊎ Appends written after (lines_from 0 answers)
   pub state : (u ≡ reached) ⊎ ((row : Fields) × (answer : Answer) × IsRowDone day reached row answer u)
@@ -97,7 +97,7 @@ IsLeftBy nothing_ordered text written after ending s u = u ≡ s
 
 -- a service leaves an office after some acts
 abbrev pub IsServedTo : State → State → Type 0
-IsServedTo s u = (done : List Act) × AreFormed done × (u ≡ after_acts s done)
+IsServedTo s u = (done : List Act) × AreWellFormed done × (u ≡ after_acts s done)
 
 -- ---- what the two files hold then
 

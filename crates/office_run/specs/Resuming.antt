@@ -7,7 +7,7 @@ use Rattle.office_base.specs.declared.refusal.Refusal.TheVariants as refused
 use Rattle.office_rules.specs.Rows.{rows_of}
 use Rattle.office_rules.specs.Runs.{IsMidway, after_steps, open_run, whole}
 use Rattle.office_rules.specs.State.{State}
-use Rattle.office_store.specs.Stands.{HoldsRows}
+use Rattle.office_store.specs.RepresentsRows.{HoldsRows}
 use Rattle.office_store.specs.declared.fault.Fault.{Fault}
 use Rattle.office_desk.specs.Fates.{LeavesStepFates}
 use Rattle.office_desk.specs.Leaving.{LeavesRowsOf, StopsLeaving}
@@ -16,7 +16,7 @@ use Rattle.office_run.specs.declared.ending.Ending.{Ending}
 use Rattle.office_run.specs.declared.ending.Ending.TheVariants as how
 use Rattle.office_run.specs.Opening.{IsNotOpened, IsOfOpened}
 
--- the line that tells the run that was closed
+-- the line that reports the run that was closed
 abbrev pub certificate_line : ℕ → List ℕ
 certificate_line run = codes "certificate " ++ decimal run ++ 10 ∷ []
 
@@ -39,12 +39,12 @@ pub record IsStopped (f : Fault) (new : FileState) (t : State) : Type 0 where
   pub none_open : open_run t.office ≡ None → LeavesRowsOf t new
   pub fates : LeavesStepFates t new
 
--- how the answer of a resumption is told, by the run that was open: a certificate, or the refusal, with nothing written
-abbrev pub IsAnswerTold : Option ℕ → Option (List ℕ) → Option (List ℕ) → Ending → Type 0
-IsAnswerTold None written after ending = (ending ≡ how.Refused refused.NoRun) × (after ≡ written)
-IsAnswerTold (Some run) written after ending = (ending ≡ how.Done) × Appends written after (certificate_line run) ⊎ (ending ≡ how.File)
+-- how the answer of a resumption is reported, by the run that was open: a certificate, or the refusal, with nothing written
+abbrev pub IsAnswerReported : Option ℕ → Option (List ℕ) → Option (List ℕ) → Ending → Type 0
+IsAnswerReported None written after ending = (ending ≡ how.Refused refused.NoRun) × (after ≡ written)
+IsAnswerReported (Some run) written after ending = (ending ≡ how.Done) × Appends written after (certificate_line run) ⊎ (ending ≡ how.File)
 
--- a resumption at an open desk, by its ending; Of tells of which states it is so
+-- a resumption at an open desk, by its ending; Of says of which states it is so
 abbrev pub Resumes : ((State → Type 0) → Type 0) → FileState → Option (List ℕ) → Option (List ℕ) → Ending → Type 0
 Resumes Of new written after how.Done = (run : ℕ) × Of (IsResumed run new) × Appends written after (certificate_line run)
 Resumes Of new written after (how.Refused refusal) = (refusal ≡ refused.NoRun) × Of (IsNoRun new) × (after ≡ written)

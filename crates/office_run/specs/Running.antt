@@ -17,11 +17,11 @@ use Rattle.office_run.specs.Importing.{ImportEnds}
 use Rattle.office_run.specs.Opening.{IsOpened, IsUnopened}
 use Rattle.office_run.specs.Resuming.{ResumeEnds}
 
--- the line that tells the version of the office's file
+-- the line that reports the version of the office's file
 abbrev pub version_line : List ℕ
 version_line = codes "version 2" ++ 10 ∷ []
 
--- the line that tells where a service listens
+-- the line that reports where a service listens
 abbrev pub listening_line : ℕ → List ℕ
 listening_line port = codes "listening 127.0.0.1:" ++ decimal port ++ 10 ∷ []
 
@@ -45,7 +45,7 @@ InitEnds old new written after (how.Fault f) = IsUnopened f old new × (after �
 abbrev pub IsNotRun : {S : Type 0} → Held S → Held S → Option (List ℕ) → Option (List ℕ) → Ending → Type 0
 IsNotRun old new written after ending = (ending ≡ how.BadWords) × (new ≡ old) × (after ≡ written)
 
--- what an order does, by its ending, where the reader tells the text that it reads; an order that is not carried out over a connection is none here, and nothing is done
+-- what an order does, by its ending, where the reader reports the text that it reads; an order that is not carried out over a connection is none here, and nothing is done
 abbrev pub RunEnds : {S : Type 0} → Ghosts S → Ordered → Option (List ℕ) → Held S → Held S → Option (List ℕ) → Option (List ℕ) → Ending → Type 0
 RunEnds g nothing_ordered text = IsNotRun
 RunEnds g (due_day_ordered unit count offset day) text = IsNotRun

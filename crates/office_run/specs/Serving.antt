@@ -8,8 +8,8 @@ use Rattle.office_rules.specs.State.{State, empty_state}
 use Rattle.office_sql.specs.declared.editions.Edition.TheVariants as edition
 use Rattle.office_sql.specs.Office.{IsAtRest, IsAtRestOver, IsBlank}
 use Rattle.office_desk.specs.Desk.{DeskState}
-use Rattle.office_desk.specs.Leaving.{StandsAt}
-use Rattle.office_desk.specs.Opening.{OldStandFor, StandFor}
+use Rattle.office_desk.specs.Leaving.{IsAt}
+use Rattle.office_desk.specs.Opening.{OldRepresent, RepresentState}
 use Rattle.office_wire.specs.Connections.{Turns}
 use Rattle.office_run.specs.declared.ending.Ending.{Ending}
 use Rattle.office_run.specs.declared.ending.Ending.TheVariants as how
@@ -17,14 +17,14 @@ use Rattle.office_run.specs.Endings.{ending_of_service}
 use Rattle.office_run.specs.Opening.{IsNotOpened}
 use Rattle.office_run.specs.Running.{listening_line}
 
--- a desk was opened over a connection: it stands at the state of a new office where there was none, else at one for which the tables stand
+-- a desk was opened over a connection: it is at the state of a new office where there was none, else at one that the tables represent
 pub record IsDeskOf {S : Type 0} (g : Ghosts S) (conn : Held S) (desk : DeskState S) : Type 0 where
-  pub is_open : desk.is_given_up ≡ false
-  pub made : HasCleanDisk (state g desk.held) → IsBlank (state g conn) → StandsAt g empty_state desk
-  pub found : HasCleanDisk (state g desk.held) → IsAtRest (state g conn) → (s : State) × StandFor (state g conn).now.trees s × StandsAt g s desk
-  pub moved : HasCleanDisk (state g desk.held) → IsAtRestOver edition.One (state g conn) → (s : State) × OldStandFor (state g conn).now.trees s × StandsAt g s desk
+  pub is_open : desk.is_poisoned ≡ false
+  pub made : HasCleanDisk (state g desk.held) → IsBlank (state g conn) → IsAt g empty_state desk
+  pub found : HasCleanDisk (state g desk.held) → IsAtRest (state g conn) → (s : State) × RepresentState (state g conn).now.trees s × IsAt g s desk
+  pub moved : HasCleanDisk (state g desk.held) → IsAtRestOver edition.One (state g conn) → (s : State) × OldRepresent (state g conn).now.trees s × IsAt g s desk
 
--- a desk was served, by the ending: where it listens was not told, and nothing is served; or connections were, one after another, as many as were asked for or fewer where the desk was given up
+-- a desk was served, by the ending: where it listens was not reported, and nothing is served; or connections were, one after another, as many as were asked for or fewer where the desk was poisoned
 abbrev pub ServesAt : {S : Type 0} → Ghosts S → ℕ → ℕ → DeskState S → DeskState S → Option (List ℕ) → Option (List ℕ) → Ending → Type 0
 ServesAt g port count old new written after ending =
     ((ending ≡ how.File) × (new ≡ old))

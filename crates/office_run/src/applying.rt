@@ -14,14 +14,14 @@ use sqlite::{Alter, Connection};
 use std::alloc::Global;
 use std::io::{Read, Write};
 
-/// Does acts at a desk that is open, and tells their answers.
+/// Does acts at a desk that is open, and reports their answers.
 fn perform_at<W: Write, S: Alter>(
     alloc: Global,
     desk: &mut Desk<S>,
     acts: &[Act],
     out: &mut W,
 ) -> Ending
-    requires { desk.old.is_given_up ≡ false }
+    requires { desk.old.is_poisoned ≡ false }
     ensures { DoneAt S.Store desk.old desk.new W.contents out.old out.new result (λ Of. Performs Of acts.now) }
 {
     let mut answers = Vec::new(alloc);
@@ -39,7 +39,7 @@ fn apply_at<W: Write, S: Alter>(
     text: &[u8],
     out: &mut W,
 ) -> Ending
-    requires { desk.old.is_given_up ≡ false }
+    requires { desk.old.is_poisoned ≡ false }
     ensures { DoneAt S.Store desk.old desk.new W.contents out.old out.new result (λ Of. Applies Of text.now) }
 {
     match read_acts(alloc, text) {

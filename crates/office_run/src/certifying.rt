@@ -12,8 +12,8 @@ use sqlite::{Alter, Connection};
 use std::alloc::Global;
 use std::io::Write;
 
-/// Tells a text as it is.
-fn tell_text<W: Write>(text: &str, out: &mut W) -> Ending
+/// Reports a text as it is.
+fn report_text<W: Write>(text: &str, out: &mut W) -> Ending
     ensures endings { (result ≡ Ending.Done) ⊎ (result ≡ Ending.File) }
     ensures written { result ≡ Ending.Done → Appends (W.contents out.old) (W.contents out.new) text.now }
 {
@@ -23,13 +23,13 @@ fn tell_text<W: Write>(text: &str, out: &mut W) -> Ending
     }
 }
 
-/// Tells the certificate of that run at a desk that is open.
+/// Reports the certificate of that run at a desk that is open.
 fn certificate_at<W: Write, S: Alter>(desk: &Desk<S>, run: u32, out: &mut W) -> Ending
-    requires { desk.now.is_given_up ≡ false }
+    requires { desk.now.is_poisoned ≡ false }
     ensures { Certifies (λ P. (s : State) → s.office ≡ desk.now.office → P s) run (W.contents out.old) (W.contents out.new) result }
 {
     match desk.certificate(run) {
-        Ok(Some(text)) => tell_text(text.as_str(), out),
+        Ok(Some(text)) => report_text(text.as_str(), out),
         Ok(None) => Ending::Refused(Refusal::NoSuch),
         Err(fault) => Ending::Fault(fault),
     }

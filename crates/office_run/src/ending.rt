@@ -36,7 +36,7 @@ pub enum Ending {
     Socket,
     /// All was served that could be, and some connections failed; that was said when they did.
     SomeFailed,
-    /// It was begun, and a fault stopped it; of want of memory too.
+    /// It was begun, and a fault stopped it; of lack of memory too.
     Fault(Fault),
 }
 
@@ -117,10 +117,10 @@ impl Ending {
     }
 
     /// The ending of a service.
-    pub fn of_service(has_failed: bool, is_given_up: bool) -> Ending
-        ensures { result ≡ ending_of_service has_failed is_given_up }
+    pub fn of_service(has_failed: bool, is_poisoned: bool) -> Ending
+        ensures { result ≡ ending_of_service has_failed is_poisoned }
     {
-        if is_given_up {
+        if is_poisoned {
             Ending::Fault(Fault::Reopen)
         } else if has_failed {
             Ending::SomeFailed

@@ -37,7 +37,7 @@ fn export_at<W: Write, S: Alter>(
     register: Register,
     out: &mut W,
 ) -> Ending
-    requires { desk.old.is_given_up ≡ false }
+    requires { desk.old.is_poisoned ≡ false }
     ensures exports { Exports (λ P. (s : State) → s.office ≡ desk.old.office → P s) register (W.contents out.old) (W.contents out.new) result }
     ensures kept { desk.new ≡ desk.old }
 {

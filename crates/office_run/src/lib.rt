@@ -22,5 +22,5 @@ pub use ending::Ending;
 pub use office_wire::Routes;
 pub use opening::{FilesLeft, open_and_run};
 pub use reopening::{law_of_each_word, law_of_the_next_word};
-pub use running::{run_on, tell, tell_listening};
+pub use running::{report, report_listening, run_on};
 pub use serving::open_and_serve;

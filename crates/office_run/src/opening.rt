@@ -8,7 +8,7 @@ ghost use Rattle.office_run.specs.Calling.{Exits};
 ghost use Rattle.office_run.specs.Files.{IsLeftOf, RunsInFiles};
 
 use crate::ending::Ending;
-use crate::running::{run_on, tell};
+use crate::running::{report, run_on};
 use office_store::Fault;
 use office_words::Order;
 use sqlite::{Alter, Connection, FileFrom, FileStore, Files, Start};
@@ -80,7 +80,7 @@ pub fn open_and_run<S: Start, R: Read, W: Write, E: Write>(
         }
         Err(_) => {
             let ending = Ending::Fault(Fault::Store);
-            let _ = tell(ending, err);
+            let _ = report(ending, err);
             (ending.status(), FilesLeft::Unopened)
         }
     }

@@ -28,7 +28,7 @@ pub fn law_of_the_next_word<D: Disk + Drop>()
 /// stopped, after any crash.
 ///
 /// What is concluded of the files is what is asked of them, so the law holds for any number of words after one another.
-/// `text` is what the reader of ACTS or CSV has, where it tells that; the other words read nothing. That the store is
+/// `text` is what the reader of ACTS or CSV has, where it reports that; the other words read nothing. That the store is
 /// numbered is a premise of files that were not closed, as in [`law_of_the_next_word`].
 pub fn law_of_each_word<D: Disk + Drop>()
     ensures word { WordLeavesOffice D.Disk }

@@ -3,7 +3,7 @@ ghost use Rattle.std.specs.Prelude.{◌≡◌, ℕ, Option, Some, false, OnOk};
 ghost use Rattle.std.specs.Io.KnownBytes.{Appends};
 ghost use Rattle.office_desk.specs.Resuming.{resumed_answer};
 ghost use Rattle.office_run.specs.Calling.{DoneAt, EndsShown};
-ghost use Rattle.office_run.specs.Resuming.{IsAnswerTold, ResumeEnds, Resumes, certificate_line};
+ghost use Rattle.office_run.specs.Resuming.{IsAnswerReported, ResumeEnds, Resumes, certificate_line};
 
 use crate::ending::Ending;
 use office_base::Io;
@@ -14,7 +14,7 @@ use sqlite::{Alter, Connection};
 use std::alloc::Global;
 use std::io::Write;
 
-/// Writes the line that tells the run that was closed, and flushes.
+/// Writes the line that reports the run that was closed, and flushes.
 fn write_closed<W: Write>(run: u32, out: &mut W) -> Result<(), Io>
     ensures { OnOk result (Appends (W.contents out.old) (W.contents out.new) (certificate_line run)) }
 {
@@ -22,9 +22,9 @@ fn write_closed<W: Write>(run: u32, out: &mut W) -> Result<(), Io>
     out.flush().or(Err(Io))
 }
 
-/// Tells the run that was closed.
-fn tell_closed<W: Write>(run: u32, out: &mut W) -> Ending
-    ensures { IsAnswerTold (Some run) (W.contents out.old) (W.contents out.new) result }
+/// Reports the run that was closed.
+fn report_closed<W: Write>(run: u32, out: &mut W) -> Ending
+    ensures { IsAnswerReported (Some run) (W.contents out.old) (W.contents out.new) result }
 {
     match write_closed(run, out) {
         Ok(()) => Ending::Done,
@@ -32,13 +32,13 @@ fn tell_closed<W: Write>(run: u32, out: &mut W) -> Ending
     }
 }
 
-/// Tells what a resumption answers, which is one of two answers.
-fn tell_answer<W: Write>(answer: Answer, out: &mut W) -> Ending
+/// Reports what a resumption answers, which is one of two answers.
+fn report_answer<W: Write>(answer: Answer, out: &mut W) -> Ending
     requires { (was_open : Option ℕ) × (answer ≡ resumed_answer was_open) }
-    ensures { (was_open : Option ℕ) → answer ≡ resumed_answer was_open → IsAnswerTold was_open (W.contents out.old) (W.contents out.new) result }
+    ensures { (was_open : Option ℕ) → answer ≡ resumed_answer was_open → IsAnswerReported was_open (W.contents out.old) (W.contents out.new) result }
 {
     match answer {
-        Answer::RunClosed(run) => tell_closed(run, out),
+        Answer::RunClosed(run) => report_closed(run, out),
         Answer::Refused(refusal) => Ending::Refused(refusal),
         _ => unreachable!(),
     }
@@ -46,12 +46,12 @@ fn tell_answer<W: Write>(answer: Answer, out: &mut W) -> Ending
 
 /// Resumes the open run at a desk that is open.
 fn resume_at<W: Write, S: Alter>(desk: &mut Desk<S>, out: &mut W) -> Ending
-    requires { desk.old.is_given_up ≡ false }
+    requires { desk.old.is_poisoned ≡ false }
     ensures { DoneAt S.Store desk.old desk.new W.contents out.old out.new result Resumes }
 {
     law_of_resumption();
     match desk.resume() {
-        Ok(answer) => tell_answer(answer, out),
+        Ok(answer) => report_answer(answer, out),
         Err(fault) => Ending::Fault(fault),
     }
 }

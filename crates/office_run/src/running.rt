@@ -21,8 +21,8 @@ use sqlite::{Alter, Connection};
 use std::alloc::Global;
 use std::io::{Read, Write};
 
-/// Tells the version of the office's file.
-fn tell_version<W: Write>(out: &mut W) -> Ending
+/// Reports the version of the office's file.
+fn report_version<W: Write>(out: &mut W) -> Ending
     ensures endings { (result ≡ Ending.Done) ⊎ (result ≡ Ending.File) }
     ensures written { result ≡ Ending.Done → Appends (W.contents out.old) (W.contents out.new) version_line }
 {
@@ -43,20 +43,20 @@ fn init_on<W: Write, S: Alter>(
     ensures untouched { (fault : AnyFault) → result.0 ≡ Ending.Fault fault → out.new ≡ out.old }
 {
     match Desk::open(alloc, conn) {
-        Ok(desk) => (tell_version(out), desk.close()),
+        Ok(desk) => (report_version(out), desk.close()),
         Err((fault, conn)) => (Ending::Fault(fault), conn),
     }
 }
 
-/// Tells the line of an ending.
-pub fn tell<E: Write>(ending: Ending, err: &mut E) -> Result<(), Io>
+/// Reports the line of an ending.
+pub fn report<E: Write>(ending: Ending, err: &mut E) -> Result<(), Io>
     ensures { OnOk result (Appends (E.contents err.old) (E.contents err.new) (line_said ending)) }
 {
     write!(err, "{ending}").or(Err(Io))
 }
 
-/// Tells the port of this machine at which a service listens, and sends the line out.
-pub fn tell_listening<W: Write>(port: u16, out: &mut W) -> Result<(), Io>
+/// Reports the port of this machine at which a service listens, and sends the line out.
+pub fn report_listening<W: Write>(port: u16, out: &mut W) -> Result<(), Io>
     ensures { OnOk result (Appends (W.contents out.old) (W.contents out.new) (listening_line port)) }
 {
     writeln!(out, "listening 127.0.0.1:{port}").or(Err(Io))?;
@@ -106,6 +106,6 @@ pub fn run_on<R: Read, W: Write, E: Write, S: Alter>(
     ensures runs { Runs S.Store (ordered order.now) (R.remaining input.old) conn result W.contents out.old out.new }
 {
     let (ending, conn) = carry_out(alloc, conn, order, input, out);
-    let _ = tell(ending, err);
+    let _ = report(ending, err);
     (ending.status(), conn)
 }

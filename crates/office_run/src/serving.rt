@@ -7,7 +7,7 @@ ghost use Rattle.office_run.specs.Serving.{ServesAt, ServiceEnds};
 
 use crate::ending::Ending;
 use crate::opening::{FilesLeft, close, law_of_the_last_commit};
-use crate::running::tell_listening;
+use crate::running::report_listening;
 use office_desk::Desk;
 use office_store::Fault;
 use office_wire::{Routes, serve_all};
@@ -15,7 +15,7 @@ use sqlite::{Alter, Connection, FileFrom, Start};
 use std::io::{Read, Write};
 use std::net::{OpenListener, OpenStream};
 
-/// Tells where an open office is served, and serves so many connections.
+/// Reports where an open office is served, and serves so many connections.
 fn serve_at<L: OpenListener, W: Write, E: Write, S: Alter>(
     rt: &HostRuntime,
     routes: &Routes,
@@ -30,10 +30,10 @@ where
     L::Stream: Read + Write + OpenStream,
     ensures { ServesAt S.Store port count desk.old desk.new (W.contents out.old) (W.contents out.new) result }
 {
-    match tell_listening(port, out) {
+    match report_listening(port, out) {
         Ok(()) => {
             let service = serve_all(rt.alloc(), routes, listener, rt, count, desk, err);
-            Ending::of_service(service.has_failed, service.is_given_up)
+            Ending::of_service(service.has_failed, service.is_poisoned)
         }
         Err(_) => Ending::File,
     }
@@ -64,8 +64,8 @@ where
     }
 }
 
-/// Opens the office's file, which is made where there is none, tells on `out` where it is served, serves so many
-/// connections of a listener, and closes the file. It gives how that ends, which is not told yet, and what is left
+/// Opens the office's file, which is made where there is none, reports on `out` where it is served, serves so many
+/// connections of a listener, and closes the file. It gives how that ends, which is not reported yet, and what is left
 /// of the file, as [`crate::open_and_run`] does. The listener is bound to that port of this machine.
 pub fn open_and_serve<L: OpenListener, S: Start, W: Write, E: Write>(
     rt: &HostRuntime,

@@ -22,12 +22,12 @@ use Rattle.sqlite.specs.Rows.{sequence}
 use Rattle.sqlite.specs.Effect.{Database, IsDatabase}
 use Rattle.office_sql.specs.Office.{tree_of}
 use Rattle.office_sql.specs.Schema.{at}
-use Rattle.office_sql.proofs.TableThere.{IsKeyOf, Standing}
+use Rattle.office_sql.proofs.TableThere.{IsKeyOf, Representing}
 
 module _ {X : Type 0} where
-  pub placed_front : (p : X → Bool) (xs ys : List X) (from place : ℕ) → position_from p from xs ≡ Some place → position_from p from (xs ++ ys) ≡ Some place
-  placed_front p [] ys from place h = absurd (cc)
-  placed_front p (x ∷ xs) ys from place h = go (p x) (placed_front p xs ys (from + 1) place) h
+  pub placed_prefix : (p : X → Bool) (xs ys : List X) (from place : ℕ) → position_from p from xs ≡ Some place → position_from p from (xs ++ ys) ≡ Some place
+  placed_prefix p [] ys from place h = absurd (cc)
+  placed_prefix p (x ∷ xs) ys from place h = go (p x) (placed_prefix p xs ys (from + 1) place) h
     where
       go : (b : Bool) → (position_from p (from + 1) xs ≡ Some place → position_from p (from + 1) (xs ++ ys) ≡ Some place)
           → cond b (Some from) (position_from p (from + 1) xs) ≡ Some place → cond b (Some from) (position_from p (from + 1) (xs ++ ys)) ≡ Some place
@@ -43,10 +43,10 @@ module _ {X : Type 0} where
       go true none more = absurd (cc)
       go false none more = more none
 
-  pub got_front : (xs ys : List X) (i : ℕ) (x : X) → slice_get xs i ≡ Some x → slice_get (xs ++ ys) i ≡ Some x
-  got_front [] ys i x h = absurd (cc)
-  got_front (y ∷ xs) ys zero x h = h
-  got_front (y ∷ xs) ys (suc i) x h = got_front xs ys i x h
+  pub got_prefix : (xs ys : List X) (i : ℕ) (x : X) → slice_get xs i ≡ Some x → slice_get (xs ++ ys) i ≡ Some x
+  got_prefix [] ys i x h = absurd (cc)
+  got_prefix (y ∷ xs) ys zero x h = h
+  got_prefix (y ∷ xs) ys (suc i) x h = got_prefix xs ys i x h
 
   got_last : (xs : List X) (x : X) → slice_get (xs ++ x ∷ []) (length xs) ≡ Some x
   got_last [] x = refl
@@ -70,12 +70,12 @@ module _ (s : Schema) (t : Table) (free : is_used s t.name ≡ false) (alone : t
   trees_apart rise = ascending_push (λ (a b : Table). a.tree ≡ b.tree → ⊥) s.tables new rise (λ u here same. let low = table_below s u here in omega (arith, low, same))
 
   -- a table that was there
-  module _ (u : Table) (it : Standing s u) where
+  module _ (u : Table) (it : Representing s u) where
     same_place : table_named (created s t) u.name ≡ Some it.place
-    same_place = placed_front (λ (x : Table). same_name x.name u.name) s.tables (new ∷ []) 0 it.place it.named
+    same_place = placed_prefix (λ (x : Table). same_name x.name u.name) s.tables (new ∷ []) 0 it.place it.named
 
     same_found : slice_get (created s t).tables it.place ≡ Some (at (tree_of s u.name) u)
-    same_found = got_front s.tables (new ∷ []) it.place _ it.found
+    same_found = got_prefix s.tables (new ∷ []) it.place _ it.found
 
     pub same_tree : tree_of (created s t) u.name ≡ tree_of s u.name
     unfolding tree_of
@@ -84,7 +84,7 @@ module _ (s : Schema) (t : Table) (free : is_used s t.name ≡ false) (alone : t
     low_tree : tree_of s u.name < next_tree s
     low_tree = table_below s (at (tree_of s u.name) u) (has_got s.tables it.place _ it.found)
 
-    pub still_there : Standing (created s t) u
+    pub still_there : Representing (created s t) u
     still_there = record {
       place = it.place;
       named = same_place;
@@ -118,7 +118,7 @@ module _ (s : Schema) (t : Table) (free : is_used s t.name ≡ false) (alone : t
         let owner = index_owner r.2.table i _ r.2.defined in
         omega (arith, low, owner)
 
-    pub is_there : Standing (created s t) t
+    pub is_there : Representing (created s t) t
     is_there = record {
       place = length s.tables;
       named = new_place;
@@ -146,11 +146,11 @@ still_counted s t h = go (table_named s counters) refl h
   where
     got : (place : ℕ) (o : Option Table) → slice_get s.tables place ≡ o → is_some o ≡ true → is_some (slice_get (created s t).tables place) ≡ true
     got place None is some = absurd (cc)
-    got place (Some u) is some = ap is_some (got_front s.tables _ place u is)
+    got place (Some u) is some = ap is_some (got_prefix s.tables _ place u is)
 
     go : (o : Option ℕ) → table_named s counters ≡ o → is_some (option_and_then (slice_get s.tables) o) ≡ true → is_some (sequence (created s t)) ≡ true
     go None is some = absurd (cc)
-    go (Some place) is some = rw (placed_front (λ (x : Table). same_name x.name counters) s.tables _ 0 place is) (got place (slice_get s.tables place) refl some)
+    go (Some place) is some = rw (placed_prefix (λ (x : Table). same_name x.name counters) s.tables _ 0 place is) (got place (slice_get s.tables place) refl some)
 
 -- a table that is not counted needs no table that counts
 pub uncounted_still : (s : Schema) (t : Table) → t.is_counted ≡ false → lacks_sequence s ≡ false → lacks_sequence (created s t) ≡ false

@@ -21,9 +21,9 @@ use Rattle.office_sql.specs.Made.{Grown, IsMade}
 use Rattle.office_sql.specs.Office.{HasRoom, HasTable, HasTables, IsUnreferred, KeepsObjects, KeepsRest, tree_of}
 use Rattle.office_sql.specs.Schema.{at}
 use Rattle.office_sql.proofs.Growing.{all_either, is_there, new_tree, same_tree, still_there, trees_apart, uncounted_still}
-use Rattle.office_sql.proofs.Kept.{found_in, stands_in}
+use Rattle.office_sql.proofs.Kept.{found_in, represents_in}
 use Rattle.office_sql.proofs.Rest.{objects_then}
-use Rattle.office_sql.proofs.TableThere.{from_standing, itself}
+use Rattle.office_sql.proofs.TableThere.{from_representing, itself}
 
 -- fewer tables, in whatever order
 pub narrowed : (tables fewer : List Table) (db : Database) → HasTables tables db → ((t : Table) → Has fewer t → Has tables t) → HasTables fewer db
@@ -86,16 +86,16 @@ still_free s t u free apart =
 module _ (made : List Table) (t : Table) (rest : List Table) (old new : Database) (has : HasTables made old) (room : HasRoom (t ∷ rest) old.schema) (alone : t.references ≡ []) (orders : (i : ℕ) → slice_index_or t.orders i plain ≡ plain) (bare : t.is_counted ≡ false)
     (apart : AllByRecursion (λ u. clashes t u ≡ false) rest) (did : IsMade t old new) where
   mine : HasTable (created old.schema t) t
-  mine = from_standing _ t (is_there old.schema t room.free.0 alone orders old.trees has.database room.unreferred.0)
+  mine = from_representing _ t (is_there old.schema t room.free.0 alone orders old.trees has.database room.unreferred.0)
 
   theirs : AllByRecursion (HasTable (created old.schema t)) made
-  theirs = all_from _ made (λ u h. from_standing _ u (still_there old.schema t room.free.0 alone orders u (stands_in made u h old has)))
+  theirs = all_from _ made (λ u h. from_representing _ u (still_there old.schema t room.free.0 alone orders u (represents_in made u h old has)))
 
   stays : (u : Table) → Has made u → tree_of (created old.schema t) u.name ≡ tree_of old.schema u.name
-  stays u h = same_tree old.schema t room.free.0 alone orders u (stands_in made u h old has)
+  stays u h = same_tree old.schema t room.free.0 alone orders u (represents_in made u h old has)
 
   same_rows : (u : Table) → Has made u → new.trees (tree_of old.schema u.name) ≡ old.trees (tree_of old.schema u.name)
-  same_rows u h = all_has _ old.schema.tables (at (tree_of old.schema u.name) u) did.others (itself old.schema u has.apart (stands_in made u h old has))
+  same_rows u h = all_has _ old.schema.tables (at (tree_of old.schema u.name) u) did.others (itself old.schema u has.apart (represents_in made u h old has))
 
   here : tree_of (created old.schema t) t.name ≡ next_tree old.schema
   here = new_tree old.schema t room.free.0 alone orders old.trees has.database room.unreferred.0

@@ -23,20 +23,20 @@ use Rattle.office_sql.specs.Bags.{rows_of, shown, tree_in}
 use Rattle.office_sql.specs.Editions.{version_2}
 use Rattle.office_sql.specs.Office.{HasTable, HasTables, KeepsOthers, SparesOthers, SparesRest, tree_of}
 use Rattle.office_sql.specs.Schema.{at}
-use Rattle.office_sql.proofs.TableThere.{Standing, finds_it, itself, standing}
+use Rattle.office_sql.proofs.TableThere.{Representing, finds_it, itself, representing}
 use Rattle.office_sql.proofs.Understood.{Finds}
 use Rattle.office_sql.proofs.TreeFound.{tree_is}
 
--- a table of the office stands somewhere
-pub stands_in : (version : List Table) (t : Table) → Has version t → (db : Database) → HasTables version db → Standing db.schema t
-stands_in version t mine db is = standing db.schema t (all_has _ version t is.tables mine)
+-- a table of the office is somewhere
+pub represents_in : (version : List Table) (t : Table) → Has version t → (db : Database) → HasTables version db → Representing db.schema t
+represents_in version t mine db is = representing db.schema t (all_has _ version t is.tables mine)
 
-pub finds_in : (version : List Table) (t : Table) (mine : Has version t) (db : Database) (is : HasTables version db) → Finds db.schema t (stands_in version t mine db is).place (tree_of db.schema t.name)
-finds_in version t mine db is = finds_it db.schema t is.apart (stands_in version t mine db is) db.trees is.database
+pub finds_in : (version : List Table) (t : Table) (mine : Has version t) (db : Database) (is : HasTables version db) → Finds db.schema t (represents_in version t mine db is).place (tree_of db.schema t.name)
+finds_in version t mine db is = finds_it db.schema t is.apart (represents_in version t mine db is) db.trees is.database
 
 -- and the trees themselves list it so
 pub found_in : (version : List Table) (t : Table) → Has version t → (db : Database) → HasTables version db → tree_in db.trees t.name ≡ tree_of db.schema t.name
-found_in version t mine db is = tree_is db.schema db.trees t is.database (stands_in version t mine db is)
+found_in version t mine db is = tree_is db.schema db.trees t is.database (represents_in version t mine db is)
 
 -- the rowids of its rows rise
 pub shape_in : (version : List Table) (t : Table) → Has version t → (db : Database) → HasTables version db → IsShaped shape.Table (db.trees (tree_of db.schema t.name))
@@ -55,7 +55,7 @@ kept_tables version t old new was sound spares here = record {
     shaped_now u listed = elim (eqb_tells (tree_of old.schema u.name) (tree_of old.schema t.name)) [
       | inl same ↦ subst (λ n. IsShaped shape.Table (new.trees n)) (sym same.1) here
       | inr other ↦
-          let there = itself old.schema u was.apart (stands_in version u listed old was) in
+          let there = itself old.schema u was.apart (represents_in version u listed old was) in
           subst (IsShaped shape.Table) (sym (all_has _ old.schema.tables (at (tree_of old.schema u.name) u) spares.tables there other.1)) (all_has _ version u was.shaped listed)
     ]
 
@@ -65,7 +65,7 @@ bytes_same a b same = (bytes_eq-Decides a b).1 same
 module _ (version : List Table) (t : Table) (mine : Has version t) (old new : Database) (was : HasTables version old) (now : HasTables version new) (spares : SparesOthers t old new) where
   low_tree : tree_of old.schema t.name < 65536
   low_tree =
-      let has = stands_in version t mine old was in
+      let has = represents_in version t mine old was in
       (zipped_left IsTableRow _ old.schema.tables (at (tree_of old.schema t.name) t) was.database.lists.listed.tables (itself old.schema t was.apart has)).2.described.low
 
   no_index : IsNoIndex old.schema catalog_tree
@@ -79,8 +79,8 @@ module _ (version : List Table) (t : Table) (mine : Has version t) (old new : Da
   pub other_rows : (u : Table) → Has version u → (u.name ≡ t.name → ⊥) → rows_of u new.trees ≡ rows_of u old.trees
   other_rows u listed apart =
       let s = old.schema in
-      let has = stands_in version u listed old was in
-      let its = stands_in version t mine old was in
+      let has = represents_in version u listed old was in
+      let its = represents_in version t mine old was in
       let here = found_in version u listed old was in
       let there : tree_in new.trees u.name ≡ tree_of s u.name = found_in version u listed new now ∙ ap (λ x. tree_of x u.name) spares.schema in
       let differs : tree_of s u.name ≢ tree_of s t.name = λ same.
@@ -103,10 +103,10 @@ as_listed version t mine old new was now same P h =
     let there : tree_in new.trees t.name ≡ tree_of old.schema t.name = found_in version t mine new now ∙ ap (λ x. tree_of x t.name) same in
     subst (λ n. P (rows_of t old.trees) (map (shown t) (new.trees n))) (sym there) (subst (λ n. P (map (shown t) (old.trees n)) (map (shown t) (new.trees (tree_of old.schema t.name)))) (sym (found_in version t mine old was)) h)
 
--- a table of another name stands in another tree
+-- a table of another name is in another tree
 other_tree : (version : List Table) (t : Table) → Has version t → (db : Database) → HasTables version db → (u : Table) → Has db.schema.tables u → same_name u.name t.name ≡ false → u.tree ≢ tree_of db.schema t.name
 other_tree version t mine db is u here differs same =
-    let its = stands_in version t mine db is in
+    let its = represents_in version t mine db is in
     let one : u ≡ at (tree_of db.schema t.name) t = same_table db.schema.tables u (at (tree_of db.schema t.name) t) is.apart here (itself db.schema t is.apart its) same in
     true≢false (sym (same_itself t.name) ∙ ap (λ (x : Table). same_name x.name t.name) (sym one) ∙ differs)
 

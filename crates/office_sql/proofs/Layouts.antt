@@ -1,4 +1,4 @@
--- What the names of tables tell of an office.
+-- What the names of tables report of an office.
 use Rattle.std.proofs.Common.{◌≡◌, ℕ, Option, None, Some, true, false, codes, is_some, refl, ap, ◌∙◌}
 use Rattle.sqlite_catalog.proofs.StepLemmas.{no_table}
 use Rattle.sqlite_schema.specs.Names.{table_named}
@@ -10,24 +10,24 @@ use Rattle.office_sql.specs.Office.{IsBlank, IsOfficeOf}
 use Rattle.office_sql.specs.Schema.{events, office, schedules2}
 use Rattle.office_sql.specs.declared.editions.Edition.{Edition}
 use Rattle.office_sql.specs.declared.editions.Edition.TheVariants as edition
-use Rattle.office_sql.proofs.Kept.{stands_in}
+use Rattle.office_sql.proofs.Kept.{represents_in}
 use Rattle.office_sql.proofs.OfTwo.{has_events, has_schedules2}
 use Rattle.office_sql.proofs.RowByRow.{office_in}
 
--- the version that they tell is that of the office
+-- the version that they report is that of the office
 pub layout_is : (e : Edition) (db : Database) → IsOfficeOf e db → layout_of db.schema ≡ Some e
 layout_is edition.One db is =
     let no_schedules = no_table db.schema schedules2.name is.room.free.0 in
     let no_events = no_table db.schema events.name is.room.free.1.0 in
     rw (no_schedules, no_events) refl
 layout_is edition.Two db is =
-    let its = (stands_in version_2 schedules2 has_schedules2 db is.has).named in
-    let theirs = (stands_in version_2 events has_events db is.has).named in
+    let its = (represents_in version_2 schedules2 has_schedules2 db is.has).named in
+    let theirs = (represents_in version_2 events has_events db is.has).named in
     rw (its, theirs) refl
 
 -- there is a table `office`
 pub office_named : (e : Edition) (db : Database) → IsOfficeOf e db → is_some (table_named db.schema (codes "office")) ≡ true
-office_named e db is = ap is_some (stands_in (tables_of e) office (office_in e) db is.has).named
+office_named e db is = ap is_some (represents_in (tables_of e) office (office_in e) db is.has).named
 
 -- and where there is room for an office there is none
 pub office_not_named : (s : State) → IsBlank s → is_some (table_named s.now.schema (codes "office")) ≡ false

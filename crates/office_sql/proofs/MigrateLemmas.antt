@@ -72,18 +72,18 @@ empties a b c moved gone = record {
   rest = spares_then a b c moved.rest (spares_rest schedules has_schedules b c moved.is_office.has gone.spares);
 }
 
-pub tells : (day : ℤ) (a b c : Database) → Emptied a b → Raised day b c → MovedOver day a c
-tells day a b c left told = record {
-  is_office = told.is_office;
-  row = told.row;
-  moved = subst (λ rows. IsPermutation (rows_of schedules a.trees) rows) (sym (same_rows office schedules2 has_schedules2 b c told.others refl)) left.moved;
-  emptied = same_rows office schedules has_schedules b c told.others refl ∙ left.emptied;
+pub reports : (day : ℤ) (a b c : Database) → Emptied a b → Raised day b c → MovedOver day a c
+reports day a b c left reported = record {
+  is_office = reported.is_office;
+  row = reported.row;
+  moved = subst (λ rows. IsPermutation (rows_of schedules a.trees) rows) (sym (same_rows office schedules2 has_schedules2 b c reported.others refl)) left.moved;
+  emptied = same_rows office schedules has_schedules b c reported.others refl ∙ left.emptied;
   others = all_both (λ (t : Table). bytes_eq t.name schedules.name ≡ false → bytes_eq t.name schedules2.name ≡ false → rows_of t b.trees ≡ rows_of t a.trees) (λ t. bytes_eq t.name office.name ≡ false → rows_of t c.trees ≡ rows_of t b.trees)
-      (λ t. IsNoneOfThree t → rows_of t c.trees ≡ rows_of t a.trees) (λ t was same apart. same apart.0 ∙ was apart.1 apart.2) version_2 left.others told.others;
-  rest = spares_then a b c left.rest told.rest;
+      (λ t. IsNoneOfThree t → rows_of t c.trees ≡ rows_of t a.trees) (λ t was same apart. same apart.0 ∙ was apart.1 apart.2) version_2 left.others reported.others;
+  rest = spares_then a b c left.rest reported.rest;
 }
 
--- the one row of `office` stands until it is told anew
+-- the one row of `office` is until it is reported anew
 pub still_one : (day : ℤ) (a b : Database) → IsReadyToMove day a.trees → Emptied a b → rows_of office b.trees ≡ rows_of office a.trees
 still_one day a b ready left = left.others.0 refl refl
 

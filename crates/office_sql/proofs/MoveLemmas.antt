@@ -39,7 +39,7 @@ use Rattle.office_sql.specs.Texts.{move_schedules, moved_collations, moved_terms
 use Rattle.office_sql.proofs.BagLemmas.{put_shuffles}
 use Rattle.office_sql.proofs.MoveTexts.{move_schedules_is}
 use Rattle.office_sql.proofs.PutLemmas.{cast_int, cast_null}
-use Rattle.office_sql.proofs.Kept.{finds_in, found_in, left_others, left_tables, stands_in, spares_rest}
+use Rattle.office_sql.proofs.Kept.{finds_in, found_in, left_others, left_tables, represents_in, spares_rest}
 use Rattle.office_sql.proofs.OfTwo.{has_schedules, has_schedules2}
 use Rattle.office_sql.proofs.TableThere.{idle, low}
 use Rattle.office_sql.proofs.Replace.{went, same_value}
@@ -55,10 +55,10 @@ module _ (tree : ℕ) (project : List Term) (collations : List Collation) (low :
       a.grouped ∙ flat_map_single (λ r. params ∷ r ∷ []) (overlay db [] tree) ∙ ap (map (λ r. params ∷ r ∷ [])) (in_tree) in
       let kept : a.kept ≡ map (output q) (map (λ r. params ∷ r ∷ []) (db tree)) = a.distinct ∙ ap (map (output q)) staged in
       let same = subst (λ l. IsPermutation l a.ordered) kept a.same in
-      let told : rows ≡ map (λ (o : Output). o.1) a.ordered = a.shown in
+      let reported : rows ≡ map (λ (o : Output). o.1) a.ordered = a.shown in
       let outputs : map (λ (o : Output). o.1) (map (output q) (map (λ r. params ∷ r ∷ []) (db tree))) ≡ map (λ r. eval_all project (params ∷ r ∷ [])) (db tree) =
       map-map (λ (o : Output). o.1) (output q) (map (λ r. params ∷ r ∷ []) (db tree)) ∙ map-map (λ (e : Env). (output q e).1) (λ r. params ∷ r ∷ []) (db tree) in
-      subst (IsPermutation (map (λ r. eval_all project (params ∷ r ∷ [])) (db tree))) (sym told)
+      subst (IsPermutation (map (λ r. eval_all project (params ∷ r ∷ [])) (db tree))) (sym reported)
       (subst (λ l. IsPermutation l (map (λ (o : Output). o.1) a.ordered)) outputs (IsPermutation-map (λ (o : Output). o.1) _ _ same))
     where
       in_tree : overlay db [] tree ≡ db tree
@@ -119,8 +119,8 @@ pub moves : (old new : State) (count : ℕ) → HasTables version_2 old.now → 
 moves old new count is no_row all_rows h =
     let s = old.now.schema in
     let db = old.now.trees in
-    let its = stands_in version_2 schedules2 has_schedules2 old.now is in
-    let from = stands_in version_2 schedules has_schedules old.now is in
+    let its = represents_in version_2 schedules2 has_schedules2 old.now is in
+    let from = represents_in version_2 schedules has_schedules old.now is in
     let n = tree_of s schedules2.name in
     let m = tree_of s schedules.name in
     let table = at n schedules2 in
@@ -145,7 +145,7 @@ moves old new count is no_row all_rows h =
     let fresh : are_fresh [] edit.news ≡ true = subst (λ l. are_fresh l edit.news ≡ true) none did.fresh in
     let in_turn : IsPermutation edit.news (written.0 n) = subst (IsPermutation edit.news) (sym left) (subst (λ l. IsPermutation l (put_all [] edit.news)) (append-nil edit.news) (put_all_shuffles edit.news [] fresh)) in
     let casts = map (λ s. cast_row table (drop 0 s)) in
-    let told : map (shown schedules2) edit.news ≡ map (shown schedules2) (casts given.0) = shown_numbered schedules2 blind_schedules2 Chosen (db n) (casts given.0) in
+    let reported : map (shown schedules2) edit.news ≡ map (shown schedules2) (casts given.0) = shown_numbered schedules2 blind_schedules2 Chosen (db n) (casts given.0) in
     let small = low s schedules is.apart from db is.database in
     let found : IsPermutation (map (λ r. Null ∷ shown schedules r) (db m)) given.0 = all_found m moved_terms moved_collations small [] db given.0 (given.1.answer Null) in
     let same : map (shown schedules) (db m) ≡ map (λ r. shown schedules2 (cast_row table (Null ∷ shown schedules r))) (db m) =
@@ -153,7 +153,7 @@ moves old new count is no_row all_rows h =
     let sources : IsPermutation (map (shown schedules) (db m)) (map (λ s. shown schedules2 (cast_row table (drop 0 s))) given.0) =
     subst (λ l. IsPermutation l (map (λ s. shown schedules2 (cast_row table (drop 0 s))) given.0)) (map-map (λ s. shown schedules2 (cast_row table (drop 0 s))) (λ r. Null ∷ shown schedules r) (db m) ∙ sym same) (IsPermutation-map (λ s. shown schedules2 (cast_row table (drop 0 s))) _ _ found) in
     let bag : IsPermutation (map (shown schedules) (db m)) (map (shown schedules2) edit.news) =
-    subst (IsPermutation (map (shown schedules) (db m))) (sym (map-map (shown schedules2) (λ s. cast_row table (drop 0 s)) given.0) ∙ sym told) sources in
+    subst (IsPermutation (map (shown schedules) (db m))) (sym (map-map (shown schedules2) (λ s. cast_row table (drop 0 s)) given.0) ∙ sym reported) sources in
     let moved : IsPermutation (map (shown schedules) (db m)) (map (shown schedules2) (written.0 n)) = IsPermutation-trans _ _ _ bag (IsPermutation-map (shown schedules2) _ _ in_turn) in
     let order : IsShaped shape.Table (new.now.trees n) = subst (λ (d : Trees). IsShaped shape.Table (d n)) to (subst (IsShaped shape.Table) (sym left) (put_all_shaped edit.news [] did.keyed (tt, tt))) in
     let schema : new.now.schema ≡ s = ap (λ (d : Database). d.schema) after_is in

@@ -1,4 +1,4 @@
--- What the texts do that empty a table and tell another version.
+-- What the texts do that empty a table and report another version.
 use Rattle.std.proofs.Common.{◌≡◌, ◌≢◌, Option, ℕ, ℤ, pos, List, None, [], ◌∷◌, map, cond, not, is_eq, Ok, refl, sym, ap, subst, ◌∙◌, IsPermutation}
 use Rattle.std.specs.List.{AllByRecursion}
 use Rattle.sqlite_value.specs.declared.value.Value.TheVariants.{Null, Int}
@@ -28,7 +28,7 @@ use Rattle.office_sql.specs.Office.{HasTables, SparesOthers, tree_of}
 use Rattle.office_sql.specs.Schema.{at, office, schedules}
 use Rattle.office_sql.specs.Shown.{office_row}
 use Rattle.office_sql.specs.Texts.{clear_schedules, raise_version, raised_terms, selects}
-use Rattle.office_sql.proofs.Kept.{finds_in, found_in, left_others, left_tables, stands_in, spares_rest}
+use Rattle.office_sql.proofs.Kept.{finds_in, found_in, left_others, left_tables, represents_in, spares_rest}
 use Rattle.office_sql.proofs.MoveLemmas.{all_found}
 use Rattle.office_sql.proofs.OfTwo.{has_office, has_schedules}
 use Rattle.office_sql.proofs.TableThere.{idle, low}
@@ -68,7 +68,7 @@ pub raises : (day : ℤ) (old new : State) (count : ℕ) → HasTables version_2
 raises day old new count is has h =
     let s = old.now.schema in
     let db = old.now.trees in
-    let it = stands_in version_2 office has_office old.now is in
+    let it = represents_in version_2 office has_office old.now is in
     let n = tree_of s office.name in
     let table = at n office in
     let command = Update it.place (record { lets = []; body = selects n raised_terms [] }) in

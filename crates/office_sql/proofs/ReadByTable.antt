@@ -39,7 +39,7 @@ names_of t = map (λ c. c.name) (columns_read t)
 abbrev pub places_of : OfficeTable → List ℕ
 places_of t = places_from (table_of t).key 0 (columns_read t)
 
--- the columns of the key stand first
+-- the columns of the key are first
 abbrev key_names : OfficeTable → List (List ℕ)
 key_names t = take (length (key_of t)) (names_of t)
 

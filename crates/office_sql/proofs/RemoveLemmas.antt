@@ -1,4 +1,4 @@
--- DELETE by a key, wherever the table stands.
+-- DELETE by a key, wherever the table is.
 use Rattle.std.proofs.Common.{◌≡◌, ◌≢◌, ◌⊎◌, inl, inr, ℕ, ℤ, List, [], ◌∷◌, ◌++◌, map, filter, nat_le, ◌^◌, Bool, true, false, not, ◌||◌, cond, Option, None, Some, Ok, refl, sym, ap, subst, ◌∙◌, IsTrue, is_eq, IsPermutation, All}
 use Rattle.std.specs.List.{AllByRecursion, list_all, flat_map}
 use Rattle.std.proofs.lemmas.Cmp.{tied_itself}
@@ -36,7 +36,7 @@ use Rattle.sqlite.proofs.Callers.{IsPlain, command_of, statement_of, runs_as, on
 use Rattle.sqlite_schema.specs.declared.schema.Schema.{Schema}
 use Rattle.office_sql.specs.Bags.{shown, share}
 use Rattle.office_sql.specs.Office.{HasTables, Removed, SparesOthers, tree_of}
-use Rattle.office_sql.proofs.Kept.{as_listed, finds_in, left_others, left_tables, shape_in, stands_in}
+use Rattle.office_sql.proofs.Kept.{as_listed, finds_in, left_others, left_tables, shape_in, represents_in}
 use Rattle.office_sql.proofs.TableThere.{idle, low}
 use Rattle.office_sql.proofs.Understood.{MeansRemoval}
 use Rattle.office_sql.proofs.Replace.{went, same_value}
@@ -119,13 +119,13 @@ same_or_not a b = elim (eqb_tells a b) [ inl same ↦ inl same.1 | inr apart ↦
 abbrev pub Takes : List ℕ → Table → List (List ℕ) → Row → Row → Type 1
 Takes sql t keys params key = (tables : List Table) → Has tables t → (old new : State) (count : ℕ) → HasTables tables old.now → Executes sql params old new (Ok count) → Removed tables t keys key old.now new.now
 
--- a statement that removes the rows that have a key, wherever the table stands
+-- a statement that removes the rows that have a key, wherever the table is
 module _ (t : Table) (sql : List ℕ) (filters : List Term) (known : MeansRemoval sql t filters) where
   pub removes : (keys : List (List ℕ)) (params key : Row) → ((r : Row) → list_all (holds (params ∷ r ∷ [])) filters ≡ share keys (shown t r) key) → Takes sql t keys params key
   removes keys params key tests version mine old after count is h =
       let s = old.now.schema in
       let trees = old.now.trees in
-      let it = stands_in version t mine old.now is in
+      let it = represents_in version t mine old.now is in
       let n = tree_of s t.name in
       let small = low s t is.apart it trees is.database in
       let means = known s it.place n (finds_in version t mine old.now is) in

@@ -1,4 +1,4 @@
--- A table that a schema has, wherever it stands: no foreign key acts on it, no other table is in its tree, and the rows that conflict share one of its keys.
+-- A table that a schema has, wherever it is: no foreign key acts on it, no other table is in its tree, and the rows that conflict share one of its keys.
 use Rattle.std.proofs.Common.{◌≡◌, ◌≢◌, ◌⊎◌, inl, inr, ℕ, zero, suc, ◌+◌, ◌<◌, ◌^◌, List, [], ◌∷◌, ◌++◌, slice_get, bytes_eq, Bool, true, false, ◌&&◌, ◌||◌, ◌==◌, Some, None, Option, option_map, option_and_then, find, eqb, nat_le, refl, sym, ap, subst, ◌∙◌, IsTrue, arith, true≢false, cond}
 use Rattle.std.specs.List.{AllByRecursion, list_any, flat_map, filter_map, slice_index_or}
 use Rattle.std.proofs.lemmas.Bool.{and_parts, or_parts}
@@ -34,15 +34,15 @@ abbrev pub IsKeyOf : Table → Index → Type 0
 IsKeyOf t i = Has t.uniques i.columns × (i.order ≡ plain)
 
 -- the table is there, with its place named
-pub record Standing (s : Schema) (t : Table) : Type 0 where
+pub record Representing (s : Schema) (t : Table) : Type 0 where
   pub place : ℕ
   pub named : table_named s t.name ≡ Some place
   pub found : slice_get s.tables place ≡ Some (at (tree_of s t.name) t)
   pub unreferred : AllByRecursion (λ u. list_any (λ ref. same_name t.name ref.parent) u.references ≡ false) s.tables
   pub keyed : AllByRecursion (λ i. guards i (at (tree_of s t.name) t) ≡ true → IsKeyOf t i) s.indexes
 
-pub standing : (s : Schema) (t : Table) → HasTable s t → Standing s t
-standing s t it = go (table_named s t.name) refl it.found
+pub representing : (s : Schema) (t : Table) → HasTable s t → Representing s t
+representing s t it = go (table_named s t.name) refl it.found
   where
     keyed : AllByRecursion (λ i. guards i (at (tree_of s t.name) t) ≡ true → IsKeyOf t i) s.indexes
     keyed = all_from _ s.indexes (λ i h guard.
@@ -50,12 +50,12 @@ standing s t it = go (table_named s t.name) refl it.found
         let one = some_has (bytes_eq i.columns) t.uniques key.0 in
         (subst (Has t.uniques) (sym ((bytes_eq-Decides i.columns one.0).0 one.2)) one.1, key.1))
 
-    go : (o : Option ℕ) → table_named s t.name ≡ o → option_and_then (slice_get s.tables) o ≡ Some (at (tree_of s t.name) t) → Standing s t
+    go : (o : Option ℕ) → table_named s t.name ≡ o → option_and_then (slice_get s.tables) o ≡ Some (at (tree_of s t.name) t) → Representing s t
     go None is none = absurd (cc)
     go (Some place) is found = record { place = place; named = is; found = found; unreferred = it.unreferred; keyed = keyed }
 
-pub from_standing : (s : Schema) (t : Table) → Standing s t → HasTable s t
-from_standing s t it = record {
+pub from_representing : (s : Schema) (t : Table) → Representing s t → HasTable s t
+from_representing s t it = record {
   found = ap (option_and_then (slice_get s.tables)) it.named ∙ it.found;
   unreferred = it.unreferred;
   keyed = all_from _ s.indexes (λ i h guard.
@@ -80,11 +80,11 @@ none_mapped : {X Y : Type 0} (f : X → Option Y) (xs : List X) → ((x : X) →
 none_mapped f [] none = refl
 none_mapped f (x ∷ xs) none = rw (none x (inl refl)) (none_mapped f xs (λ y h. none y (inr h)))
 
-none_gathered : {X Y : Type 0} (f : X → List Y) (xs : List X) → ((x : X) → Has xs x → f x ≡ []) → flat_map f xs ≡ []
-none_gathered f [] none = refl
-none_gathered f (x ∷ xs) none = rw (none x (inl refl)) (none_gathered f xs (λ y h. none y (inr h)))
+none_collected : {X Y : Type 0} (f : X → List Y) (xs : List X) → ((x : X) → Has xs x → f x ≡ []) → flat_map f xs ≡ []
+none_collected f [] none = refl
+none_collected f (x ∷ xs) none = rw (none x (inl refl)) (none_collected f xs (λ y h. none y (inr h)))
 
-module _ (s : Schema) (t : Table) (apart : IsAscending (λ a b. a.tree ≡ b.tree → ⊥) s.tables) (it : Standing s t) where
+module _ (s : Schema) (t : Table) (apart : IsAscending (λ a b. a.tree ≡ b.tree → ⊥) s.tables) (it : Representing s t) where
   abbrev tree : ℕ
   tree = tree_of s t.name
 
@@ -99,7 +99,7 @@ module _ (s : Schema) (t : Table) (apart : IsAscending (λ a b. a.tree ≡ b.tre
       absurd (true≢false (sym u.3 ∙ ap (λ (x : Table). same_name x.name ref.parent) one ∙ none))
 
   pub idle : (olds news : List Row) → works s Enforced 0 tree olds news ≡ []
-  idle olds news = none_gathered _ s.tables (λ child here. none_mapped _ child.references (λ ref its. go child ref here its _ (parent_key s.tables ref) refl))
+  idle olds news = none_collected _ s.tables (λ child here. none_mapped _ child.references (λ ref its. go child ref here its _ (parent_key s.tables ref) refl))
     where
       go : (child : Table) (ref : Reference) → Has s.tables child → Has child.references ref → (deed : Option Deed) (key : Option ParentKey) → parent_key s.tables ref ≡ key
           → work_by 0 tree (pairs olds news) child ref deed key ≡ None
@@ -133,7 +133,7 @@ at_place [] x h = absurd h
 at_place (y ∷ xs) x (inl e) = (0, ap Some (sym e))
 at_place (y ∷ xs) x (inr h) = let more = at_place xs x h in (suc more.0, more.1)
 
-module _ (s : Schema) (t : Table) (it : Standing s t) (orders : (i : ℕ) → slice_index_or t.orders i plain ≡ plain) (guarded : IsGuarded s.indexes (at (tree_of s t.name) t)) where
+module _ (s : Schema) (t : Table) (it : Representing s t) (orders : (i : ℕ) → slice_index_or t.orders i plain ≡ plain) (guarded : IsGuarded s.indexes (at (tree_of s t.name) t)) where
   abbrev here : Table
   here = at (tree_of s t.name) t
 

@@ -14,7 +14,7 @@ use Rattle.sqlite.specs.Effect.{Database, IsDatabase}
 use Rattle.office_sql.specs.Schema.{at}
 use Rattle.office_sql.specs.Bags.{tree_in}
 use Rattle.office_sql.specs.Office.{tree_of}
-use Rattle.office_sql.proofs.TableThere.{Standing}
+use Rattle.office_sql.proofs.TableThere.{Representing}
 
 module _ {X : Type 0} (p : X → Bool) where
   least : (xs : List X) (from place : ℕ) → position_from p from xs ≡ Some place → from ≤ place
@@ -51,7 +51,7 @@ zipped_find R q p agree (a ∷ xs) (b ∷ ys) y all h = go (q a) (p b) (agree a 
     go false true same h more = absurd (cc)
 
 -- in a database it is the tree of the schema's table
-pub tree_is : (s : Schema) (db : Trees) (t : Table) → IsDatabase (record { schema = s; trees = db }) → Standing s t → tree_in db t.name ≡ tree_of s t.name
+pub tree_is : (s : Schema) (db : Trees) (t : Table) → IsDatabase (record { schema = s; trees = db }) → Representing s t → tree_in db t.name ≡ tree_of s t.name
 unfolding tree_in
 tree_is s db t sound it =
     let p = λ (u : Table). same_name u.name t.name in

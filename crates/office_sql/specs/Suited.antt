@@ -17,7 +17,7 @@ IsOfKind kind.Blob value = (bytes : List ℕ) × (value ≡ Blob bytes)
 IsOfKind kind.Real value = ⊥
 IsOfKind kind.Any value = ⊥
 
--- the value is of the column's kind, or is NULL where that may stand
+-- the value is of the column's kind, or is NULL where that may be
 abbrev pub SuitsColumn : Column → Value → Type 0
 SuitsColumn column value = IsOfKind column.kind value ⊎ ((column.not_null ≡ false) × (value ≡ Null))
 

@@ -58,9 +58,9 @@ one_confirmed edition.Two old named =
 
 -- the names are not those of the version
 pub other_names : (ed named : Edition) (found : Option Edition) → found ≢ Some named → (old : State) → (IsAtRestOver ed old → found ≡ Some ed) → (f : Fault) → ConfirmsEdition ed named old old (Err f)
-other_names ed named found differ old told f = record {
+other_names ed named found differ old reported f = record {
   is = λ clean rest. tt;
   same = λ clean rest. tt;
-  damaged = λ clean rest wrong now emptied. differ (told rest ∙ ap Some (sym now));
+  damaged = λ clean rest wrong now emptied. differ (reported rest ∙ ap Some (sym now));
   leaves = λ clean rest db may. may;
 }

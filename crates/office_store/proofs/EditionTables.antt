@@ -1,4 +1,4 @@
--- The schedules of either version are read of their own table, the events of version 2 of theirs, and what is told of the version by the names of tables.
+-- The schedules of either version are read of their own table, the events of version 2 of theirs, and what is reported of the version by the names of tables.
 use Rattle.std.proofs.Common.{All, List, [], ◌∷◌, true, false, refl, sym, subst, arith}
 use Rattle.std.proofs.lemmas.List.Sorted.{IsPermutation-refl}
 use Rattle.sqlite_value.specs.Order.{Row}
@@ -9,7 +9,7 @@ use Rattle.office_sql.specs.declared.editions.Edition.{Edition}
 use Rattle.office_sql.specs.declared.editions.Edition.TheVariants as edition
 use Rattle.office_sql.specs.declared.tables.OfficeTable.TheVariants as table
 use Rattle.office_sql.specs.Reads.{IsByKey, bag_of, key_of}
-use Rattle.office_store.specs.Stands.{events_in}
+use Rattle.office_store.specs.RepresentsRows.{events_in}
 use Rattle.office_store.specs.Taken.{HaveEventsCome}
 
 pub schedules_by_key : (ed : Edition) (db : Trees) (rows : List Row) → IsByKey (key_of (schedules_table ed)) (bag_of (schedules_table ed) db) rows → IsByKey (0 ∷ []) (rows_of (schedules_of ed) db) rows

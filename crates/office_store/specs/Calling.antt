@@ -17,7 +17,7 @@ use Rattle.office_sql.specs.Names.{has_other_table}
 use Rattle.office_sql.specs.Office.{IsAtRest, IsAtRestOver, IsBlank, KeepsRest, Leaves, SparesRest}
 use Rattle.office_sql.specs.declared.editions.Edition.{Edition}
 use Rattle.office_store.specs.Adopted.{AreNumbersAndBytes, HoldNoOffice, IsOtherVersion, IsRead, LeavesLess}
-use Rattle.office_store.specs.Stands.{HoldsOldRows, HoldsRows, LeavesFirst, LeavesMoved, LeavesOffices, LeavesWithin}
+use Rattle.office_store.specs.RepresentsRows.{HoldsOldRows, HoldsRows, LeavesFirst, LeavesMoved, LeavesOffices, LeavesWithin}
 use Rattle.office_store.specs.Stored.{AllReadable}
 use Rattle.office_store.specs.declared.fault.Fault.{Fault}
 use Rattle.office_store.specs.declared.fault.Fault.TheVariants as fault

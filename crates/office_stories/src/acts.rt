@@ -14,7 +14,7 @@ pub(crate) fn is_act(words: &str) -> bool {
     words == "resume" || words.starts_with('{') || words.starts_with('2')
 }
 
-/// The acts that words ask for, which stand between ` & `.
+/// The acts that words ask for, which are between ` & `.
 fn acts_of(alloc: Global, words: &str) -> Result<Vec<Act>, Fail> {
     let values = joined(alloc, words, ",")?;
     let list = format!(in alloc; "[{values}]")?;
@@ -24,7 +24,7 @@ fn acts_of(alloc: Global, words: &str) -> Result<Vec<Act>, Fail> {
     }
 }
 
-/// The JSON of words that stand between ` & `, with that between them.
+/// The JSON of words that are between ` & `, with that between them.
 fn joined(alloc: Global, words: &str, between: &str) -> Result<String, Fail> {
     let mut text = String::new(alloc);
     for part in words.split(" & ") {
@@ -36,7 +36,7 @@ fn joined(alloc: Global, words: &str, between: &str) -> Result<String, Fail> {
     Ok(text)
 }
 
-/// The JSON of answers that stand between ` & `, a line for each.
+/// The JSON of answers that are between ` & `, a line for each.
 pub(crate) fn lines_of(alloc: Global, answers: &str) -> Result<String, Fail> {
     joined(alloc, answers, "\n")
 }
@@ -99,13 +99,17 @@ pub(crate) fn answered<S: Alter>(
 }
 
 /// What the words ask for is done at a desk, and must be answered so.
-pub(crate) fn tell_act<S: Alter>(
+pub(crate) fn report_act<S: Alter>(
     alloc: Global,
     desk: &mut Desk<S>,
     words: &str,
     answer: &str,
 ) -> Result<(), Fail> {
-    let told = answered(alloc, desk, words)?;
+    let reported = answered(alloc, desk, words)?;
     let wanted = lines_of(alloc, answer)?;
-    must(told.as_str() == wanted.as_str(), words, told.as_str())
+    must(
+        reported.as_str() == wanted.as_str(),
+        words,
+        reported.as_str(),
+    )
 }

@@ -1,6 +1,6 @@
 //! Clients that are served one after another at a desk.
 use crate::failures::failure;
-use crate::peer::{Paper, Pieces};
+use crate::peer::{Document, Pieces};
 use crate::requests::{Exchange, exchange_of};
 use office_base::Io;
 use office_desk::Desk;
@@ -38,17 +38,19 @@ fn is_answered<S: Alter>(
         most,
         fails: it.is_lost,
     };
-    let mut paper = Paper {
+    let mut document = Document {
         awaited: it.answer.as_bytes(),
         room: it.room,
         differs: false,
     };
-    let status = serve_one(alloc, routes, desk, &mut reader, &mut paper);
-    status == ending_of(it) && !paper.differs && (paper.room == 0 || paper.awaited.is_empty())
+    let status = serve_one(alloc, routes, desk, &mut reader, &mut document);
+    status == ending_of(it)
+        && !document.differs
+        && (document.room == 0 || document.awaited.is_empty())
 }
 
 /// A client must be answered as the row says, whose bytes come in pieces of at most so many.
-pub(crate) fn tell_client<S: Alter>(
+pub(crate) fn report_client<S: Alter>(
     alloc: Global,
     desk: &mut Desk<S>,
     row: &str,

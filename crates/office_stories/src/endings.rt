@@ -49,20 +49,20 @@ const ROWS: &str = r"0;
 3;office: fault 33\n
 3;office: fault 34\n";
 
-/// An ending must be told as its row says.
-fn tell_ending(alloc: Global, ending: Ending, row: &str) -> Result<(), Fail> {
+/// An ending must be reported as its row says.
+fn report_ending(alloc: Global, ending: Ending, row: &str) -> Result<(), Fail> {
     let wanted = unescaped(alloc, row)?;
-    let told = format!(in alloc; "{};{ending}", ending.status())?;
-    must(told.as_str() == wanted.as_str(), row, told.as_str())
+    let reported = format!(in alloc; "{};{ending}", ending.status())?;
+    must(reported.as_str() == wanted.as_str(), row, reported.as_str())
 }
 
-/// Each ending must be told as its row says.
-pub(crate) fn tell_endings(alloc: Global) -> Result<(), Fail> {
+/// Each ending must be reported as its row says.
+pub(crate) fn report_endings(alloc: Global) -> Result<(), Fail> {
     if ROWS.lines().count() != ENDINGS.len() {
         return Err(Fail::new("not a row for each ending"));
     }
     for (ending, row) in ENDINGS.iter().zip(ROWS.lines()) {
-        tell_ending(alloc, *ending, row)?;
+        report_ending(alloc, *ending, row)?;
     }
     Ok(())
 }

@@ -3,10 +3,10 @@ use crate::acts::{answered, is_act};
 use crate::disks::{Image, Stop};
 use crate::failures::failure;
 use crate::intakes::taken_over;
-use crate::program::tell_program;
-use crate::readings::{fault_text, told};
+use crate::program::report_program;
+use crate::readings::{fault_text, reported};
 use crate::rests::rest_text;
-use crate::rows::{Way, tell_rows};
+use crate::rows::{Way, report_rows};
 use crate::selections::{all_selected, selected};
 use crate::sockets::{Meeting, serve};
 use crate::tables::{change, counts_text, tables_text};
@@ -21,9 +21,9 @@ use std::test::Fail;
 /// What is done while an office is open.
 #[derive(Clone, Copy)]
 pub(crate) enum Errand<'a> {
-    /// Rows are told at the desk.
+    /// Rows are reported at the desk.
     Rows(Way, &'a str),
-    /// Acts and readings are asked at the desk; what is told is a line for each.
+    /// Acts and readings are asked at the desk; what is reported is a line for each.
     Asks(&'a [&'a str]),
     /// Clients are served who wait at a socket.
     Meeting(&'a HostRuntime, &'a TcpListener, &'a Meeting<'a>),
@@ -45,14 +45,14 @@ pub(crate) enum Errand<'a> {
     TakenOver(usize),
 }
 
-/// What is told of acts and readings, a line for each.
-fn told_of<S: Alter>(alloc: Global, desk: &mut Desk<S>, asks: &[&str]) -> Result<String, Fail> {
+/// What is reported of acts and readings, a line for each.
+fn reported_of<S: Alter>(alloc: Global, desk: &mut Desk<S>, asks: &[&str]) -> Result<String, Fail> {
     let mut text = String::new(alloc);
     for words in asks {
         let line = if is_act(words) {
             answered(alloc, desk, words)?
         } else {
-            told(alloc, desk, words)?
+            reported(alloc, desk, words)?
         };
         text.push_str(line.as_str())?;
         text.push('\n')?;
@@ -67,8 +67,8 @@ fn done_at<S: Alter>(
     errand: Errand<'_>,
 ) -> Result<String, Fail> {
     match errand {
-        Errand::Rows(way, rows) => tell_rows(alloc, desk, way, rows)?,
-        Errand::Asks(asks) => return told_of(alloc, desk, asks),
+        Errand::Rows(way, rows) => report_rows(alloc, desk, way, rows)?,
+        Errand::Asks(asks) => return reported_of(alloc, desk, asks),
         Errand::Meeting(rt, listener, meeting) => serve(rt, listener, desk, meeting)?,
         Errand::Program(_) | Errand::Statements(_) | Errand::Selection(_) => {}
         Errand::Counts | Errand::Tables | Errand::AllRows | Errand::TakenOver(_) => {}
@@ -88,8 +88,8 @@ fn done_at_desk<S: Alter>(
     }
     match Desk::open(alloc, conn) {
         Ok(mut desk) => {
-            let told = done_at(alloc, &mut desk, errand);
-            (told, desk.close())
+            let reported = done_at(alloc, &mut desk, errand);
+            (reported, desk.close())
         }
         Err((fault, conn)) => (fault_text(alloc, fault), conn),
     }
@@ -102,7 +102,7 @@ fn done_over<S: Alter + Drop>(
     errand: Errand<'_>,
 ) -> (Result<String, Fail>, Connection<S>) {
     match errand {
-        Errand::Program(row) => tell_program(alloc, conn, row),
+        Errand::Program(row) => report_program(alloc, conn, row),
         Errand::Statements(statements) => change(alloc, conn, statements),
         Errand::Counts => counts_text(alloc, conn),
         Errand::Tables => tables_text(alloc, conn),
@@ -133,7 +133,7 @@ fn connected<D: Disk + Drop>(
     }
 }
 
-/// The store of a connection that is left as it stands.
+/// The store of a connection that is left as it is.
 fn store_behind<S: Alter + Drop>(conn: Connection<S>) -> S {
     conn.into_store()
 }
@@ -143,7 +143,7 @@ fn files_behind<D: Disk + Drop>(store: FileStore<D>) -> Files<D> {
     store.close()
 }
 
-/// An errand over files, which are left as they stand.
+/// An errand over files, which are left as they are.
 fn done_in<D: Disk + Drop>(
     alloc: Global,
     files: Files<D>,
@@ -151,8 +151,8 @@ fn done_in<D: Disk + Drop>(
 ) -> (Result<String, Fail>, Files<D>) {
     match connected(alloc, files) {
         Ok(conn) => {
-            let (told, conn) = done_over(alloc, conn, errand);
-            (told, files_behind(store_behind(conn)))
+            let (reported, conn) = done_over(alloc, conn, errand);
+            (reported, files_behind(store_behind(conn)))
         }
         Err(files) => (fault_text(alloc, Fault::Store), files),
     }
@@ -184,7 +184,7 @@ fn crash<D: Crash>(files: &mut Files<D>) {
     files.db.crash();
 }
 
-/// An errand at an office whose disks stop so, of which a crash leaves what it may. Gives what is told, which is
+/// An errand at an office whose disks stop so, of which a crash leaves what it may. Gives what is reported, which is
 /// a fault where the office is not opened.
 pub(crate) fn done(
     alloc: Global,
@@ -192,18 +192,18 @@ pub(crate) fn done(
     stop: Stop,
     errand: Errand<'_>,
 ) -> Result<String, Fail> {
-    let (told, mut files) = done_in(alloc, image.files(alloc, stop)?, errand);
+    let (reported, mut files) = done_in(alloc, image.files(alloc, stop)?, errand);
     crash(&mut files);
-    let told = told?;
+    let reported = reported?;
     *image = Image::of(alloc, &files)?;
-    Ok(told)
+    Ok(reported)
 }
 
-/// An errand at an office that tells nothing.
+/// An errand at an office that reports nothing.
 pub(crate) fn do_all(alloc: Global, image: &mut Image, errand: Errand<'_>) -> Result<(), Fail> {
-    let told = done(alloc, image, Stop::never(), errand)?;
-    if told.is_empty() {
+    let reported = done(alloc, image, Stop::never(), errand)?;
+    if reported.is_empty() {
         return Ok(());
     }
-    Err(failure("not opened", told.as_str()))
+    Err(failure("not opened", reported.as_str()))
 }

@@ -6,8 +6,8 @@ pub(crate) fn failure(what: &str, row: &str) -> Fail {
     Fail::new(format_args!("{what}: {row}"))
 }
 
-/// A row must be so; else the failure says what is told.
-pub(crate) fn must(is_so: bool, row: &str, told: &str) -> Result<(), Fail> {
+/// A row must be so; else the failure says what is reported.
+pub(crate) fn must(is_so: bool, row: &str, reported: &str) -> Result<(), Fail> {
     if is_so {
         return Ok(());
     }

@@ -51,19 +51,19 @@ pub(crate) fn taken_over<S: Alter>(
     }
 }
 
-/// With memory for each number of rows below the one that is told the office is not taken over for want of
+/// With memory for each number of rows below the one that is reported the office is not taken over for want of
 /// memory, with memory for that one it is, and its tables stay as they are.
-pub(crate) fn tell_taken_over(alloc: Global, image: &mut Image, row: &str) -> Result<(), Fail> {
+pub(crate) fn report_taken_over(alloc: Global, image: &mut Image, row: &str) -> Result<(), Fail> {
     let before = rows_in(alloc, image)?;
     for rows in 0..1_000usize {
-        let told = done(alloc, image, Stop::never(), Errand::TakenOver(rows))?;
+        let reported = done(alloc, image, Stop::never(), Errand::TakenOver(rows))?;
         let after = rows_in(alloc, image)?;
         must(after.as_str() == before.as_str(), row, after.as_str())?;
-        if told.is_empty() {
+        if reported.is_empty() {
             let count = format!(in alloc; "with {rows} rows")?;
             return must(row == count.as_str(), row, count.as_str());
         }
-        must(told.as_str() == "fault 30", row, told.as_str())?;
+        must(reported.as_str() == "fault 30", row, reported.as_str())?;
     }
     Err(failure("never taken over", row))
 }

@@ -112,6 +112,8 @@ mod readings;
 #[cfg(test)]
 mod repeating;
 #[cfg(test)]
+mod reporting;
+#[cfg(test)]
 mod request_stories;
 #[cfg(test)]
 mod requests;
@@ -135,8 +137,6 @@ mod stops;
 mod table_stories;
 #[cfg(test)]
 mod tables;
-#[cfg(test)]
-mod telling;
 #[cfg(test)]
 mod tests;
 #[cfg(test)]

@@ -29,12 +29,17 @@ fn versions_of(alloc: Global, image: &Image) -> Result<Versions, Fail> {
 }
 
 /// What a stop leaves is all of version 2 or, where the file was not opened, all of version 1.
-fn tell_left(alloc: Global, left: &mut Image, versions: &Versions, told: &str) -> Result<(), Fail> {
+fn report_left(
+    alloc: Global,
+    left: &mut Image,
+    versions: &Versions,
+    reported: &str,
+) -> Result<(), Fail> {
     let rows = rows_in(alloc, left)?;
     let is_two = rows.as_str() == versions.two.as_str();
     let is_one = rows.as_str() == versions.one.as_str();
     must(
-        is_two || is_one && !told.is_empty(),
+        is_two || is_one && !reported.is_empty(),
         "neither version, whole",
         rows.as_str(),
     )
@@ -48,17 +53,17 @@ fn is_opened_before(
     stop: Stop,
 ) -> Result<bool, Fail> {
     let mut left = image.copy(alloc)?;
-    let told = done(alloc, &mut left, stop, Errand::Asks(&[]))?;
-    let told = told.as_str();
+    let reported = done(alloc, &mut left, stop, Errand::Asks(&[]))?;
+    let reported = reported.as_str();
     must(
-        told.is_empty() || told == "fault 31",
+        reported.is_empty() || reported == "fault 31",
         "no stop of the store",
-        told,
+        reported,
     )?;
-    tell_left(alloc, &mut left, versions, told)?;
+    report_left(alloc, &mut left, versions, reported)?;
     do_all(alloc, &mut left, Errand::Asks(&[]))?;
-    tell_left(alloc, &mut left, versions, "")?;
-    Ok(told.is_empty())
+    report_left(alloc, &mut left, versions, "")?;
+    Ok(reported.is_empty())
 }
 
 /// How often the disk stops the opening, after each number of its calls in turn, until nothing stops.
@@ -77,7 +82,7 @@ fn count_of_stops(
 }
 
 /// A file of version 1 is opened while each disk stops in turn, so often at least, and then without a stop.
-pub(crate) fn tell_opened(alloc: Global, image: &mut Image, row: &str) -> Result<(), Fail> {
+pub(crate) fn report_opened(alloc: Global, image: &mut Image, row: &str) -> Result<(), Fail> {
     let Some(least) = row.strip_prefix("at least ") else {
         return Err(failure("no such row", row));
     };
@@ -85,8 +90,8 @@ pub(crate) fn tell_opened(alloc: Global, image: &mut Image, row: &str) -> Result
     let versions = versions_of(alloc, image)?;
     for disk in ["log", "db"] {
         let count = count_of_stops(alloc, image, &versions, disk)?;
-        let told = format!(in alloc; "{count} stops of {disk}")?;
-        must(count >= least, row, told.as_str())?;
+        let reported = format!(in alloc; "{count} stops of {disk}")?;
+        must(count >= least, row, reported.as_str())?;
     }
     do_all(alloc, image, Errand::Asks(&[]))
 }

@@ -14,7 +14,7 @@ pub(crate) const BASE: &str = "
 
 /// What comes of it in a year, so that there is something of each kind: record 1 is destroyed, 2 here, confirmed
 /// and held, 3 here and nothing more, 4 sent, 5 received and held, 6 transferred, 7 reviewed. Two runs are closed,
-/// the third is open and stands at record 2.
+/// the third is open and is at record 2.
 pub(crate) const BUSY: &str = "
 2024-01-03 add-schedule T added days 1 transfer = done
 2024-01-03 add-schedule V added days 1 review = done

@@ -44,29 +44,29 @@ fn put_like(alloc: Global, image: &mut Image, page: &str, like: &str) -> Result<
 }
 
 /// The file must have that digest.
-fn tell_digest(alloc: Global, image: &Image, digest: &str) -> Result<(), Fail> {
-    let told = hex::encode(alloc, digest_of(image.db()))?;
-    must(told.as_str() == digest, "the file", told.as_str())
+fn report_digest(alloc: Global, image: &Image, digest: &str) -> Result<(), Fail> {
+    let reported = hex::encode(alloc, digest_of(image.db()))?;
+    must(reported.as_str() == digest, "the file", reported.as_str())
 }
 
 /// The page must have that digest.
-fn tell_page(alloc: Global, image: &Image, page: &str, digest: &str) -> Result<(), Fail> {
+fn report_page(alloc: Global, image: &Image, page: &str, digest: &str) -> Result<(), Fail> {
     let Some((_, rest)) = image.db().split_at_checked(start_of(page)?) else {
         return Err(failure("no such page", page));
     };
     let (bytes, _) = rest.split_at(PAGE.min(rest.len()));
-    let told = hex::encode(alloc, digest_of(bytes))?;
-    must(told.as_str() == digest, page, told.as_str())
+    let reported = hex::encode(alloc, digest_of(bytes))?;
+    must(reported.as_str() == digest, page, reported.as_str())
 }
 
 /// Does what a row says: `2 14 0a0b` puts two bytes at place 14 of page 2, `3 like 2` makes page 3 what page 2 is,
-/// `3 digest` tells the digest of page 3, and `digest` that of the whole.
+/// `3 digest` reports the digest of page 3, and `digest` that of the whole.
 pub(crate) fn put_row(alloc: Global, image: &mut Image, row: &str) -> Result<(), Fail> {
     match row.split_once(' ') {
-        Some(("digest", digest)) => tell_digest(alloc, image, digest),
+        Some(("digest", digest)) => report_digest(alloc, image, digest),
         Some((page, rest)) => match rest.split_once(' ') {
             Some(("like", like)) => put_like(alloc, image, page, like),
-            Some(("digest", digest)) => tell_page(alloc, image, page, digest),
+            Some(("digest", digest)) => report_page(alloc, image, page, digest),
             Some((place, hex)) => put_bytes(alloc, image, page, place, hex),
             None => Err(failure("no such row", row)),
         },

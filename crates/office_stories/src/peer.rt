@@ -25,13 +25,13 @@ impl Read for Pieces<'_> {
 
 /// A writer that takes so many bytes and then fails, and compares them with those that are awaited.
 #[derive(Drop)]
-pub(crate) struct Paper<'a> {
+pub(crate) struct Document<'a> {
     pub awaited: &'a [u8],
     pub room: usize,
     pub differs: bool,
 }
 
-impl Write for Paper<'_> {
+impl Write for Document<'_> {
     fn write(&mut self, buf: &[u8]) -> io::Result<usize> {
         let count = self.room.min(buf.len());
         if count == 0 && !buf.is_empty() {

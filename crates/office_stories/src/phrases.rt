@@ -5,7 +5,7 @@ use office_proof::digest_of;
 use std::alloc::{AllocError, Global};
 use std::test::Fail;
 
-/// A line for each kind of act and then of answer. A word in angle brackets stands for any word, `<content>`
+/// A line for each kind of act and then of answer. A word in angle brackets represents any word, `<content>`
 /// for the content of that text in base64, and `<received>` for its digest.
 const PHRASES: &str = r#"
 <day> add-schedule <code> <trigger> <unit> <count> <action> | {"act":"add-schedule","day":"<day>","code":"<code>","trigger":"<trigger>","unit":"<unit>","count":<count>,"offset":"none","action":"<action>"}
@@ -36,7 +36,7 @@ refused <refusal> | {"refused":<refusal>}
 fault <fault> | {"fault":<fault>}
 "#;
 
-/// Whether the words of a phrase stand for those of a row.
+/// Whether the words of a phrase represent those of a row.
 fn fits(phrase: &str, words: &str) -> bool {
     phrase.split(' ').count() == words.split(' ').count()
         && phrase
@@ -65,7 +65,7 @@ fn bytes_of(word: &str) -> &[u8] {
     word.as_bytes()
 }
 
-/// What stands for a word in JSON.
+/// What represents a word in JSON.
 fn value_of(alloc: Global, name: &str, word: &str) -> Result<String, AllocError> {
     match name {
         "<content>" => STANDARD.encode(alloc, bytes_of(word)),
@@ -74,7 +74,7 @@ fn value_of(alloc: Global, name: &str, word: &str) -> Result<String, AllocError>
     }
 }
 
-/// JSON in which the words stand in place of their names.
+/// JSON in which the words are in place of their names.
 fn filled(alloc: Global, phrase: &str, words: &str, json: &str) -> Result<String, AllocError> {
     let mut text = String::from_str(alloc, json)?;
     for (name, word) in phrase.split(' ').zip(words.split(' ')) {
@@ -84,7 +84,7 @@ fn filled(alloc: Global, phrase: &str, words: &str, json: &str) -> Result<String
     text.as_str().replace(alloc, "\"-\"", "null")
 }
 
-/// The JSON that words stand for; JSON stands for itself.
+/// The JSON that words represent; JSON represents itself.
 pub(crate) fn json_of(alloc: Global, words: &str) -> Result<String, Fail> {
     if words.starts_with('{') {
         return Ok(String::from_str(alloc, words)?);

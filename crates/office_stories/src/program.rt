@@ -1,6 +1,6 @@
 //! The program's words over a connection to an office.
 use crate::failures::failure;
-use crate::peer::{Paper, Pieces};
+use crate::peer::{Document, Pieces};
 use crate::repeating::{number, unescaped};
 use office_days::{Day, read_confirm_days};
 use office_run::run_on;
@@ -90,7 +90,7 @@ struct Line {
 /// More bytes than any story has.
 const ALL: usize = 1_000_000_000;
 
-/// A row, and the line over which it is told.
+/// A row, and the line over which it is reported.
 fn line_of(row: &str) -> Result<(&str, Line), Fail> {
     if let Some((row, count)) = row.rsplit_once(" while read up to ") {
         let read = number(count)? as usize;
@@ -110,9 +110,9 @@ fn line_of(row: &str) -> Result<(&str, Line), Fail> {
 /// The text as far as the line gives it; it fails where that is not all.
 fn text_over(text: &str, line: Line) -> Pieces<'_> {
     let bytes = text.as_bytes();
-    let (front, rest) = bytes.split_at(line.read.min(bytes.len()));
+    let (prefix, rest) = bytes.split_at(line.read.min(bytes.len()));
     Pieces {
-        bytes: front,
+        bytes: prefix,
         most: 4_096,
         fails: !rest.is_empty(),
     }
@@ -125,12 +125,12 @@ fn parts(answer: &str) -> Option<(&str, &str, &str)> {
     Some((status, output, line))
 }
 
-/// Whether the paper has what was awaited, or was `*`, as far as it took it.
-fn is_written_so(paper: &Paper<'_>, output: &str) -> bool {
-    output == "*" || !paper.differs && (paper.room == 0 || paper.awaited.is_empty())
+/// Whether the document has what was awaited, or was `*`, as far as it took it.
+fn is_written_so(document: &Document<'_>, output: &str) -> bool {
+    output == "*" || !document.differs && (document.room == 0 || document.awaited.is_empty())
 }
 
-/// Carries out the order of those words over a line, and tells whether it is answered so.
+/// Carries out the order of those words over a line, and reports whether it is answered so.
 fn is_carried_out<S: Alter>(
     alloc: Global,
     conn: Connection<S>,
@@ -146,7 +146,7 @@ fn is_carried_out<S: Alter>(
     }
     let (order, text) = order_of(words);
     let mut input = text_over(text, line);
-    let mut out = Paper {
+    let mut out = Document {
         awaited: output.as_bytes(),
         room: line.written,
         differs: false,
@@ -157,8 +157,8 @@ fn is_carried_out<S: Alter>(
     (is_so && is_written_so(&out, output), conn)
 }
 
-/// Carries out a row, and tells whether it is answered so.
-fn is_told<S: Alter>(
+/// Carries out a row, and reports whether it is answered so.
+fn is_reported<S: Alter>(
     alloc: Global,
     conn: Connection<S>,
     row: &str,
@@ -170,8 +170,8 @@ fn is_told<S: Alter>(
     }
 }
 
-/// Nothing is told of a row that is so.
-fn told_of(alloc: Global, row: &str, holds: bool) -> Result<String, Fail> {
+/// Nothing is reported of a row that is so.
+fn reported_of(alloc: Global, row: &str, holds: bool) -> Result<String, Fail> {
     if holds {
         return Ok(String::new(alloc));
     }
@@ -179,7 +179,7 @@ fn told_of(alloc: Global, row: &str, holds: bool) -> Result<String, Fail> {
 }
 
 /// Carries out a row over a connection, which must be answered as it says.
-pub(crate) fn tell_program<S: Alter>(
+pub(crate) fn report_program<S: Alter>(
     alloc: Global,
     conn: Connection<S>,
     row: &str,
@@ -190,8 +190,8 @@ pub(crate) fn tell_program<S: Alter>(
     };
     match unescaped(alloc, words) {
         Ok(text) => {
-            let (holds, conn) = is_told(alloc, conn, text.as_str(), line);
-            (told_of(alloc, row, holds), conn)
+            let (holds, conn) = is_reported(alloc, conn, text.as_str(), line);
+            (reported_of(alloc, row, holds), conn)
         }
         Err(_) => (Err(Fail::new("no memory")), conn),
     }

@@ -12,7 +12,7 @@ use std::alloc::{AllocError, Global};
 use std::fmt::Write;
 use std::test::Fail;
 
-/// What is told of a record, with the entry that ended it.
+/// What is reported of a record, with the entry that ended it.
 fn view_text<S: Alter>(alloc: Global, desk: &Desk<S>, view: &RecordView) -> Result<String, Fault> {
     let ending = desk.entry_of(view.number)?;
     match record_value(alloc, view, ending.as_ref()) {
@@ -21,12 +21,12 @@ fn view_text<S: Alter>(alloc: Global, desk: &Desk<S>, view: &RecordView) -> Resu
     }
 }
 
-/// What is told where there is nothing.
+/// What is reported where there is nothing.
 fn none(alloc: Global) -> Result<String, Fault> {
     String::from_str(alloc, "none").or(Err(Fault::Memory))
 }
 
-/// What is told of the record.
+/// What is reported of the record.
 fn record_text<S: Alter>(alloc: Global, desk: &Desk<S>, record_no: u32) -> Result<String, Fault> {
     match desk.record(record_no)? {
         Some(view) => view_text(alloc, desk, &view),
@@ -79,13 +79,13 @@ fn overdue_text<S: Alter>(
     format!(in alloc; "{list:?}").or(Err(Fault::Memory))
 }
 
-/// The day and the days to confirm that words tell.
+/// The day and the days to confirm that words report.
 fn overdue_words(words: &str) -> Option<(Day, ConfirmDays)> {
     let (day, count) = words.split_once(' ')?;
     Some((Day::read(day)?, read_confirm_days(count).ok()?))
 }
 
-/// Tells the run, the record and the outcome of an entry.
+/// Reports the run, the record and the outcome of an entry.
 fn push_entry(text: &mut String, entry: &Entry) -> Result<(), Fault> {
     let outcome = entry.outcome.text();
     write!(
@@ -132,7 +132,7 @@ pub(crate) fn fault_text(alloc: Global, fault: Fault) -> Result<String, Fail> {
 }
 
 /// What is read at the desk, or the fault.
-pub(crate) fn told<S: Alter>(
+pub(crate) fn reported<S: Alter>(
     alloc: Global,
     desk: &mut Desk<S>,
     reading: &str,
@@ -151,7 +151,7 @@ enum Comparison {
     Bytes,
 }
 
-/// The parts of a row that tells what is read: the reading, how it is compared, and with what.
+/// The parts of a row that reports what is read: the reading, how it is compared, and with what.
 fn parts(row: &str) -> Option<(&str, Comparison, &str)> {
     if let Some((reading, part)) = row.split_once(" has ") {
         return Some((reading, Comparison::Has, part));
@@ -165,18 +165,18 @@ fn parts(row: &str) -> Option<(&str, Comparison, &str)> {
     }
 }
 
-/// Whether what is told is as a row says.
-fn agrees(alloc: Global, told: &str, how: Comparison, with: &str) -> Result<bool, AllocError> {
+/// Whether what is reported is as a row says.
+fn agrees(alloc: Global, reported: &str, how: Comparison, with: &str) -> Result<bool, AllocError> {
     let wanted = unescaped(alloc, with)?;
     match how {
-        Comparison::Is => Ok(told.trim() == wanted.as_str().trim()),
-        Comparison::Has => Ok(told.contains(wanted.as_str())),
-        Comparison::Bytes => Ok(with.parse() == Ok(told.len())),
+        Comparison::Is => Ok(reported.trim() == wanted.as_str().trim()),
+        Comparison::Has => Ok(reported.contains(wanted.as_str())),
+        Comparison::Bytes => Ok(with.parse() == Ok(reported.len())),
     }
 }
 
 /// What is read at the desk must be as the row says.
-pub(crate) fn tell_reading<S: Alter>(
+pub(crate) fn report_reading<S: Alter>(
     alloc: Global,
     desk: &mut Desk<S>,
     row: &str,
@@ -184,6 +184,10 @@ pub(crate) fn tell_reading<S: Alter>(
     let Some((reading, how, with)) = parts(row) else {
         return Err(failure("no such row", row));
     };
-    let told = told(alloc, desk, reading)?;
-    must(agrees(alloc, told.as_str(), how, with)?, row, told.as_str())
+    let reported = reported(alloc, desk, reading)?;
+    must(
+        agrees(alloc, reported.as_str(), how, with)?,
+        row,
+        reported.as_str(),
+    )
 }

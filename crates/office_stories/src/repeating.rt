@@ -4,7 +4,7 @@ use crate::failures::failure;
 use std::alloc::{AllocError, Global};
 use std::test::Fail;
 
-/// What stands between a text and the numbers for which it is told.
+/// What is between a text and the numbers for which it is reported.
 pub(crate) const FOR_EACH: &str = " for each <n> of ";
 
 /// The number of that text.
@@ -66,7 +66,7 @@ fn push_piece(alloc: Global, text: &mut String, piece: &str) -> Result<(), Alloc
     text.push_str(copies.as_str())
 }
 
-/// The text whose pieces stand between ` + `, each of them as often as it says after ` x `, and whose escapes name bytes.
+/// The text whose pieces are between ` + `, each of them as often as it says after ` x `, and whose escapes name bytes.
 pub(crate) fn written(alloc: Global, text: &str) -> Result<String, AllocError> {
     let mut whole = String::new(alloc);
     for piece in text.split(" + ") {

@@ -15,7 +15,7 @@ pub(crate) struct Exchange {
     pub(crate) is_lost: bool,
 }
 
-/// A request that has a body, with the length that is told of it.
+/// A request that has a body, with the length that is reported of it.
 fn request_with_body(
     alloc: Global,
     target: &str,
@@ -42,7 +42,7 @@ fn request(alloc: Global, words: &str) -> Result<String, AllocError> {
     format!(in alloc; "{words} HTTP/1.1\r\nHost: h\r\n\r\n")
 }
 
-/// The bytes of a text, in which `\xff` stands for a byte that no text has.
+/// The bytes of a text, in which `\xff` represents a byte that no text has.
 fn bytes_of(alloc: Global, text: &str) -> Result<Vec<u8>, AllocError> {
     let mut bytes = Vec::new(alloc);
     for (place, part) in text.split("\\xff").enumerate() {
@@ -72,7 +72,7 @@ fn sent(alloc: Global, words: &str) -> Result<Vec<u8>, AllocError> {
     Ok(bytes)
 }
 
-/// The bytes of an answer of that status and type, with the length that is told of its body.
+/// The bytes of an answer of that status and type, with the length that is reported of its body.
 fn reply(
     alloc: Global,
     status: &str,
@@ -113,25 +113,25 @@ fn counted_answer(alloc: Global, words: &str) -> Result<String, Fail> {
 }
 
 /// After how many bytes of its answer a client is lost, and the answer.
-fn taken(told: &str) -> (&str, usize) {
-    match told.split_once(", lost after ") {
+fn taken(reported: &str) -> (&str, usize) {
+    match reported.split_once(", lost after ") {
         Some((answer, room)) => (answer, room.parse().unwrap_or(0)),
-        None => (told, usize::MAX),
+        None => (reported, usize::MAX),
     }
 }
 
-/// The exchange that a row tells.
+/// The exchange that a row reports.
 pub(crate) fn exchange_of(alloc: Global, row: &str) -> Result<Exchange, Fail> {
-    let Some((words, told)) = row.split_once(" = ") else {
+    let Some((words, reported)) = row.split_once(" = ") else {
         return Err(failure("no answer", row));
     };
-    let (told, room) = taken(told);
+    let (reported, room) = taken(reported);
     let sent = sent(alloc, words)?;
-    let answer = counted_answer(alloc, told)?;
+    let answer = counted_answer(alloc, reported)?;
     Ok(Exchange {
         sent,
         answer,
         room,
-        is_lost: told == "lost",
+        is_lost: reported == "lost",
     })
 }

@@ -41,7 +41,7 @@ fn rows_of<S: Alter>(
 }
 
 /// The list of the other objects, with their texts, and each row of each other table, with its rowid; nothing where
-/// there is no other object. A table that is not read tells so.
+/// there is no other object. A table that is not read reports so.
 pub(crate) fn rest_text<S: Alter>(alloc: Global, conn: &mut Connection<S>) -> Result<String, Fail> {
     let select = format!(in alloc;
         "SELECT type, name, tbl_name, sql FROM sqlite_schema WHERE {IS_OTHER}"
@@ -78,7 +78,7 @@ fn is_free(place: &str) -> bool {
 }
 
 /// After a part of a story: what else the file has must be as it was, unless the rows of that place change it.
-pub(crate) fn tell_rest(
+pub(crate) fn report_rest(
     alloc: Global,
     image: &mut Image,
     place: &str,

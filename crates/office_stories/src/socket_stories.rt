@@ -14,12 +14,12 @@ sends POST /run/resume = 200 OK, application/json, 17: {"certificate":1}"#,
     service: Service {
         connections: 4,
         has_failed: false,
-        is_given_up: false,
+        is_poisoned: false,
     },
-    told: "",
+    reported: "",
 };
 
-/// A connection that fails is told and counted.
+/// A connection that fails is reported and counted.
 pub(crate) const FAILED: Meeting<'static> = Meeting {
     office: "## at the desk\n",
     clients: r#"sends GET /nothing = 404 Not Found, application/json, 16: {"error":"path"}"#,
@@ -28,13 +28,13 @@ pub(crate) const FAILED: Meeting<'static> = Meeting {
     service: Service {
         connections: 3,
         has_failed: true,
-        is_given_up: false,
+        is_poisoned: false,
     },
-    told: "office: socket\noffice: socket\n",
+    reported: "office: socket\noffice: socket\n",
 };
 
-/// Serving ends where the desk is given up, since a table of certificates takes none.
-pub(crate) const GIVEN_UP: Meeting<'static> = Meeting {
+/// Serving ends where the desk is poisoned, since a table of certificates takes none.
+pub(crate) const POISONED: Meeting<'static> = Meeting {
     office: "## at the desk
 ## in the tables
 DROP TABLE certificates; CREATE TABLE certificates(run INTEGER PRIMARY KEY, body TEXT NOT NULL CHECK (body = '')) STRICT
@@ -46,7 +46,7 @@ sends POST /run/resume = 503 Service Unavailable, application/json, 12: {"fault"
     service: Service {
         connections: 2,
         has_failed: false,
-        is_given_up: true,
+        is_poisoned: true,
     },
-    told: "",
+    reported: "",
 };

@@ -1,8 +1,8 @@
 //! Clients over real sockets, which connect and send before they are served, and read afterwards.
 use crate::errands::{Errand, do_all};
 use crate::failures::failure;
+use crate::reporting::report_parts;
 use crate::requests::exchange_of;
-use crate::telling::tell_parts;
 use office_desk::Desk;
 use office_wire::{Routes, Service, serve_all};
 use sqlite::Alter;
@@ -24,8 +24,8 @@ pub(crate) struct Meeting<'a> {
     /// How many clients are to be served.
     pub(crate) most: u32,
     pub(crate) service: Service,
-    /// What is told on standard error.
-    pub(crate) told: &'a str,
+    /// What is reported on standard error.
+    pub(crate) reported: &'a str,
 }
 
 /// A client that has sent, and the answer that it awaits.
@@ -97,7 +97,7 @@ pub(crate) fn serve<S: Alter>(
         desk,
         &mut err,
     );
-    if service == meeting.service && err.as_slice() == meeting.told.as_bytes() {
+    if service == meeting.service && err.as_slice() == meeting.reported.as_bytes() {
         return Ok(());
     }
     Err(Fail::new("serving ends otherwise"))
@@ -108,7 +108,7 @@ pub(crate) fn meet(rt: &HostRuntime, meeting: &Meeting<'_>) -> Result<(), Fail> 
     let listener = TcpListener::bind(rt, SocketAddr::from((Ipv4Addr::LOCALHOST, 0)))?;
     let clients = clients_of(rt, listener.local_addr()?, meeting.clients)?;
     listener.set_nonblocking(!meeting.is_patient)?;
-    let mut image = tell_parts(rt.alloc(), meeting.office)?;
+    let mut image = report_parts(rt.alloc(), meeting.office)?;
     do_all(
         rt.alloc(),
         &mut image,

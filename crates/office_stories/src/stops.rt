@@ -44,7 +44,7 @@ fn states_of(alloc: Global, image: &Image, steps: &[String]) -> Result<Vec<Strin
     Ok(states)
 }
 
-/// What is asked at once, and then what a desk that was given up answers with fault 32: readings, and an act
+/// What is asked at once, and then what a poisoned desk answers with fault 32: readings, and an act
 /// that is refused at every other desk.
 fn asks_of(words: &str) -> [&str; 7] {
     [
@@ -59,9 +59,9 @@ fn asks_of(words: &str) -> [&str; 7] {
 }
 
 /// The answers before a fault.
-fn answers_before(told: &str) -> &str {
-    let Some((before, _)) = told.split_once("fault") else {
-        return told;
+fn answers_before(reported: &str) -> &str {
+    let Some((before, _)) = reported.split_once("fault") else {
+        return reported;
     };
     match before.rsplit_once('\n') {
         Some((answers, _)) => answers,
@@ -70,36 +70,36 @@ fn answers_before(told: &str) -> &str {
 }
 
 /// The answers before a fault must be those that are given where no disk stops.
-fn tell_answers(trial: &Trial<'_>, told: &str) -> Result<(), Fail> {
-    let answers = answers_before(told);
+fn report_answers(trial: &Trial<'_>, reported: &str) -> Result<(), Fail> {
+    let answers = answers_before(reported);
     for (answer, wanted) in answers.lines().zip(trial.answers.as_str().lines()) {
-        must(answer == wanted, trial.words, told)?;
+        must(answer == wanted, trial.words, reported)?;
     }
     Ok(())
 }
 
 /// The first fault must be 31, and all that is asked afterwards must be answered with fault 32.
-fn tell_given_up(told: &str) -> Result<(), Fail> {
-    let Some((_, after)) = told.split_once("fault") else {
+fn report_poisoned(reported: &str) -> Result<(), Fail> {
+    let Some((_, after)) = reported.split_once("fault") else {
         return Ok(());
     };
     let Some((fault, later)) = after.split_once('\n') else {
-        return must(after.contains("31"), "no stop of the store", told);
+        return must(after.contains("31"), "no stop of the store", reported);
     };
-    must(fault.contains("31"), "no stop of the store", told)?;
+    must(fault.contains("31"), "no stop of the store", reported)?;
     for line in later.lines() {
-        let is_given_up = line.contains("fault") && line.contains("32");
-        must(is_given_up, "a desk that was given up tells", told)?;
+        let is_poisoned = line.contains("fault") && line.contains("32");
+        must(is_poisoned, "a desk that was given up tells", reported)?;
     }
     Ok(())
 }
 
 /// The first and the last place among the states at which the tables may be: that after all answered acts or the
 /// next one, that before the acts where the office was not opened, and of a run any.
-fn places_after(trial: &Trial<'_>, told: &str) -> (usize, usize) {
+fn places_after(trial: &Trial<'_>, reported: &str) -> (usize, usize) {
     let all = trial.states.len().saturating_sub(1);
-    let answered = answers_before(told).lines().count();
-    if !told.contains('\n') {
+    let answered = answers_before(reported).lines().count();
+    if !reported.contains('\n') {
         return (0, 0);
     }
     if answered >= trial.answers.as_str().lines().count() {
@@ -138,8 +138,8 @@ fn stop_again(
     if !trial.is_stopped_again {
         return Ok(place);
     }
-    let told = done(alloc, image, stop, Errand::Asks(&["resume"]))?;
-    tell_given_up(told.as_str())?;
+    let reported = done(alloc, image, stop, Errand::Asks(&["resume"]))?;
+    report_poisoned(reported.as_str())?;
     place_of(alloc, image, trial, (place, trial.states.len()))
 }
 
@@ -153,20 +153,20 @@ fn do_rest(alloc: Global, image: &mut Image, trial: &Trial<'_>, place: usize) ->
     for step in trial.steps.iter().skip(place) {
         asks.push(step.as_str())?;
     }
-    let told = done(alloc, image, Stop::never(), Errand::Asks(asks.as_slice()))?;
+    let reported = done(alloc, image, Stop::never(), Errand::Asks(asks.as_slice()))?;
     let wanted = trial.answers.as_str().lines().skip(place);
-    for (line, wanted) in told.as_str().lines().zip(wanted) {
-        must(line == wanted, trial.words, told.as_str())?;
+    for (line, wanted) in reported.as_str().lines().zip(wanted) {
+        must(line == wanted, trial.words, reported.as_str())?;
     }
     must(
-        told.as_str().lines().count() == asks.len(),
+        reported.as_str().lines().count() == asks.len(),
         trial.words,
-        told.as_str(),
+        reported.as_str(),
     )
 }
 
 /// The tables must be at the last of the states.
-fn tell_end(alloc: Global, image: &mut Image, trial: &Trial<'_>) -> Result<(), Fail> {
+fn report_end(alloc: Global, image: &mut Image, trial: &Trial<'_>) -> Result<(), Fail> {
     let all = trial.states.len().saturating_sub(1);
     place_of(alloc, image, trial, (all, all))?;
     Ok(())
@@ -180,15 +180,15 @@ fn is_done_before(
     stop: Stop,
 ) -> Result<bool, Fail> {
     let mut left = image.copy(alloc)?;
-    let told = done(alloc, &mut left, stop, Errand::Asks(&asks_of(trial.words)))?;
-    let told = told.as_str();
-    tell_given_up(told)?;
-    tell_answers(trial, told)?;
-    let place = place_of(alloc, &mut left, trial, places_after(trial, told))?;
+    let reported = done(alloc, &mut left, stop, Errand::Asks(&asks_of(trial.words)))?;
+    let reported = reported.as_str();
+    report_poisoned(reported)?;
+    report_answers(trial, reported)?;
+    let place = place_of(alloc, &mut left, trial, places_after(trial, reported))?;
     let place = stop_again(alloc, &mut left, trial, stop, place)?;
     do_rest(alloc, &mut left, trial, place)?;
-    tell_end(alloc, &mut left, trial)?;
-    Ok(!told.contains("fault"))
+    report_end(alloc, &mut left, trial)?;
+    Ok(!reported.contains("fault"))
 }
 
 /// How often the disk stops all that is asked, after each number of its calls in turn, until nothing stops.
@@ -207,12 +207,12 @@ fn count_of_stops(
 }
 
 /// Each disk must stop it at least so often.
-fn tell_counts(alloc: Global, image: &Image, trial: &Trial<'_>, least: &str) -> Result<(), Fail> {
+fn report_counts(alloc: Global, image: &Image, trial: &Trial<'_>, least: &str) -> Result<(), Fail> {
     let least = number(least)? as u64;
     for disk in ["log", "db"] {
         let count = count_of_stops(alloc, image, trial, disk)?;
-        let told = format!(in alloc; "{count} stops of {disk}")?;
-        must(count >= least, trial.words, told.as_str())?;
+        let reported = format!(in alloc; "{count} stops of {disk}")?;
+        must(count >= least, trial.words, reported.as_str())?;
     }
     Ok(())
 }
@@ -237,7 +237,7 @@ fn steps_of(alloc: Global, words: &str) -> Result<Vec<String>, Fail> {
 }
 
 /// Acts, or something that is read, are asked while each disk stops in turn, and then without a stop.
-pub(crate) fn tell_asked(alloc: Global, image: &mut Image, row: &str) -> Result<(), Fail> {
+pub(crate) fn report_asked(alloc: Global, image: &mut Image, row: &str) -> Result<(), Fail> {
     let (words, answers, least) = parts(row)?;
     let steps = steps_of(alloc, words)?;
     let states = states_of(alloc, image, steps.as_slice())?;
@@ -253,14 +253,14 @@ pub(crate) fn tell_asked(alloc: Global, image: &mut Image, row: &str) -> Result<
         states,
         is_stopped_again: false,
     };
-    tell_counts(alloc, image, &trial, least)?;
+    report_counts(alloc, image, &trial, least)?;
     done(alloc, image, Stop::never(), Errand::Asks(&[words]))?;
     Ok(())
 }
 
 /// The open run is resumed while each disk stops in turn, as a row says: `by 11 steps = closed 1, at least 25`,
 /// or `by 11 steps again = ..` where each resumption is stopped again.
-pub(crate) fn tell_resumed(alloc: Global, image: &Image, row: &str) -> Result<(), Fail> {
+pub(crate) fn report_resumed(alloc: Global, image: &Image, row: &str) -> Result<(), Fail> {
     let (words, answers, least) = parts(row)?;
     let Some((count, rest)) = words.split_once(" steps") else {
         return Err(failure("no number of steps", row));
@@ -275,5 +275,5 @@ pub(crate) fn tell_resumed(alloc: Global, image: &Image, row: &str) -> Result<()
         states,
         is_stopped_again: rest == " again",
     };
-    tell_counts(alloc, image, &trial, least)
+    report_counts(alloc, image, &trial, least)
 }

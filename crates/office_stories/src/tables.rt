@@ -11,7 +11,7 @@ use sqlite::{Alter, Connection};
 use std::alloc::Global;
 use std::test::Fail;
 
-/// Changes the tables by statements; nothing is told of it.
+/// Changes the tables by statements; nothing is reported of it.
 pub(crate) fn change<S: Alter>(
     alloc: Global,
     mut conn: Connection<S>,
@@ -77,9 +77,9 @@ pub(crate) fn counts_text<S: Alter>(
 }
 
 /// The tables must have as many rows as the row says.
-pub(crate) fn tell_counts(alloc: Global, image: &mut Image, row: &str) -> Result<(), Fail> {
-    let told = done(alloc, image, Stop::never(), Errand::Counts)?;
-    must(told.as_str() == row, row, told.as_str())
+pub(crate) fn report_counts(alloc: Global, image: &mut Image, row: &str) -> Result<(), Fail> {
+    let reported = done(alloc, image, Stop::never(), Errand::Counts)?;
+    must(reported.as_str() == row, row, reported.as_str())
 }
 
 /// What is in the tables, where no office is opened before.
@@ -88,12 +88,12 @@ pub(crate) fn rows_in(alloc: Global, image: &mut Image) -> Result<String, Fail> 
 }
 
 /// What a statement reads from the tables, where no office is opened before, must be as the row says.
-pub(crate) fn tell_selection(alloc: Global, image: &mut Image, row: &str) -> Result<(), Fail> {
+pub(crate) fn report_selection(alloc: Global, image: &mut Image, row: &str) -> Result<(), Fail> {
     let Some((select, wanted)) = row.split_once(" is ") else {
         return Err(failure("no such row", row));
     };
-    let told = done(alloc, image, Stop::never(), Errand::Selection(select))?;
-    must(told.as_str() == wanted, row, told.as_str())
+    let reported = done(alloc, image, Stop::never(), Errand::Selection(select))?;
+    must(reported.as_str() == wanted, row, reported.as_str())
 }
 
 /// How an office is opened after statements on a copy of it: nothing, or the fault. One that is refused keeps its rows.
@@ -101,8 +101,8 @@ fn opening_after(alloc: Global, image: &Image, statements: &str) -> Result<Strin
     let mut copy = image.copy(alloc)?;
     do_all(alloc, &mut copy, Errand::Statements(statements))?;
     let before = rows_in(alloc, &mut copy)?;
-    let told = done(alloc, &mut copy, Stop::never(), Errand::Asks(&[]))?;
-    if !told.is_empty() {
+    let reported = done(alloc, &mut copy, Stop::never(), Errand::Asks(&[]))?;
+    if !reported.is_empty() {
         let after = rows_in(alloc, &mut copy)?;
         must(
             after.as_str() == before.as_str(),
@@ -110,18 +110,18 @@ fn opening_after(alloc: Global, image: &Image, statements: &str) -> Result<Strin
             after.as_str(),
         )?;
     }
-    Ok(told)
+    Ok(reported)
 }
 
 /// An office must be opened after statements, or not, as the row says.
-pub(crate) fn tell_opening(alloc: Global, image: &Image, row: &str) -> Result<(), Fail> {
+pub(crate) fn report_opening(alloc: Global, image: &Image, row: &str) -> Result<(), Fail> {
     let Some((wanted, statements)) = row.split_once(" after ") else {
         return Err(failure("no statements", row));
     };
-    let told = opening_after(alloc, image, statements)?;
+    let reported = opening_after(alloc, image, statements)?;
     must(
-        told.as_str() == wanted || told.is_empty() && wanted == "opened",
+        reported.as_str() == wanted || reported.is_empty() && wanted == "opened",
         row,
-        told.as_str(),
+        reported.as_str(),
     )
 }

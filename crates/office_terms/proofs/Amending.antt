@@ -6,7 +6,7 @@ use Rattle.std.specs.FinMap.{get, contains_key}
 use Rattle.office_terms.specs.Conditions.{first_of, conditions_of_set_class_schedule, conditions_of_set_record_schedule, conditions_of_reclassify, conditions_of_confirm, conditions_of_review, conditions_of_receipt, lacks_class, lacks_classified, lacks_schedule, is_root}
 use Rattle.office_terms.specs.Effects.{with_class_schedule, with_head, with_record_schedule, reclassified, confirmed, reviewed, receipted}
 use Rattle.office_terms.specs.Lists.{numbered, edited, amended, holds_of, or_else}
-use Rattle.office_terms.specs.Sound.{IsSound, FitsLimits, RootsHaveClasses, NoneIsOpenUnderClosed, NamesStand, Names}
+use Rattle.office_terms.specs.Sound.{IsSound, FitsLimits, RootsHaveClasses, NoneIsOpenUnderClosed, NamesExist, Names}
 use Rattle.office_terms.specs.Tree.{TreeState, due_of, has_record}
 use Rattle.office_terms.specs.declared.action.Action.{Action}
 use Rattle.office_terms.specs.declared.aggregation.Aggregation.{Aggregation}
@@ -17,7 +17,7 @@ use Rattle.office_terms.specs.declared.head.Record.{Record}
 use Rattle.office_terms.specs.declared.status.Status.TheVariants.{Received}
 use Rattle.office_terms.proofs.Inserting.{Names-amended, amended_cases, len-amended}
 use Rattle.office_terms.proofs.Accepting.{none_holds, not_false, neither}
-use Rattle.office_terms.proofs.Keeping.{names_of, FitsLimits-edited, IsForest-edited, NamesStand-edited}
+use Rattle.office_terms.proofs.Keeping.{names_of, FitsLimits-edited, IsForest-edited, NamesExist-edited}
 use Rattle.office_terms.proofs.Places.{numbered_edited, length-edited}
 
 -- ---- a class's schedule
@@ -33,8 +33,8 @@ FitsLimits-set_class_schedule tree class schedule sound = record {
   records_few = sound.limits.records_few;
 }
 
-NamesStand-set_class_schedule : (tree : TreeState) (class schedule : List ℕ) → IsSound tree → IsSome (get tree.schedules schedule) → NamesStand tree.schedules (amended tree.classes class (as_scheduled schedule)) tree.aggregations tree.records
-NamesStand-set_class_schedule tree class schedule sound there = record {
+NamesExist-set_class_schedule : (tree : TreeState) (class schedule : List ℕ) → IsSound tree → IsSome (get tree.schedules schedule) → NamesExist tree.schedules (amended tree.classes class (as_scheduled schedule)) tree.aggregations tree.records
+NamesExist-set_class_schedule tree class schedule sound there = record {
   class_schedules = λ c it e.
       let came = amended_cases tree.classes class (as_scheduled schedule) c it e in
       elim came.2 [
@@ -43,7 +43,7 @@ NamesStand-set_class_schedule tree class schedule sound there = record {
       ];
   aggregation_classes = λ a it e. Names-amended tree.classes class (as_scheduled schedule) it.class (sound.names.aggregation_classes a it e);
   root_classes = sound.names.root_classes;
-  homes = sound.names.homes;
+  child_lists = sound.names.child_lists;
   record_classes = λ r head e. Names-amended tree.classes class (as_scheduled schedule) head.class (sound.names.record_classes r head e);
   record_schedules = sound.names.record_schedules;
 }
@@ -55,16 +55,16 @@ IsSound-set_class_schedule tree class schedule sound accepted =
     record {
       limits = FitsLimits-set_class_schedule tree class schedule sound;
       forest = sound.forest;
-      names = NamesStand-set_class_schedule tree class schedule sound (not_false (contains_key tree.schedules schedule) lacks.1);
+      names = NamesExist-set_class_schedule tree class schedule sound (not_false (contains_key tree.schedules schedule) lacks.1);
       closed = sound.closed;
       statuses = sound.statuses;
     }
 
 -- ---- a record's head
 
--- a change that keeps the home and gives only classes and schedules that are there
+-- a change that keeps the container and gives only classes and schedules that are there
 pub record IsFit (tree : TreeState) (r : ℕ) (change : Record → Record) : Type 0 where
-  pub home : (head : Record) → (change head).aggregation ≡ head.aggregation
+  pub container : (head : Record) → (change head).aggregation ≡ head.aggregation
   pub class : (head : Record) → numbered tree.records r ≡ Some head → Names tree.classes (change head).class
   pub schedule : (head : Record) → numbered tree.records r ≡ Some head → Names tree.schedules (change head).schedule
 
@@ -76,19 +76,19 @@ FitsLimits-with_head tree r change sound = record {
   records_few = omega (arith, sound.limits.records_few, length-edited tree.records r change);
 }
 
-NamesStand-with_head : (tree : TreeState) (r : ℕ) (change : Record → Record) → IsSound tree → IsFit tree r change → NamesStand tree.schedules tree.classes tree.aggregations (edited tree.records r change)
-NamesStand-with_head tree r change sound fit = record {
+NamesExist-with_head : (tree : TreeState) (r : ℕ) (change : Record → Record) → IsSound tree → IsFit tree r change → NamesExist tree.schedules tree.classes tree.aggregations (edited tree.records r change)
+NamesExist-with_head tree r change sound fit = record {
   class_schedules = sound.names.class_schedules;
   aggregation_classes = sound.names.aggregation_classes;
   root_classes = sound.names.root_classes;
-  homes = λ n head e.
+  child_lists = λ n head e.
       let came = numbered_edited tree.records r change head n e in
-      let home = sound.names.homes n came.0 came.1 in
+      let container = sound.names.child_lists n came.0 came.1 in
       elim came.2 [
-        | inl same ↦ subst (λ (k : Record). (0 < k.aggregation) × (k.aggregation ≤ length tree.aggregations)) (sym same) home
+        | inl same ↦ subst (λ (k : Record). (0 < k.aggregation) × (k.aggregation ≤ length tree.aggregations)) (sym same) container
         | inr changed ↦
-            let kept : came.0.aggregation ≡ head.aggregation = sym (fit.home came.0) ∙ ap (λ (k : Record). k.aggregation) (sym changed.1) in
-            subst (λ (a : ℕ). (0 < a) × (a ≤ length tree.aggregations)) kept home
+            let kept : came.0.aggregation ≡ head.aggregation = sym (fit.container came.0) ∙ ap (λ (k : Record). k.aggregation) (sym changed.1) in
+            subst (λ (a : ℕ). (0 < a) × (a ≤ length tree.aggregations)) kept container
       ];
   record_classes = λ n head e.
       let came = numbered_edited tree.records r change head n e in
@@ -111,7 +111,7 @@ pub IsSound-with_head : (tree : TreeState) (r : ℕ) (change : Record → Record
 IsSound-with_head tree r change sound fit = record {
   limits = FitsLimits-with_head tree r change sound;
   forest = sound.forest;
-  names = NamesStand-with_head tree r change sound fit;
+  names = NamesExist-with_head tree r change sound fit;
   closed = sound.closed;
   statuses = statuses-with_head tree r change sound;
 }
@@ -125,7 +125,7 @@ IsSound-set_record_schedule tree r schedule sound accepted =
     let no = none_holds (conditions_of_set_record_schedule tree r schedule) accepted in
     let lacks = neither (not (has_record tree r)) (lacks_schedule tree schedule) no.0 in
     IsSound-with_head tree r (λ head. record head { schedule = schedule }) sound (record {
-      home = λ head. refl;
+      container = λ head. refl;
       class = λ head e. sound.names.record_classes r head e;
       schedule = λ head e. names_of tree.schedules schedule lacks.1;
     })
@@ -133,7 +133,7 @@ IsSound-set_record_schedule tree r schedule sound accepted =
 pub IsSound-confirm : (tree : TreeState) (day : ℤ) (r : ℕ) (named : Action) (by : List ℕ) → IsSound tree → first_of (conditions_of_confirm tree day r named) ≡ None → IsSound (confirmed tree day r named by)
 IsSound-confirm tree day r named by sound accepted =
     IsSound-with_head tree r (λ head. record head { confirmation = option_map (λ due. record { action = named; due = due; day = day; by = by }) (due_of tree r) }) sound (record {
-      home = λ head. refl;
+      container = λ head. refl;
       class = λ head e. sound.names.record_classes r head e;
       schedule = λ head e. sound.names.record_schedules r head e;
     })
@@ -143,7 +143,7 @@ IsSound-review tree day r schedule by sound accepted =
     let no = none_holds (conditions_of_review tree day r schedule) accepted in
     let lacks = neither (not (has_record tree r)) (lacks_schedule tree schedule) no.0 in
     IsSound-with_head tree r (λ head. record head { review = Some (record { day = day; by = by }); schedule = or_else schedule head.schedule }) sound (record {
-      home = λ head. refl;
+      container = λ head. refl;
       class = λ head e. sound.names.record_classes r head e;
       schedule = λ head e. names_else tree schedule head.schedule (names_of tree.schedules schedule lacks.1) (sound.names.record_schedules r head e);
     })
@@ -154,7 +154,7 @@ IsSound-receipt tree day r digest by sound accepted =
     record {
       limits = FitsLimits-with_head tree r change sound;
       forest = sound.forest;
-      names = NamesStand-with_head tree r change sound (record { home = λ head. refl; class = λ head e. sound.names.record_classes r head e; schedule = λ head e. sound.names.record_schedules r head e });
+      names = NamesExist-with_head tree r change sound (record { container = λ head. refl; class = λ head e. sound.names.record_classes r head e; schedule = λ head e. sound.names.record_schedules r head e });
       closed = sound.closed;
       statuses = length-edited tree.statuses r (λ _. Received) ∙ statuses-with_head tree r change sound;
     }
@@ -205,7 +205,7 @@ aggregation_reclassified : (tree : TreeState) (a : ℕ) (class : Option (List �
 aggregation_reclassified tree a class sound there some = record {
   limits = FitsLimits-edited tree a (as_classed class) sound;
   forest = IsForest-edited tree.aggregations a (as_classed class) (λ it. refl) sound.forest;
-  names = NamesStand-edited tree a (as_classed class) sound (λ it named. there) (roots_classed tree a class sound.names.root_classes some);
+  names = NamesExist-edited tree a (as_classed class) sound (λ it named. there) (roots_classed tree a class sound.names.root_classes some);
   closed = closed_edited tree.aggregations a (as_classed class) (λ it. refl) (λ it. refl) sound.closed;
   statuses = sound.statuses;
 }
@@ -219,7 +219,7 @@ IsSound-reclassify tree (classified.Record r) class sound accepted =
     let no = none_holds (conditions_of_reclassify tree (classified.Record r) class) accepted in
     let lacks = neither (lacks_classified tree (classified.Record r)) (lacks_class tree class) no.0 in
     IsSound-with_head tree r (λ head. record head { class = class }) sound (record {
-      home = λ head. refl;
+      container = λ head. refl;
       class = λ head e. names_of tree.classes class lacks.1;
       schedule = λ head e. sound.names.record_schedules r head e;
     })

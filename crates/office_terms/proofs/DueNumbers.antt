@@ -20,7 +20,7 @@ use Rattle.office_days.proofs.MonthLengths.{month_length-bounds}
 use Rattle.office_days.proofs.Moves.{IsLeastFrom-found, number_of-high, number_of-last, number_of-low}
 use Rattle.office_days.proofs.Numbers.{month_number-in_year}
 use Rattle.office_days.proofs.Spans.{civil-year, months_later-day}
-use Rattle.office_terms.specs.Forms.{IsFormedEvent, IsFormedSchedule, IsFormedAggregation, IsFormedRecord, IsFormedReview, IsFormedTree}
+use Rattle.office_terms.specs.Forms.{IsWellFormedEvent, IsWellFormedSchedule, IsWellFormedAggregation, IsWellFormedRecord, IsWellFormedReview, IsWellFormedTree}
 use Rattle.office_terms.specs.Lists.{numbered, later, or_else}
 use Rattle.office_terms.specs.Tree.{TreeState, due_by, due_of, is_keep, last_addition, plan_of, start_by, start_in}
 use Rattle.office_terms.specs.declared.event.Event.{Event}
@@ -162,19 +162,19 @@ last_addition-day records a each = greatest_day (λ head. head.aggregation == a)
 
 -- ---- the start day and the due day of a record
 
-closed_day : (aggregations : List Aggregation) (a : ℕ) (o : Option Aggregation) → EachNumbered IsFormedAggregation aggregations → numbered aggregations a ≡ o → IfSome (option_and_then (λ (it : Aggregation). it.closed) o) IsDayNumber
+closed_day : (aggregations : List Aggregation) (a : ℕ) (o : Option Aggregation) → EachNumbered IsWellFormedAggregation aggregations → numbered aggregations a ≡ o → IfSome (option_and_then (λ (it : Aggregation). it.closed) o) IsDayNumber
 closed_day aggregations a None each e = tt
 closed_day aggregations a (Some it) each e = (each a it e).closed
 
-review_day : (review : Option Review) (added : ℤ) → IfSome review IsFormedReview → IsDayNumber added → IfSome (or_else (option_map (λ (it : Review). it.day) review) (Some added)) IsDayNumber
+review_day : (review : Option Review) (added : ℤ) → IfSome review IsWellFormedReview → IsDayNumber added → IfSome (or_else (option_map (λ (it : Review). it.day) review) (Some added)) IsDayNumber
 review_day None added h is = is
 review_day (Some it) added h is = h.day
 
-event_formed : (tree : TreeState) (r : ℕ) (event : Option Event) → IsFormedTree tree → get tree.events r ≡ event → IfSome event IsFormedEvent
-event_formed tree r None formed e = tt
-event_formed tree r (Some it) formed e = formed.events r it e
+event_well_formed : (tree : TreeState) (r : ℕ) (event : Option Event) → IsWellFormedTree tree → get tree.events r ≡ event → IfSome event IsWellFormedEvent
+event_well_formed tree r None formed e = tt
+event_well_formed tree r (Some it) formed e = formed.events r it e
 
-start_by-day : (tree : TreeState) (by : Trigger) (event : Option Event) (head : Record) → IsFormedTree tree → IfSome event IsFormedEvent → IsFormedRecord head → IfSome (start_by by tree.aggregations tree.records event head) IsDayNumber
+start_by-day : (tree : TreeState) (by : Trigger) (event : Option Event) (head : Record) → IsWellFormedTree tree → IfSome event IsWellFormedEvent → IsWellFormedRecord head → IfSome (start_by by tree.aggregations tree.records event head) IsDayNumber
 start_by-day tree trigger.Origin event head formed of_event of_head = of_head.originated
 start_by-day tree trigger.Added event head formed of_event of_head = of_head.added
 start_by-day tree trigger.Closed event head formed of_event of_head = closed_day tree.aggregations head.aggregation (numbered tree.aggregations head.aggregation) formed.aggregations refl
@@ -183,34 +183,34 @@ start_by-day tree trigger.Review event head formed of_event of_head = review_day
 start_by-day tree trigger.Event None head formed of_event of_head = tt
 start_by-day tree trigger.Event (Some it) head formed of_event of_head = of_event.occurred
 
-start_of_head : (tree : TreeState) (schedule : Schedule) (r : ℕ) (o : Option Record) → IsFormedTree tree → numbered tree.records r ≡ o → IfSome (option_and_then (λ head. start_by schedule.trigger tree.aggregations tree.records (get tree.events r) head) o) IsDayNumber
+start_of_head : (tree : TreeState) (schedule : Schedule) (r : ℕ) (o : Option Record) → IsWellFormedTree tree → numbered tree.records r ≡ o → IfSome (option_and_then (λ head. start_by schedule.trigger tree.aggregations tree.records (get tree.events r) head) o) IsDayNumber
 start_of_head tree schedule r None formed e = tt
-start_of_head tree schedule r (Some head) formed e = start_by-day tree schedule.trigger (get tree.events r) head formed (event_formed tree r (get tree.events r) formed refl) (formed.records r head e)
+start_of_head tree schedule r (Some head) formed e = start_by-day tree schedule.trigger (get tree.events r) head formed (event_well_formed tree r (get tree.events r) formed refl) (formed.records r head e)
 
-start_in-day : (tree : TreeState) (schedule : Schedule) (r : ℕ) → IsFormedTree tree → IfSome (start_in tree.aggregations tree.records tree.events schedule r) IsDayNumber
+start_in-day : (tree : TreeState) (schedule : Schedule) (r : ℕ) → IsWellFormedTree tree → IfSome (start_in tree.aggregations tree.records tree.events schedule r) IsDayNumber
 unfolding start_in
 start_in-day tree schedule r formed = start_of_head tree schedule r (numbered tree.records r) formed refl
 
-due_from_start : (keeps : Bool) (schedule : Schedule) (start : Option ℤ) → IsFormedSchedule schedule → IfSome start IsDayNumber → IfSome (cond keeps None (option_map (λ day. due_from day schedule.period schedule.offset) start)) IsDueNumber
+due_from_start : (keeps : Bool) (schedule : Schedule) (start : Option ℤ) → IsWellFormedSchedule schedule → IfSome start IsDayNumber → IfSome (cond keeps None (option_map (λ day. due_from day schedule.period schedule.offset) start)) IsDueNumber
 due_from_start true schedule start few h = tt
 due_from_start false schedule None few h = tt
 due_from_start false schedule (Some day) few h = due_from-within day schedule.period schedule.offset h few
 
-due_by-number : (schedule : Schedule) (start : Option ℤ) → IsFormedSchedule schedule → IfSome start IsDayNumber → IfSome (due_by schedule start) IsDueNumber
+due_by-number : (schedule : Schedule) (start : Option ℤ) → IsWellFormedSchedule schedule → IfSome start IsDayNumber → IfSome (due_by schedule start) IsDueNumber
 unfolding due_by
 due_by-number schedule start few h = due_from_start (is_keep schedule.action) schedule start few h
 
 abbrev due_by_schedule : TreeState → ℕ → Option Schedule → Option ℤ
 due_by_schedule tree r o = option_and_then (λ schedule. due_by schedule (start_in tree.aggregations tree.records tree.events schedule r)) o
 
-by_code : (tree : TreeState) (r : ℕ) (code : List ℕ) (o : Option Schedule) → IsFormedTree tree → get tree.schedules code ≡ o → IfSome (due_by_schedule tree r o) IsDueNumber
+by_code : (tree : TreeState) (r : ℕ) (code : List ℕ) (o : Option Schedule) → IsWellFormedTree tree → get tree.schedules code ≡ o → IfSome (due_by_schedule tree r o) IsDueNumber
 by_code tree r code None formed e = tt
 by_code tree r code (Some schedule) formed e = due_by-number schedule (start_in tree.aggregations tree.records tree.events schedule r) (formed.schedules code schedule e).1 (start_in-day tree schedule r formed)
 
-by_plan : (tree : TreeState) (r : ℕ) (plan : Option (List ℕ)) → IsFormedTree tree → IfSome (due_by_schedule tree r (option_and_then (get tree.schedules) plan)) IsDueNumber
+by_plan : (tree : TreeState) (r : ℕ) (plan : Option (List ℕ)) → IsWellFormedTree tree → IfSome (due_by_schedule tree r (option_and_then (get tree.schedules) plan)) IsDueNumber
 by_plan tree r None formed = tt
 by_plan tree r (Some code) formed = by_code tree r code (get tree.schedules code) formed refl
 
 -- the due day of a record is a due number
-pub due_of-number : (tree : TreeState) (r : ℕ) → IsFormedTree tree → IfSome (due_of tree r) IsDueNumber
+pub due_of-number : (tree : TreeState) (r : ℕ) → IsWellFormedTree tree → IfSome (due_of tree r) IsDueNumber
 due_of-number tree r formed = by_plan tree r (plan_of tree r) formed

@@ -5,7 +5,7 @@ use Rattle.std.specs.Option.{option_map}
 use Rattle.std.specs.FinMap.{FinMap, get, insert, empty, get-empty}
 use Rattle.office_days.specs.Limits.{IsDayNumber, IsDueNumber}
 use Rattle.office_terms.specs.Effects.{added_schedule, added_class, added_aggregation, closed_aggregation, added_record, with_class_schedule, with_head, with_record_schedule, reclassified, confirmed, reviewed, receipted}
-use Rattle.office_terms.specs.Forms.{IsCode, IsText, IsFormedSchedule, IsFormedClass, IsFormedAggregation, IsFormedRecord, IsFormedReview, IsFormedConfirmation, IsFormedReceipt, IsFormedTree}
+use Rattle.office_terms.specs.Forms.{IsCode, IsText, IsWellFormedSchedule, IsWellFormedClass, IsWellFormedAggregation, IsWellFormedRecord, IsWellFormedReview, IsWellFormedConfirmation, IsWellFormedReceipt, IsWellFormedTree}
 use Rattle.office_terms.specs.Lists.{numbered, edited, amended, or_else}
 use Rattle.office_terms.specs.Tree.{TreeState, code_cmp, due_of, empty_tree}
 use Rattle.std.specs.Ordering.{nat_cmp}
@@ -50,29 +50,29 @@ each_amended P m k f each keeps q y e =
 
 -- ---- schedules and classes
 
-pub IsFormed-add_schedule : (tree : TreeState) (code : List ℕ) (schedule : Schedule) → IsFormedTree tree → IsCode code → IsFormedSchedule schedule → IsFormedTree (added_schedule tree code schedule)
-IsFormed-add_schedule tree code schedule formed code_formed schedule_formed = record {
-  schedules = each_insert (λ c it. IsCode c × IsFormedSchedule it) tree.schedules code schedule formed.schedules (code_formed, schedule_formed);
+pub IsWellFormed-add_schedule : (tree : TreeState) (code : List ℕ) (schedule : Schedule) → IsWellFormedTree tree → IsCode code → IsWellFormedSchedule schedule → IsWellFormedTree (added_schedule tree code schedule)
+IsWellFormed-add_schedule tree code schedule formed code_well_formed schedule_well_formed = record {
+  schedules = each_insert (λ c it. IsCode c × IsWellFormedSchedule it) tree.schedules code schedule formed.schedules (code_well_formed, schedule_well_formed);
   classes = formed.classes;
   aggregations = formed.aggregations;
   records = formed.records;
   events = formed.events;
 }
 
-pub IsFormed-add_class : (tree : TreeState) (code : List ℕ) (class : Class) → IsFormedTree tree → IsCode code → IsFormedClass class → IsFormedTree (added_class tree code class)
-IsFormed-add_class tree code class formed code_formed class_formed = record {
+pub IsWellFormed-add_class : (tree : TreeState) (code : List ℕ) (class : Class) → IsWellFormedTree tree → IsCode code → IsWellFormedClass class → IsWellFormedTree (added_class tree code class)
+IsWellFormed-add_class tree code class formed code_well_formed class_well_formed = record {
   schedules = formed.schedules;
-  classes = each_insert (λ c it. IsCode c × IsFormedClass it) tree.classes code class formed.classes (code_formed, class_formed);
+  classes = each_insert (λ c it. IsCode c × IsWellFormedClass it) tree.classes code class formed.classes (code_well_formed, class_well_formed);
   aggregations = formed.aggregations;
   records = formed.records;
   events = formed.events;
 }
 
-pub IsFormed-set_class_schedule : (tree : TreeState) (class schedule : List ℕ) → IsFormedTree tree → IsCode schedule → IsFormedTree (with_class_schedule tree class schedule)
-IsFormed-set_class_schedule tree class schedule formed schedule_formed = record {
+pub IsWellFormed-set_class_schedule : (tree : TreeState) (class schedule : List ℕ) → IsWellFormedTree tree → IsCode schedule → IsWellFormedTree (with_class_schedule tree class schedule)
+IsWellFormed-set_class_schedule tree class schedule formed schedule_well_formed = record {
   schedules = formed.schedules;
-  classes = each_amended (λ c it. IsCode c × IsFormedClass it) tree.classes class (λ it. record it { schedule = schedule }) formed.classes
-      (λ c it old. (old.0, record { title = old.1.title; schedule = schedule_formed }));
+  classes = each_amended (λ c it. IsCode c × IsWellFormedClass it) tree.classes class (λ it. record it { schedule = schedule }) formed.classes
+      (λ c it old. (old.0, record { title = old.1.title; schedule = schedule_well_formed }));
   aggregations = formed.aggregations;
   records = formed.records;
   events = formed.events;
@@ -80,111 +80,111 @@ IsFormed-set_class_schedule tree class schedule formed schedule_formed = record 
 
 -- ---- aggregations
 
-pub IsFormed-add_aggregation : (tree : TreeState) (ref_text title : List ℕ) (parent : Option ℕ) (class : Option (List ℕ)) → IsFormedTree tree → IsText ref_text → IsText title → IfSome class IsCode → IsFormedTree (added_aggregation tree ref_text title parent class)
-IsFormed-add_aggregation tree ref_text title parent class formed ref_formed title_formed class_formed = record {
+pub IsWellFormed-add_aggregation : (tree : TreeState) (ref_text title : List ℕ) (parent : Option ℕ) (class : Option (List ℕ)) → IsWellFormedTree tree → IsText ref_text → IsText title → IfSome class IsCode → IsWellFormedTree (added_aggregation tree ref_text title parent class)
+IsWellFormed-add_aggregation tree ref_text title parent class formed ref_well_formed title_well_formed class_well_formed = record {
   schedules = formed.schedules;
   classes = formed.classes;
-  aggregations = each_push IsFormedAggregation tree.aggregations (record { ref_text = ref_text; title = title; parent = parent; class = class; closed = None }) formed.aggregations
-      (record { ref_text = ref_formed; title = title_formed; class = class_formed; closed = tt });
+  aggregations = each_push IsWellFormedAggregation tree.aggregations (record { ref_text = ref_text; title = title; parent = parent; class = class; closed = None }) formed.aggregations
+      (record { ref_text = ref_well_formed; title = title_well_formed; class = class_well_formed; closed = tt });
   records = formed.records;
   events = formed.events;
 }
 
-pub IsFormed-close_aggregation : (tree : TreeState) (a : ℕ) (day : ℤ) → IsFormedTree tree → IsDayNumber day → IsFormedTree (closed_aggregation tree a day)
-IsFormed-close_aggregation tree a day formed day_formed = record {
+pub IsWellFormed-close_aggregation : (tree : TreeState) (a : ℕ) (day : ℤ) → IsWellFormedTree tree → IsDayNumber day → IsWellFormedTree (closed_aggregation tree a day)
+IsWellFormed-close_aggregation tree a day formed day_well_formed = record {
   schedules = formed.schedules;
   classes = formed.classes;
-  aggregations = each_edited IsFormedAggregation tree.aggregations a (λ it. record it { closed = Some day }) formed.aggregations
-      (λ it old. record { ref_text = old.ref_text; title = old.title; class = old.class; closed = day_formed });
+  aggregations = each_edited IsWellFormedAggregation tree.aggregations a (λ it. record it { closed = Some day }) formed.aggregations
+      (λ it old. record { ref_text = old.ref_text; title = old.title; class = old.class; closed = day_well_formed });
   records = formed.records;
   events = formed.events;
 }
 
 -- ---- record heads
 
-pub IsFormed-add_record : (tree : TreeState) (head : Record) → IsFormedTree tree → IsFormedRecord head → IsFormedTree (added_record tree head)
-IsFormed-add_record tree head formed new = record {
+pub IsWellFormed-add_record : (tree : TreeState) (head : Record) → IsWellFormedTree tree → IsWellFormedRecord head → IsWellFormedTree (added_record tree head)
+IsWellFormed-add_record tree head formed new = record {
   schedules = formed.schedules;
   classes = formed.classes;
   aggregations = formed.aggregations;
-  records = each_push IsFormedRecord tree.records head formed.records new;
+  records = each_push IsWellFormedRecord tree.records head formed.records new;
   events = formed.events;
 }
 
-pub IsFormed-with_head : (tree : TreeState) (r : ℕ) (change : Record → Record) → IsFormedTree tree → ((head : Record) → IsFormedRecord head → IsFormedRecord (change head)) → IsFormedTree (with_head tree r change)
-IsFormed-with_head tree r change formed keeps = record {
+pub IsWellFormed-with_head : (tree : TreeState) (r : ℕ) (change : Record → Record) → IsWellFormedTree tree → ((head : Record) → IsWellFormedRecord head → IsWellFormedRecord (change head)) → IsWellFormedTree (with_head tree r change)
+IsWellFormed-with_head tree r change formed keeps = record {
   schedules = formed.schedules;
   classes = formed.classes;
   aggregations = formed.aggregations;
-  records = each_edited IsFormedRecord tree.records r change formed.records keeps;
+  records = each_edited IsWellFormedRecord tree.records r change formed.records keeps;
   events = formed.events;
 }
 
 -- the parts of a head that acts change
-head_formed : (head : Record) (class schedule : Option (List ℕ)) (review : Option Review) (confirmation : Option Confirmation) (receipt : Option Receipt) → IsFormedRecord head
-    → IfSome class IsCode → IfSome schedule IsCode → IfSome review IsFormedReview → IfSome confirmation IsFormedConfirmation → IfSome receipt IsFormedReceipt
-    → IsFormedRecord (record head { class = class; schedule = schedule; review = review; confirmation = confirmation; receipt = receipt })
-head_formed head class schedule review confirmation receipt old class_formed schedule_formed review_formed confirmation_formed receipt_formed = record {
+head_well_formed : (head : Record) (class schedule : Option (List ℕ)) (review : Option Review) (confirmation : Option Confirmation) (receipt : Option Receipt) → IsWellFormedRecord head
+    → IfSome class IsCode → IfSome schedule IsCode → IfSome review IsWellFormedReview → IfSome confirmation IsWellFormedConfirmation → IfSome receipt IsWellFormedReceipt
+    → IsWellFormedRecord (record head { class = class; schedule = schedule; review = review; confirmation = confirmation; receipt = receipt })
+head_well_formed head class schedule review confirmation receipt old class_well_formed schedule_well_formed review_well_formed confirmation_well_formed receipt_well_formed = record {
   ref_text = old.ref_text;
   title = old.title;
   originated = old.originated;
   added = old.added;
-  class = class_formed;
-  schedule = schedule_formed;
+  class = class_well_formed;
+  schedule = schedule_well_formed;
   length_few = old.length_few;
   digest = old.digest;
-  review = review_formed;
-  confirmation = confirmation_formed;
-  receipt = receipt_formed;
+  review = review_well_formed;
+  confirmation = confirmation_well_formed;
+  receipt = receipt_well_formed;
 }
 
-pub IsFormed-set_record_schedule : (tree : TreeState) (r : ℕ) (schedule : Option (List ℕ)) → IsFormedTree tree → IfSome schedule IsCode → IsFormedTree (with_record_schedule tree r schedule)
-IsFormed-set_record_schedule tree r schedule formed schedule_formed =
-    IsFormed-with_head tree r (λ head. record head { schedule = schedule }) formed (λ head old. head_formed head head.class schedule head.review head.confirmation head.receipt old old.class schedule_formed old.review old.confirmation old.receipt)
+pub IsWellFormed-set_record_schedule : (tree : TreeState) (r : ℕ) (schedule : Option (List ℕ)) → IsWellFormedTree tree → IfSome schedule IsCode → IsWellFormedTree (with_record_schedule tree r schedule)
+IsWellFormed-set_record_schedule tree r schedule formed schedule_well_formed =
+    IsWellFormed-with_head tree r (λ head. record head { schedule = schedule }) formed (λ head old. head_well_formed head head.class schedule head.review head.confirmation head.receipt old old.class schedule_well_formed old.review old.confirmation old.receipt)
 
-confirmation_formed : (day : ℤ) (named : Action) (by : List ℕ) (due : Option ℤ) → IsDayNumber day → IsText by → IfSome due IsDueNumber → IfSome (option_map (λ due. record { action = named; due = due; day = day; by = by }) due) IsFormedConfirmation
-confirmation_formed day named by None day_formed by_formed due_formed = tt
-confirmation_formed day named by (Some due) day_formed by_formed due_formed = record { due = due_formed; day = day_formed; by = by_formed }
+confirmation_well_formed : (day : ℤ) (named : Action) (by : List ℕ) (due : Option ℤ) → IsDayNumber day → IsText by → IfSome due IsDueNumber → IfSome (option_map (λ due. record { action = named; due = due; day = day; by = by }) due) IsWellFormedConfirmation
+confirmation_well_formed day named by None day_well_formed by_well_formed due_well_formed = tt
+confirmation_well_formed day named by (Some due) day_well_formed by_well_formed due_well_formed = record { due = due_well_formed; day = day_well_formed; by = by_well_formed }
 
-pub IsFormed-confirm : (tree : TreeState) (day : ℤ) (r : ℕ) (named : Action) (by : List ℕ) → IsFormedTree tree → IsDayNumber day → IsText by → IfSome (due_of tree r) IsDueNumber → IsFormedTree (confirmed tree day r named by)
-IsFormed-confirm tree day r named by formed day_formed by_formed due_formed =
+pub IsWellFormed-confirm : (tree : TreeState) (day : ℤ) (r : ℕ) (named : Action) (by : List ℕ) → IsWellFormedTree tree → IsDayNumber day → IsText by → IfSome (due_of tree r) IsDueNumber → IsWellFormedTree (confirmed tree day r named by)
+IsWellFormed-confirm tree day r named by formed day_well_formed by_well_formed due_well_formed =
     let confirmation : Option Confirmation = option_map (λ due. record { action = named; due = due; day = day; by = by }) (due_of tree r) in
-    let confirms = confirmation_formed day named by (due_of tree r) day_formed by_formed due_formed in
-    IsFormed-with_head tree r (λ head. record head { confirmation = confirmation }) formed
-    (λ head old. head_formed head head.class head.schedule head.review confirmation head.receipt old old.class old.schedule old.review confirms old.receipt)
+    let confirms = confirmation_well_formed day named by (due_of tree r) day_well_formed by_well_formed due_well_formed in
+    IsWellFormed-with_head tree r (λ head. record head { confirmation = confirmation }) formed
+    (λ head old. head_well_formed head head.class head.schedule head.review confirmation head.receipt old old.class old.schedule old.review confirms old.receipt)
 
-else_formed : (given own : Option (List ℕ)) → IfSome given IsCode → IfSome own IsCode → IfSome (or_else given own) IsCode
-else_formed None own given_formed own_formed = own_formed
-else_formed (Some code) own given_formed own_formed = given_formed
+else_well_formed : (given own : Option (List ℕ)) → IfSome given IsCode → IfSome own IsCode → IfSome (or_else given own) IsCode
+else_well_formed None own given_well_formed own_well_formed = own_well_formed
+else_well_formed (Some code) own given_well_formed own_well_formed = given_well_formed
 
-pub IsFormed-review : (tree : TreeState) (day : ℤ) (r : ℕ) (schedule : Option (List ℕ)) (by : List ℕ) → IsFormedTree tree → IsDayNumber day → IfSome schedule IsCode → IsText by → IsFormedTree (reviewed tree day r schedule by)
-IsFormed-review tree day r schedule by formed day_formed schedule_formed by_formed =
+pub IsWellFormed-review : (tree : TreeState) (day : ℤ) (r : ℕ) (schedule : Option (List ℕ)) (by : List ℕ) → IsWellFormedTree tree → IsDayNumber day → IfSome schedule IsCode → IsText by → IsWellFormedTree (reviewed tree day r schedule by)
+IsWellFormed-review tree day r schedule by formed day_well_formed schedule_well_formed by_well_formed =
     let review : Option Review = Some (record { day = day; by = by }) in
-    IsFormed-with_head tree r (λ head. record head { review = review; schedule = or_else schedule head.schedule }) formed
-    (λ head old. head_formed head head.class (or_else schedule head.schedule) review head.confirmation head.receipt old old.class (else_formed schedule head.schedule schedule_formed old.schedule)
-    (record { day = day_formed; by = by_formed }) old.confirmation old.receipt)
+    IsWellFormed-with_head tree r (λ head. record head { review = review; schedule = or_else schedule head.schedule }) formed
+    (λ head old. head_well_formed head head.class (or_else schedule head.schedule) review head.confirmation head.receipt old old.class (else_well_formed schedule head.schedule schedule_well_formed old.schedule)
+    (record { day = day_well_formed; by = by_well_formed }) old.confirmation old.receipt)
 
-pub IsFormed-receipt : (tree : TreeState) (day : ℤ) (r : ℕ) (by : List ℕ) → IsFormedTree tree → IsDayNumber day → IsText by → IsFormedTree (receipted tree day r by)
-IsFormed-receipt tree day r by formed day_formed by_formed =
+pub IsWellFormed-receipt : (tree : TreeState) (day : ℤ) (r : ℕ) (by : List ℕ) → IsWellFormedTree tree → IsDayNumber day → IsText by → IsWellFormedTree (receipted tree day r by)
+IsWellFormed-receipt tree day r by formed day_well_formed by_well_formed =
     let receipt : Option Receipt = Some (record { day = day; by = by }) in
-    let kept = IsFormed-with_head tree r (λ head. record head { receipt = receipt }) formed
-    (λ head old. head_formed head head.class head.schedule head.review head.confirmation receipt old old.class old.schedule old.review old.confirmation (record { day = day_formed; by = by_formed })) in
+    let kept = IsWellFormed-with_head tree r (λ head. record head { receipt = receipt }) formed
+    (λ head old. head_well_formed head head.class head.schedule head.review head.confirmation receipt old old.class old.schedule old.review old.confirmation (record { day = day_well_formed; by = by_well_formed })) in
     record { schedules = kept.schedules; classes = kept.classes; aggregations = kept.aggregations; records = kept.records; events = kept.events }
 
 -- ---- an own class
 
-pub IsFormed-reclassify : (tree : TreeState) (what : Classified) (class : Option (List ℕ)) → IsFormedTree tree → IfSome class IsCode → IsFormedTree (reclassified tree what class)
-IsFormed-reclassify tree (classified.Aggregation a) class formed class_formed = record {
+pub IsWellFormed-reclassify : (tree : TreeState) (what : Classified) (class : Option (List ℕ)) → IsWellFormedTree tree → IfSome class IsCode → IsWellFormedTree (reclassified tree what class)
+IsWellFormed-reclassify tree (classified.Aggregation a) class formed class_well_formed = record {
   schedules = formed.schedules;
   classes = formed.classes;
-  aggregations = each_edited IsFormedAggregation tree.aggregations a (λ it. record it { class = class }) formed.aggregations
-      (λ it old. record { ref_text = old.ref_text; title = old.title; class = class_formed; closed = old.closed });
+  aggregations = each_edited IsWellFormedAggregation tree.aggregations a (λ it. record it { class = class }) formed.aggregations
+      (λ it old. record { ref_text = old.ref_text; title = old.title; class = class_well_formed; closed = old.closed });
   records = formed.records;
   events = formed.events;
 }
-IsFormed-reclassify tree (classified.Record r) class formed class_formed =
-    IsFormed-with_head tree r (λ head. record head { class = class }) formed
-    (λ head old. head_formed head class head.schedule head.review head.confirmation head.receipt old class_formed old.schedule old.review old.confirmation old.receipt)
+IsWellFormed-reclassify tree (classified.Record r) class formed class_well_formed =
+    IsWellFormed-with_head tree r (λ head. record head { class = class }) formed
+    (λ head old. head_well_formed head class head.schedule head.review head.confirmation head.receipt old class_well_formed old.schedule old.review old.confirmation old.receipt)
 
 -- ---- the empty tree
 
@@ -198,8 +198,8 @@ nothing_at {V} code x e = let none = get-empty {X = V} code_cmp code in absurd c
 no_event : {V : Type 0} (r : ℕ) (x : V) → get (empty {X = V} {R = nat_cmp}) r ≡ Some x → ⊥
 no_event {V} r x e = let none = get-empty {X = V} nat_cmp r in absurd cc
 
-pub IsFormed-empty : IsFormedTree empty_tree
-IsFormed-empty = record {
+pub IsWellFormed-empty : IsWellFormedTree empty_tree
+IsWellFormed-empty = record {
   schedules = λ code it e. absurd (nothing_at code it e);
   classes = λ code it e. absurd (nothing_at code it e);
   aggregations = λ a it e. absurd (nothing_numbered a it e);

@@ -8,7 +8,7 @@ use Rattle.std.proofs.lemmas.Bool.Decides.{nat_tests}
 use Rattle.office_terms.specs.Conditions.{first_of, conditions_of_add_schedule, conditions_of_add_class, conditions_of_add_aggregation, conditions_of_close_aggregation, conditions_of_add_record, lacks_class, lacks_schedule, lacks_parent, is_closed, is_child_of}
 use Rattle.office_terms.specs.Effects.{added_schedule, added_class, added_aggregation, closed_aggregation, added_record}
 use Rattle.office_terms.specs.Lists.{numbered, edited, holds_of}
-use Rattle.office_terms.specs.Sound.{IsSound, FitsLimits, IsForest, RootsHaveClasses, NamesStand, NoneIsOpenUnderClosed, Names}
+use Rattle.office_terms.specs.Sound.{IsSound, FitsLimits, IsForest, RootsHaveClasses, NamesExist, NoneIsOpenUnderClosed, Names}
 use Rattle.office_terms.specs.Tree.{TreeState, code_cmp, empty_tree, has_aggregation, chain_of, chain}
 use Rattle.office_terms.specs.declared.aggregation.Aggregation.{Aggregation}
 use Rattle.office_terms.specs.declared.class.Class.{Class}
@@ -39,12 +39,12 @@ FitsLimits-add_schedule tree code schedule sound free few = record {
   records_few = sound.limits.records_few;
 }
 
-NamesStand-add_schedule : (tree : TreeState) (code : List ℕ) (schedule : Schedule) → IsSound tree → NamesStand (insert tree.schedules code schedule) tree.classes tree.aggregations tree.records
-NamesStand-add_schedule tree code schedule sound = record {
+NamesExist-add_schedule : (tree : TreeState) (code : List ℕ) (schedule : Schedule) → IsSound tree → NamesExist (insert tree.schedules code schedule) tree.classes tree.aggregations tree.records
+NamesExist-add_schedule tree code schedule sound = record {
   class_schedules = λ c class e. insert_keeps tree.schedules code schedule class.schedule (sound.names.class_schedules c class e);
   aggregation_classes = sound.names.aggregation_classes;
   root_classes = sound.names.root_classes;
-  homes = sound.names.homes;
+  child_lists = sound.names.child_lists;
   record_classes = sound.names.record_classes;
   record_schedules = λ r head e. Names-insert tree.schedules code schedule head.schedule (sound.names.record_schedules r head e);
 }
@@ -55,7 +55,7 @@ IsSound-add_schedule tree code schedule sound accepted =
     record {
       limits = FitsLimits-add_schedule tree code schedule sound no.0 (below (len tree.schedules) 1_000 no.1.0);
       forest = sound.forest;
-      names = NamesStand-add_schedule tree code schedule sound;
+      names = NamesExist-add_schedule tree code schedule sound;
       closed = sound.closed;
       statuses = sound.statuses;
     }
@@ -69,15 +69,15 @@ FitsLimits-add_class tree code class sound free few = record {
   records_few = sound.limits.records_few;
 }
 
-NamesStand-add_class : (tree : TreeState) (code : List ℕ) (class : Class) → IsSound tree → IsSome (get tree.schedules class.schedule) → NamesStand tree.schedules (insert tree.classes code class) tree.aggregations tree.records
-NamesStand-add_class tree code class sound there = record {
+NamesExist-add_class : (tree : TreeState) (code : List ℕ) (class : Class) → IsSound tree → IsSome (get tree.schedules class.schedule) → NamesExist tree.schedules (insert tree.classes code class) tree.aggregations tree.records
+NamesExist-add_class tree code class sound there = record {
   class_schedules = λ c it e. elim (insert_cases tree.classes code class c it e) [
     | inl new ↦ subst (λ (k : Class). IsSome (get tree.schedules k.schedule)) new.1 there
     | inr old ↦ sound.names.class_schedules c it old
   ];
   aggregation_classes = λ a it e. Names-insert tree.classes code class it.class (sound.names.aggregation_classes a it e);
   root_classes = sound.names.root_classes;
-  homes = sound.names.homes;
+  child_lists = sound.names.child_lists;
   record_classes = λ r head e. Names-insert tree.classes code class head.class (sound.names.record_classes r head e);
   record_schedules = sound.names.record_schedules;
 }
@@ -88,7 +88,7 @@ IsSound-add_class tree code class sound accepted =
     record {
       limits = FitsLimits-add_class tree code class sound no.0 (below (len tree.classes) 1_000 no.1.1.0);
       forest = sound.forest;
-      names = NamesStand-add_class tree code class sound (not_false (contains_key tree.schedules class.schedule) no.1.0);
+      names = NamesExist-add_class tree code class sound (not_false (contains_key tree.schedules class.schedule) no.1.0);
       closed = sound.closed;
       statuses = sound.statuses;
     }
@@ -163,15 +163,15 @@ FitsLimits-add_aggregation tree x sound few = record {
   records_few = sound.limits.records_few;
 }
 
-NamesStand-add_aggregation : (tree : TreeState) (x : Aggregation) → IsSound tree → Names tree.classes x.class → (x.parent ≡ None → IsSome x.class) → NamesStand tree.schedules tree.classes (tree.aggregations ++ x ∷ []) tree.records
-NamesStand-add_aggregation tree x sound named own = record {
+NamesExist-add_aggregation : (tree : TreeState) (x : Aggregation) → IsSound tree → Names tree.classes x.class → (x.parent ≡ None → IsSome x.class) → NamesExist tree.schedules tree.classes (tree.aggregations ++ x ∷ []) tree.records
+NamesExist-add_aggregation tree x sound named own = record {
   class_schedules = sound.names.class_schedules;
   aggregation_classes = λ a it e. elim (numbered_push tree.aggregations x it a e) [
     | inl old ↦ sound.names.aggregation_classes a it old
     | inr new ↦ subst (λ (k : Aggregation). Names tree.classes k.class) new.1 named
   ];
   root_classes = roots_push tree.aggregations x sound.names.root_classes own;
-  homes = λ r head e. let home = sound.names.homes r head e in (home.0, omega (arith, home.1, length-append tree.aggregations (x ∷ [])));
+  child_lists = λ r head e. let container = sound.names.child_lists r head e in (container.0, omega (arith, container.1, length-append tree.aggregations (x ∷ [])));
   record_classes = sound.names.record_classes;
   record_schedules = sound.names.record_schedules;
 }
@@ -185,7 +185,7 @@ IsSound-add_aggregation tree ref_text title parent class sound accepted =
     record {
       limits = FitsLimits-add_aggregation tree x sound (below (length tree.aggregations) 50_000 no.1.1.0);
       forest = IsForest-push tree.aggregations x sound.forest sound.names.root_classes fits;
-      names = NamesStand-add_aggregation tree x sound (names_of tree.classes class lacks.1) (root_has_class parent class no.1.1.1.1.1.0);
+      names = NamesExist-add_aggregation tree x sound (names_of tree.classes class lacks.1) (root_has_class parent class no.1.1.1.1.1.0);
       closed = closed_push tree.aggregations x sound.forest sound.closed fits no.1.1.1.0;
       statuses = sound.statuses;
     }
@@ -249,9 +249,9 @@ roots_close xs a day roots b it e root =
     ]
 
 -- a change that gives only a class that is there, after which each root has a class, leaves every named thing there
-pub NamesStand-edited : (tree : TreeState) (a : ℕ) (f : Aggregation → Aggregation) → IsSound tree → ((it : Aggregation) → Names tree.classes it.class → Names tree.classes (f it).class) → RootsHaveClasses (edited tree.aggregations a f)
-    → NamesStand tree.schedules tree.classes (edited tree.aggregations a f) tree.records
-NamesStand-edited tree a f sound named roots = record {
+pub NamesExist-edited : (tree : TreeState) (a : ℕ) (f : Aggregation → Aggregation) → IsSound tree → ((it : Aggregation) → Names tree.classes it.class → Names tree.classes (f it).class) → RootsHaveClasses (edited tree.aggregations a f)
+    → NamesExist tree.schedules tree.classes (edited tree.aggregations a f) tree.records
+NamesExist-edited tree a f sound named roots = record {
   class_schedules = sound.names.class_schedules;
   aggregation_classes = λ b it e.
       let came = numbered_edited tree.aggregations a f it b e in
@@ -261,7 +261,7 @@ NamesStand-edited tree a f sound named roots = record {
         | inr changed ↦ subst (λ (k : Aggregation). Names tree.classes k.class) (sym changed.1) (named came.0 old)
       ];
   root_classes = roots;
-  homes = λ r head e. let home = sound.names.homes r head e in (home.0, omega (arith, home.1, length-edited tree.aggregations a f));
+  child_lists = λ r head e. let container = sound.names.child_lists r head e in (container.0, omega (arith, container.1, length-edited tree.aggregations a f));
   record_classes = sound.names.record_classes;
   record_schedules = sound.names.record_schedules;
 }
@@ -272,7 +272,7 @@ IsSound-close_aggregation tree a day sound accepted =
     record {
       limits = FitsLimits-edited tree a (as_closed day) sound;
       forest = IsForest-edited tree.aggregations a (as_closed day) (λ it. refl) sound.forest;
-      names = NamesStand-edited tree a (as_closed day) sound (λ it named. named) (roots_close tree.aggregations a day sound.names.root_classes);
+      names = NamesExist-edited tree a (as_closed day) sound (λ it named. named) (roots_close tree.aggregations a day sound.names.root_classes);
       closed = closed_close tree.aggregations a day sound.closed no.1.1.0;
       statuses = sound.statuses;
     }
@@ -287,15 +287,15 @@ FitsLimits-add_record tree head sound few = record {
   records_few = omega (arith, few, length-append tree.records (head ∷ []));
 }
 
-NamesStand-add_record : (tree : TreeState) (head : Record) → IsSound tree → (0 < head.aggregation) × (head.aggregation ≤ length tree.aggregations) → Names tree.classes head.class → Names tree.schedules head.schedule
-    → NamesStand tree.schedules tree.classes tree.aggregations (tree.records ++ head ∷ [])
-NamesStand-add_record tree head sound home class schedule = record {
+NamesExist-add_record : (tree : TreeState) (head : Record) → IsSound tree → (0 < head.aggregation) × (head.aggregation ≤ length tree.aggregations) → Names tree.classes head.class → Names tree.schedules head.schedule
+    → NamesExist tree.schedules tree.classes tree.aggregations (tree.records ++ head ∷ [])
+NamesExist-add_record tree head sound container class schedule = record {
   class_schedules = sound.names.class_schedules;
   aggregation_classes = sound.names.aggregation_classes;
   root_classes = sound.names.root_classes;
-  homes = λ r it e. elim (numbered_push tree.records head it r e) [
-    | inl old ↦ sound.names.homes r it old
-    | inr new ↦ subst (λ (k : Record). (0 < k.aggregation) × (k.aggregation ≤ length tree.aggregations)) new.1 home
+  child_lists = λ r it e. elim (numbered_push tree.records head it r e) [
+    | inl old ↦ sound.names.child_lists r it old
+    | inr new ↦ subst (λ (k : Record). (0 < k.aggregation) × (k.aggregation ≤ length tree.aggregations)) new.1 container
   ];
   record_classes = λ r it e. elim (numbered_push tree.records head it r e) [
     | inl old ↦ sound.names.record_classes r it old
@@ -314,12 +314,12 @@ pub IsSound-add_record : (tree : TreeState) (head : Record) → IsSound tree →
 IsSound-add_record tree head sound accepted =
     let no = none_holds (conditions_of_add_record tree head.ref_text head.aggregation head.class head.schedule) accepted in
     let lacks = neither (not (has_aggregation tree head.aggregation) || lacks_class tree head.class) (lacks_schedule tree head.schedule) no.1.0 in
-    let home_or_class = neither (not (has_aggregation tree head.aggregation)) (lacks_class tree head.class) lacks.0 in
-    let home = aggregation_within tree head.aggregation (not_false (has_aggregation tree head.aggregation) home_or_class.0) in
+    let container_or_class = neither (not (has_aggregation tree head.aggregation)) (lacks_class tree head.class) lacks.0 in
+    let container = aggregation_within tree head.aggregation (not_false (has_aggregation tree head.aggregation) container_or_class.0) in
     record {
       limits = FitsLimits-add_record tree head sound (below (length tree.records) 200_000 no.1.1.0);
       forest = sound.forest;
-      names = NamesStand-add_record tree head sound home (names_of tree.classes head.class home_or_class.1) (names_of tree.schedules head.schedule lacks.1);
+      names = NamesExist-add_record tree head sound container (names_of tree.classes head.class container_or_class.1) (names_of tree.schedules head.schedule lacks.1);
       closed = sound.closed;
       statuses = statuses-add_record tree head sound;
     }
@@ -355,7 +355,7 @@ IsSound-empty = record {
     class_schedules = λ c class e. absurd (no_class c class e);
     aggregation_classes = λ a it e. absurd (nothing a it e);
     root_classes = λ a it e root. absurd (nothing a it e);
-    homes = λ r head e. absurd (nothing r head e);
+    child_lists = λ r head e. absurd (nothing r head e);
     record_classes = λ r head e. absurd (nothing r head e);
     record_schedules = λ r head e. absurd (nothing r head e);
   };

@@ -1,4 +1,4 @@
--- What the tests of limits and of names tell.
+-- What the tests of limits and of names report.
 use Rattle.std.proofs.Common.{◌≡◌, ℕ, ◌≤◌, List, [], ◌∷◌, length, Option, Some, None, refl, sym, ap, ◌∙◌, subst, cond, Bool, true, false, ◌⊎◌, inl, inr, arith}
 use Rattle.std.specs.Prelude.{IsSome, nat_le, ◌&&◌, ◌||◌}
 use Rattle.std.specs.Option.{is_some}
@@ -13,9 +13,9 @@ use Rattle.std.specs.Cmp.Lexicographic.{nat_list_cmp_total}
 use Rattle.std.specs.FinMap.{FinMap, get, contains_key, from_entries, len}
 use Rattle.std.proofs.lemmas.Bool.Decides.{nat_tests}
 use Rattle.std.proofs.lemmas.List.Elements.{All-from_recursion, recursion_from_All}
-use Rattle.office_terms.specs.Founding.{is_aggregation_named, is_record_named, is_there, is_within_limits}
+use Rattle.office_terms.specs.Loading.{is_aggregation_named, is_record_named, is_there, is_within_limits}
 use Rattle.office_terms.specs.Lists.{numbered}
-use Rattle.office_terms.specs.Sound.{FitsLimits, Names, NamesStand}
+use Rattle.office_terms.specs.Sound.{FitsLimits, Names, NamesExist}
 use Rattle.office_terms.specs.Tree.{code_cmp}
 use Rattle.office_terms.specs.declared.aggregation.Aggregation.{Aggregation}
 use Rattle.office_terms.specs.declared.class.Class.{Class}
@@ -137,7 +137,7 @@ pub names_hold : (schedules : FinMap code_cmp Schedule) (es : List (List ℕ × 
     → All (λ it. contains_key schedules it.schedule ≡ true) (values_of es)
     → All (λ it. is_aggregation_named (from_entries {R = code_cmp} es) it ≡ true) aggregations
     → All (λ head. is_record_named schedules (from_entries {R = code_cmp} es) (length aggregations) head ≡ true) records
-    → NamesStand schedules (from_entries es) aggregations records
+    → NamesExist schedules (from_entries es) aggregations records
 names_hold schedules es aggregations records of_classes of_aggregations of_records =
     let named : (a : ℕ) (it : Aggregation) → numbered aggregations a ≡ Some it → (is_there (from_entries {R = code_cmp} es) it.class ≡ true) × ((is_some it.parent || is_some it.class) ≡ true) =
     λ a it e. and_2 (is_there (from_entries {R = code_cmp} es) it.class) (is_some it.parent || is_some it.class) (at_numbers (λ it. is_aggregation_named (from_entries {R = code_cmp} es) it ≡ true) aggregations of_aggregations a it e) in
@@ -147,20 +147,20 @@ names_hold schedules es aggregations records of_classes of_aggregations of_recor
       class_schedules = λ code class e. at_codes (λ it. contains_key schedules it.schedule ≡ true) es of_classes code class e;
       aggregation_classes = λ a it e. names_of_there (from_entries es) it.class (named a it e).0;
       root_classes = λ a it e none. root_of it.parent it.class (named a it e).1 none;
-      homes = λ r head e. (le_of 1 head.aggregation (headed r head e).0, le_of head.aggregation (length aggregations) (headed r head e).1);
+      child_lists = λ r head e. (le_of 1 head.aggregation (headed r head e).0, le_of head.aggregation (length aggregations) (headed r head e).1);
       record_classes = λ r head e. names_of_there (from_entries es) head.class (headed r head e).2;
       record_schedules = λ r head e. names_of_there schedules head.schedule (headed r head e).3;
     }
 
-pub classes_pass : (schedules : FinMap code_cmp Schedule) (es : List (List ℕ × Class)) (aggregations : List Aggregation) (records : List Record) → IsStrictlySortedBy code_cmp (keys_of es) → NamesStand schedules (from_entries es) aggregations records → All (λ it. contains_key schedules it.schedule ≡ true) (values_of es)
+pub classes_pass : (schedules : FinMap code_cmp Schedule) (es : List (List ℕ × Class)) (aggregations : List Aggregation) (records : List Record) → IsStrictlySortedBy code_cmp (keys_of es) → NamesExist schedules (from_entries es) aggregations records → All (λ it. contains_key schedules it.schedule ≡ true) (values_of es)
 classes_pass schedules es aggregations records o names = from_codes (λ it. contains_key schedules it.schedule ≡ true) es o names.class_schedules
 
-pub aggregations_pass : (schedules : FinMap code_cmp Schedule) (classes : FinMap code_cmp Class) (aggregations : List Aggregation) (records : List Record) → NamesStand schedules classes aggregations records → All (λ it. is_aggregation_named classes it ≡ true) aggregations
+pub aggregations_pass : (schedules : FinMap code_cmp Schedule) (classes : FinMap code_cmp Class) (aggregations : List Aggregation) (records : List Record) → NamesExist schedules classes aggregations records → All (λ it. is_aggregation_named classes it ≡ true) aggregations
 aggregations_pass schedules classes aggregations records names = from_numbers (λ it. is_aggregation_named classes it ≡ true) aggregations
     (λ a it e. all_2 (is_there classes it.class) (is_some it.parent || is_some it.class) (there_of_names classes it.class (names.aggregation_classes a it e)) (to_root it.parent it.class (names.root_classes a it e)))
 
-pub records_pass : (schedules : FinMap code_cmp Schedule) (classes : FinMap code_cmp Class) (aggregations : List Aggregation) (records : List Record) → NamesStand schedules classes aggregations records → All (λ head. is_record_named schedules classes (length aggregations) head ≡ true) records
+pub records_pass : (schedules : FinMap code_cmp Schedule) (classes : FinMap code_cmp Class) (aggregations : List Aggregation) (records : List Record) → NamesExist schedules classes aggregations records → All (λ head. is_record_named schedules classes (length aggregations) head ≡ true) records
 records_pass schedules classes aggregations records names = from_numbers (λ head. is_record_named schedules classes (length aggregations) head ≡ true) records
     (λ r head e. all_4 (nat_le 1 head.aggregation) (nat_le head.aggregation (length aggregations)) (is_there classes head.class) (is_there schedules head.schedule)
-    (le_to 1 head.aggregation (names.homes r head e).0) (le_to head.aggregation (length aggregations) (names.homes r head e).1)
+    (le_to 1 head.aggregation (names.child_lists r head e).0) (le_to head.aggregation (length aggregations) (names.child_lists r head e).1)
     (there_of_names classes head.class (names.record_classes r head e)) (there_of_names schedules head.schedule (names.record_schedules r head e)))

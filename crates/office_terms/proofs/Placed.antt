@@ -1,9 +1,9 @@
--- What the tests of the places of aggregations and of their depths tell.
+-- What the tests of the places of aggregations and of their depths report.
 use Rattle.std.proofs.Common.{◌≡◌, ◌≢◌, ℕ, zero, suc, ◌-◌, ◌<◌, ◌≤◌, List, [], ◌∷◌, length, Option, Some, None, refl, sym, ap, ◌∙◌, Bool, true, false, arith, ℤ}
 use Rattle.std.specs.Prelude.{slice_get, IsSome, nat_le, nat_lt, ◌&&◌, ◌||◌}
 use Rattle.std.specs.Option.{is_some, is_none, option_and_then, MatchOption}
 use Rattle.std.proofs.lemmas.Bool.Decides.{nat_tests}
-use Rattle.office_terms.specs.Founding.{is_placed}
+use Rattle.office_terms.specs.Loading.{is_placed}
 use Rattle.office_terms.specs.Lists.{numbered, holds_of}
 use Rattle.office_terms.specs.Sound.{NoneIsOpenUnderClosed, RootsHaveClasses}
 use Rattle.office_terms.specs.Tree.{chain, chain_of}

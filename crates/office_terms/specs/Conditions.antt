@@ -29,7 +29,7 @@ pub record IsLeastOf (conditions : List (Refusal × Bool)) (answer : Option Refu
   pub least : IfSome answer (λ r. All (λ c. IsTrue c.1 → refusal_number r ≤ refusal_number c.0) conditions)
   pub none : IfNone answer (All (λ c. c.1 ≡ false) conditions)
 
--- a table stands in the order of the refusals' numbers
+-- a table is in the order of the refusals' numbers
 abbrev pub IsRising : List (Refusal × Bool) → Type 0
 IsRising [] = Unit {0}
 IsRising (c ∷ cs) = AllByRecursion (λ d. refusal_number c.0 < refusal_number d.0) cs × IsRising cs

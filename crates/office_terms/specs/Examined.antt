@@ -18,14 +18,14 @@ is_disposal_confirmed None = true
 is_disposal_confirmed (Some confirmation) = is_disposal confirmation.action
 
 -- a record that is not here has a confirmation, a confirmation names transfer or destruction, and a received record has a receipt
-abbrev pub has_papers : Record → Status → Bool
-has_papers head status =
+abbrev pub has_documents : Record → Status → Bool
+has_documents head status =
     (is_here status || is_some head.confirmation) && is_disposal_confirmed head.confirmation && (not (is_received status) || is_some head.receipt)
 
 -- so it is with each record
-abbrev pub AllHavePapers : List Record → List Status → Type 0
-AllHavePapers records statuses =
-    (r : ℕ) (head : Record) (status : Status) → numbered records r ≡ Some head → numbered statuses r ≡ Some status → has_papers head status ≡ true
+abbrev pub AllHaveDocuments : List Record → List Status → Type 0
+AllHaveDocuments records statuses =
+    (r : ℕ) (head : Record) (status : Status) → numbered records r ≡ Some head → numbered statuses r ≡ Some status → has_documents head status ≡ true
 
 -- the day, if there is one, is not after the other
 abbrev pub is_by : ℤ → Option ℤ → Bool

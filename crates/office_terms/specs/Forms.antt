@@ -1,4 +1,4 @@
--- When what stands in a tree is of its form and within its limits. The types of the code see to it; here it is said of
+-- When what is in a tree is of its form and within its limits. The types of the code see to it; here it is said of
 -- states, for rows that come from elsewhere. Source: own.
 use Rattle.std.specs.Prelude.{◌≡◌, ◌<◌, ◌≤◌, ℕ, true, List, length, Some, IfSome}
 use Rattle.std.specs.List.{All}
@@ -28,34 +28,34 @@ abbrev pub IsDigest : List ℕ → Type 0
 IsDigest digest = (length digest ≡ 32) × All (λ b. b < 256) digest
 
 -- its period is within the limit of its unit
-abbrev pub IsFormedSchedule : Schedule → Type 0
-IsFormedSchedule it = it.period.count ≤ longest it.period.unit
+abbrev pub IsWellFormedSchedule : Schedule → Type 0
+IsWellFormedSchedule it = it.period.count ≤ longest it.period.unit
 
-pub record IsFormedClass (it : Class) : Type 0 where
+pub record IsWellFormedClass (it : Class) : Type 0 where
   pub title : IsText it.title
   pub schedule : IsCode it.schedule
 
-pub record IsFormedAggregation (it : Aggregation) : Type 0 where
+pub record IsWellFormedAggregation (it : Aggregation) : Type 0 where
   pub ref_text : IsText it.ref_text
   pub title : IsText it.title
   pub class : IfSome it.class IsCode
   pub closed : IfSome it.closed IsDayNumber
 
-pub record IsFormedReview (it : Review) : Type 0 where
+pub record IsWellFormedReview (it : Review) : Type 0 where
   pub day : IsDayNumber it.day
   pub by : IsText it.by
 
-pub record IsFormedConfirmation (it : Confirmation) : Type 0 where
+pub record IsWellFormedConfirmation (it : Confirmation) : Type 0 where
   pub due : IsDueNumber it.due
   pub day : IsDayNumber it.day
   pub by : IsText it.by
 
-pub record IsFormedReceipt (it : Receipt) : Type 0 where
+pub record IsWellFormedReceipt (it : Receipt) : Type 0 where
   pub day : IsDayNumber it.day
   pub by : IsText it.by
 
 -- a content has at most 262,144 bytes
-pub record IsFormedRecord (head : Record) : Type 0 where
+pub record IsWellFormedRecord (head : Record) : Type 0 where
   pub ref_text : IsText head.ref_text
   pub title : IsText head.title
   pub originated : IsDayNumber head.originated
@@ -64,20 +64,20 @@ pub record IsFormedRecord (head : Record) : Type 0 where
   pub schedule : IfSome head.schedule IsCode
   pub length_few : head.length ≤ 262_144
   pub digest : IsDigest head.digest
-  pub review : IfSome head.review IsFormedReview
-  pub confirmation : IfSome head.confirmation IsFormedConfirmation
-  pub receipt : IfSome head.receipt IsFormedReceipt
+  pub review : IfSome head.review IsWellFormedReview
+  pub confirmation : IfSome head.confirmation IsWellFormedConfirmation
+  pub receipt : IfSome head.receipt IsWellFormedReceipt
 
 -- the two days of an event, and who reported it
-pub record IsFormedEvent (it : Event) : Type 0 where
+pub record IsWellFormedEvent (it : Event) : Type 0 where
   pub occurred : IsDayNumber it.occurred
   pub day : IsDayNumber it.day
   pub by : IsText it.by
 
 -- every text, code, day and number of a tree is of its form and within its limit
-pub record IsFormedTree (tree : TreeState) : Type 0 where
-  pub schedules : (code : List ℕ) (it : Schedule) → get tree.schedules code ≡ Some it → IsCode code × IsFormedSchedule it
-  pub classes : (code : List ℕ) (it : Class) → get tree.classes code ≡ Some it → IsCode code × IsFormedClass it
-  pub aggregations : (a : ℕ) (it : Aggregation) → numbered tree.aggregations a ≡ Some it → IsFormedAggregation it
-  pub records : (r : ℕ) (head : Record) → numbered tree.records r ≡ Some head → IsFormedRecord head
-  pub events : (r : ℕ) (it : Event) → get tree.events r ≡ Some it → IsFormedEvent it
+pub record IsWellFormedTree (tree : TreeState) : Type 0 where
+  pub schedules : (code : List ℕ) (it : Schedule) → get tree.schedules code ≡ Some it → IsCode code × IsWellFormedSchedule it
+  pub classes : (code : List ℕ) (it : Class) → get tree.classes code ≡ Some it → IsCode code × IsWellFormedClass it
+  pub aggregations : (a : ℕ) (it : Aggregation) → numbered tree.aggregations a ≡ Some it → IsWellFormedAggregation it
+  pub records : (r : ℕ) (head : Record) → numbered tree.records r ≡ Some head → IsWellFormedRecord head
+  pub events : (r : ℕ) (it : Event) → get tree.events r ≡ Some it → IsWellFormedEvent it

@@ -5,7 +5,7 @@ pub mod Disposal
 pub mod Effects
 pub mod Examined
 pub mod Forms
-pub mod Founding
+pub mod Loading
 pub mod Lasting
 pub mod Lists
 pub mod Meanings

@@ -31,11 +31,11 @@ abbrev pub Names : {V : Type 0} → FinMap code_cmp V → Option (List ℕ) → 
 Names things code = IfSome code (λ c. IsSome (get things c))
 
 -- every named schedule, class and aggregation is there, and a root has a class
-pub record NamesStand (schedules : FinMap code_cmp Schedule) (classes : FinMap code_cmp Class) (aggregations : List Aggregation) (records : List Record) : Type 0 where
+pub record NamesExist (schedules : FinMap code_cmp Schedule) (classes : FinMap code_cmp Class) (aggregations : List Aggregation) (records : List Record) : Type 0 where
   pub class_schedules : (code : List ℕ) (class : Class) → get classes code ≡ Some class → IsSome (get schedules class.schedule)
   pub aggregation_classes : (a : ℕ) (it : Aggregation) → numbered aggregations a ≡ Some it → Names classes it.class
   pub root_classes : RootsHaveClasses aggregations
-  pub homes : (r : ℕ) (head : Record) → numbered records r ≡ Some head → (0 < head.aggregation) × (head.aggregation ≤ length aggregations)
+  pub child_lists : (r : ℕ) (head : Record) → numbered records r ≡ Some head → (0 < head.aggregation) × (head.aggregation ≤ length aggregations)
   pub record_classes : (r : ℕ) (head : Record) → numbered records r ≡ Some head → Names classes head.class
   pub record_schedules : (r : ℕ) (head : Record) → numbered records r ≡ Some head → Names schedules head.schedule
 
@@ -53,7 +53,7 @@ pub record RefsDiffer (aggregations : List Aggregation) (records : List Record) 
 pub record IsSound (tree : TreeState) : Type 0 where
   pub limits : FitsLimits tree.schedules tree.classes tree.aggregations tree.records
   pub forest : IsForest tree.aggregations
-  pub names : NamesStand tree.schedules tree.classes tree.aggregations tree.records
+  pub names : NamesExist tree.schedules tree.classes tree.aggregations tree.records
   pub closed : NoneIsOpenUnderClosed tree.aggregations
   pub statuses : length tree.statuses ≡ length tree.records
 

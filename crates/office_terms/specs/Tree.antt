@@ -19,7 +19,7 @@ use Rattle.office_terms.specs.declared.aggregation.Aggregation.{Aggregation}
 use Rattle.office_terms.specs.declared.event.Event.{Event}
 use Rattle.office_terms.specs.declared.head.Record.{Record}
 
--- codes stand in byte order
+-- codes are in byte order
 abbrev pub code_cmp : List ℕ → List ℕ → Ordering
 code_cmp = slice_cmp nat_cmp
 

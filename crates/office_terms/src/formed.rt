@@ -4,7 +4,7 @@ ghost use Rattle.std.specs.Prelude.{◌≤◌, ◌<◌, IfSome};
 ghost use Rattle.std.specs.List.{All};
 ghost use Rattle.office_days.specs.Limits.{IsDayNumber};
 ghost use Rattle.office_terms.specs.Examined.{AreContentsShort};
-ghost use Rattle.office_terms.specs.Forms.{IsCode, IsDigest, IsFormedAggregation, IsFormedClass, IsFormedConfirmation, IsFormedEvent, IsFormedReceipt, IsFormedRecord, IsFormedReview, IsFormedSchedule};
+ghost use Rattle.office_terms.specs.Forms.{IsCode, IsDigest, IsWellFormedAggregation, IsWellFormedClass, IsWellFormedConfirmation, IsWellFormedEvent, IsWellFormedReceipt, IsWellFormedRecord, IsWellFormedReview, IsWellFormedSchedule};
 
 use crate::{
     Aggregation, Class, Code, Confirmation, Event, Receipt, Record, RecordNo, Review, Schedule,
@@ -13,7 +13,7 @@ use office_days::Day;
 use std::collections::BTreeMap;
 
 /// A code, if there is one, is of its form.
-fn formed_code_or_none(code: &Option<Code>)
+fn well_formed_code_or_none(code: &Option<Code>)
     ensures { IfSome code.now IsCode }
 {
     if let Some(code) = code {
@@ -22,7 +22,7 @@ fn formed_code_or_none(code: &Option<Code>)
 }
 
 /// A day, if there is one, is one that may be handed in.
-fn formed_day_or_none(day: Option<Day>)
+fn well_formed_day_or_none(day: Option<Day>)
     ensures { IfSome day IsDayNumber }
 {
     if let Some(day) = day {
@@ -31,47 +31,47 @@ fn formed_day_or_none(day: Option<Day>)
 }
 
 /// Each byte is below 256.
-fn formed_bytes(bytes: &[u8])
+fn well_formed_bytes(bytes: &[u8])
     ensures { All (λ b. b < 256) bytes.now }
 {
     let _ = bytes.len();
 }
 
 /// A digest has 32 bytes.
-fn formed_digest(digest: &[u8; 32])
+fn well_formed_digest(digest: &[u8; 32])
     ensures { IsDigest digest.now }
 {
-    formed_bytes(digest);
+    well_formed_bytes(digest);
 }
 
 /// The period of a schedule is within the limit of its unit.
-fn formed_schedule(it: &Schedule)
-    ensures { IsFormedSchedule it.now }
+fn well_formed_schedule(it: &Schedule)
+    ensures { IsWellFormedSchedule it.now }
 {
     let _ = it.period.count();
 }
 
 /// A class is of its form.
-fn formed_class(it: &Class)
-    ensures { IsFormedClass it.now }
+fn well_formed_class(it: &Class)
+    ensures { IsWellFormedClass it.now }
 {
     let _ = it.title.text();
     let _ = it.schedule.text();
 }
 
 /// An aggregation is of its form.
-fn formed_aggregation(it: &Aggregation)
-    ensures { IsFormedAggregation it.now }
+fn well_formed_aggregation(it: &Aggregation)
+    ensures { IsWellFormedAggregation it.now }
 {
     let _ = it.ref_text.text();
     let _ = it.title.text();
-    formed_code_or_none(&it.class);
-    formed_day_or_none(it.closed);
+    well_formed_code_or_none(&it.class);
+    well_formed_day_or_none(it.closed);
 }
 
 /// A review, if there is one, is of its form.
-fn formed_review(review: &Option<Review>)
-    ensures { IfSome review.now IsFormedReview }
+fn well_formed_review(review: &Option<Review>)
+    ensures { IfSome review.now IsWellFormedReview }
 {
     if let Some(review) = review {
         let _ = review.day.number();
@@ -80,8 +80,8 @@ fn formed_review(review: &Option<Review>)
 }
 
 /// A confirmation, if there is one, is of its form.
-fn formed_confirmation(confirmation: &Option<Confirmation>)
-    ensures { IfSome confirmation.now IsFormedConfirmation }
+fn well_formed_confirmation(confirmation: &Option<Confirmation>)
+    ensures { IfSome confirmation.now IsWellFormedConfirmation }
 {
     if let Some(confirmation) = confirmation {
         let _ = confirmation.due.number();
@@ -91,8 +91,8 @@ fn formed_confirmation(confirmation: &Option<Confirmation>)
 }
 
 /// A receipt, if there is one, is of its form.
-fn formed_receipt(receipt: &Option<Receipt>)
-    ensures { IfSome receipt.now IsFormedReceipt }
+fn well_formed_receipt(receipt: &Option<Receipt>)
+    ensures { IfSome receipt.now IsWellFormedReceipt }
 {
     if let Some(receipt) = receipt {
         let _ = receipt.day.number();
@@ -101,64 +101,64 @@ fn formed_receipt(receipt: &Option<Receipt>)
 }
 
 /// A record is of its form, where its content is not too long.
-fn formed_record(head: &Record)
+fn well_formed_record(head: &Record)
     requires { head.now.length ≤ 262_144 }
-    ensures { IsFormedRecord head.now }
+    ensures { IsWellFormedRecord head.now }
 {
     let _ = head.ref_text.text();
     let _ = head.title.text();
     let _ = head.originated.number();
     let _ = head.added.number();
-    formed_code_or_none(&head.class);
-    formed_code_or_none(&head.schedule);
-    formed_digest(&head.digest);
-    formed_review(&head.review);
-    formed_confirmation(&head.confirmation);
-    formed_receipt(&head.receipt);
+    well_formed_code_or_none(&head.class);
+    well_formed_code_or_none(&head.schedule);
+    well_formed_digest(&head.digest);
+    well_formed_review(&head.review);
+    well_formed_confirmation(&head.confirmation);
+    well_formed_receipt(&head.receipt);
 }
 
 /// The schedules and their codes are of their forms.
-pub fn formed_schedules(schedules: &BTreeMap<Code, Schedule>)
-    ensures { All (λ e. IsCode e.0 × IsFormedSchedule e.1) schedules.now.entries }
+pub fn well_formed_schedules(schedules: &BTreeMap<Code, Schedule>)
+    ensures { All (λ e. IsCode e.0 × IsWellFormedSchedule e.1) schedules.now.entries }
 {
     for (code, it) in schedules {
         let _ = code.text();
-        formed_schedule(it);
+        well_formed_schedule(it);
     }
 }
 
 /// The classes and their codes are of their forms.
-pub fn formed_classes(classes: &BTreeMap<Code, Class>)
-    ensures { All (λ e. IsCode e.0 × IsFormedClass e.1) classes.now.entries }
+pub fn well_formed_classes(classes: &BTreeMap<Code, Class>)
+    ensures { All (λ e. IsCode e.0 × IsWellFormedClass e.1) classes.now.entries }
 {
     for (code, it) in classes {
         let _ = code.text();
-        formed_class(it);
+        well_formed_class(it);
     }
 }
 
 /// The aggregations are of their forms.
-pub fn formed_aggregations(aggregations: &[Aggregation])
-    ensures { All IsFormedAggregation aggregations.now }
+pub fn well_formed_aggregations(aggregations: &[Aggregation])
+    ensures { All IsWellFormedAggregation aggregations.now }
 {
     for it in aggregations {
-        formed_aggregation(it);
+        well_formed_aggregation(it);
     }
 }
 
 /// The records are of their forms, where no content is too long.
-pub fn formed_records(records: &[Record])
+pub fn well_formed_records(records: &[Record])
     requires { AreContentsShort records.now }
-    ensures { All IsFormedRecord records.now }
+    ensures { All IsWellFormedRecord records.now }
 {
     for head in records {
-        formed_record(head);
+        well_formed_record(head);
     }
 }
 
 /// An event is of its form.
-fn formed_event(it: &Event)
-    ensures { IsFormedEvent it.now }
+fn well_formed_event(it: &Event)
+    ensures { IsWellFormedEvent it.now }
 {
     let _ = it.occurred.number();
     let _ = it.day.number();
@@ -166,11 +166,11 @@ fn formed_event(it: &Event)
 }
 
 /// The events are of their forms.
-pub fn formed_events(events: &BTreeMap<RecordNo, Event>)
-    ensures { All (λ e. IsFormedEvent e.1) events.now.entries }
+pub fn well_formed_events(events: &BTreeMap<RecordNo, Event>)
+    ensures { All (λ e. IsWellFormedEvent e.1) events.now.entries }
 {
     for (number, it) in events {
         let _ = number;
-        formed_event(it);
+        well_formed_event(it);
     }
 }

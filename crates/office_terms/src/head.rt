@@ -27,7 +27,7 @@ pub struct Confirmation {
     pub by: Text,
 }
 
-/// A receiver's receipt for a transferred record: its day, and who told it.
+/// A receiver's receipt for a transferred record: its day, and who reported it.
 #[derive(Drop)]
 pub struct Receipt {
     pub day: Day,
@@ -35,7 +35,7 @@ pub struct Receipt {
 }
 
 /// A record's head: all that the office keeps of a record but its content and its status, which
-/// stands beside it. `length` is the content's, in bytes; `digest` is its SHA-256. The originated
+/// is beside it. `length` is the content's, in bytes; `digest` is its SHA-256. The originated
 /// day is compared with no other day.
 #[derive(Drop)]
 pub struct Record {
@@ -134,7 +134,7 @@ fn copy_plan(alloc: Global, head: &Record, copy: &mut Record) -> Result<(), Memo
 }
 
 /// Gives the copy a review, a confirmation and a receipt that are equal to the head's.
-fn copy_papers(alloc: Global, head: &Record, copy: &mut Record) -> Result<(), Memory>
+fn copy_documents(alloc: Global, head: &Record, copy: &mut Record) -> Result<(), Memory>
     ensures { OnOk result (copy.new ≡ record copy.old { review = head.now.review; confirmation = head.now.confirmation; receipt = head.now.receipt }) }
 {
     copy.review = copy_review(alloc, &head.review)?;
@@ -148,7 +148,7 @@ fn copy_optional(alloc: Global, head: &Record, copy: &mut Record) -> Result<(), 
     ensures { OnOk result (copy.new ≡ record copy.old { class = head.now.class; schedule = head.now.schedule; review = head.now.review; confirmation = head.now.confirmation; receipt = head.now.receipt }) }
 {
     copy_plan(alloc, head, copy)?;
-    copy_papers(alloc, head, copy)
+    copy_documents(alloc, head, copy)
 }
 
 impl Record {
@@ -160,7 +160,7 @@ impl Record {
         copy_optional(alloc, self, &mut copy).and(Ok(copy))
     }
 
-    /// A second head that is equal to this one but for its class, its schedule and its papers, of
+    /// A second head that is equal to this one but for its class, its schedule and its required documents, of
     /// which it has none.
     fn copy_bare(&self, alloc: Global) -> Result<Record, Memory>
         ensures { IfOk result (λ r. r ≡ record self.now { class = None; schedule = None; review = None; confirmation = None; receipt = None }) }

@@ -39,7 +39,8 @@ pub use code::Code;
 pub use confirming::same_action;
 pub use event::Event;
 pub use formed::{
-    formed_aggregations, formed_classes, formed_events, formed_records, formed_schedules,
+    well_formed_aggregations, well_formed_classes, well_formed_events, well_formed_records,
+    well_formed_schedules,
 };
 pub use head::{Confirmation, Receipt, Record, RecordNo, Review};
 pub use hold_row::HoldRow;

@@ -1,4 +1,4 @@
--- The marks of what is kept of records are those of the candidates, above the last record too.
+-- The marks of what is cached of records are those of the candidates, above the last record too.
 use Rattle.std.proofs.Common.{◌≡◌, ℕ, ◌+◌, ◌-◌, ◌<◌, ◌≤◌, ◌&&◌, true, false, List, length, Option, Some, None, inl, inr, sym, ap, ◌∙◌, arith}
 use Rattle.std.specs.Prelude.{IfNone, IfSome, IsTrue}
 use Rattle.std.proofs.lemmas.Option.{slice_get_cases, slice_get_past}
@@ -6,10 +6,10 @@ use Rattle.office_terms.specs.Disposal.{counts, is_disposal}
 use Rattle.office_terms.specs.Lists.{holds_of}
 use Rattle.office_tree.specs.Marks.{mark_at, mark_of}
 use Rattle.office_terms.specs.Candidates.{HasNoCandidateAbove, IsNextCandidate, candidate_by, is_candidate}
-use Rattle.office_tree.specs.Outlooks.{AreOutlooks}
+use Rattle.office_tree.specs.RecordCaches.{AreRecordCaches}
 use Rattle.office_terms.specs.Sound.{IsSound}
 use Rattle.office_terms.specs.Tree.{TreeState, action_of, has_record}
-use Rattle.office_tree.specs.declared.outlook.Outlook.{Outlook}
+use Rattle.office_tree.specs.declared.record_cache.RecordCache.{RecordCache}
 use Rattle.office_terms.proofs.Places.{numbered_at}
 use Rattle.office_terms.proofs.Reading.{record_there}
 
@@ -20,7 +20,7 @@ past_records tree r sound past =
     ap (λ o. candidate_by o (holds_of (action_of tree r) is_disposal && counts tree r))
     (numbered_at tree.statuses r (r - 1) (omega arith) ∙ slice_get_past tree.statuses (r - 1) (omega (arith, sound.statuses)))
 
-pub marked_as : (codes : List (List ℕ)) (tree now : TreeState) (looks : List Outlook) (r : ℕ) → AreOutlooks codes tree looks → IsSound tree → tree ≡ now → 0 < r
+pub marked_as : (codes : List (List ℕ)) (tree now : TreeState) (looks : List RecordCache) (r : ℕ) → AreRecordCaches codes tree looks → IsSound tree → tree ≡ now → 0 < r
     → mark_at looks (r - 1) ≡ is_candidate now r
 marked_as codes tree now looks r all sound same low =
     let next : r ≡ r - 1 + 1 = omega arith in
@@ -31,7 +31,7 @@ marked_as codes tree now looks r all sound same low =
     ∙ ap (λ (t : TreeState). is_candidate t r) same
 
 -- what is found by the marks is the next candidate
-module _ (codes : List (List ℕ)) (tree now : TreeState) (looks : List Outlook) (all : AreOutlooks codes tree looks) (sound : IsSound tree) (same : tree ≡ now) (above : ℕ) where
+module _ (codes : List (List ℕ)) (tree now : TreeState) (looks : List RecordCache) (all : AreRecordCaches codes tree looks) (sound : IsSound tree) (same : tree ≡ now) (above : ℕ) where
   pub there_as : (o : Option ℕ) → IfSome o (λ r. above < r) → IfSome o (λ r. r ≤ length looks) → IfSome o (λ r. IsTrue (has_record now r))
   there_as None higher within = tt
   there_as (Some r) higher within =

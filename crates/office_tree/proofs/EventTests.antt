@@ -1,4 +1,4 @@
--- What the tests of events tell of them, and back.
+-- What the tests of events report of them, and back.
 use Rattle.std.proofs.Common.{◌≡◌, ◌≤◌, ◌<◌, ◌≤ℤ◌, ℕ, ℤ, Bool, true, false, List, Some, ◌∙◌, arith, refl}
 use Rattle.std.specs.Prelude.{◌&&◌, int_le, nat_le}
 use Rattle.std.specs.Cmp.{nat_cmp_total}
@@ -16,7 +16,7 @@ use Rattle.std.proofs.lemmas.Map.Views.{lookup-from_Contains}
 use Rattle.office_terms.specs.Examined.{is_sound_event}
 use Rattle.office_terms.specs.Sound.{AreEventsSound}
 use Rattle.office_terms.specs.declared.event.Event.{Event}
-use Rattle.office_tree.proofs.EachFormed.{each_event}
+use Rattle.office_tree.proofs.EachWellFormed.{each_event}
 use Rattle.office_tree.proofs.EventPlaces.{event_is}
 
 -- an event that passes is one of a record that is there, and not ahead

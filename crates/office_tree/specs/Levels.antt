@@ -1,4 +1,4 @@
--- Words as flags, and flags under others that each stand for 64 of them. Source: own.
+-- Words as flags, and flags under others that each represent 64 of them. Source: own.
 use Rattle.std.specs.Prelude.{◌≡◌, ℕ, ◌*◌, ◌/◌, ◌%◌, ◌≤◌, Bool, true, List, length, map, ◌==◌, slice_index}
 use Rattle.std.specs.List.{range_with_len}
 use Rattle.std.specs.Int.{bit_at}

@@ -5,8 +5,8 @@ ghost use Rattle.std.specs.FinMap.{from_entries};
 ghost use Rattle.std.specs.List.{All};
 ghost use Rattle.std.specs.Ordering.{nat_cmp};
 ghost use Rattle.office_terms.specs.Disposal.{is_disposal};
-ghost use Rattle.office_terms.specs.Examined.{AllHavePapers, AreContentsShort, IsTreeBy, has_papers, is_by, is_confirmed_by, is_disposal_confirmed, is_receipted_by, is_record_by, is_reviewed_by, is_sound_event};
-ghost use Rattle.office_terms.specs.Forms.{IsFormedTree};
+ghost use Rattle.office_terms.specs.Examined.{AllHaveDocuments, AreContentsShort, IsTreeBy, has_documents, is_by, is_confirmed_by, is_disposal_confirmed, is_receipted_by, is_record_by, is_reviewed_by, is_sound_event};
+ghost use Rattle.office_terms.specs.Forms.{IsWellFormedTree};
 ghost use Rattle.office_tree.specs.Indexes.{Indexes, aggregation_refs, record_refs};
 ghost use Rattle.office_terms.specs.Lists.{Differ};
 ghost use Rattle.office_terms.specs.Sound.{AreEventsSound, RefsDiffer};
@@ -16,7 +16,8 @@ use crate::Tree;
 use office_days::Day;
 use office_terms::{
     Action, AggNo, Aggregation, Confirmation, Event, Receipt, Record, RecordNo, Review, Status,
-    Text, formed_aggregations, formed_classes, formed_events, formed_records, formed_schedules,
+    Text, well_formed_aggregations, well_formed_classes, well_formed_events, well_formed_records,
+    well_formed_schedules,
 };
 use std::collections::BTreeMap;
 
@@ -41,8 +42,8 @@ fn is_disposal_confirmed(confirmation: &Option<Confirmation>) -> bool
 }
 
 /// Whether the record has what its status asks for.
-fn has_papers(head: &Record, status: Status) -> bool
-    ensures { result ≡ has_papers head.now status }
+fn has_documents(head: &Record, status: Status) -> bool
+    ensures { result ≡ has_documents head.now status }
 {
     if status != Status::Here && head.confirmation.is_none() {
         return false;
@@ -123,7 +124,7 @@ fn are_sound_events(count: RecordNo, last: Day, events: &BTreeMap<RecordNo, Even
     true
 }
 
-/// Tells in proofs that the numbers of the events' records ascend; a call does nothing.
+/// Gives proofs the fact that the numbers of the events' records ascend; a call does nothing.
 fn ascending(events: &BTreeMap<RecordNo, Event>)
     ensures { map.IsOrdered nat_cmp events.now }
 {
@@ -151,12 +152,12 @@ fn do_record_refs_differ(index: &BTreeMap<Text, RecordNo>, records: &[Record]) -
 impl Tree {
     /// Whether each record has the confirmation and the receipt that its status asks for, and each
     /// confirmation names transfer or destruction.
-    pub fn have_all_papers(&self) -> bool
-        ensures yes { IsTrue result → AllHavePapers self.now.records self.now.statuses }
-        ensures no { result ≡ false → AllHavePapers self.now.records self.now.statuses → ⊥ }
+    pub fn have_all_documents(&self) -> bool
+        ensures yes { IsTrue result → AllHaveDocuments self.now.records self.now.statuses }
+        ensures no { result ≡ false → AllHaveDocuments self.now.records self.now.statuses → ⊥ }
     {
         for (head, status) in self.records.iter().zip(self.statuses.iter()) {
-            if !has_papers(head, *status) {
+            if !has_documents(head, *status) {
                 return false;
             }
         }
@@ -202,15 +203,15 @@ impl Tree {
         do_record_refs_differ(&self.by_record_ref, &self.records)
     }
 
-    /// Tells in proofs that all that stands in the tree is of its form; a call changes nothing.
+    /// Gives proofs the fact that all that is in the tree is of its form; a call changes nothing.
     pub fn formed(&self)
         requires { AreContentsShort self.now.records }
-        ensures { IsFormedTree self.now }
+        ensures { IsWellFormedTree self.now }
     {
-        formed_schedules(&self.schedules);
-        formed_classes(&self.classes);
-        formed_aggregations(&self.aggregations);
-        formed_records(&self.records);
-        formed_events(&self.events);
+        well_formed_schedules(&self.schedules);
+        well_formed_classes(&self.classes);
+        well_formed_aggregations(&self.aggregations);
+        well_formed_records(&self.records);
+        well_formed_events(&self.events);
     }
 }

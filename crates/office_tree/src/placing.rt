@@ -46,7 +46,7 @@ impl Tree {
         ensures err { OnErr result (self.new ≡ self.old) }
     {
         let alloc = *self.records.allocator();
-        self.plans.add(alloc, &code)?;
+        self.schedule_numbers.add(alloc, &code)?;
         self.schedules.insert(code, schedule)?;
         Ok(())
     }
@@ -59,8 +59,8 @@ impl Tree {
     {
         self.events.insert(record_no, event)?;
         let rows = rows_of!(self);
-        self.outlooks
-            .renew(&rows, &self.plans, &self.tallies, record_no);
+        self.record_caches
+            .refresh(&rows, &self.schedule_numbers, &self.summaries, record_no);
         Ok(())
     }
 

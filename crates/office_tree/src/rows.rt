@@ -6,17 +6,17 @@ ghost use Rattle.office_terms.specs.Disposal.{is_disposal, same_action};
 ghost use Rattle.office_tree.specs.Inheriting.{has_own_class};
 ghost use Rattle.office_terms.specs.Lists.{holds_of};
 ghost use Rattle.office_terms.specs.Candidates.{candidate_by};
-ghost use Rattle.office_tree.specs.Outlooks.{IsOutlook};
-ghost use Rattle.office_tree.specs.Plans.{ArePlanned};
+ghost use Rattle.office_tree.specs.RecordCaches.{IsRecordCache};
+ghost use Rattle.office_tree.specs.ScheduleNumbers.{AreNumbered};
 ghost use Rattle.office_terms.specs.Sound.{IsSound};
-ghost use Rattle.office_tree.specs.Tallies.{AreLastAdditions};
+ghost use Rattle.office_tree.specs.Summaries.{AreLastAdditions};
 ghost use Rattle.office_terms.specs.Tree.{has_aggregation, has_record, plan_of, schedule_of};
 
 use crate::classifying::class_in;
-use crate::outlook::Outlook;
-use crate::plans::Plans;
+use crate::record_cache::RecordCache;
+use crate::schedule_numbers::ScheduleNumbers;
 use crate::scheduling::{due_by, start_in};
-use crate::tally::Tally;
+use crate::summary::AggregationSummary;
 use office_days::DueDay;
 use office_terms::{
     Action, AggNo, Aggregation, Class, Code, Confirmation, Event, Record, RecordNo, Schedule,
@@ -138,33 +138,38 @@ impl<'a> Rows<'a> {
         }
     }
 
-    /// What is to be kept of the record.
-    pub(crate) fn outlook(&self, plans: &Plans, tallies: &[Tally], record_no: RecordNo) -> Outlook
+    /// What is to be cached of the record.
+    pub(crate) fn record_cache(
+        &self,
+        schedule_numbers: &ScheduleNumbers,
+        summaries: &[AggregationSummary],
+        record_no: RecordNo,
+    ) -> RecordCache
         requires sound { IsSound self.now }
         requires there { IsTrue (has_record self.now record_no) }
-        requires planned { ArePlanned self.now.schedules plans.now }
-        requires last { AreLastAdditions tallies.now self.now.aggregations self.now.records }
-        ensures { IsOutlook plans.now self.now record_no result }
+        requires planned { AreNumbered self.now.schedules schedule_numbers.now }
+        requires last { AreLastAdditions summaries.now self.now.aggregations self.now.records }
+        ensures { IsRecordCache schedule_numbers.now self.now record_no result }
     {
         let at = record_no as usize - 1;
         let plan = self.plan_of(record_no);
         let schedule = self.schedule(record_no, plan);
         let start = start_in(
             self.aggregations,
-            tallies,
+            summaries,
             self.records,
             self.events,
             *schedule,
             record_no,
         );
-        let mut outlook = Outlook {
-            plan: plans.number_of(plan),
+        let mut record_cache = RecordCache {
+            plan: schedule_numbers.number_of(plan),
             due: due_by(*schedule, start),
             is_candidate: false,
         };
         let head = &self.records[at];
         let status = &self.statuses[at];
-        outlook.is_candidate = is_candidate(head, *status, schedule.action, outlook.due);
-        outlook
+        record_cache.is_candidate = is_candidate(head, *status, schedule.action, record_cache.due);
+        record_cache
     }
 }

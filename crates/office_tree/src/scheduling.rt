@@ -4,12 +4,12 @@ ghost use Rattle.std.specs.FinMap.{from_entries};
 ghost use Rattle.std.specs.Option.{option_and_then, option_map};
 ghost use Rattle.office_terms.specs.Lists.{later, numbered};
 ghost use Rattle.office_terms.specs.Candidates.{HasNoCandidateAbove, IsNextCandidate, is_candidate};
-ghost use Rattle.office_tree.specs.Tallies.{AreLastAdditions};
+ghost use Rattle.office_tree.specs.Summaries.{AreLastAdditions};
 ghost use Rattle.office_terms.specs.Tree.{due_by, due_of, has_record, plan_of, schedule_of, start_in, start_of};
 
 use crate::Tree;
-use crate::outlook::Outlook;
-use crate::tally::Tally;
+use crate::record_cache::RecordCache;
+use crate::summary::AggregationSummary;
 use office_days::{Day, DueDay, due_day};
 use office_terms::{Action, AggNo, Aggregation, Code, Event, Record, RecordNo, Schedule, Trigger};
 use std::collections::BTreeMap;
@@ -24,14 +24,14 @@ pub(crate) fn later(best: Option<Day>, day: Day) -> Day
     }
 }
 
-/// The last addition to the aggregation, as it is kept.
-fn last_addition_of(tallies: &[Tally], aggregation: AggNo) -> Option<Day>
+/// The last addition to the aggregation, as it is cached.
+fn last_addition_of(summaries: &[AggregationSummary], aggregation: AggNo) -> Option<Day>
     requires low { 0 < aggregation }
-    requires high { aggregation ≤ length tallies.now }
-    ensures { option_map (λ it. it.last_addition) (numbered tallies.now aggregation) ≡ Some result }
+    requires high { aggregation ≤ length summaries.now }
+    ensures { option_map (λ it. it.last_addition) (numbered summaries.now aggregation) ≡ Some result }
 {
-    let tally = tallies[aggregation as usize - 1];
-    tally.last_addition
+    let summary = summaries[aggregation as usize - 1];
+    summary.last_addition
 }
 
 /// The day on which the aggregation was closed.
@@ -47,16 +47,16 @@ fn closed_day(aggregations: &[Aggregation], aggregation: AggNo) -> Option<Day>
 /// The start day of a record by a schedule's trigger.
 pub(crate) fn start_in(
     aggregations: &[Aggregation],
-    tallies: &[Tally],
+    summaries: &[AggregationSummary],
     records: &[Record],
     events: &BTreeMap<RecordNo, Event>,
     schedule: Schedule,
     record_no: RecordNo,
 ) -> Option<Day>
-    requires home { (head : Record) → numbered records.now record_no ≡ Some head → (0 < head.aggregation) × (head.aggregation ≤ length aggregations.now) }
+    requires container { (head : Record) → numbered records.now record_no ≡ Some head → (0 < head.aggregation) × (head.aggregation ≤ length aggregations.now) }
     requires low { 0 < record_no }
     requires high { record_no ≤ length records.now }
-    requires last { AreLastAdditions tallies.now aggregations.now records.now }
+    requires last { AreLastAdditions summaries.now aggregations.now records.now }
     ensures { result ≡ start_in aggregations.now records.now (from_entries events.now.entries) schedule record_no }
 {
     let head = &records[record_no as usize - 1];
@@ -64,7 +64,7 @@ pub(crate) fn start_in(
         Trigger::Origin => Some(head.originated),
         Trigger::Added => Some(head.added),
         Trigger::Closed => closed_day(aggregations, head.aggregation),
-        Trigger::LastAddition => last_addition_of(tallies, head.aggregation),
+        Trigger::LastAddition => last_addition_of(summaries, head.aggregation),
         Trigger::Review => match &head.review {
             Some(review) => Some(review.day),
             None => Some(head.added),
@@ -91,13 +91,13 @@ pub(crate) fn due_by(schedule: Schedule, start: Option<Day>) -> Option<DueDay>
 }
 
 impl Tree {
-    /// What is kept of the record.
-    fn outlook(&self, record_no: RecordNo) -> Outlook
+    /// What is cached of the record.
+    fn record_cache(&self, record_no: RecordNo) -> RecordCache
         requires { IsTrue (has_record self.now record_no) }
         ensures due { result.due ≡ due_of self.now record_no }
         ensures candidate { result.is_candidate ≡ is_candidate self.now record_no }
     {
-        self.outlooks.rows[record_no as usize - 1]
+        self.record_caches.rows[record_no as usize - 1]
     }
 
     /// The code of the record's plan: its own schedule, else the schedule of its class (MoReq2010,
@@ -106,8 +106,8 @@ impl Tree {
         requires { IsTrue (has_record self.now record_no) }
         ensures { plan_of self.now record_no ≡ Some result.now }
     {
-        self.plans
-            .code(self.outlooks.rows[record_no as usize - 1].plan)
+        self.schedule_numbers
+            .code(self.record_caches.rows[record_no as usize - 1].plan)
     }
 
     /// The schedule of the record's plan.
@@ -130,7 +130,7 @@ impl Tree {
         let schedule = self.schedule_of(record_no);
         start_in(
             &self.aggregations,
-            &self.tallies,
+            &self.summaries,
             &self.records,
             &self.events,
             schedule,
@@ -144,7 +144,7 @@ impl Tree {
         requires { IsTrue (has_record self.now record_no) }
         ensures { result ≡ due_of self.now record_no }
     {
-        self.outlook(record_no).due
+        self.record_cache(record_no).due
     }
 
     /// Whether a disposal run takes the record once it is due: it is here, its action is to transfer or to destroy and its
@@ -153,7 +153,7 @@ impl Tree {
         requires { IsTrue (has_record self.now record_no) }
         ensures { result ≡ is_candidate self.now record_no }
     {
-        self.outlook(record_no).is_candidate
+        self.record_cache(record_no).is_candidate
     }
 
     /// The least candidate for a disposal run above the number, found without the records that are none.
@@ -162,6 +162,6 @@ impl Tree {
         ensures found { IfSome result (IsNextCandidate self.now above) }
         ensures none { IfNone result (HasNoCandidateAbove self.now above) }
     {
-        self.outlooks.next_candidate(above)
+        self.record_caches.next_candidate(above)
     }
 }

@@ -7,51 +7,51 @@ use Rattle.office_desk.specs.Desk.{DeskState}
 use Rattle.office_json.specs.Acts.{Asked}
 use Rattle.office_json.specs.Lists.{NoActs, not_json, bad_act}
 use Rattle.office_http.specs.Replies.{Response}
-use Rattle.office_wire.specs.Answering.{ArePerformed, PerformsAsked, Resumes, Serves, Starves, TellsCertificate, TellsContent, TellsDue, TellsOverdue, TellsRecord}
-use Rattle.office_wire.specs.Receiving.{Wanted, refused, cut, acts, resumption, record_told, content_told, due_told, overdue_told, certificate_told}
+use Rattle.office_wire.specs.Answering.{ArePerformed, PerformsAsked, Resumes, Serves, RunsOutOfMemory, ReportsCertificate, ReportsContent, ReportsDue, ReportsOverdue, ReportsRecord}
+use Rattle.office_wire.specs.Receiving.{Wanted, refused, cut, acts, resumption, record_reported, content_reported, due_reported, overdue_reported, certificate_reported}
 use Rattle.office_wire.specs.Serving.{IsServed}
 
 -- any answer
 abbrev any : Response → Type 0
 any r = Unit {0}
 
-performed_any : {S : Type 0} (Told : Response → Type 0) (g : Ghosts S) (t : State) (done : List Act) (desk : DeskState S) → ArePerformed Told g t done desk → ArePerformed any g t done desk
-performed_any Told g t done desk (inl it) = inl (record { formed = it.formed; told = tt; stands = it.stands; fates = it.fates })
-performed_any Told g t done desk (inr it) = inr (
+performed_any : {S : Type 0} (Reported : Response → Type 0) (g : Ghosts S) (t : State) (done : List Act) (desk : DeskState S) → ArePerformed Reported g t done desk → ArePerformed any g t done desk
+performed_any Reported g t done desk (inl it) = inl (record { formed = it.formed; reported = tt; represents = it.represents; fates = it.fates })
+performed_any Reported g t done desk (inr it) = inr (
   it.0,
   it.1,
   record {
     formed = it.2.formed;
     within = it.2.within;
     one_more = it.2.one_more;
-    told = tt;
+    reported = tt;
     stops = it.2.stops;
     leaves = it.2.leaves;
     fates = it.2.fates;
   },
 )
 
-asked_any : {S : Type 0} (Told : Response → Type 0) (g : Ghosts S) (t : State) (asked : Result (List Asked) NoActs) (desk : DeskState S) → PerformsAsked Told g t asked desk → PerformsAsked any g t asked desk
-asked_any Told g t (Ok all) desk it = (it.0, it.1, performed_any Told g t it.0 desk it.2)
-asked_any Told g t (Err not_json) desk it = (tt, it.1)
-asked_any Told g t (Err (bad_act place why)) desk it = (tt, it.1)
+asked_any : {S : Type 0} (Reported : Response → Type 0) (g : Ghosts S) (t : State) (asked : Result (List Asked) NoActs) (desk : DeskState S) → PerformsAsked Reported g t asked desk → PerformsAsked any g t asked desk
+asked_any Reported g t (Ok all) desk it = (it.0, it.1, performed_any Reported g t it.0 desk it.2)
+asked_any Reported g t (Err not_json) desk it = (tt, it.1)
+asked_any Reported g t (Err (bad_act place why)) desk it = (tt, it.1)
 
-resumed_any : {S : Type 0} (Told : Response → Type 0) (g : Ghosts S) (t : State) (desk : DeskState S) → Resumes Told g t desk → Resumes any g t desk
-resumed_any Told g t desk (inl it) = inl (
+resumed_any : {S : Type 0} (Reported : Response → Type 0) (g : Ghosts S) (t : State) (desk : DeskState S) → Resumes Reported g t desk → Resumes any g t desk
+resumed_any Reported g t desk (inl it) = inl (
   it.0,
   record {
     was_open = it.1.was_open;
-    told = tt;
+    reported = tt;
     closed = it.1.closed;
     never_stopped = it.1.never_stopped;
     fates = it.1.fates;
   },
 )
-resumed_any Told g t desk (inr (inl it)) = inr (inl (record { none_open = it.none_open; told = tt; stands = it.stands }))
-resumed_any Told g t desk (inr (inr it)) = inr (inr (
+resumed_any Reported g t desk (inr (inl it)) = inr (inl (record { none_open = it.none_open; reported = tt; represents = it.represents }))
+resumed_any Reported g t desk (inr (inr it)) = inr (inr (
   it.0,
   record {
-    told = tt;
+    reported = tt;
     stopped = it.1.stopped;
     midway = it.1.midway;
     none_open = it.1.none_open;
@@ -59,51 +59,51 @@ resumed_any Told g t desk (inr (inr it)) = inr (inr (
   },
 ))
 
-content_any : {S : Type 0} (Told : Response → Type 0) (g : Ghosts S) (t : State) (r : Option ℕ) (desk : DeskState S) → TellsContent Told g t r desk → TellsContent any g t r desk
-content_any Told g t None desk it = (tt, it.1)
-content_any Told g t (Some r) desk (inl it) = inl (it.0, it.1, tt, it.3)
-content_any Told g t (Some r) desk (inr it) = inr (
+content_any : {S : Type 0} (Reported : Response → Type 0) (g : Ghosts S) (t : State) (r : Option ℕ) (desk : DeskState S) → ReportsContent Reported g t r desk → ReportsContent any g t r desk
+content_any Reported g t None desk it = (tt, it.1)
+content_any Reported g t (Some r) desk (inl it) = inl (it.0, it.1, tt, it.3)
+content_any Reported g t (Some r) desk (inr it) = inr (
   it.0,
   record {
-    told = tt;
+    reported = tt;
     damaged = it.1.damaged;
     kept = it.1.kept;
-    given_up = it.1.given_up;
+    poisoned = it.1.poisoned;
     leaves = it.1.leaves;
     offices = it.1.offices;
     no_other = it.1.no_other;
   },
 )
 
-record_any : {S : Type 0} (Told : Response → Type 0) (g : Ghosts S) (t : State) (r : Option ℕ) (desk : DeskState S) → TellsRecord Told g t r desk → TellsRecord any g t r desk
-record_any Told g t None desk it = (tt, it.1)
-record_any Told g t (Some r) desk it = (inl tt, it.1)
+record_any : {S : Type 0} (Reported : Response → Type 0) (g : Ghosts S) (t : State) (r : Option ℕ) (desk : DeskState S) → ReportsRecord Reported g t r desk → ReportsRecord any g t r desk
+record_any Reported g t None desk it = (tt, it.1)
+record_any Reported g t (Some r) desk it = (inl tt, it.1)
 
-due_any : {S : Type 0} (Told : Response → Type 0) (g : Ghosts S) (t : State) (day : Option ℤ) (desk : DeskState S) → TellsDue Told g t day desk → TellsDue any g t day desk
-due_any Told g t None desk it = (tt, it.1)
-due_any Told g t (Some day) desk it = (inr tt, it.1)
+due_any : {S : Type 0} (Reported : Response → Type 0) (g : Ghosts S) (t : State) (day : Option ℤ) (desk : DeskState S) → ReportsDue Reported g t day desk → ReportsDue any g t day desk
+due_any Reported g t None desk it = (tt, it.1)
+due_any Reported g t (Some day) desk it = (inr tt, it.1)
 
-overdue_any : {S : Type 0} (Told : Response → Type 0) (g : Ghosts S) (t : State) (day : Option ℤ) (count : Option ℕ) (desk : DeskState S) → TellsOverdue Told g t day count desk → TellsOverdue any g t day count desk
-overdue_any Told g t None count desk it = (tt, it.1)
-overdue_any Told g t (Some day) None desk it = (tt, it.1)
-overdue_any Told g t (Some day) (Some n) desk it = (inr tt, it.1)
+overdue_any : {S : Type 0} (Reported : Response → Type 0) (g : Ghosts S) (t : State) (day : Option ℤ) (count : Option ℕ) (desk : DeskState S) → ReportsOverdue Reported g t day count desk → ReportsOverdue any g t day count desk
+overdue_any Reported g t None count desk it = (tt, it.1)
+overdue_any Reported g t (Some day) None desk it = (tt, it.1)
+overdue_any Reported g t (Some day) (Some n) desk it = (inr tt, it.1)
 
-certificate_any : {S : Type 0} (Told : Response → Type 0) (g : Ghosts S) (t : State) (run : Option ℕ) (desk : DeskState S) → TellsCertificate Told g t run desk → TellsCertificate any g t run desk
-certificate_any Told g t None desk it = (tt, it.1)
-certificate_any Told g t (Some run) desk it = (inl tt, it.1)
+certificate_any : {S : Type 0} (Reported : Response → Type 0) (g : Ghosts S) (t : State) (run : Option ℕ) (desk : DeskState S) → ReportsCertificate Reported g t run desk → ReportsCertificate any g t run desk
+certificate_any Reported g t None desk it = (tt, it.1)
+certificate_any Reported g t (Some run) desk it = (inl tt, it.1)
 
-serves_any : {S : Type 0} (Told : Response → Type 0) (g : Ghosts S) (t : State) (it : Wanted) (desk : DeskState S) → Serves Told g t it desk → Serves any g t it desk
-serves_any Told g t (refused check) desk served = (tt, served.1)
-serves_any Told g t cut desk served = (tt, served.1)
-serves_any Told g t (acts body) desk served = asked_any Told g t _ desk served
-serves_any Told g t resumption desk served = resumed_any Told g t desk served
-serves_any Told g t (record_told r) desk served = record_any Told g t r desk served
-serves_any Told g t (content_told r) desk served = content_any Told g t r desk served
-serves_any Told g t (due_told day) desk served = due_any Told g t day desk served
-serves_any Told g t (overdue_told day count) desk served = overdue_any Told g t day count desk served
-serves_any Told g t (certificate_told run) desk served = certificate_any Told g t run desk served
+serves_any : {S : Type 0} (Reported : Response → Type 0) (g : Ghosts S) (t : State) (it : Wanted) (desk : DeskState S) → Serves Reported g t it desk → Serves any g t it desk
+serves_any Reported g t (refused check) desk served = (tt, served.1)
+serves_any Reported g t cut desk served = (tt, served.1)
+serves_any Reported g t (acts body) desk served = asked_any Reported g t _ desk served
+serves_any Reported g t resumption desk served = resumed_any Reported g t desk served
+serves_any Reported g t (record_reported r) desk served = record_any Reported g t r desk served
+serves_any Reported g t (content_reported r) desk served = content_any Reported g t r desk served
+serves_any Reported g t (due_reported day) desk served = due_any Reported g t day desk served
+serves_any Reported g t (overdue_reported day count) desk served = overdue_any Reported g t day count desk served
+serves_any Reported g t (certificate_reported run) desk served = certificate_any Reported g t run desk served
 
 -- what is served leaves the desk as serving it may
-pub served_leaves : {S : Type 0} (g : Ghosts S) (t : State) (it : Wanted) (r : Response) (desk : DeskState S) → IsServed g t it r desk → Starves g t it desk
-served_leaves g t it r desk (inl answered) = inr (serves_any (λ told. r ≡ told) g t it desk answered)
-served_leaves g t it r desk (inr starved) = starved.1
+pub served_leaves : {S : Type 0} (g : Ghosts S) (t : State) (it : Wanted) (r : Response) (desk : DeskState S) → IsServed g t it r desk → RunsOutOfMemory g t it desk
+served_leaves g t it r desk (inl answered) = inr (serves_any (λ reported. r ≡ reported) g t it desk answered)
+served_leaves g t it r desk (inr out_of_memory) = out_of_memory.1

@@ -3,26 +3,26 @@ use Rattle.std.proofs.Common.{◌≡◌, Bool, false, IsTrue, refl}
 use Rattle.sqlite_trees.specs.declared.store.Store.{Ghosts}
 use Rattle.office_rules.specs.State.{State}
 use Rattle.office_desk.specs.Desk.{DeskState}
-use Rattle.office_desk.specs.Leaving.{StandsAt}
+use Rattle.office_desk.specs.Leaving.{IsAt}
 use Rattle.office_wire.specs.Calling.{AnsweredAt, CalledAt}
 
 -- what follows from what was done is done
 pub called : {S : Type 0} (g : Ghosts S) (old new : DeskState S) (P Q : State → Type 0) → CalledAt g old new P → ((t : State) → P t → Q t) → CalledAt g old new Q
 called g old new P Q it to = record { clean = it.clean; did = λ t clean at. to t (it.did t clean at) }
 
-pub answered : {S : Type 0} (g : Ghosts S) (old new : DeskState S) (P Q : State → Type 0) (Gone Away Told Said : Type 0)
-    → AnsweredAt g old new P Gone Told → ((t : State) → P t → Q t) → (Gone → Away) → (Told → Said) → AnsweredAt g old new Q Away Said
-answered g old new P Q Gone Away Told Said it to away said =
+pub answered : {S : Type 0} (g : Ghosts S) (old new : DeskState S) (P Q : State → Type 0) (Gone Away Reported Said : Type 0)
+    → AnsweredAt g old new P Gone Reported → ((t : State) → P t → Q t) → (Gone → Away) → (Reported → Said) → AnsweredAt g old new Q Away Said
+answered g old new P Q Gone Away Reported Said it to away said =
     record {
       call = called g old new P Q it.call to;
       kept = it.kept;
       gone = λ was. away (it.gone was);
-      told = λ still is. said (it.told still is);
+      reported = λ still is. said (it.reported still is);
     }
 
--- one call after another: what the first did tells from which state the second began
+-- one call after another: what the first did says from which state the second began
 pub called_on : {S : Type 0} (g : Ghosts S) (old mid new : DeskState S) (P Q R : State → Type 0) → CalledAt g old mid P → CalledAt g mid new Q
-    → ((s : State) → P s → (t : State) × StandsAt g t mid × (Q t → R s)) → CalledAt g old new R
+    → ((s : State) → P s → (t : State) × IsAt g t mid × (Q t → R s)) → CalledAt g old new R
 called_on g old mid new P Q R first second on =
     record {
       clean = λ clean. first.clean (second.clean clean);
@@ -30,18 +30,18 @@ called_on g old mid new P Q R first second on =
     }
 
 -- nothing was done
-pub not_called : {S : Type 0} (g : Ghosts S) (desk : DeskState S) (P : State → Type 0) → ((t : State) → StandsAt g t desk → P t) → CalledAt g desk desk P
+pub not_called : {S : Type 0} (g : Ghosts S) (desk : DeskState S) (P : State → Type 0) → ((t : State) → IsAt g t desk → P t) → CalledAt g desk desk P
 not_called g desk P none = record { clean = λ clean. clean; did = λ t clean at. none t at }
 
 -- and a desk that is open stays so
-still_open : {Told : Type 0} (b : Bool) → b ≡ false → IsTrue b → Told
+still_open : {Reported : Type 0} (b : Bool) → b ≡ false → IsTrue b → Reported
 still_open b still gone = absurd (let wrong = gone in cc)
 
-pub not_answered : {S : Type 0} (g : Ghosts S) (desk : DeskState S) (P : State → Type 0) (Gone Told : Type 0) → ((t : State) → StandsAt g t desk → P t) → Gone → AnsweredAt g desk desk P Gone Told
-not_answered g desk P Gone Told none gone =
+pub not_answered : {S : Type 0} (g : Ghosts S) (desk : DeskState S) (P : State → Type 0) (Gone Reported : Type 0) → ((t : State) → IsAt g t desk → P t) → Gone → AnsweredAt g desk desk P Gone Reported
+not_answered g desk P Gone Reported none gone =
     record {
       call = not_called g desk P none;
       kept = λ was. refl;
       gone = λ was. gone;
-      told = λ still was. still_open desk.is_given_up still was;
+      reported = λ still was. still_open desk.is_poisoned still was;
     }

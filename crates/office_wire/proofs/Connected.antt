@@ -12,7 +12,7 @@ none_yet g desk = (refl, refl, refl)
 
 pub one_more :
     {S : Type 0} (g : Ghosts S) (n : ℕ) (failed ended : Bool) (status : Result ℕ Io) (old m new : DeskState S)
-    → Turns g n failed false old m → Turn g status m new → Ends status new.is_given_up ended
+    → Turns g n failed false old m → Turn g status m new → Ends status new.is_poisoned ended
     → Turns g (n + 1) (failed || has_failed status) ended old new
 unfolding Turns
 one_more g n failed ended status old m new served turn ends = simp unary_clauses (m, failed, status, served, turn, ends, refl)

@@ -16,18 +16,18 @@ use Rattle.office_store.specs.declared.fault.Fault.{Fault}
 use Rattle.office_store.specs.declared.fault.Fault.TheVariants as fault
 use Rattle.office_desk.specs.Calling.{PerformedOne}
 use Rattle.office_desk.specs.Desk.{DeskState}
-use Rattle.office_desk.specs.Leaving.{StandsAt, StopsAt}
+use Rattle.office_desk.specs.Leaving.{IsAt, StopsAt}
 use Rattle.office_json.specs.Acts.{AskedRecord, adds, asked}
 use Rattle.office_json.specs.Parts.{fault_of}
 use Rattle.office_json.specs.declared.read_fault.ReadFault.TheVariants.{Refused, Memory}
 use Rattle.office_json.proofs.Appending.{appends_both}
 use Rattle.office_csv.specs.ImportRows.{Fields, fields_in, record_asked}
-use Rattle.office_csv.specs.ImportText.{AreAtFront, HeadsText, TakesNoText}
+use Rattle.office_csv.specs.ImportText.{AreAtPrefix, HeadsText, TakesNoText}
 use Rattle.office_csv.specs.declared.reading.RowStop.{RowStop}
 use Rattle.office_csv.specs.declared.reading.RowStop.TheVariants as row_stop
-use Rattle.office_csv.proofs.Front.{bad_next, bad_text, no_more, none_yet, one_more}
+use Rattle.office_csv.proofs.Prefix.{bad_next, bad_text, no_more, none_yet, one_more}
 use Rattle.office_wire.specs.Calling.{CalledAt}
-use Rattle.office_wire.specs.Importing.{AreFrontRows, AreImported, AreRowsBehind, AreRowsDone, AreSomeRows, EndsImport, EndsLine, EndsRow, EndsRows, EndsTaking, Imports, IsRowDone, IsRowStopped, RowsStop, Stops, StopsAtFault, StopsAtIo, TakeStops, is_refusal, line_of, lines_from, one_if, refused_count, stop_at}
+use Rattle.office_wire.specs.Importing.{ArePrefixRows, AreImported, AreRowsBehind, AreRowsDone, AreSomeRows, EndsImport, EndsLine, EndsRow, EndsRows, EndsTaking, Imports, IsRowDone, IsRowStopped, RowsStop, Stops, StopsAtFault, StopsAtIo, TakeStops, is_refusal, line_of, lines_from, one_if, refused_count, stop_at}
 use Rattle.office_wire.specs.declared.importing.ImportStop.{ImportStop}
 use Rattle.office_wire.specs.declared.importing.ImportStop.TheVariants as stop
 use Rattle.office_wire.proofs.Calls.{called, called_on, not_called}
@@ -37,7 +37,7 @@ use Rattle.office_wire.proofs.Calls.{called, called_on, not_called}
 -- a record was read, and its act was done or stopped
 pub row_ended : {S : Type 0} (g : Ghosts S) (day : ℤ) (s : State) (row : Fields) (new : AskedRecord) (act : Act) (x : Result Answer Fault) (old desk : DeskState S) (At : Type 0) → record_asked row ≡ Ok new → asked act ≡ adds day new
     → old.office ≡ s.office → PerformedOne g s act x old desk At → At → EndsRow g day s row x desk
-row_ended g day s row new act (Ok answer) old desk At read is same it at = ((step s act).1, (rw read (act, (it.formed, is), it.ends.answered, refl)), it.ends.stands at)
+row_ended g day s row new act (Ok answer) old desk At read is same it at = ((step s act).1, (rw read (act, (it.formed, is), it.ends.answered, refl)), it.ends.represents at)
 row_ended g day s row new act (Err f) old desk At read is same it at = inr (new, act, read, (it.formed, is), (subst (λ (o : Office). StopsAt o f desk) same it.ends.stops, it.ends.left at))
 
 -- no record was read, since a field is not of its form or out of its range
@@ -69,50 +69,50 @@ count_more : (answers : List Answer) (answer : Answer) → refused_count (answer
 count_more [] answer = omega arith
 count_more (a ∷ answers) answer = omega (arith, count_more answers answer)
 
-told_more : (old mid new : Option (List ℕ)) (answers : List Answer) (answer : Answer) (number : ℕ) → number ≡ length answers + 1 → Appends old mid (lines_from 0 answers) → Appends mid new (line_of number answer) → Appends old new (lines_from 0 (answers ++ answer ∷ []))
-told_more old mid new answers answer number e h k =
+reported_more : (old mid new : Option (List ℕ)) (answers : List Answer) (answer : Answer) (number : ℕ) → number ≡ length answers + 1 → Appends old mid (lines_from 0 answers) → Appends mid new (line_of number answer) → Appends old new (lines_from 0 (answers ++ answer ∷ []))
+reported_more old mid new answers answer number e h k =
     rw (lines_more 0 answers answer) (appends_both old mid new _ _ h (subst (λ (n : ℕ). Appends mid new (line_of n answer)) (e ∙ omega arith) k))
 
-none_imported : {S : Type 0} (g : Ghosts S) (day : ℤ) (s : State) (desk : DeskState S) (old : Option (List ℕ)) → StandsAt g s desk → AreImported g day s [] [] s desk old old
-none_imported g day s desk None stands = record { done = (refl, refl); stands = stands; told = tt }
-none_imported g day s desk (Some xs) stands = record { done = (refl, refl); stands = stands; told = sym (append-nil xs) }
+none_imported : {S : Type 0} (g : Ghosts S) (day : ℤ) (s : State) (desk : DeskState S) (old : Option (List ℕ)) → IsAt g s desk → AreImported g day s [] [] s desk old old
+none_imported g day s desk None represents = record { done = (refl, refl); represents = represents; reported = tt }
+none_imported g day s desk (Some xs) represents = record { done = (refl, refl); represents = represents; reported = sym (append-nil xs) }
 
 one_imported : {S : Type 0} (g : Ghosts S) (day : ℤ) (s : State) (rows : List Fields) (answers : List Answer) (m t : State) (row : Fields) (answer : Answer) (mid desk : DeskState S) (old seen new : Option (List ℕ)) (number : ℕ)
-    → AreImported g day s rows answers m mid old seen → IsRowDone day m row answer t → StandsAt g t desk → Appends seen new (line_of number answer) → number ≡ length rows + 1
+    → AreImported g day s rows answers m mid old seen → IsRowDone day m row answer t → IsAt g t desk → Appends seen new (line_of number answer) → number ≡ length rows + 1
     → AreImported g day s (rows ++ row ∷ []) (answers ++ answer ∷ []) t desk old new
-one_imported g day s rows answers m t row answer mid desk old seen new number it one stands line e =
+one_imported g day s rows answers m t row answer mid desk old seen new number it one represents line e =
     record {
       done = done_more day s rows answers m row answer t it.done one;
-      stands = stands;
-      told = told_more old seen new answers answer number (e ∙ ap (λ (n : ℕ). n + 1) (sym (as_many day s rows answers m it.done))) it.told line;
+      represents = represents;
+      reported = reported_more old seen new answers answer number (e ∙ ap (λ (n : ℕ). n + 1) (sym (as_many day s rows answers m it.done))) it.reported line;
     }
 
 -- ---- how far an import has come
 
 -- from a state: these rows were done, and so many were refused
-pub record IsFront {S : Type 0} (g : Ghosts S) (day : ℤ) (s : State) (s0 : Reading) (o0 : Option (List ℕ)) (s1 : Reading) (o1 : Option (List ℕ)) (d : DeskState S) (w0 w : Option (List ℕ)) (before refused : ℕ) : Type 0 where
+pub record IsPrefix {S : Type 0} (g : Ghosts S) (day : ℤ) (s : State) (s0 : Reading) (o0 : Option (List ℕ)) (s1 : Reading) (o1 : Option (List ℕ)) (d : DeskState S) (w0 w : Option (List ℕ)) (before refused : ℕ) : Type 0 where
   pub rows : List Fields
   pub answers : List Answer
   pub last : State
-  pub front : AreAtFront s0 o0 rows s1 o1
+  pub prefix : AreAtPrefix s0 o0 rows s1 o1
   pub count : before ≡ length rows
   pub imported : AreImported g day s rows answers last d w0 w
   pub refusals : refused ≡ refused_count answers
 
-pub record Front {S : Type 0} (g : Ghosts S) (day : ℤ) (s0 : Reading) (o0 : Option (List ℕ)) (s1 : Reading) (o1 : Option (List ℕ)) (d0 d : DeskState S) (w0 w : Option (List ℕ)) (before refused : ℕ) : Type 0 where
+pub record Prefix {S : Type 0} (g : Ghosts S) (day : ℤ) (s0 : Reading) (o0 : Option (List ℕ)) (s1 : Reading) (o1 : Option (List ℕ)) (d0 d : DeskState S) (w0 w : Option (List ℕ)) (before refused : ℕ) : Type 0 where
   pub few : refused ≤ before
-  pub call : CalledAt g d0 d (λ s. IsFront g day s s0 o0 s1 o1 d w0 w before refused)
+  pub call : CalledAt g d0 d (λ s. IsPrefix g day s s0 o0 s1 o1 d w0 w before refused)
 
-pub front_start : {S : Type 0} (g : Ghosts S) (day : ℤ) (s0 : Reading) (o0 : Option (List ℕ)) (d0 : DeskState S) (w0 : Option (List ℕ)) → Front g day s0 o0 s0 o0 d0 d0 w0 w0 0 0
-front_start g day s0 o0 d0 w0 =
+pub prefix_start : {S : Type 0} (g : Ghosts S) (day : ℤ) (s0 : Reading) (o0 : Option (List ℕ)) (d0 : DeskState S) (w0 : Option (List ℕ)) → Prefix g day s0 o0 s0 o0 d0 d0 w0 w0 0 0
+prefix_start g day s0 o0 d0 w0 =
     record {
       few = omega arith;
-      call = not_called g d0 (λ s. IsFront g day s s0 o0 s0 o0 d0 w0 w0 0 0) (λ s at.
+      call = not_called g d0 (λ s. IsPrefix g day s s0 o0 s0 o0 d0 w0 w0 0 0) (λ s at.
           record {
             rows = [];
             answers = [];
             last = s;
-            front = none_yet o0 s0;
+            prefix = none_yet o0 s0;
             count = refl;
             imported = none_imported g day s d0 w0 at;
             refusals = refl;
@@ -126,40 +126,40 @@ few_more before refused false h = omega (arith, h)
 module _ {S : Type 0} (g : Ghosts S) (day : ℤ) (s0 s1 s2 : Reading) (o0 o1 o2 : Option (List ℕ)) (d0 d d2 : DeskState S) (w0 w w2 : Option (List ℕ)) (before refused : ℕ) (fields : List (List ℕ))
     (reads : ReadsNext default_config s1 o1 o2 true fields s2) (all : AllText fields) where
   -- a row was read after these
-  row_read : (rows : List Fields) (row : Fields) → AreAtFront s0 o0 rows s1 o1 → fields ≡ fields_in row → AreAtFront s0 o0 (rows ++ row ∷ []) s2 o2
-  row_read rows row front is = one_more o0 o1 o2 s0 s1 s2 rows row fields front reads all is
+  row_read : (rows : List Fields) (row : Fields) → AreAtPrefix s0 o0 rows s1 o1 → fields ≡ fields_in row → AreAtPrefix s0 o0 (rows ++ row ∷ []) s2 o2
+  row_read rows row prefix is = one_more o0 o1 o2 s0 s1 s2 rows row fields prefix reads all is
 
-  row_more : (s : State) (is_refused : Bool) (it : IsFront g day s s0 o0 s1 o1 d w0 w before refused) → EndsTaking g day it.last (before + 1) fields (Ok is_refused) d2 w w2
-      → IsFront g day s s0 o0 s2 o2 d2 w0 w2 (before + 1) (refused + one_if is_refused)
-  row_more s is_refused it (row, is, (answer, t, one, stands, line, same)) =
+  row_more : (s : State) (is_refused : Bool) (it : IsPrefix g day s s0 o0 s1 o1 d w0 w before refused) → EndsTaking g day it.last (before + 1) fields (Ok is_refused) d2 w w2
+      → IsPrefix g day s s0 o0 s2 o2 d2 w0 w2 (before + 1) (refused + one_if is_refused)
+  row_more s is_refused it (row, is, (answer, t, one, represents, line, same)) =
       record {
         rows = it.rows ++ row ∷ [];
         answers = it.answers ++ answer ∷ [];
         last = t;
-        front = row_read it.rows row it.front is;
+        prefix = row_read it.rows row it.prefix is;
         count = omega (arith, it.count, length-append it.rows (row ∷ []));
-        imported = one_imported g day s it.rows it.answers it.last t row answer d d2 w0 w w2 (before + 1) it.imported one stands line (ap (λ (n : ℕ). n + 1) it.count);
+        imported = one_imported g day s it.rows it.answers it.last t row answer d d2 w0 w w2 (before + 1) it.imported one represents line (ap (λ (n : ℕ). n + 1) it.count);
         refusals = ap (λ (n : ℕ). n + one_if is_refused) it.refusals ∙ ap (λ (b : Bool). refused_count it.answers + one_if b) same ∙ sym (count_more it.answers answer);
       }
 
-  pub front_more : (is_refused : Bool) → Front g day s0 o0 s1 o1 d0 d w0 w before refused → CalledAt g d d2 (λ s. EndsTaking g day s (before + 1) fields (Ok is_refused) d2 w w2)
-      → Front g day s0 o0 s2 o2 d0 d2 w0 w2 (before + 1) (refused + one_if is_refused)
-  front_more is_refused f took =
+  pub prefix_more : (is_refused : Bool) → Prefix g day s0 o0 s1 o1 d0 d w0 w before refused → CalledAt g d d2 (λ s. EndsTaking g day s (before + 1) fields (Ok is_refused) d2 w w2)
+      → Prefix g day s0 o0 s2 o2 d0 d2 w0 w2 (before + 1) (refused + one_if is_refused)
+  prefix_more is_refused f took =
       record {
         few = few_more before refused is_refused f.few;
-        call = called_on g d0 d d2 (λ s. IsFront g day s s0 o0 s1 o1 d w0 w before refused) (λ s. EndsTaking g day s (before + 1) fields (Ok is_refused) d2 w w2)
-            (λ s. IsFront g day s s0 o0 s2 o2 d2 w0 w2 (before + 1) (refused + one_if is_refused)) f.call took (λ s it. (it.last, it.imported.stands, λ row. row_more s is_refused it row));
+        call = called_on g d0 d d2 (λ s. IsPrefix g day s s0 o0 s1 o1 d w0 w before refused) (λ s. EndsTaking g day s (before + 1) fields (Ok is_refused) d2 w w2)
+            (λ s. IsPrefix g day s s0 o0 s2 o2 d2 w0 w2 (before + 1) (refused + one_if is_refused)) f.call took (λ s it. (it.last, it.imported.represents, λ row. row_more s is_refused it row));
       }
 
   -- what was read was stopped
-  row_stopped : (s : State) (why : ImportStop) (it : IsFront g day s s0 o0 s1 o1 d w0 w before refused) → TakeStops g day it.last (before + 1) fields why d2 w w2 → RowsStop g day s s0 o0 why d2 w0 w2
+  row_stopped : (s : State) (why : ImportStop) (it : IsPrefix g day s s0 o0 s1 o1 d w0 w before refused) → TakeStops g day it.last (before + 1) fields why d2 w w2 → RowsStop g day s s0 o0 why d2 w0 w2
   row_stopped s stop.Header it k = absurd k
-  row_stopped s (stop.Row number) it (place, short, stands, silent) = (
+  row_stopped s (stop.Row number) it (place, short, represents, silent) = (
     it.rows,
     it.answers,
     it.last,
-    (s1, o1, it.front, bad_next o1 o2 s1 s2 fields reads short),
-    record { done = it.imported.done; stands = stands; told = subst (λ (x : Option (List ℕ)). Appends w0 x (lines_from 0 it.answers)) (sym silent) it.imported.told },
+    (s1, o1, it.prefix, bad_next o1 o2 s1 s2 fields reads short),
+    record { done = it.imported.done; represents = represents; reported = subst (λ (x : Option (List ℕ)). Appends w0 x (lines_from 0 it.answers)) (sym silent) it.imported.reported },
     place ∙ ap (λ (n : ℕ). n + 1) it.count,
   )
   row_stopped s (stop.Fault f) it (row, is, (silent, stopped)) = (
@@ -167,40 +167,40 @@ module _ {S : Type 0} (g : Ghosts S) (day : ℤ) (s0 s1 s2 : Reading) (o0 o1 o2 
     it.answers,
     it.last,
     it.imported.done,
-    subst (λ (x : Option (List ℕ)). Appends w0 x (lines_from 0 it.answers)) (sym silent) it.imported.told,
-    inr (row, (s2, o2, row_read it.rows row it.front is), stopped),
+    subst (λ (x : Option (List ℕ)). Appends w0 x (lines_from 0 it.answers)) (sym silent) it.imported.reported,
+    inr (row, (s2, o2, row_read it.rows row it.prefix is), stopped),
   )
-  row_stopped s stop.Io it (row, is, (answer, t, one, stands)) =
-      (it.rows ++ row ∷ [], it.answers ++ answer ∷ [], t, (s2, o2, row_read it.rows row it.front is), done_more day s it.rows it.answers it.last row answer t it.imported.done one, stands)
+  row_stopped s stop.Io it (row, is, (answer, t, one, represents)) =
+      (it.rows ++ row ∷ [], it.answers ++ answer ∷ [], t, (s2, o2, row_read it.rows row it.prefix is), done_more day s it.rows it.answers it.last row answer t it.imported.done one, represents)
 
-  pub front_stopped : (why : ImportStop) → Front g day s0 o0 s1 o1 d0 d w0 w before refused → CalledAt g d d2 (λ s. EndsTaking g day s (before + 1) fields (Err why) d2 w w2)
+  pub prefix_stopped : (why : ImportStop) → Prefix g day s0 o0 s1 o1 d0 d w0 w before refused → CalledAt g d d2 (λ s. EndsTaking g day s (before + 1) fields (Err why) d2 w w2)
       → CalledAt g d0 d2 (λ s. EndsRows g day s s0 o0 (Err why) d2 w0 w2)
-  front_stopped why f stops =
-      called_on g d0 d d2 (λ s. IsFront g day s s0 o0 s1 o1 d w0 w before refused) (λ s. EndsTaking g day s (before + 1) fields (Err why) d2 w w2) (λ s. EndsRows g day s s0 o0 (Err why) d2 w0 w2)
-      f.call stops (λ s it. (it.last, it.imported.stands, λ k. row_stopped s why it k))
+  prefix_stopped why f stops =
+      called_on g d0 d d2 (λ s. IsPrefix g day s s0 o0 s1 o1 d w0 w before refused) (λ s. EndsTaking g day s (before + 1) fields (Err why) d2 w w2) (λ s. EndsRows g day s s0 o0 (Err why) d2 w0 w2)
+      f.call stops (λ s it. (it.last, it.imported.represents, λ k. row_stopped s why it k))
 
-module _ {S : Type 0} (g : Ghosts S) (day : ℤ) (s0 s1 : Reading) (o0 o1 : Option (List ℕ)) (d0 d : DeskState S) (w0 w : Option (List ℕ)) (before refused : ℕ) (f : Front g day s0 o0 s1 o1 d0 d w0 w before refused) where
+module _ {S : Type 0} (g : Ghosts S) (day : ℤ) (s0 s1 : Reading) (o0 o1 : Option (List ℕ)) (d0 d : DeskState S) (w0 w : Option (List ℕ)) (before refused : ℕ) (f : Prefix g day s0 o0 s1 o1 d0 d w0 w before refused) where
   -- no row is left
-  pub front_end : (s2 : Reading) (o2 : Option (List ℕ)) (fields : List (List ℕ)) → ReadsNext default_config s1 o1 o2 false fields s2 → CalledAt g d0 d (λ s. EndsRows g day s s0 o0 (Ok refused) d w0 w)
-  front_end s2 o2 fields reads =
-      called g d0 d (λ s. IsFront g day s s0 o0 s1 o1 d w0 w before refused) (λ s. EndsRows g day s s0 o0 (Ok refused) d w0 w) f.call
-      (λ s it. (it.rows, it.answers, it.last, (s1, o1, it.front, no_more o1 o2 s1 s2 fields reads), it.imported, it.refusals))
+  pub prefix_end : (s2 : Reading) (o2 : Option (List ℕ)) (fields : List (List ℕ)) → ReadsNext default_config s1 o1 o2 false fields s2 → CalledAt g d0 d (λ s. EndsRows g day s s0 o0 (Ok refused) d w0 w)
+  prefix_end s2 o2 fields reads =
+      called g d0 d (λ s. IsPrefix g day s s0 o0 s1 o1 d w0 w before refused) (λ s. EndsRows g day s s0 o0 (Ok refused) d w0 w) f.call
+      (λ s it. (it.rows, it.answers, it.last, (s1, o1, it.prefix, no_more o1 o2 s1 s2 fields reads), it.imported, it.refusals))
 
   -- no row was read
-  unread : (s : State) (why : RowStop) → (why ≡ row_stop.NotText → TakesNoText s1 o1) → IsFront g day s s0 o0 s1 o1 d w0 w before refused → RowsStop g day s s0 o0 (stop_at why (before + 1)) d w0 w
-  unread s row_stop.NotText none it = (it.rows, it.answers, it.last, (s1, o1, it.front, bad_text o1 s1 (none refl)), it.imported, ap (λ (n : ℕ). n + 1) it.count)
-  unread s row_stop.Memory none it = (it.rows, it.answers, it.last, it.imported.done, it.imported.told, inl (refl, (s1, o1, it.front), it.imported.stands))
-  unread s row_stop.Io none it = (it.rows, it.answers, it.last, (s1, o1, it.front), it.imported.done, it.imported.stands)
+  unread : (s : State) (why : RowStop) → (why ≡ row_stop.NotText → TakesNoText s1 o1) → IsPrefix g day s s0 o0 s1 o1 d w0 w before refused → RowsStop g day s s0 o0 (stop_at why (before + 1)) d w0 w
+  unread s row_stop.NotText none it = (it.rows, it.answers, it.last, (s1, o1, it.prefix, bad_text o1 s1 (none refl)), it.imported, ap (λ (n : ℕ). n + 1) it.count)
+  unread s row_stop.Memory none it = (it.rows, it.answers, it.last, it.imported.done, it.imported.reported, inl (refl, (s1, o1, it.prefix), it.imported.represents))
+  unread s row_stop.Io none it = (it.rows, it.answers, it.last, (s1, o1, it.prefix), it.imported.done, it.imported.represents)
 
-  pub front_unread : (why : RowStop) → (why ≡ row_stop.NotText → TakesNoText s1 o1) → CalledAt g d0 d (λ s. EndsRows g day s s0 o0 (Err (stop_at why (before + 1))) d w0 w)
-  front_unread why none =
-      called g d0 d (λ s. IsFront g day s s0 o0 s1 o1 d w0 w before refused) (λ s. EndsRows g day s s0 o0 (Err (stop_at why (before + 1))) d w0 w) f.call (λ s it. unread s why none it)
+  pub prefix_unread : (why : RowStop) → (why ≡ row_stop.NotText → TakesNoText s1 o1) → CalledAt g d0 d (λ s. EndsRows g day s s0 o0 (Err (stop_at why (before + 1))) d w0 w)
+  prefix_unread why none =
+      called g d0 d (λ s. IsPrefix g day s s0 o0 s1 o1 d w0 w before refused) (λ s. EndsRows g day s s0 o0 (Err (stop_at why (before + 1))) d w0 w) f.call (λ s it. unread s why none it)
 
   -- there are more rows than are counted
-  pub front_io : CalledAt g d0 d (λ s. EndsRows g day s s0 o0 (Err stop.Io) d w0 w)
-  front_io =
-      called g d0 d (λ s. IsFront g day s s0 o0 s1 o1 d w0 w before refused) (λ s. EndsRows g day s s0 o0 (Err stop.Io) d w0 w) f.call
-      (λ s it. (it.rows, it.answers, it.last, (s1, o1, it.front), it.imported.done, it.imported.stands))
+  pub prefix_io : CalledAt g d0 d (λ s. EndsRows g day s s0 o0 (Err stop.Io) d w0 w)
+  prefix_io =
+      called g d0 d (λ s. IsPrefix g day s s0 o0 s1 o1 d w0 w before refused) (λ s. EndsRows g day s s0 o0 (Err stop.Io) d w0 w) f.call
+      (λ s it. (it.rows, it.answers, it.last, (s1, o1, it.prefix), it.imported.done, it.imported.represents))
 
 -- a row of seven fields
 pub taken : {S : Type 0} (g : Ghosts S) (day : ℤ) (s : State) (number : ℕ) (fields : List (List ℕ)) (row : Fields) (x : Result Bool ImportStop) (desk : DeskState S) (old new : Option (List ℕ)) → fields ≡ fields_in row
@@ -217,8 +217,8 @@ some_behind : (s1 : Reading) (o o1 : Option (List ℕ)) (rows : List Fields) →
 some_behind s1 o o1 rows heads it = (it.0, it.1, (s1, o1, heads, it.2))
 
 fault_behind : {S : Type 0} (g : Ghosts S) (day : ℤ) (s1 : Reading) (o o1 : Option (List ℕ)) (f : Fault) (t : State) (rows : List Fields) (d : DeskState S) → HeadsText StartRecord o s1 o1
-    → (f ≡ fault.Memory) × AreRowsBehind s1 o1 rows × StandsAt g t d ⊎ ((row : Fields) × AreRowsBehind s1 o1 (rows ++ row ∷ []) × IsRowStopped g day t row f d)
-    → (f ≡ fault.Memory) × AreFrontRows o rows × StandsAt g t d ⊎ ((row : Fields) × AreSomeRows o (rows ++ row ∷ []) × IsRowStopped g day t row f d)
+    → (f ≡ fault.Memory) × AreRowsBehind s1 o1 rows × IsAt g t d ⊎ ((row : Fields) × AreRowsBehind s1 o1 (rows ++ row ∷ []) × IsRowStopped g day t row f d)
+    → (f ≡ fault.Memory) × ArePrefixRows o rows × IsAt g t d ⊎ ((row : Fields) × AreSomeRows o (rows ++ row ∷ []) × IsRowStopped g day t row f d)
 fault_behind g day s1 o o1 f t rows d heads (inl it) = inl (it.0, inr (some_behind s1 o o1 rows heads it.1), it.2)
 fault_behind g day s1 o o1 f t rows d heads (inr it) = inr (it.0, some_behind s1 o o1 (rows ++ it.0 ∷ []) heads it.1, it.2)
 
@@ -230,13 +230,13 @@ stops_behind g day s1 o o1 s d w0 w stop.Io heads it = (it.0, it.1, it.2, inr (s
 
 pub headed : {S : Type 0} (g : Ghosts S) (day : ℤ) (s1 : Reading) (o o1 : Option (List ℕ)) (s : State) (x : Result ℕ ImportStop) (d : DeskState S) (w0 w : Option (List ℕ)) → HeadsText StartRecord o s1 o1 → EndsRows g day s s1 o1 x d w0 w
     → EndsImport g day s o x d w0 w
-headed g day s1 o o1 s (Ok refused) d w0 w heads (rows, answers, t, (s2, rest, front, ended), imported, is) = (rows, answers, t, (s2, rest, (s1, o1, heads, front), ended), imported, is)
+headed g day s1 o o1 s (Ok refused) d w0 w heads (rows, answers, t, (s2, rest, prefix, ended), imported, is) = (rows, answers, t, (s2, rest, (s1, o1, heads, prefix), ended), imported, is)
 headed g day s1 o o1 s (Err why) d w0 w heads it = stops_behind g day s1 o o1 s d w0 w why heads it
 
 -- nothing was done yet
-pub none_done : {S : Type 0} (g : Ghosts S) (day : ℤ) (s : State) (o : Option (List ℕ)) (d : DeskState S) (w : Option (List ℕ)) → StandsAt g s d → StopsAtFault g day s o fault.Memory d w w
-none_done g day s o d None stands = ([], [], s, (refl, refl), tt, inl (refl, inl refl, stands))
-none_done g day s o d (Some xs) stands = ([], [], s, (refl, refl), sym (append-nil xs), inl (refl, inl refl, stands))
+pub none_done : {S : Type 0} (g : Ghosts S) (day : ℤ) (s : State) (o : Option (List ℕ)) (d : DeskState S) (w : Option (List ℕ)) → IsAt g s d → StopsAtFault g day s o fault.Memory d w w
+none_done g day s o d None represents = ([], [], s, (refl, refl), tt, inl (refl, inl refl, represents))
+none_done g day s o d (Some xs) represents = ([], [], s, (refl, refl), sym (append-nil xs), inl (refl, inl refl, represents))
 
 -- ---- the lines go out
 
@@ -248,7 +248,7 @@ kept (Some ys) (Some zs) (Some us) xs h k = k ∙ h
 
 pub sent : {S : Type 0} (g : Ghosts S) (day : ℤ) (s : State) (o : Option (List ℕ)) (refused : ℕ) (d : DeskState S) (w0 w w2 : Option (List ℕ)) → Keeps w w2 → Imports g day s o refused d w0 w → Imports g day s o refused d w0 w2
 sent g day s o refused d w0 w w2 k it =
-    (it.0, it.1, it.2, it.3, record { done = it.4.done; stands = it.4.stands; told = kept w0 w w2 _ it.4.told k }, it.5)
+    (it.0, it.1, it.2, it.3, record { done = it.4.done; represents = it.4.represents; reported = kept w0 w w2 _ it.4.reported k }, it.5)
 
 pub not_sent : {S : Type 0} (g : Ghosts S) (day : ℤ) (s : State) (o : Option (List ℕ)) (refused : ℕ) (d : DeskState S) (w0 w : Option (List ℕ)) → Imports g day s o refused d w0 w → StopsAtIo g day s o d
-not_sent g day s o refused d w0 w it = (it.0, it.1, it.2, inr (it.3.0, it.3.1, it.3.2), it.4.done, it.4.stands)
+not_sent g day s o refused d w0 w it = (it.0, it.1, it.2, inr (it.3.0, it.3.1, it.3.2), it.4.done, it.4.represents)

@@ -5,6 +5,6 @@ pub mod Imported
 pub mod Performed
 pub mod Replied
 pub mod Resumed
-pub mod Told
+pub mod Reported
 pub mod Unavailable
-pub mod Untold
+pub mod Unreported

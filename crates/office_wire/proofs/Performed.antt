@@ -12,33 +12,33 @@ use Rattle.office_http.specs.Replies.{Response}
 use Rattle.office_wire.specs.Answering.{ArePerformed}
 use Rattle.office_wire.specs.Replies.{acts_response, stopped_response}
 
-pub all_done : {S T : Type 0} (g : Ghosts S) (done : List Act) (t : State) (desk : DeskState S) (x : T) (front given seen : List Answer) (At : Type 0) → front ≡ [] → seen ≡ given
-    → Performed g t done front given (Ok x) desk At → At
-    → (Told : Response → Type 0) → Told (acts_response seen) → ArePerformed Told g t done desk
-all_done g done t desk x front given seen At none same it at Told told =
+pub all_done : {S T : Type 0} (g : Ghosts S) (done : List Act) (t : State) (desk : DeskState S) (x : T) (prefix given seen : List Answer) (At : Type 0) → prefix ≡ [] → seen ≡ given
+    → Performed g t done prefix given (Ok x) desk At → At
+    → (Reported : Response → Type 0) → Reported (acts_response seen) → ArePerformed Reported g t done desk
+all_done g done t desk x prefix given seen At none same it at Reported reported =
     let all = it.ends in
     let answered : seen ≡ answers t done = same ∙ (all.answered ∙ ap (λ (x : List Answer). x ++ answers t done) none) in
     inl (record {
       formed = it.formed;
-      told = subst (λ (x : List Answer). Told (acts_response x)) answered told;
-      stands = all.stands at;
+      reported = subst (λ (x : List Answer). Reported (acts_response x)) answered reported;
+      represents = all.represents at;
       fates = it.fates at;
     })
 
-pub stopped : {S T : Type 0} (g : Ghosts S) (done : List Act) (t : State) (desk : DeskState S) (f : Fault) (front given seen : List Answer) (At : Type 0) → front ≡ [] → seen ≡ given
-    → Performed {T = T} g t done front given (Err f) desk At → At
-    → (Told : Response → Type 0) → Told (stopped_response seen f) → ArePerformed Told g t done desk
-stopped g done t desk f front given seen At none same it at Told told =
+pub stopped : {S T : Type 0} (g : Ghosts S) (done : List Act) (t : State) (desk : DeskState S) (f : Fault) (prefix given seen : List Answer) (At : Type 0) → prefix ≡ [] → seen ≡ given
+    → Performed {T = T} g t done prefix given (Err f) desk At → At
+    → (Reported : Response → Type 0) → Reported (stopped_response seen f) → ArePerformed Reported g t done desk
+stopped g done t desk f prefix given seen At none same it at Reported reported =
     let stop = it.ends in
-    let answered : seen ≡ answers t (take stop.count done) = same ∙ (stop.front.answered ∙ ap (λ (x : List Answer). x ++ answers t (take stop.count done)) none) in
+    let answered : seen ≡ answers t (take stop.count done) = same ∙ (stop.prefix.answered ∙ ap (λ (x : List Answer). x ++ answers t (take stop.count done)) none) in
     inr (
       f,
       stop.count,
       record {
         formed = it.formed;
-        within = stop.front.within;
-        one_more = stop.front.one_more;
-        told = subst (λ (x : List Answer). Told (stopped_response x f)) answered told;
+        within = stop.prefix.within;
+        one_more = stop.prefix.one_more;
+        reported = subst (λ (x : List Answer). Reported (stopped_response x f)) answered reported;
         stops = stop.stops;
         leaves = stop.left at;
         fates = it.fates at;

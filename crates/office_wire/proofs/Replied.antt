@@ -6,8 +6,8 @@ use Rattle.httparse.specs.Grammar.{RequestHead}
 use Rattle.sqlite_trees.specs.declared.store.Store.{Ghosts}
 use Rattle.office_rules.specs.State.{State}
 use Rattle.office_desk.specs.Desk.{DeskState}
-use Rattle.office_desk.specs.Leaving.{StandsAt}
-use Rattle.office_http.specs.Plans.{is_head_method}
+use Rattle.office_desk.specs.Leaving.{IsAt}
+use Rattle.office_http.specs.RequestPlans.{is_head_method}
 use Rattle.office_http.specs.Replies.{Response, response, status_number}
 use Rattle.office_http.specs.Requests.{IsRequest, asks, headless}
 use Rattle.office_http.specs.declared.failure.Failure.TheVariants as failure
@@ -15,12 +15,12 @@ use Rattle.office_http.specs.declared.status.Status.{Status}
 use Rattle.office_base.specs.declared.output.Io.{Io}
 use Rattle.office_wire.specs.Calling.{AnsweredAt, CalledAt}
 use Rattle.office_wire.specs.Connections.{IsVisited}
-use Rattle.office_wire.specs.Receiving.{IsAskedBy, IsReceived, IsStarved, Wanted, asked_for, cut}
-use Rattle.office_wire.specs.Serving.{AnswersNext, Breaks, GoneReplies, HasReply, InHalves, IsFailed, IsGoneReply, IsGoneServed, IsGoneToSend, IsNextReady, IsOneServed, IsReply, IsSent, IsServed, IsToSend, Replies, Sends, ServesOne, TellsUnavailable}
+use Rattle.office_wire.specs.Receiving.{IsAskedBy, IsReceived, IsOutOfMemory, Wanted, asked_for, cut}
+use Rattle.office_wire.specs.Serving.{AnswersNext, Breaks, GoneReplies, HasReply, InHalves, IsFailed, IsGoneReply, IsGoneServed, IsGoneToSend, IsNextReady, IsOneServed, IsReply, IsSent, IsServed, IsToSend, Replies, Sends, ServesOne, ReportsUnavailable}
 use Rattle.office_wire.specs.declared.receiving.Asked.{Asked}
 use Rattle.office_wire.specs.declared.receiving.Received.TheVariants as received
 use Rattle.office_wire.specs.declared.receiving.ReceiveStop.TheVariants as stop
-use Rattle.office_wire.specs.declared.serving.Sending.{Sending}
+use Rattle.office_wire.specs.declared.serving.OutgoingReply.{OutgoingReply}
 use Rattle.office_wire.proofs.AnyAnswer.{served_leaves}
 use Rattle.office_wire.proofs.Calls.{answered, called, not_answered}
 
@@ -29,107 +29,107 @@ some_more None P Q it more = tt
 some_more (Some a) P Q it more = more a it
 
 pub asked_reply : {S : Type 0} (g : Ghosts S) (t : State) (bytes : List ℕ) (unread : Type 0) (h : RequestHead) (rest : List ℕ) (it : Asked) (is_head : Bool) (r : Response) (desk : DeskState S)
-    → IsRequest (asks h rest) bytes → IsAskedBy h rest it → is_head ≡ it.is_head → IsServed g t (asked_for it.asking) r desk → IsReply g t bytes unread is_head r desk
+    → IsRequest (asks h rest) bytes → IsAskedBy h rest it → is_head ≡ it.is_head → IsServed g t (asked_for it.operation) r desk → IsReply g t bytes unread is_head r desk
 asked_reply g t bytes unread h rest it is_head r desk request by same served =
     inl (asks h rest, request, (same ∙ by.is_head, subst (λ (w : Wanted). IsServed g t w r desk) by.wanted served))
 
-pub starved_reply : {S : Type 0} (g : Ghosts S) (t : State) (bytes : List ℕ) (unread : Type 0) (h : RequestHead) (rest : List ℕ) (is_head : Bool) (it : Option Sending) (desk : DeskState S)
-    → IsRequest (asks h rest) bytes → is_head ≡ is_head_method h.method → IsFailed failure.Memory is_head it → StandsAt g t desk → IsToSend g t bytes unread it desk
-starved_reply g t bytes unread h rest is_head None desk request same failed stands = absurd failed
-starved_reply g t bytes unread h rest is_head (Some it) desk request same failed stands =
-    inl (asks h rest, request, (failed.1 ∙ same, inr (failed.0, inl stands)))
+pub out_of_memory_reply : {S : Type 0} (g : Ghosts S) (t : State) (bytes : List ℕ) (unread : Type 0) (h : RequestHead) (rest : List ℕ) (is_head : Bool) (it : Option OutgoingReply) (desk : DeskState S)
+    → IsRequest (asks h rest) bytes → is_head ≡ is_head_method h.method → IsFailed failure.Memory is_head it → IsAt g t desk → IsToSend g t bytes unread it desk
+out_of_memory_reply g t bytes unread h rest is_head None desk request same failed represents = absurd failed
+out_of_memory_reply g t bytes unread h rest is_head (Some it) desk request same failed represents =
+    inl (asks h rest, request, (failed.1 ∙ same, inr (failed.0, inl represents)))
 
--- from a desk that was given up
+-- from a poisoned desk
 pub asked_gone : (bytes : List ℕ) (unread : Type 0) (h : RequestHead) (rest : List ℕ) (it : Asked) (is_head : Bool) (r : Response)
-    → IsRequest (asks h rest) bytes → IsAskedBy h rest it → is_head ≡ it.is_head → IsGoneServed (asked_for it.asking) r → IsGoneReply bytes unread is_head r
+    → IsRequest (asks h rest) bytes → IsAskedBy h rest it → is_head ≡ it.is_head → IsGoneServed (asked_for it.operation) r → IsGoneReply bytes unread is_head r
 asked_gone bytes unread h rest it is_head r request by same served =
     inl (asks h rest, request, (same ∙ by.is_head, subst (λ (w : Wanted). IsGoneServed w r) by.wanted served))
 
-pub starved_gone : (bytes : List ℕ) (unread : Type 0) (h : RequestHead) (rest : List ℕ) (is_head : Bool) (it : Option Sending)
+pub out_of_memory_gone : (bytes : List ℕ) (unread : Type 0) (h : RequestHead) (rest : List ℕ) (is_head : Bool) (it : Option OutgoingReply)
     → IsRequest (asks h rest) bytes → is_head ≡ is_head_method h.method → IsFailed failure.Memory is_head it → IsGoneToSend bytes unread it
-starved_gone bytes unread h rest is_head None request same failed = absurd failed
-starved_gone bytes unread h rest is_head (Some it) request same failed =
+out_of_memory_gone bytes unread h rest is_head None request same failed = absurd failed
+out_of_memory_gone bytes unread h rest is_head (Some it) request same failed =
     inl (asks h rest, request, (failed.1 ∙ same, inr failed.0))
 
 -- what was to be written is written
-sent_reply : {S : Type 0} (g : Ghosts S) (t : State) (bytes : List ℕ) (unread : Type 0) (it : Option Sending) (status : ℕ) (written after : Option (List ℕ)) (desk : DeskState S)
+sent_reply : {S : Type 0} (g : Ghosts S) (t : State) (bytes : List ℕ) (unread : Type 0) (it : Option OutgoingReply) (status : ℕ) (written after : Option (List ℕ)) (desk : DeskState S)
     → IsToSend g t bytes unread it desk → IsSent it status written after → Replies g t bytes unread status written after desk
 sent_reply g t bytes unread None status written after desk asked sent = inl (asked.0, sent.0, sent.1, asked.1)
 sent_reply g t bytes unread (Some it) status written after desk asked sent = inr (it.is_head, response it.reply, asked, sent)
 
-sent_gone : (bytes : List ℕ) (unread : Type 0) (it : Option Sending) (status : ℕ) (written after : Option (List ℕ)) → IsGoneToSend bytes unread it → IsSent it status written after → GoneReplies bytes unread status written after
+sent_gone : (bytes : List ℕ) (unread : Type 0) (it : Option OutgoingReply) (status : ℕ) (written after : Option (List ℕ)) → IsGoneToSend bytes unread it → IsSent it status written after → GoneReplies bytes unread status written after
 sent_gone bytes unread None status written after asked sent = inl (asked, sent.0, sent.1)
 sent_gone bytes unread (Some it) status written after asked sent = inr (it.is_head, response it.reply, asked, sent)
 
-sent_unavailable : (it : Option Sending) (status : ℕ) (written after : Option (List ℕ)) → TellsUnavailable it → IsSent it status written after → status ≡ 503
-sent_unavailable None status written after told sent = absurd told
-sent_unavailable (Some it) status written after told sent = sent.1 ∙ ap (λ (s : Status). status_number s) told
+sent_unavailable : (it : Option OutgoingReply) (status : ℕ) (written after : Option (List ℕ)) → ReportsUnavailable it → IsSent it status written after → status ≡ 503
+sent_unavailable None status written after reported sent = absurd reported
+sent_unavailable (Some it) status written after reported sent = sent.1 ∙ ap (λ (s : Status). status_number s) reported
 
 -- ---- the half before it
 
 module _ {S : Type 0} (g : Ghosts S) (all : Option (List ℕ)) (unread : Type 0) where
   -- nothing was asked of the desk, and this is to be written
-  unasked : (desk : DeskState S) (next : Option Sending) (Came : List ℕ → Type 0) → IfSome all Came → ((t : State) (bytes : List ℕ) → StandsAt g t desk → Came bytes → IsToSend g t bytes unread next desk)
+  unasked : (desk : DeskState S) (next : Option OutgoingReply) (Came : List ℕ → Type 0) → IfSome all Came → ((t : State) (bytes : List ℕ) → IsAt g t desk → Came bytes → IsToSend g t bytes unread next desk)
       → ((bytes : List ℕ) → Came bytes → IsGoneToSend bytes unread next)
-      → AnsweredAt g desk desk (λ t. IsNextReady g t all unread (Ok next) desk) (IfSome all (λ bytes. IsGoneToSend bytes unread next)) (TellsUnavailable next)
+      → AnsweredAt g desk desk (λ t. IsNextReady g t all unread (Ok next) desk) (IfSome all (λ bytes. IsGoneToSend bytes unread next)) (ReportsUnavailable next)
   unasked desk next Came came to gone =
-      not_answered g desk (λ t. IsNextReady g t all unread (Ok next) desk) (IfSome all (λ bytes. IsGoneToSend bytes unread next)) (TellsUnavailable next)
+      not_answered g desk (λ t. IsNextReady g t all unread (Ok next) desk) (IfSome all (λ bytes. IsGoneToSend bytes unread next)) (ReportsUnavailable next)
       (λ t at. record { ok = some_more all Came (λ bytes. IsToSend g t bytes unread next desk) came (λ bytes it. to t bytes at it); leaves = (cut, inl at) })
       (some_more all Came (λ bytes. IsGoneToSend bytes unread next) came gone)
 
   pub silent_next : (desk : DeskState S) → IfSome all (λ bytes. IsReceived received.Nothing bytes)
-      → AnsweredAt g desk desk (λ t. IsNextReady g t all unread (Ok None) desk) (IfSome all (λ bytes. IsGoneToSend bytes unread None)) (TellsUnavailable None)
+      → AnsweredAt g desk desk (λ t. IsNextReady g t all unread (Ok None) desk) (IfSome all (λ bytes. IsGoneToSend bytes unread None)) (ReportsUnavailable None)
   silent_next desk came = unasked desk None (λ bytes. IsReceived received.Nothing bytes) came (λ t bytes at it. (it, at)) (λ bytes it. it)
 
-  headless_to : (t : State) (desk : DeskState S) (next : Option Sending) (bytes : List ℕ) → IsFailed failure.Head false next → StandsAt g t desk → IsRequest headless bytes → IsToSend g t bytes unread next desk
+  headless_to : (t : State) (desk : DeskState S) (next : Option OutgoingReply) (bytes : List ℕ) → IsFailed failure.Head false next → IsAt g t desk → IsRequest headless bytes → IsToSend g t bytes unread next desk
   headless_to t desk None bytes failed at it = absurd failed
   headless_to t desk (Some sent) bytes failed at it = inl (headless, it, (failed.1, failed.0, at))
 
-  headless_gone : (next : Option Sending) (bytes : List ℕ) → IsFailed failure.Head false next → IsRequest headless bytes → IsGoneToSend bytes unread next
+  headless_gone : (next : Option OutgoingReply) (bytes : List ℕ) → IsFailed failure.Head false next → IsRequest headless bytes → IsGoneToSend bytes unread next
   headless_gone None bytes failed it = absurd failed
   headless_gone (Some sent) bytes failed it = inl (headless, it, (failed.1, failed.0))
 
-  pub headless_next : (desk : DeskState S) (next : Option Sending) → IsFailed failure.Head false next → IfSome all (λ bytes. IsReceived received.Headless bytes)
-      → AnsweredAt g desk desk (λ t. IsNextReady g t all unread (Ok next) desk) (IfSome all (λ bytes. IsGoneToSend bytes unread next)) (TellsUnavailable next)
+  pub headless_next : (desk : DeskState S) (next : Option OutgoingReply) → IsFailed failure.Head false next → IfSome all (λ bytes. IsReceived received.Headless bytes)
+      → AnsweredAt g desk desk (λ t. IsNextReady g t all unread (Ok next) desk) (IfSome all (λ bytes. IsGoneToSend bytes unread next)) (ReportsUnavailable next)
   headless_next desk next failed came =
       unasked desk next (λ bytes. IsReceived received.Headless bytes) came (λ t bytes at it. headless_to t desk next bytes failed at it) (λ bytes it. headless_gone next bytes failed it)
 
-  unread_to : (t : State) (desk : DeskState S) (next : Option Sending) (bytes : List ℕ) → unread → IsFailed failure.Memory false next → StandsAt g t desk → IsToSend g t bytes unread next desk
+  unread_to : (t : State) (desk : DeskState S) (next : Option OutgoingReply) (bytes : List ℕ) → unread → IsFailed failure.Memory false next → IsAt g t desk → IsToSend g t bytes unread next desk
   unread_to t desk None bytes is failed at = absurd failed
   unread_to t desk (Some sent) bytes is failed at = inr (is, failed.1, failed.0, at)
 
-  unread_gone : (next : Option Sending) (bytes : List ℕ) → unread → IsFailed failure.Memory false next → IsGoneToSend bytes unread next
+  unread_gone : (next : Option OutgoingReply) (bytes : List ℕ) → unread → IsFailed failure.Memory false next → IsGoneToSend bytes unread next
   unread_gone None bytes is failed = absurd failed
   unread_gone (Some sent) bytes is failed = inr (is, failed.1, failed.0)
 
-  -- memory was wanting before a byte was read
-  pub unread_next : (desk : DeskState S) (next : Option Sending) → unread → IsFailed failure.Memory false next → IfSome all (λ bytes. IsStarved stop.Memory bytes)
-      → AnsweredAt g desk desk (λ t. IsNextReady g t all unread (Ok next) desk) (IfSome all (λ bytes. IsGoneToSend bytes unread next)) (TellsUnavailable next)
+  -- memory ran out before a byte was read
+  pub unread_next : (desk : DeskState S) (next : Option OutgoingReply) → unread → IsFailed failure.Memory false next → IfSome all (λ bytes. IsOutOfMemory stop.Memory bytes)
+      → AnsweredAt g desk desk (λ t. IsNextReady g t all unread (Ok next) desk) (IfSome all (λ bytes. IsGoneToSend bytes unread next)) (ReportsUnavailable next)
   unread_next desk next is failed came =
-      unasked desk next (λ bytes. IsStarved stop.Memory bytes) came (λ t bytes at it. unread_to t desk next bytes is failed at) (λ bytes it. unread_gone next bytes is failed)
+      unasked desk next (λ bytes. IsOutOfMemory stop.Memory bytes) came (λ t bytes at it. unread_to t desk next bytes is failed at) (λ bytes it. unread_gone next bytes is failed)
 
   -- or after the head
-  pub starved_next : (desk : DeskState S) (is_head : Bool) (next : Option Sending) → IsFailed failure.Memory is_head next → IfSome all (λ bytes. IsStarved (stop.MemoryFor is_head) bytes)
-      → AnsweredAt g desk desk (λ t. IsNextReady g t all unread (Ok next) desk) (IfSome all (λ bytes. IsGoneToSend bytes unread next)) (TellsUnavailable next)
-  starved_next desk is_head next failed came =
-      unasked desk next (λ bytes. IsStarved (stop.MemoryFor is_head) bytes) came
-      (λ t bytes at it. starved_reply g t bytes unread it.0 it.1 is_head next desk it.2 it.3 failed at) (λ bytes it. starved_gone bytes unread it.0 it.1 is_head next it.2 it.3 failed)
+  pub out_of_memory_next : (desk : DeskState S) (is_head : Bool) (next : Option OutgoingReply) → IsFailed failure.Memory is_head next → IfSome all (λ bytes. IsOutOfMemory (stop.MemoryFor is_head) bytes)
+      → AnsweredAt g desk desk (λ t. IsNextReady g t all unread (Ok next) desk) (IfSome all (λ bytes. IsGoneToSend bytes unread next)) (ReportsUnavailable next)
+  out_of_memory_next desk is_head next failed came =
+      unasked desk next (λ bytes. IsOutOfMemory (stop.MemoryFor is_head) bytes) came
+      (λ t bytes at it. out_of_memory_reply g t bytes unread it.0 it.1 is_head next desk it.2 it.3 failed at) (λ bytes it. out_of_memory_gone bytes unread it.0 it.1 is_head next it.2 it.3 failed)
 
   -- a request was answered
-  pub asked_next : (old new : DeskState S) (asked : Asked) (sent : Sending) → IfSome all (λ bytes. IsReceived (received.Request asked) bytes) → sent.is_head ≡ asked.is_head → HasReply g (asked_for asked.asking) (response sent.reply) old new
-      → AnsweredAt g old new (λ t. IsNextReady g t all unread (Ok (Some sent)) new) (IfSome all (λ bytes. IsGoneToSend bytes unread (Some sent))) (TellsUnavailable (Some sent))
+  pub asked_next : (old new : DeskState S) (asked : Asked) (sent : OutgoingReply) → IfSome all (λ bytes. IsReceived (received.Request asked) bytes) → sent.is_head ≡ asked.is_head → HasReply g (asked_for asked.operation) (response sent.reply) old new
+      → AnsweredAt g old new (λ t. IsNextReady g t all unread (Ok (Some sent)) new) (IfSome all (λ bytes. IsGoneToSend bytes unread (Some sent))) (ReportsUnavailable (Some sent))
   asked_next old new asked sent came same it =
       let r = response sent.reply in
-      answered g old new (λ t. IsServed g t (asked_for asked.asking) r new) (λ t. IsNextReady g t all unread (Ok (Some sent)) new) _ _ _ _ it
+      answered g old new (λ t. IsServed g t (asked_for asked.operation) r new) (λ t. IsNextReady g t all unread (Ok (Some sent)) new) _ _ _ _ it
       (λ t served.
       record {
         ok = some_more all (λ bytes. IsReceived (received.Request asked) bytes) (λ bytes. IsToSend g t bytes unread (Some sent) new) came
             (λ bytes is. asked_reply g t bytes unread is.0 is.1 asked sent.is_head r new is.2 is.3 same served);
-        leaves = (asked_for asked.asking, served_leaves g t (asked_for asked.asking) r new served);
+        leaves = (asked_for asked.operation, served_leaves g t (asked_for asked.operation) r new served);
       })
       (λ gone. some_more all (λ bytes. IsReceived (received.Request asked) bytes) (λ bytes. IsGoneToSend bytes unread (Some sent)) came
       (λ bytes is. asked_gone bytes unread is.0 is.1 asked sent.is_head r is.2 is.3 same gone))
-      (λ told. told)
+      (λ reported. reported)
 
   -- the reader failed
   pub failed_next : (desk : DeskState S) (e : Io) → AnsweredAt g desk desk (λ t. IsNextReady g t all unread (Err e) desk) (Unit {0}) (Unit {0})
@@ -141,9 +141,9 @@ module _ {R W S : Type 0} (g : Ghosts S) (all : R → Option (List ℕ)) (reader
   pub one_failed : (e : Io) → AnswersNext g all reader left (Err e) old new → ServesOne g all reader left contents writer after (Err e) old new
   one_failed e it =
       answered g old new (λ t. IsNextReady g t (all reader) (left ≡ reader) (Err e) new) (λ t. IsOneServed g t (all reader) (left ≡ reader) (Err e) (contents writer) (contents after) new) _ _ _ _ it
-      (λ t next. record { ok = tt; leaves = next.leaves }) (λ gone. gone) (λ told. told)
+      (λ t next. record { ok = tt; leaves = next.leaves }) (λ gone. gone) (λ reported. reported)
 
-  pub one_sent : (it : Option Sending) (status : Result ℕ Io) → AnswersNext g all reader left (Ok it) old new → Sends it status (contents writer) (contents after) → ServesOne g all reader left contents writer after status old new
+  pub one_sent : (it : Option OutgoingReply) (status : Result ℕ Io) → AnswersNext g all reader left (Ok it) old new → Sends it status (contents writer) (contents after) → ServesOne g all reader left contents writer after status old new
   one_sent it status next sent =
       let unread : Type 0 = left ≡ reader in
       answered g old new (λ t. IsNextReady g t (all reader) unread (Ok it) new) (λ t. IsOneServed g t (all reader) unread status (contents writer) (contents after) new) _ _ _ _ next
@@ -157,13 +157,13 @@ module _ {R W S : Type 0} (g : Ghosts S) (all : R → Option (List ℕ)) (reader
       (λ gone. IfOk-weaker status _ _
       (λ code is. some_more (all reader) (λ bytes. IsGoneToSend bytes unread it) (λ bytes. GoneReplies bytes unread code (contents writer) (contents after)) gone
       (λ bytes asked. sent_gone bytes unread it code (contents writer) (contents after) asked is)) sent.ok)
-      (λ told. IfOk-weaker status _ _ (λ code is. sent_unavailable it code (contents writer) (contents after) told is) sent.ok)
+      (λ reported. IfOk-weaker status _ _ (λ code is. sent_unavailable it code (contents writer) (contents after) reported is) sent.ok)
 
   undone : (bytes : Option (List ℕ)) (P : List ℕ → Type 0) → new ≡ old → after ≡ writer → IfSome bytes (λ it. ((new ≡ old) × (after ≡ writer)) ⊎ P it)
   undone None P same untouched = tt
   undone (Some it) P same untouched = inl (same, untouched)
 
-  broken : (bytes : Option (List ℕ)) (it : Option Sending) → IsSome it → CalledAt g old new (λ t. IsNextReady g t bytes (left ≡ reader) (Ok it) new)
+  broken : (bytes : Option (List ℕ)) (it : Option OutgoingReply) → IsSome it → CalledAt g old new (λ t. IsNextReady g t bytes (left ≡ reader) (Ok it) new)
       → IfSome bytes (λ b. ((new ≡ old) × (after ≡ writer)) ⊎ CalledAt g old new (λ t. Breaks g t b (left ≡ reader) new))
   broken None it some first = tt
   broken (Some b) None some first = absurd (let wrong = some in cc)
@@ -180,15 +180,15 @@ module _ {R W S : Type 0} (g : Ghosts S) (all : R → Option (List ℕ)) (reader
         err = undone (all reader) (λ bytes. CalledAt g old new (λ t. Breaks g t bytes (left ≡ reader) new)) same untouched;
       }
 
-  pub halves_sent : (it : Option Sending) (status : Result ℕ Io) → AnswersNext g all reader left (Ok it) old new → Sends it status (contents writer) (contents after)
+  pub halves_sent : (it : Option OutgoingReply) (status : Result ℕ Io) → AnswersNext g all reader left (Ok it) old new → Sends it status (contents writer) (contents after)
       → InHalves g all reader left contents writer after status old new
   halves_sent it (Ok code) next sent = record { next = Ok it; first = next; unserved = tt; second = sent; err = tt }
   halves_sent it (Err e) next sent = record { next = Ok it; first = next; unserved = tt; second = sent; err = broken (all reader) it sent.err next.call }
 
   -- a request was served
   pub visited : (status : Result ℕ Io) → ServesOne g all reader left contents writer after status old new → IsVisited g status old new
-  visited status it = answered g old new _ _ _ _ _ _ it (λ t one. one.leaves) (λ gone. tt) (λ told. told)
+  visited status it = answered g old new _ _ _ _ _ _ it (λ t one. one.leaves) (λ gone. tt) (λ reported. reported)
 
   -- and its answer was not flushed
   pub unflushed : (status : Result ℕ Io) (e : Io) → ServesOne g all reader left contents writer after status old new → IsVisited g (Err e) old new
-  unflushed status e it = answered g old new _ _ _ _ _ _ it (λ t one. one.leaves) (λ gone. tt) (λ told. tt)
+  unflushed status e it = answered g old new _ _ _ _ _ _ it (λ t one. one.leaves) (λ gone. tt) (λ reported. tt)

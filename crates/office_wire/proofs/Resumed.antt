@@ -9,25 +9,25 @@ use Rattle.office_rules.specs.declared.answer.Answer.{Answer}
 use Rattle.office_store.specs.declared.fault.Fault.{Fault}
 use Rattle.office_desk.specs.Desk.{DeskState}
 use Rattle.office_desk.specs.Fates.{LeavesStepFates}
-use Rattle.office_desk.specs.Leaving.{LeavesRowsOf, StandsAt, StopsAt, StopsLeaving}
+use Rattle.office_desk.specs.Leaving.{LeavesRowsOf, IsAt, StopsAt, StopsLeaving}
 use Rattle.office_desk.specs.Resuming.{LeavesMidway, resumed_answer}
 use Rattle.office_http.specs.Replies.{Response}
 use Rattle.office_wire.specs.Answering.{Resumes}
 use Rattle.office_wire.specs.Replies.{answer_response, fault_response}
 
 pub resumed : {S : Type 0} (g : Ghosts S) (t : State) (desk : DeskState S) (answer : Answer) (o : Option ℕ) → open_run t.office ≡ o → answer ≡ resumed_answer o
-    → ((s : State) (run : ℕ) → open_run s.office ≡ Some run → IsMidway s run t → StandsAt g (whole s run) desk)
+    → ((s : State) (run : ℕ) → open_run s.office ≡ Some run → IsMidway s run t → IsAt g (whole s run) desk)
     → ((run : ℕ) → open_run t.office ≡ Some run → IsMidway t run t)
-    → (open_run t.office ≡ None → StandsAt g t desk) → LeavesStepFates t (state g desk.held)
-    → (Told : Response → Type 0) → Told (answer_response answer) → Resumes Told g t desk
-resumed g t desk answer None is answered closed own none fates Told told =
-    inr (inl (record { none_open = is; told = subst (λ (x : Answer). Told (answer_response x)) answered told; stands = none is }))
-resumed g t desk answer (Some run) is answered closed own none fates Told told =
+    → (open_run t.office ≡ None → IsAt g t desk) → LeavesStepFates t (state g desk.held)
+    → (Reported : Response → Type 0) → Reported (answer_response answer) → Resumes Reported g t desk
+resumed g t desk answer None is answered closed own none fates Reported reported =
+    inr (inl (record { none_open = is; reported = subst (λ (x : Answer). Reported (answer_response x)) answered reported; represents = none is }))
+resumed g t desk answer (Some run) is answered closed own none fates Reported reported =
     inl (
       run,
       record {
         was_open = is;
-        told = subst (λ (x : Answer). Told (answer_response x)) answered told;
+        reported = subst (λ (x : Answer). Reported (answer_response x)) answered reported;
         closed = closed t run is (own run is);
         never_stopped = λ s first midway. closed s run first midway;
         fates = fates;
@@ -36,16 +36,16 @@ resumed g t desk answer (Some run) is answered closed own none fates Told told =
 
 -- and of one that a fault stopped
 pub run_stopped : {S : Type 0} (g : Ghosts S) (t : State) (old desk : DeskState S) (f : Fault)
-    → ((n : ℕ) × StopsAt (after_steps t n).office f desk × (HasCleanDisk (state g desk.held) → StandsAt g t old → StopsLeaving (after_steps t n) (after_steps t (suc n)) f (state g desk.held)))
-    → HasCleanDisk (state g desk.held) → StandsAt g t old
+    → ((n : ℕ) × StopsAt (after_steps t n).office f desk × (HasCleanDisk (state g desk.held) → IsAt g t old → StopsLeaving (after_steps t n) (after_steps t (suc n)) f (state g desk.held)))
+    → HasCleanDisk (state g desk.held) → IsAt g t old
     → ((s : State) (run : ℕ) → open_run s.office ≡ Some run → IsMidway s run t → LeavesMidway s run (state g desk.held))
     → (open_run t.office ≡ None → LeavesRowsOf t (state g desk.held)) → LeavesStepFates t (state g desk.held)
-    → (Told : Response → Type 0) → Told (fault_response f) → Resumes Told g t desk
-run_stopped g t old desk f stop clean stands midway none fates Told told = inr (inr (
+    → (Reported : Response → Type 0) → Reported (fault_response f) → Resumes Reported g t desk
+run_stopped g t old desk f stop clean represents midway none fates Reported reported = inr (inr (
   f,
   record {
-    told = told;
-    stopped = (stop.0, stop.1, stop.2 clean stands);
+    reported = reported;
+    stopped = (stop.0, stop.1, stop.2 clean represents);
     midway = midway;
     none_open = none;
     fates = fates;

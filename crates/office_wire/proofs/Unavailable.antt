@@ -1,4 +1,4 @@
--- Answers that tell a fault.
+-- Answers that report a fault.
 use Rattle.std.proofs.Common.{◌≡◌, refl, subst, sym, List, Result, Ok, Err}
 use Rattle.std.specs.Prelude.{IfOk}
 use Rattle.office_http.specs.Replies.{Response, failure_response}

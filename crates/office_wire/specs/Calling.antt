@@ -5,16 +5,16 @@ use Rattle.sqlite.specs.State.{HasCleanDisk}
 use Rattle.sqlite_trees.specs.declared.store.Store.{Ghosts}
 use Rattle.office_rules.specs.State.{State}
 use Rattle.office_desk.specs.Desk.{DeskState}
-use Rattle.office_desk.specs.Leaving.{StandsAt}
+use Rattle.office_desk.specs.Leaving.{IsAt}
 
 -- from each state at which the desk was, over a disk that is clean, this was done
 pub record CalledAt {S : Type 0} (g : Ghosts S) (old new : DeskState S) (Did : State → Type 0) : Type 0 where
   pub clean : HasCleanDisk (state g new.held) → HasCleanDisk (state g old.held)
-  pub did : (t : State) → HasCleanDisk (state g new.held) → StandsAt g t old → Did t
+  pub did : (t : State) → HasCleanDisk (state g new.held) → IsAt g t old → Did t
 
--- and this is answered by a desk that was given up before, which stays as it was; and this where it is given up here
-pub record AnsweredAt {S : Type 0} (g : Ghosts S) (old new : DeskState S) (Did : State → Type 0) (Gone Told : Type 0) : Type 0 where
+-- and this is answered by a poisoned desk before, which stays as it was; and this where it is poisoned here
+pub record AnsweredAt {S : Type 0} (g : Ghosts S) (old new : DeskState S) (Did : State → Type 0) (Gone Reported : Type 0) : Type 0 where
   pub call : CalledAt g old new Did
-  pub kept : IsTrue old.is_given_up → new ≡ old
-  pub gone : IsTrue old.is_given_up → Gone
-  pub told : old.is_given_up ≡ false → IsTrue new.is_given_up → Told
+  pub kept : IsTrue old.is_poisoned → new ≡ old
+  pub gone : IsTrue old.is_poisoned → Gone
+  pub reported : old.is_poisoned ≡ false → IsTrue new.is_poisoned → Reported

@@ -16,13 +16,13 @@ has_failed (Err e) = true
 abbrev pub IsVisited : {S : Type 0} → Ghosts S → Result ℕ Io → DeskState S → DeskState S → Type 0
 IsVisited g status old new = AnsweredAt g old new (λ t. LeavesServed g t new) (Unit {0}) (IfOk status (λ code. code ≡ 503))
 
--- one connection: it failed before the desk heard of it, or a request was served
+-- one connection: it failed before the desk was asked, or a request was served
 abbrev pub Turn : {S : Type 0} → Ghosts S → Result ℕ Io → DeskState S → DeskState S → Type 0
 Turn g status old new = ((has_failed status ≡ true) × (new ≡ old)) ⊎ IsVisited g status old new
 
--- whether serving ends after a connection: its answer was 503, and the desk was given up
-pub record Ends (status : Result ℕ Io) (is_given_up ended : Bool) : Type 0 where
-  pub asked : status ≡ Ok 503 → ended ≡ is_given_up
+-- whether serving ends after a connection: its answer was 503, and the desk was poisoned
+pub record Ends (status : Result ℕ Io) (is_poisoned ended : Bool) : Type 0 where
+  pub asked : status ≡ Ok 503 → ended ≡ is_poisoned
   pub unasked : status ≢ Ok 503 → ended ≡ false
 
 -- so many connections, one after another, whether one of them failed, and whether serving ends after the last one
@@ -30,10 +30,10 @@ unfoldable pub Turns : {S : Type 0} → Ghosts S → ℕ → Bool → Bool → D
 Turns g zero failed ended old new = (failed ≡ false) × (ended ≡ false) × (new ≡ old)
 Turns {S} g (suc n) failed ended old new =
     (m : DeskState S) × (earlier : Bool) × (status : Result ℕ Io)
-    × Turns g n earlier false old m × Turn g status m new × Ends status new.is_given_up ended × (failed ≡ (earlier || has_failed status))
+    × Turns g n earlier false old m × Turn g status m new × Ends status new.is_poisoned ended × (failed ≡ (earlier || has_failed status))
 
--- connections were served, as many as the count, and fewer only where the desk was given up
+-- connections were served, as many as the count, and fewer only where the desk was poisoned
 pub record ServesAll {S : Type 0} (g : Ghosts S) (count : ℕ) (service : Service) (old new : DeskState S) : Type 0 where
-  pub turns : Turns g service.connections service.has_failed service.is_given_up old new
+  pub turns : Turns g service.connections service.has_failed service.is_poisoned old new
   pub most : service.connections ≤ count
-  pub all : service.is_given_up ≡ false → service.connections ≡ count
+  pub all : service.is_poisoned ≡ false → service.connections ≡ count

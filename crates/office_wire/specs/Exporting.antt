@@ -1,7 +1,7 @@
 -- How the writing of a register ends. Source: own.
 use Rattle.std.specs.Prelude.{◌≡◌, ◌⊎◌, ℕ, ℤ, IfErr, IsTrue, List, OnOk, Option, Result, Err}
 use Rattle.std.specs.Io.KnownBytes.{Appends}
-use Rattle.office_rules.specs.Registers.{AreDueRows, AreOverdueRows, DueTold, entry_rows}
+use Rattle.office_rules.specs.Registers.{AreDueRows, AreOverdueRows, DueRowView, entry_rows}
 use Rattle.office_rules.specs.State.{Office}
 use Rattle.office_csv.specs.Registers.{due_register, entry_register, overdue_register}
 use Rattle.office_store.specs.declared.fault.Fault.TheVariants as fault
@@ -11,23 +11,23 @@ use Rattle.office_wire.specs.declared.registers.ExportStop.TheVariants as stop
 
 -- the text is the due register of a day
 abbrev pub IsDueRegister : ℤ → Office → List ℕ → Type 0
-IsDueRegister day office text = (rows : List DueTold) × AreDueRows office day rows × (text ≡ due_register rows)
+IsDueRegister day office text = (rows : List DueRowView) × AreDueRows office day rows × (text ≡ due_register rows)
 
 -- the register of what is overdue on a day, so many days after the due day
 abbrev pub IsOverdueRegister : ℤ → ℕ → Office → List ℕ → Type 0
-IsOverdueRegister day days office text = (rows : List DueTold) × AreOverdueRows office day days rows × (text ≡ overdue_register days rows)
+IsOverdueRegister day days office text = (rows : List DueRowView) × AreOverdueRows office day days rows × (text ≡ overdue_register days rows)
 
 -- the register of the entries of all runs
 abbrev pub IsEntryRegister : Office → List ℕ → Type 0
 IsEntryRegister office text = text ≡ entry_register (entry_rows office)
 
--- the writer failed, or memory was wanting, or the desk was given up before
+-- the writer failed, or memory ran out, or the desk was poisoned before
 abbrev pub IsExportStopped : {S : Type 0} → DeskState S → ExportStop → Type 0
-IsExportStopped old why = (why ≡ stop.Io) ⊎ ((why ≡ stop.Fault fault.Memory) ⊎ (why ≡ stop.Fault fault.Reopen) × IsTrue old.is_given_up)
+IsExportStopped old why = (why ≡ stop.Io) ⊎ ((why ≡ stop.Fault fault.Memory) ⊎ (why ≡ stop.Fault fault.Reopen) × IsTrue old.is_poisoned)
 
 -- a register of the office was written whole, or stopped; the desk stays as it was
 pub record Exports {S W : Type 0} (IsText : Office → List ℕ → Type 0) (contents : W → Option (List ℕ)) (out after : W) (ended : Result (Unit {0}) ExportStop) (old new : DeskState S) : Type 0 where
   pub ok : OnOk ended ((text : List ℕ) × IsText old.office text × Appends (contents out) (contents after) text)
   pub err : IfErr ended (λ why. IsExportStopped old why)
   pub kept : new ≡ old
-  pub gone : IsTrue old.is_given_up → (ended ≡ Err (stop.Fault fault.Reopen)) × (after ≡ out)
+  pub gone : IsTrue old.is_poisoned → (ended ≡ Err (stop.Fault fault.Reopen)) × (after ≡ out)

@@ -10,7 +10,7 @@ use Rattle.sqlite_trees.specs.declared.store.Store.{Ghosts}
 use Rattle.office_base.specs.Refusals.{refusal_number}
 use Rattle.office_base.specs.declared.refusal.Refusal.{Refusal}
 use Rattle.office_rules.specs.Acts.{step}
-use Rattle.office_rules.specs.Forms.{IsFormedAct}
+use Rattle.office_rules.specs.Forms.{IsWellFormedAct}
 use Rattle.office_rules.specs.State.{State}
 use Rattle.office_rules.specs.declared.act.Act.{Act}
 use Rattle.office_rules.specs.declared.answer.Answer.{Answer}
@@ -18,10 +18,10 @@ use Rattle.office_rules.specs.declared.answer.Answer.TheVariants as kind
 use Rattle.office_store.specs.declared.fault.Fault.{Fault}
 use Rattle.office_store.specs.declared.fault.Fault.TheVariants as fault
 use Rattle.office_desk.specs.Desk.{DeskState}
-use Rattle.office_desk.specs.Leaving.{StandsAt, StopsAt, StopsLeaving}
+use Rattle.office_desk.specs.Leaving.{IsAt, StopsAt, StopsLeaving}
 use Rattle.office_json.specs.Acts.{AskedRecord, adds, asked}
 use Rattle.office_csv.specs.ImportRows.{Fields, fields_in, record_asked}
-use Rattle.office_csv.specs.ImportText.{AreAtFront, HeadsText, IsBadNext, IsEnded, LacksHeader}
+use Rattle.office_csv.specs.ImportText.{AreAtPrefix, HeadsText, IsBadNext, IsEnded, LacksHeader}
 use Rattle.office_csv.specs.declared.reading.RowStop.{RowStop}
 use Rattle.office_csv.specs.declared.reading.RowStop.TheVariants as row_stop
 use Rattle.office_wire.specs.Calling.{CalledAt}
@@ -32,7 +32,7 @@ use Rattle.office_wire.specs.declared.importing.ImportStop.TheVariants as stop
 
 -- the act adds this record on the day
 abbrev pub IsAdding : ℤ → AskedRecord → Act → Type 0
-IsAdding day new act = IsFormedAct act × (asked act ≡ adds day new)
+IsAdding day new act = IsWellFormedAct act × (asked act ≡ adds day new)
 
 -- a row is answered by the step of the act that adds its record on the day, or with its refusal, and then nothing is done
 abbrev pub IsAnsweredBy : ℤ → State → Result AskedRecord Refusal → Answer → State → Type 0
@@ -46,27 +46,27 @@ IsRowDone day s row answer t = IsAnsweredBy day s (record_asked row) answer t
 abbrev pub IsActStopped : {S : Type 0} → Ghosts S → State → Act → Fault → DeskState S → Type 0
 IsActStopped g s act f desk = StopsAt s.office f desk × StopsLeaving s (step s act).1 f (state g desk.held)
 
--- a fault stopped a row: memory was wanting to read it, or the act that adds its record was stopped
+-- a fault stopped a row: memory ran out to read it, or the act that adds its record was stopped
 abbrev pub IsRowStopped : {S : Type 0} → Ghosts S → ℤ → State → Fields → Fault → DeskState S → Type 0
 IsRowStopped g day s row f desk =
-    ((f ≡ fault.Memory) × StandsAt g s desk)
+    ((f ≡ fault.Memory) × IsAt g s desk)
     ⊎ ((new : AskedRecord) × (act : Act) × (record_asked row ≡ Ok new) × IsAdding day new act × IsActStopped g s act f desk)
 
 -- a row was answered, or stopped
 abbrev pub EndsRow : {S : Type 0} → Ghosts S → ℤ → State → Fields → Result Answer Fault → DeskState S → Type 0
-EndsRow g day s row ended desk = MatchResult ended (λ answer. (t : State) × IsRowDone day s row answer t × StandsAt g t desk) (λ f. IsRowStopped g day s row f desk)
+EndsRow g day s row ended desk = MatchResult ended (λ answer. (t : State) × IsRowDone day s row answer t × IsAt g t desk) (λ f. IsRowStopped g day s row f desk)
 
 -- what stopped a row of seven fields: a fault, or its line could not be written
 abbrev pub DoStops : {S : Type 0} → Ghosts S → ℤ → State → Fields → ImportStop → DeskState S → Option (List ℕ) → Option (List ℕ) → Type 0
 DoStops g day s row stop.Header desk old new = ⊥
 DoStops g day s row (stop.Row number) desk old new = ⊥
 DoStops g day s row (stop.Fault f) desk old new = (new ≡ old) × IsRowStopped g day s row f desk
-DoStops g day s row stop.Io desk old new = (answer : Answer) × (t : State) × IsRowDone day s row answer t × StandsAt g t desk
+DoStops g day s row stop.Io desk old new = (answer : Answer) × (t : State) × IsRowDone day s row answer t × IsAt g t desk
 
 -- and one of any number of fields
 abbrev pub TakeStops : {S : Type 0} → Ghosts S → ℤ → State → ℕ → List (List ℕ) → ImportStop → DeskState S → Option (List ℕ) → Option (List ℕ) → Type 0
 TakeStops g day s place fields stop.Header desk old new = ⊥
-TakeStops g day s place fields (stop.Row number) desk old new = (number ≡ place) × (length fields ≢ 7) × StandsAt g s desk × (new ≡ old)
+TakeStops g day s place fields (stop.Row number) desk old new = (number ≡ place) × (length fields ≢ 7) × IsAt g s desk × (new ≡ old)
 TakeStops g day s place fields (stop.Fault f) desk old new = (row : Fields) × (fields ≡ fields_in row) × DoStops g day s row (stop.Fault f) desk old new
 TakeStops g day s place fields stop.Io desk old new = (row : Fields) × (fields ≡ fields_in row) × DoStops g day s row stop.Io desk old new
 
@@ -104,7 +104,7 @@ one_if false = 0
 -- a row was answered and its line written; whether it was refused
 abbrev pub IsRowWritten : {S : Type 0} → Ghosts S → ℤ → State → ℕ → Fields → Bool → DeskState S → Option (List ℕ) → Option (List ℕ) → Type 0
 IsRowWritten g day s number row refused desk old new =
-    (answer : Answer) × (t : State) × IsRowDone day s row answer t × StandsAt g t desk × Appends old new (line_of number answer) × (refused ≡ is_refusal answer)
+    (answer : Answer) × (t : State) × IsRowDone day s row answer t × IsAt g t desk × Appends old new (line_of number answer) × (refused ≡ is_refusal answer)
 
 -- that, or what stopped it
 abbrev pub EndsLine : {S : Type 0} → Ghosts S → ℤ → State → ℕ → Fields → Result Bool ImportStop → DeskState S → Option (List ℕ) → Option (List ℕ) → Type 0
@@ -127,17 +127,17 @@ AreRowsDone day s [] answers t = (answers ≡ []) × (t ≡ s)
 AreRowsDone day s (row ∷ rows) answers t =
     (answer : Answer) × (rest : List Answer) × (m : State) × (answers ≡ answer ∷ rest) × IsRowDone day s row answer m × AreRowsDone day m rows rest t
 
--- rows were done, the desk stands at the state after them, and their lines were written
+-- rows were done, the desk is at the state after them, and their lines were written
 pub record AreImported {S : Type 0} (g : Ghosts S) (day : ℤ) (s : State) (rows : List Fields) (answers : List Answer) (t : State) (desk : DeskState S) (old new : Option (List ℕ)) : Type 0 where
   pub done : AreRowsDone day s rows answers t
-  pub stands : StandsAt g t desk
-  pub told : Appends old new (lines_from 0 answers)
+  pub represents : IsAt g t desk
+  pub reported : Appends old new (lines_from 0 answers)
 
 -- ---- the text
 
--- a header, and rows at the front of what follows it, where the text is known; and what is left of it
+-- a header, and rows at the head of what follows it, where the text is known; and what is left of it
 abbrev pub AreFirstRows : Option (List ℕ) → List Fields → Reading → Option (List ℕ) → Type 0
-AreFirstRows text rows s rest = (headed : Reading) × (behind : Option (List ℕ)) × HeadsText StartRecord text headed behind × AreAtFront headed behind rows s rest
+AreFirstRows text rows s rest = (headed : Reading) × (behind : Option (List ℕ)) × HeadsText StartRecord text headed behind × AreAtPrefix headed behind rows s rest
 
 -- all rows of a text with a header
 abbrev pub AreAllRows : Option (List ℕ) → List Fields → Type 0
@@ -148,8 +148,8 @@ abbrev pub AreSomeRows : Option (List ℕ) → List Fields → Type 0
 AreSomeRows text rows = (s : Reading) × (rest : Option (List ℕ)) × AreFirstRows text rows s rest
 
 -- some first rows of it, or none, whatever the text is
-abbrev pub AreFrontRows : Option (List ℕ) → List Fields → Type 0
-AreFrontRows text rows = (rows ≡ []) ⊎ AreSomeRows text rows
+abbrev pub ArePrefixRows : Option (List ℕ) → List Fields → Type 0
+ArePrefixRows text rows = (rows ≡ []) ⊎ AreSomeRows text rows
 
 -- those before a row of another number of fields, or one that is not UTF-8
 abbrev pub AreRowsBeforeBad : Option (List ℕ) → List Fields → Type 0
@@ -157,30 +157,30 @@ AreRowsBeforeBad text rows = (s : Reading) × (rest : Option (List ℕ)) × AreF
 
 -- ---- the rows after the header
 
--- rows at the front of what follows a header
+-- rows at the head of what follows a header
 abbrev pub AreRowsBehind : Reading → Option (List ℕ) → List Fields → Type 0
-AreRowsBehind headed behind rows = (s2 : Reading) × (rest : Option (List ℕ)) × AreAtFront headed behind rows s2 rest
+AreRowsBehind headed behind rows = (s2 : Reading) × (rest : Option (List ℕ)) × AreAtPrefix headed behind rows s2 rest
 
 abbrev pub RowsImport : {S : Type 0} → Ghosts S → ℤ → State → Reading → Option (List ℕ) → ℕ → DeskState S → Option (List ℕ) → Option (List ℕ) → Type 0
 RowsImport g day s headed behind refused desk old new =
-    (rows : List Fields) × (answers : List Answer) × (t : State) × ((s2 : Reading) × (rest : Option (List ℕ)) × AreAtFront headed behind rows s2 rest × IsEnded s2 rest)
+    (rows : List Fields) × (answers : List Answer) × (t : State) × ((s2 : Reading) × (rest : Option (List ℕ)) × AreAtPrefix headed behind rows s2 rest × IsEnded s2 rest)
     × AreImported g day s rows answers t desk old new × (refused ≡ refused_count answers)
 
 abbrev pub RowsStopAtRow : {S : Type 0} → Ghosts S → ℤ → State → Reading → Option (List ℕ) → ℕ → DeskState S → Option (List ℕ) → Option (List ℕ) → Type 0
 RowsStopAtRow g day s headed behind number desk old new =
-    (rows : List Fields) × (answers : List Answer) × (t : State) × ((s2 : Reading) × (rest : Option (List ℕ)) × AreAtFront headed behind rows s2 rest × IsBadNext s2 rest)
+    (rows : List Fields) × (answers : List Answer) × (t : State) × ((s2 : Reading) × (rest : Option (List ℕ)) × AreAtPrefix headed behind rows s2 rest × IsBadNext s2 rest)
     × AreImported g day s rows answers t desk old new × (number ≡ length rows + 1)
 
 abbrev pub RowsStopAtFault : {S : Type 0} → Ghosts S → ℤ → State → Reading → Option (List ℕ) → Fault → DeskState S → Option (List ℕ) → Option (List ℕ) → Type 0
 RowsStopAtFault g day s headed behind f desk old new =
     (rows : List Fields) × (answers : List Answer) × (t : State) × AreRowsDone day s rows answers t × Appends old new (lines_from 0 answers)
-    × ((f ≡ fault.Memory) × AreRowsBehind headed behind rows × StandsAt g t desk
+    × ((f ≡ fault.Memory) × AreRowsBehind headed behind rows × IsAt g t desk
     ⊎ ((row : Fields) × AreRowsBehind headed behind (rows ++ row ∷ []) × IsRowStopped g day t row f desk))
 
 -- reading or writing failed after some rows; the line of the last one may not be written
 abbrev pub RowsStopAtIo : {S : Type 0} → Ghosts S → ℤ → State → Reading → Option (List ℕ) → DeskState S → Type 0
 RowsStopAtIo g day s headed behind desk =
-    (rows : List Fields) × (answers : List Answer) × (t : State) × AreRowsBehind headed behind rows × AreRowsDone day s rows answers t × StandsAt g t desk
+    (rows : List Fields) × (answers : List Answer) × (t : State) × AreRowsBehind headed behind rows × AreRowsDone day s rows answers t × IsAt g t desk
 
 abbrev pub RowsStop : {S : Type 0} → Ghosts S → ℤ → State → Reading → Option (List ℕ) → ImportStop → DeskState S → Option (List ℕ) → Option (List ℕ) → Type 0
 RowsStop g day s headed behind stop.Header desk old new = ⊥
@@ -210,19 +210,19 @@ abbrev pub StopsAtRow : {S : Type 0} → Ghosts S → ℤ → State → Option (
 StopsAtRow g day s text number desk old new =
     (rows : List Fields) × (answers : List Answer) × (t : State) × AreRowsBeforeBad text rows × AreImported g day s rows answers t desk old new × (number ≡ length rows + 1)
 
--- a fault stopped it after some rows: memory was wanting to read the next, or that one was stopped
+-- a fault stopped it after some rows: memory ran out to read the next, or that one was stopped
 abbrev pub StopsAtFault : {S : Type 0} → Ghosts S → ℤ → State → Option (List ℕ) → Fault → DeskState S → Option (List ℕ) → Option (List ℕ) → Type 0
 StopsAtFault g day s text f desk old new =
     (rows : List Fields) × (answers : List Answer) × (t : State) × AreRowsDone day s rows answers t × Appends old new (lines_from 0 answers)
-    × ((f ≡ fault.Memory) × AreFrontRows text rows × StandsAt g t desk ⊎ ((row : Fields) × AreSomeRows text (rows ++ row ∷ []) × IsRowStopped g day t row f desk))
+    × ((f ≡ fault.Memory) × ArePrefixRows text rows × IsAt g t desk ⊎ ((row : Fields) × AreSomeRows text (rows ++ row ∷ []) × IsRowStopped g day t row f desk))
 
 -- reading or writing failed after some rows; the line of the last one may not be written
 abbrev pub StopsAtIo : {S : Type 0} → Ghosts S → ℤ → State → Option (List ℕ) → DeskState S → Type 0
 StopsAtIo g day s text desk =
-    (rows : List Fields) × (answers : List Answer) × (t : State) × AreFrontRows text rows × AreRowsDone day s rows answers t × StandsAt g t desk
+    (rows : List Fields) × (answers : List Answer) × (t : State) × ArePrefixRows text rows × AreRowsDone day s rows answers t × IsAt g t desk
 
 abbrev pub Stops : {S : Type 0} → Ghosts S → ℤ → State → Option (List ℕ) → ImportStop → DeskState S → Option (List ℕ) → Option (List ℕ) → Type 0
-Stops g day s text stop.Header desk old new = LacksHeader StartRecord text × StandsAt g s desk × (new ≡ old)
+Stops g day s text stop.Header desk old new = LacksHeader StartRecord text × IsAt g s desk × (new ≡ old)
 Stops g day s text (stop.Row number) desk old new = StopsAtRow g day s text number desk old new
 Stops g day s text (stop.Fault f) desk old new = StopsAtFault g day s text f desk old new
 Stops g day s text stop.Io desk old new = StopsAtIo g day s text desk
@@ -231,7 +231,7 @@ Stops g day s text stop.Io desk old new = StopsAtIo g day s text desk
 abbrev pub EndsImport : {S : Type 0} → Ghosts S → ℤ → State → Option (List ℕ) → Result ℕ ImportStop → DeskState S → Option (List ℕ) → Option (List ℕ) → Type 0
 EndsImport g day s text ended desk old new = MatchResult ended (λ refused. Imports g day s text refused desk old new) (λ why. Stops g day s text why desk old new)
 
--- the records of a text were added at a desk; a byte order mark at its start is passed over, and a desk that was given up stays as it was
+-- the records of a text were added at a desk; a byte order mark at its start is passed over, and a poisoned desk stays as it was
 pub record ImportsText {S W : Type 0} (g : Ghosts S) (day : ℤ) (text : Option (List ℕ)) (contents : W → Option (List ℕ)) (out after : W) (ended : Result ℕ ImportStop) (old new : DeskState S) : Type 0 where
   pub call : CalledAt g old new (λ s. EndsImport g day s (option_map strip_bom text) ended new (contents out) (contents after))
-  pub gone : IsTrue old.is_given_up → (ended ≡ Err (stop.Fault fault.Reopen)) × (new ≡ old) × (after ≡ out)
+  pub gone : IsTrue old.is_poisoned → (ended ≡ Err (stop.Fault fault.Reopen)) × (new ≡ old) × (after ≡ out)

@@ -7,7 +7,7 @@ use Rattle.office_base.specs.declared.refusal.Refusal.{Refusal}
 use Rattle.office_proof.specs.declared.entry.Entry.{Entry}
 use Rattle.office_rules.specs.declared.answer.Answer.{Answer}
 use Rattle.office_rules.specs.declared.answer.Answer.TheVariants as answer
-use Rattle.office_rules.specs.Registers.{DueTold}
+use Rattle.office_rules.specs.Registers.{DueRowView}
 use Rattle.office_rules.specs.declared.record_view.RecordView.{RecordView}
 use Rattle.office_store.specs.Faults.{fault_number}
 use Rattle.office_store.specs.declared.fault.Fault.{Fault}
@@ -34,7 +34,7 @@ is_refusal _ = false
 
 -- the status of answers: 409 where one of them is a refusal, else 200
 abbrev pub answers_status : List Answer → Status
-answers_status answers = if list_any is_refusal answers then status.Conflict else status.Fine
+answers_status answers = if list_any is_refusal answers then status.Conflict else status.Ok
 
 -- the answers to acts
 abbrev pub acts_response : List Answer → Response
@@ -54,27 +54,27 @@ bad_act_response place refusal = json_response status.BadRequest (bad_act_data p
 
 -- the answer to one act
 abbrev pub answer_response : Answer → Response
-answer_response it = json_response (if is_refusal it then status.Conflict else status.Fine) (answer_data it)
+answer_response it = json_response (if is_refusal it then status.Conflict else status.Ok) (answer_data it)
 
 -- a record with the entry that ended it; 404 where there is none
 abbrev pub record_response : Option RecordView → Option Entry → Response
 record_response None ending = failure_response failure.Record
-record_response (Some told) ending = json_response status.Fine (record_data told ending)
+record_response (Some reported) ending = json_response status.Ok (record_data reported ending)
 
 -- what is due
-abbrev pub due_response : List DueTold → Response
-due_response rows = json_response status.Fine (due_data rows)
+abbrev pub due_response : List DueRowView → Response
+due_response rows = json_response status.Ok (due_data rows)
 
 -- what is overdue, so many days after the due day
-abbrev pub overdue_response : ℕ → List DueTold → Response
-overdue_response n rows = json_response status.Fine (overdue_data n rows)
+abbrev pub overdue_response : ℕ → List DueRowView → Response
+overdue_response n rows = json_response status.Ok (overdue_data n rows)
 
 -- a content; 404 where there is none
 abbrev pub content_response : Option (List ℕ) → Response
 content_response None = failure_response failure.Content
-content_response (Some bytes) = record { status = status.Fine; kind = kind.Octets; allow = allow.Any; body = bytes }
+content_response (Some bytes) = record { status = status.Ok; kind = kind.Octets; allow = allow.Any; body = bytes }
 
 -- a certificate; 404 where there is none
 abbrev pub certificate_response : Option (List ℕ) → Response
 certificate_response None = failure_response failure.Certificate
-certificate_response (Some text) = record { status = status.Fine; kind = kind.Plain; allow = allow.Any; body = text }
+certificate_response (Some text) = record { status = status.Ok; kind = kind.Plain; allow = allow.Any; body = text }

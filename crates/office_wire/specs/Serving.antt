@@ -5,14 +5,14 @@ use Rattle.sqlite_trees.specs.declared.store.Store.{Ghosts}
 use Rattle.office_base.specs.declared.output.Io.{Io}
 use Rattle.office_rules.specs.State.{State}
 use Rattle.office_desk.specs.Desk.{DeskState}
-use Rattle.office_desk.specs.Leaving.{StandsAt}
-use Rattle.office_http.specs.Plans.{is_head_method}
+use Rattle.office_desk.specs.Leaving.{IsAt}
+use Rattle.office_http.specs.RequestPlans.{is_head_method}
 use Rattle.office_http.specs.declared.failure.Failure.{Failure}
-use Rattle.office_wire.specs.declared.serving.Sending.{Sending}
+use Rattle.office_wire.specs.declared.serving.OutgoingReply.{OutgoingReply}
 use Rattle.office_http.specs.Replies.{Response, response, failure_response, response_text, status_number}
 use Rattle.office_http.specs.Requests.{Request, IsRequest, nothing, headless, asks}
 use Rattle.office_http.specs.declared.failure.Failure.TheVariants as failure
-use Rattle.office_wire.specs.Answering.{Answers, IsUnavailable, Starves, gone_response}
+use Rattle.office_wire.specs.Answering.{Answers, IsUnavailable, RunsOutOfMemory, gone_response}
 use Rattle.office_wire.specs.Calling.{AnsweredAt, CalledAt}
 use Rattle.office_wire.specs.Receiving.{Wanted, wanted}
 
@@ -20,25 +20,25 @@ use Rattle.office_wire.specs.Receiving.{Wanted, wanted}
 abbrev pub Writes : Bool → Response → ℕ → Option (List ℕ) → Option (List ℕ) → Type 0
 Writes is_head r status written after = Appends written after (response_text is_head r) × (status ≡ status_number r.status)
 
--- what is asked is served with this answer, or memory was wanting for that and is told
+-- what is asked is served with this answer, or memory ran out for that and is reported
 abbrev pub IsServed : {S : Type 0} → Ghosts S → State → Wanted → Response → DeskState S → Type 0
-IsServed g t it r desk = Answers g t it r desk ⊎ ((r ≡ failure_response failure.Memory) × Starves g t it desk)
+IsServed g t it r desk = Answers g t it r desk ⊎ ((r ≡ failure_response failure.Memory) × RunsOutOfMemory g t it desk)
 
--- which answer a request gets, whether to HEAD, and where the desk stands then; a connection without a byte gets none
+-- which answer a request gets, whether to HEAD, and where the desk is then; a connection without a byte gets none
 abbrev pub IsReplied : {S : Type 0} → Ghosts S → State → Request → Bool → Response → DeskState S → Type 0
 IsReplied g t nothing is_head r desk = ⊥
-IsReplied g t headless is_head r desk = (is_head ≡ false) × (r ≡ failure_response failure.Head) × StandsAt g t desk
+IsReplied g t headless is_head r desk = (is_head ≡ false) × (r ≡ failure_response failure.Head) × IsAt g t desk
 IsReplied g t (asks h rest) is_head r desk = (is_head ≡ is_head_method h.method) × IsServed g t (wanted h rest) r desk
 
 -- a connection without a byte: nothing is written, and nothing done
 abbrev pub IsSilent : {S : Type 0} → Ghosts S → State → List ℕ → ℕ → Option (List ℕ) → Option (List ℕ) → DeskState S → Type 0
-IsSilent g t bytes status written after desk = IsRequest nothing bytes × (status ≡ 0) × (after ≡ written) × StandsAt g t desk
+IsSilent g t bytes status written after desk = IsRequest nothing bytes × (status ≡ 0) × (after ≡ written) × IsAt g t desk
 
--- the answer to all bytes of a connection: that to their request; or, where memory was wanting before a byte was read, the telling of that
+-- the answer to all bytes of a connection: that to their request; or, where memory ran out before a byte was read, the reporting of that
 abbrev pub IsReply : {S : Type 0} → Ghosts S → State → List ℕ → Type 0 → Bool → Response → DeskState S → Type 0
 IsReply g t bytes unread is_head r desk =
     ((q : Request) × IsRequest q bytes × IsReplied g t q is_head r desk)
-    ⊎ (unread × (is_head ≡ false) × (r ≡ failure_response failure.Memory) × StandsAt g t desk)
+    ⊎ (unread × (is_head ≡ false) × (r ≡ failure_response failure.Memory) × IsAt g t desk)
 
 -- it was written
 abbrev pub Replies : {S : Type 0} → Ghosts S → State → List ℕ → Type 0 → ℕ → Option (List ℕ) → Option (List ℕ) → DeskState S → Type 0
@@ -46,13 +46,13 @@ Replies g t bytes unread status written after desk =
     IsSilent g t bytes status written after desk
     ⊎ ((is_head : Bool) × (r : Response) × IsReply g t bytes unread is_head r desk × Writes is_head r status written after)
 
--- it was perhaps not written whole, as where the writer answered an error, and the desk stands as if it had been
+-- it was perhaps not written whole, as where the writer answered an error, and the desk is as if it had been
 abbrev pub Breaks : {S : Type 0} → Ghosts S → State → List ℕ → Type 0 → DeskState S → Type 0
 Breaks g t bytes unread desk = (is_head : Bool) × (r : Response) × IsReply g t bytes unread is_head r desk
 
--- ---- a desk that was given up
+-- ---- a poisoned desk
 
--- which answer a request gets from it, whether to HEAD; want of memory may be told in its place
+-- which answer a request gets from it, whether to HEAD; lack of memory may be reported in its place
 abbrev pub IsGoneServed : Wanted → Response → Type 0
 IsGoneServed it r = (r ≡ gone_response it) ⊎ (r ≡ failure_response failure.Memory)
 
@@ -75,39 +75,39 @@ GoneReplies bytes unread status written after =
 
 -- ---- whatever came
 
--- the desk stands where serving something may leave it
+-- the desk is where serving something may leave it
 abbrev pub LeavesServed : {S : Type 0} → Ghosts S → State → DeskState S → Type 0
-LeavesServed g t desk = (it : Wanted) × Starves g t it desk
+LeavesServed g t desk = (it : Wanted) × RunsOutOfMemory g t it desk
 
 -- ---- what the code sends
 
 -- an answer from fixed bytes is to be written
-abbrev pub IsFailed : Failure → Bool → Option Sending → Type 0
+abbrev pub IsFailed : Failure → Bool → Option OutgoingReply → Type 0
 IsFailed why is_head None = ⊥
 IsFailed why is_head (Some it) = (response it.reply ≡ failure_response why) × (it.is_head ≡ is_head)
 
 -- what is to be written is the answer to all bytes of a connection
-abbrev pub IsToSend : {S : Type 0} → Ghosts S → State → List ℕ → Type 0 → Option Sending → DeskState S → Type 0
-IsToSend g t bytes unread None desk = IsRequest nothing bytes × StandsAt g t desk
+abbrev pub IsToSend : {S : Type 0} → Ghosts S → State → List ℕ → Type 0 → Option OutgoingReply → DeskState S → Type 0
+IsToSend g t bytes unread None desk = IsRequest nothing bytes × IsAt g t desk
 IsToSend g t bytes unread (Some it) desk = IsReply g t bytes unread it.is_head (response it.reply) desk
 
--- what is to be written is the answer of a desk that was given up
-abbrev pub IsGoneToSend : List ℕ → Type 0 → Option Sending → Type 0
+-- what is to be written is the answer of a poisoned desk
+abbrev pub IsGoneToSend : List ℕ → Type 0 → Option OutgoingReply → Type 0
 IsGoneToSend bytes unread None = IsRequest nothing bytes
 IsGoneToSend bytes unread (Some it) = IsGoneReply bytes unread it.is_head (response it.reply)
 
--- what is to be written tells a fault, or want of memory
-abbrev pub TellsUnavailable : Option Sending → Type 0
-TellsUnavailable None = ⊥
-TellsUnavailable (Some it) = IsUnavailable (response it.reply)
+-- what is to be written reports a fault, or lack of memory
+abbrev pub ReportsUnavailable : Option OutgoingReply → Type 0
+ReportsUnavailable None = ⊥
+ReportsUnavailable (Some it) = IsUnavailable (response it.reply)
 
 -- it was written, and the status is its
-abbrev pub IsSent : Option Sending → ℕ → Option (List ℕ) → Option (List ℕ) → Type 0
+abbrev pub IsSent : Option OutgoingReply → ℕ → Option (List ℕ) → Option (List ℕ) → Type 0
 IsSent None status written after = (status ≡ 0) × (after ≡ written)
 IsSent (Some it) status written after = Writes it.is_head (response it.reply) status written after
 
 -- so the half of serving after it ends
-pub record Sends (sending : Option Sending) (status : Result ℕ Io) (written after : Option (List ℕ)) : Type 0 where
+pub record Sends (sending : Option OutgoingReply) (status : Result ℕ Io) (written after : Option (List ℕ)) : Type 0 where
   pub ok : IfOk status (λ code. IsSent sending code written after)
   -- nothing is written where nothing is to be, so nothing fails
   pub err : OnErr status (IsSome sending)
@@ -118,23 +118,23 @@ pub record Sends (sending : Option Sending) (status : Result ℕ Io) (written af
 abbrev pub HasReply : {S : Type 0} → Ghosts S → Wanted → Response → DeskState S → DeskState S → Type 0
 HasReply g wanted r old new = AnsweredAt g old new (λ t. IsServed g t wanted r new) (IsGoneServed wanted r) (IsUnavailable r)
 
--- from a state: where the reader tells its bytes, what is to be written is the answer to all of them; and the desk stands where serving may leave it
-pub record IsNextReady {S : Type 0} (g : Ghosts S) (t : State) (all : Option (List ℕ)) (unread : Type 0) (next : Result (Option Sending) Io) (desk : DeskState S) : Type 0 where
+-- from a state: where the reader reports its bytes, what is to be written is the answer to all of them; and the desk is where serving may leave it
+pub record IsNextReady {S : Type 0} (g : Ghosts S) (t : State) (all : Option (List ℕ)) (unread : Type 0) (next : Result (Option OutgoingReply) Io) (desk : DeskState S) : Type 0 where
   pub ok : IfOk next (λ it. IfSome all (λ bytes. IsToSend g t bytes unread it desk))
   pub leaves : LeavesServed g t desk
 
--- the half of serving before a byte is written; at 503 alone the desk may be given up by it
-abbrev pub AnswersNext : {R S : Type 0} → Ghosts S → (R → Option (List ℕ)) → (reader left : R) → Result (Option Sending) Io → (old new : DeskState S) → Type 0
+-- the half of serving before a byte is written; at 503 alone the desk may be poisoned by it
+abbrev pub AnswersNext : {R S : Type 0} → Ghosts S → (R → Option (List ℕ)) → (reader left : R) → Result (Option OutgoingReply) Io → (old new : DeskState S) → Type 0
 AnswersNext g all reader left next old new =
     AnsweredAt g old new (λ t. IsNextReady g t (all reader) (left ≡ reader) next new)
-    (IfOk next (λ it. IfSome (all reader) (λ bytes. IsGoneToSend bytes (left ≡ reader) it))) (IfOk next (λ it. TellsUnavailable it))
+    (IfOk next (λ it. IfSome (all reader) (λ bytes. IsGoneToSend bytes (left ≡ reader) it))) (IfOk next (λ it. ReportsUnavailable it))
 
--- from a state: where the reader tells its bytes, the answer to all of them was written; and the desk stands where serving may leave it
+-- from a state: where the reader reports its bytes, the answer to all of them was written; and the desk is where serving may leave it
 pub record IsOneServed {S : Type 0} (g : Ghosts S) (t : State) (all : Option (List ℕ)) (unread : Type 0) (status : Result ℕ Io) (written after : Option (List ℕ)) (desk : DeskState S) : Type 0 where
   pub ok : IfOk status (λ code. IfSome all (λ bytes. Replies g t bytes unread code written after desk))
   pub leaves : LeavesServed g t desk
 
--- one request was served; at 503 alone the desk may be given up by it
+-- one request was served; at 503 alone the desk may be poisoned by it
 abbrev pub ServesOne : {R W S : Type 0} → Ghosts S → (R → Option (List ℕ)) → (reader left : R) → (W → Option (List ℕ)) → (writer after : W) → Result ℕ Io → (old new : DeskState S) → Type 0
 ServesOne g all reader left contents writer after status old new =
     AnsweredAt g old new (λ t. IsOneServed g t (all reader) (left ≡ reader) status (contents writer) (contents after) new)
@@ -142,12 +142,12 @@ ServesOne g all reader left contents writer after status old new =
 
 -- and it was served in two halves
 pub record InHalves {R W S : Type 0} (g : Ghosts S) (all : R → Option (List ℕ)) (reader left : R) (contents : W → Option (List ℕ)) (writer after : W) (status : Result ℕ Io) (old new : DeskState S) : Type 0 where
-  -- the first gives what is to be written, for which the desk stands already
-  pub next : Result (Option Sending) Io
+  -- the first gives what is to be written, for which the desk is already
+  pub next : Result (Option OutgoingReply) Io
   pub first : AnswersNext g all reader left next old new
   -- where it fails, nothing was done and nothing written
   pub unserved : IfErr next (λ e. (status ≡ Err e) × (new ≡ old) × (after ≡ writer))
   -- the second writes that, or fails
   pub second : IfOk next (λ it. Sends it status (contents writer) (contents after))
-  -- so at an error nothing was done and nothing written, or the desk stands as if the answer had been written
+  -- so at an error nothing was done and nothing written, or the desk is as if the answer had been written
   pub err : OnErr status (IfSome (all reader) (λ bytes. ((new ≡ old) × (after ≡ writer)) ⊎ CalledAt g old new (λ t. Breaks g t bytes (left ≡ reader) new)))

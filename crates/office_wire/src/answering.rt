@@ -2,10 +2,10 @@
 ghost use Rattle.std.specs.FinMap.{get};
 ghost use Rattle.std.specs.Prelude.{◌≡◌, ◌⊎◌, IfErr, IfOk, IsTrue, false, option_map, string_bytes};
 ghost use Rattle.office_rules.specs.Readings.{ending_entry, record_view};
-ghost use Rattle.office_wire.specs.Answering.{ArePerformedBy, IsAnswered, IsPerformed, IsRead, IsToldOf};
-ghost use Rattle.office_wire.specs.Receiving.{acts, asked_for, certificate_told, content_told, due_told, overdue_told, record_told, resumption};
+ghost use Rattle.office_wire.specs.Answering.{ArePerformedBy, IsAnswered, IsPerformed, IsRead, IsReportedOf};
+ghost use Rattle.office_wire.specs.Receiving.{acts, asked_for, certificate_reported, content_reported, due_reported, overdue_reported, record_reported, resumption};
 
-use crate::receiving::Asking;
+use crate::receiving::Operation;
 use crate::replies::{
     acts_reply, answer_reply, bad_act_reply, certificate_reply, content_reply, due_reply,
     fault_reply, overdue_reply, record_reply, stopped_reply,
@@ -57,53 +57,53 @@ fn resume<S: Alter>(alloc: Global, desk: &mut Desk<S>) -> Result<Reply, Memory>
     }
 }
 
-/// A record as it is told, with the entry that ended it.
+/// A record as it is reported, with the entry that ended it.
 #[derive(Drop)]
-struct Told {
+struct Reported {
     view: RecordView,
     ending: Option<Entry>,
 }
 
-/// What is told of the record.
-fn read_record<S: Alter>(desk: &Desk<S>, record_no: RecordNo) -> Result<Option<Told>, Fault>
-    ensures ok { IfOk result (λ told. IsToldOf desk.now.office record_no told) }
-    ensures err { IfErr result (λ fault. (fault ≡ Fault.Memory) ⊎ IsTrue desk.now.is_given_up) }
-    ensures gone { IsTrue desk.now.is_given_up → result ≡ Err Fault.Reopen }
+/// What is reported of the record.
+fn read_record<S: Alter>(desk: &Desk<S>, record_no: RecordNo) -> Result<Option<Reported>, Fault>
+    ensures ok { IfOk result (λ reported. IsReportedOf desk.now.office record_no reported) }
+    ensures err { IfErr result (λ fault. (fault ≡ Fault.Memory) ⊎ IsTrue desk.now.is_poisoned) }
+    ensures gone { IsTrue desk.now.is_poisoned → result ≡ Err Fault.Reopen }
 {
     match desk.record(record_no)? {
         None => Ok(None),
         Some(view) => {
             let ending = desk.entry_of(record_no)?;
-            Ok(Some(Told { view, ending }))
+            Ok(Some(Reported { view, ending }))
         }
     }
 }
 
-/// Tells a record.
-fn tell_record<S: Alter>(
+/// Reports a record.
+fn report_record<S: Alter>(
     alloc: Global,
     desk: &Desk<S>,
     number: Option<u32>,
 ) -> Result<Reply, Memory>
-    ensures { IsRead S.Store (record_told number) result desk.now }
+    ensures { IsRead S.Store (record_reported number) result desk.now }
 {
     let Some(record_no) = number else {
         return Ok(failure_reply(Failure::Record));
     };
     match read_record(desk, record_no) {
         Ok(None) => Ok(failure_reply(Failure::Record)),
-        Ok(Some(told)) => record_reply(alloc, &told.view, told.ending.as_ref()),
+        Ok(Some(reported)) => record_reply(alloc, &reported.view, reported.ending.as_ref()),
         Err(fault) => fault_reply(alloc, fault),
     }
 }
 
-/// Tells a content.
-fn tell_content<S: Alter>(
+/// Reports a content.
+fn report_content<S: Alter>(
     alloc: Global,
     desk: &mut Desk<S>,
     number: Option<u32>,
 ) -> Result<Reply, Memory>
-    ensures { IsPerformed S.Store (content_told number) result desk.old desk.new }
+    ensures { IsPerformed S.Store (content_reported number) result desk.old desk.new }
 {
     let Some(record_no) = number else {
         return Ok(failure_reply(Failure::Content));
@@ -114,9 +114,9 @@ fn tell_content<S: Alter>(
     }
 }
 
-/// Tells what is due on a day.
-fn tell_due<S: Alter>(alloc: Global, desk: &Desk<S>, day: Option<Day>) -> Result<Reply, Memory>
-    ensures { IsRead S.Store (due_told day) result desk.now }
+/// Reports what is due on a day.
+fn report_due<S: Alter>(alloc: Global, desk: &Desk<S>, day: Option<Day>) -> Result<Reply, Memory>
+    ensures { IsRead S.Store (due_reported day) result desk.now }
 {
     let Some(day) = day else {
         return Ok(failure_reply(Failure::Day));
@@ -127,14 +127,14 @@ fn tell_due<S: Alter>(alloc: Global, desk: &Desk<S>, day: Option<Day>) -> Result
     }
 }
 
-/// Tells what is overdue on a day, so many days after the due day. Of a bad day and a bad count the day is told.
-fn tell_overdue<S: Alter>(
+/// Reports what is overdue on a day, so many days after the due day. Of a bad day and a bad count the day is reported.
+fn report_overdue<S: Alter>(
     alloc: Global,
     desk: &Desk<S>,
     day: Option<Day>,
     days: Option<ConfirmDays>,
 ) -> Result<Reply, Memory>
-    ensures { IsRead S.Store (overdue_told day days) result desk.now }
+    ensures { IsRead S.Store (overdue_reported day days) result desk.now }
 {
     let Some(day) = day else {
         return Ok(failure_reply(Failure::Day));
@@ -148,13 +148,13 @@ fn tell_overdue<S: Alter>(
     }
 }
 
-/// Tells the certificate of a run.
-fn tell_certificate<S: Alter>(
+/// Reports the certificate of a run.
+fn report_certificate<S: Alter>(
     alloc: Global,
     desk: &Desk<S>,
     number: Option<u32>,
 ) -> Result<Reply, Memory>
-    ensures { IsRead S.Store (certificate_told number) result desk.now }
+    ensures { IsRead S.Store (certificate_reported number) result desk.now }
 {
     let Some(run) = number else {
         return Ok(failure_reply(Failure::Certificate));
@@ -166,19 +166,23 @@ fn tell_certificate<S: Alter>(
 }
 
 /// Does at the desk what is asked, and gives the answer. `Memory` comes where memory was refused for the
-/// answer; what was done stands then.
-pub fn answer<S: Alter>(alloc: Global, desk: &mut Desk<S>, asking: &Asking) -> Result<Reply, Memory>
-    ensures { IsAnswered S.Store (asked_for asking.now) result desk.old desk.new }
+/// answer; what was done is kept then.
+pub fn answer<S: Alter>(
+    alloc: Global,
+    desk: &mut Desk<S>,
+    operation: &Operation,
+) -> Result<Reply, Memory>
+    ensures { IsAnswered S.Store (asked_for operation.now) result desk.old desk.new }
 {
-    match asking {
-        Asking::Refused(check) => Ok(check_reply(*check)),
-        Asking::Cut => Ok(failure_reply(Failure::Body)),
-        Asking::Acts(body) => perform_body(alloc, desk, body.as_bytes()),
-        Asking::Resumption => resume(alloc, desk),
-        Asking::Record(number) => tell_record(alloc, desk, *number),
-        Asking::Content(number) => tell_content(alloc, desk, *number),
-        Asking::Due(day) => tell_due(alloc, desk, *day),
-        Asking::Overdue(day, days) => tell_overdue(alloc, desk, *day, *days),
-        Asking::Certificate(number) => tell_certificate(alloc, desk, *number),
+    match operation {
+        Operation::Refused(check) => Ok(check_reply(*check)),
+        Operation::Cut => Ok(failure_reply(Failure::Body)),
+        Operation::Acts(body) => perform_body(alloc, desk, body.as_bytes()),
+        Operation::Resumption => resume(alloc, desk),
+        Operation::Record(number) => report_record(alloc, desk, *number),
+        Operation::Content(number) => report_content(alloc, desk, *number),
+        Operation::Due(day) => report_due(alloc, desk, *day),
+        Operation::Overdue(day, days) => report_overdue(alloc, desk, *day, *days),
+        Operation::Certificate(number) => report_certificate(alloc, desk, *number),
     }
 }

@@ -27,13 +27,13 @@ pub struct Service {
     pub connections: u32,
     /// Whether one of them failed.
     pub has_failed: bool,
-    /// Whether it ended since the desk was given up.
-    pub is_given_up: bool,
+    /// Whether it ended since the desk was poisoned.
+    pub is_poisoned: bool,
 }
 
 /// Reads what the peer still sends, for a while: to close a socket with bytes that were not read resets
 /// the connection, and the peer may lose the answer.
-fn hear_out<C: Read + OpenStream>(stream: &mut C) {
+fn drain<C: Read + OpenStream>(stream: &mut C) {
     if stream
         .set_read_timeout(Some(Duration::from_millis(100)))
         .is_err()
@@ -50,10 +50,10 @@ fn hear_out<C: Read + OpenStream>(stream: &mut C) {
     }
 }
 
-/// Tells the peer that the answer has ended, and hears it out.
+/// Reports the peer that the answer has ended, and drains what it still sends.
 fn finish<C: Read + OpenStream>(stream: &mut C) {
     if stream.shutdown(Shutdown::Write).is_ok() {
-        hear_out(stream);
+        drain(stream);
     }
 }
 
@@ -114,12 +114,12 @@ where
     }
 }
 
-/// Whether serving ends after a connection: its answer was 503, and the desk was given up.
+/// Whether serving ends after a connection: its answer was 503, and the desk was poisoned.
 fn ends_after<S: Alter>(desk: &Desk<S>, served: Result<u16, Io>) -> bool
-    ensures { Ends served desk.now.is_given_up result }
+    ensures { Ends served desk.now.is_poisoned result }
 {
     match served {
-        Ok(503) => desk.is_given_up(),
+        Ok(503) => desk.is_poisoned(),
         _ => false,
     }
 }
@@ -131,18 +131,18 @@ fn failed_by(earlier: bool, served: Result<u16, Io>) -> bool
     earlier || served.is_err()
 }
 
-/// Tells that a connection has failed, where it has.
-fn tell_failure<E: Write>(served: Result<u16, Io>, err: &mut E) {
+/// Reports that a connection has failed, where it has.
+fn report_failure<E: Write>(served: Result<u16, Io>, err: &mut E) {
     if served.is_err() {
         let _ = err.write_all(b"office: socket\n");
     }
 }
 
-/// Serves so many connections, one after another, and fewer only where the desk was given up. One that
-/// fails counts too, and is told on `err`. By the clock a whole request may take `LONGEST` seconds from its first
+/// Serves so many connections, one after another, and fewer only where the desk was poisoned. One that
+/// fails counts too, and is reported on `err`. By the clock a whole request may take `LONGEST` seconds from its first
 /// read on, and its whole answer as many from its first write on; a connection that takes longer fails. What a client
-/// asks is not known here, since a socket does not tell its bytes beforehand: of each connection it is known that
-/// the desk stands where serving something leaves it.
+/// asks is not known here, since a socket does not report its bytes beforehand: of each connection it is known that
+/// the desk is where serving something leaves it.
 pub fn serve_all<L: OpenListener, K: Clock, E: Write, S: Alter>(
     alloc: Global,
     routes: &Routes,
@@ -159,19 +159,19 @@ where
     let mut has_failed = false;
     for before in 0..count {
         let served = serve_next(alloc, routes, listener, clock, desk);
-        tell_failure(served, err);
+        report_failure(served, err);
         has_failed = failed_by(has_failed, served);
         if ends_after(desk, served) {
             return Service {
                 connections: before + 1,
                 has_failed,
-                is_given_up: true,
+                is_poisoned: true,
             };
         }
     }
     Service {
         connections: count,
         has_failed,
-        is_given_up: false,
+        is_poisoned: false,
     }
 }

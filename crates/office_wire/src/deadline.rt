@@ -25,7 +25,7 @@ fn left(began: Duration, now: Duration) -> Option<Duration>
     if left.is_zero() { None } else { Some(left) }
 }
 
-/// A side of a connection, whose time begins as it is first read or written. It tells no bytes beforehand, as
+/// A side of a connection, whose time begins as it is first read or written. It reports no bytes beforehand, as
 /// a socket does not.
 #[derive(Drop)]
 pub(crate) struct Timed<'a, C, K> {

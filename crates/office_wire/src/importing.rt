@@ -30,7 +30,7 @@ pub enum ImportStop {
     Header,
     /// The row of that number, from 1, has another number of fields, or is not UTF-8.
     Row(u64),
-    /// The desk told this fault, or want of memory.
+    /// The desk reported this fault, or lack of memory.
     Fault(Fault),
     /// The reader or the writer answered an error.
     Io,
@@ -188,7 +188,7 @@ fn import_text<S: Alter, R: Read, W: Write>(
 /// Where it stops, what the rows before asked for is done: at `Header` that is nothing; at `Row(N)` the Nth row
 /// has another number of fields or is not UTF-8; at `Fault` the desk was stopped at the next row, or memory was
 /// wanting to read it; at `Io` the reader or the writer answered an error, and the last row that was done may have
-/// no line. The same text may be given again: a record that is there is told as the same.
+/// no line. The same text may be given again: a record that is there is reported as the same.
 pub fn import_records<S: Alter, R: Read, W: Write>(
     alloc: Global,
     desk: &mut Desk<S>,
@@ -198,7 +198,7 @@ pub fn import_records<S: Alter, R: Read, W: Write>(
 ) -> Result<u64, ImportStop>
     ensures { ImportsText S.Store day (R.remaining reader.old) W.contents out.old out.new result desk.old desk.new }
 {
-    if desk.is_given_up() {
+    if desk.is_poisoned() {
         return Err(ImportStop::Fault(Fault::Reopen));
     }
     let mut rdr = import_reader(alloc, reader);

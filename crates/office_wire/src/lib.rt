@@ -26,6 +26,6 @@ pub use importing::{ImportStop, import_records};
 pub use office_base::Io;
 pub use office_http::Routes;
 pub use office_json::{ReadFault, answer_value, read_act};
-pub use receiving::{Asked, Asking, ReceiveStop, Received, receive};
+pub use receiving::{Asked, Operation, ReceiveStop, Received, receive};
 pub use registers::{ExportStop, export_due, export_entries, export_overdue};
-pub use serving::{Sending, answer_next, send, serve_one};
+pub use serving::{OutgoingReply, answer_next, send, serve_one};

@@ -2,24 +2,24 @@
 ghost use Rattle.std.specs.Prelude.{◌≡◌, ◌≢◌, ◌+◌, ◌≤◌, ◌++◌, drop, length, IfErr, IfOk, IfSome, OnErr};
 ghost use Rattle.httparse.specs.Grammar.{RequestHead};
 ghost use Rattle.httparse.specs.Spans.{IsRequestAt};
-ghost use Rattle.office_http.specs.Plans.{IsSized};
+ghost use Rattle.office_http.specs.RequestPlans.{IsSized};
 ghost use Rattle.office_http.specs.Requests.{IsHeadAt};
-ghost use Rattle.office_wire.specs.Receiving.{AsksFor, IsAskedBy, IsStarvedFor, Receives, body_wanted, plan_wanted, want_wanted};
+ghost use Rattle.office_wire.specs.Receiving.{AsksFor, IsAskedBy, IsOutOfMemoryFor, Receives, body_wanted, plan_wanted, want_wanted};
 
 use crate::body::ActsBody;
 use httparse::spans::{HeaderSpan, RequestSpans};
 use office_base::{Io, Stop};
 use office_days::{ConfirmDays, Day};
 use office_http::{
-    Check, Head, LONGEST_HEAD, MOST_FIELDS, Plan, Routes, Want, is_head_in, plan_in, read_body,
-    read_head,
+    Check, Head, LONGEST_HEAD, MOST_FIELDS, RequestPlan, Routes, Want, is_head_in, plan_in,
+    read_body, read_head,
 };
 use std::alloc::Global;
 use std::io::Read;
 
 /// What a request asks for.
 #[derive(Drop)]
-pub enum Asking {
+pub enum Operation {
     /// Nothing, since a check of its head fails.
     Refused(Check),
     /// Nothing, since the connection ends before the body does.
@@ -28,7 +28,7 @@ pub enum Asking {
     Acts(ActsBody),
     /// The rest of the open run.
     Resumption,
-    /// What is told of the record with that number.
+    /// What is reported of the record with that number.
     Record(Option<u32>),
     /// The content of the record with that number.
     Content(Option<u32>),
@@ -44,7 +44,7 @@ pub enum Asking {
 #[derive(Drop)]
 pub struct Asked {
     /// What it asks for.
-    pub asking: Asking,
+    pub operation: Operation,
     /// Whether its method is HEAD, so that the head of the answer alone is written.
     pub is_head: bool,
 }
@@ -77,7 +77,7 @@ fn receive_acts<R: Read>(
     mut buf: Vec<u8>,
     start: usize,
     size: u64,
-) -> Result<Asking, Stop>
+) -> Result<Operation, Stop>
     requires start_in { start ≤ length buf.items }
     requires small { start ≤ 16_384 }
     requires limit { size ≤ 1_048_576 }
@@ -85,9 +85,9 @@ fn receive_acts<R: Read>(
 {
     let end = start + size as usize;
     if read_body(reader, &mut buf, start, end)? {
-        Ok(Asking::Acts(ActsBody::new(buf, start, end)))
+        Ok(Operation::Acts(ActsBody::new(buf, start, end)))
     } else {
-        Ok(Asking::Cut)
+        Ok(Operation::Cut)
     }
 }
 
@@ -97,20 +97,20 @@ fn receive_wanted<R: Read>(
     buf: Vec<u8>,
     start: usize,
     want: Want,
-) -> Result<Asking, Stop>
+) -> Result<Operation, Stop>
     requires start_in { start ≤ length buf.items }
     requires small { start ≤ 16_384 }
-    requires sized { IsSized (Plan.Serve want) }
+    requires sized { IsSized (RequestPlan.Serve want) }
     ensures { AsksFor (want_wanted want) (drop start buf.items) (R.remaining reader.old) result }
 {
     match want {
         Want::Acts(size) => receive_acts(reader, buf, start, size),
-        Want::Resume => Ok(Asking::Resumption),
-        Want::Record(number) => Ok(Asking::Record(number)),
-        Want::Content(number) => Ok(Asking::Content(number)),
-        Want::Due(day) => Ok(Asking::Due(day)),
-        Want::Overdue(day, days) => Ok(Asking::Overdue(day, days)),
-        Want::Certificate(number) => Ok(Asking::Certificate(number)),
+        Want::Resume => Ok(Operation::Resumption),
+        Want::Record(number) => Ok(Operation::Record(number)),
+        Want::Content(number) => Ok(Operation::Content(number)),
+        Want::Due(day) => Ok(Operation::Due(day)),
+        Want::Overdue(day, days) => Ok(Operation::Overdue(day, days)),
+        Want::Certificate(number) => Ok(Operation::Certificate(number)),
     }
 }
 
@@ -119,16 +119,16 @@ fn receive_planned<R: Read>(
     reader: &mut R,
     buf: Vec<u8>,
     start: usize,
-    plan: Plan,
-) -> Result<Asking, Stop>
+    plan: RequestPlan,
+) -> Result<Operation, Stop>
     requires start_in { start ≤ length buf.items }
     requires small { start ≤ 16_384 }
     requires sized { IsSized plan }
     ensures { AsksFor (plan_wanted plan) (drop start buf.items) (R.remaining reader.old) result }
 {
     match plan {
-        Plan::Refuse(check) => Ok(Asking::Refused(check)),
-        Plan::Serve(want) => receive_wanted(reader, buf, start, want),
+        RequestPlan::Refuse(check) => Ok(Operation::Refused(check)),
+        RequestPlan::Serve(want) => receive_wanted(reader, buf, start, want),
     }
 }
 
@@ -143,12 +143,12 @@ fn receive_rest<R: Read>(
     requires at { IsHeadAt head.now buf.items headers.now }
     ensures ok { IfOk result (λ it. IfSome (R.remaining reader.old) (λ left.
         (h : RequestHead) → IsRequestAt buf.items headers.now head.now h → IsAskedBy h (drop head.now.len buf.items ++ left) it)) }
-    ensures err { IfErr result (λ stop. (h : RequestHead) → IsRequestAt buf.items headers.now head.now h → IsStarvedFor h stop) }
+    ensures err { IfErr result (λ stop. (h : RequestHead) → IsRequestAt buf.items headers.now head.now h → IsOutOfMemoryFor h stop) }
 {
     let is_head = is_head_in(buf.as_slice(), head);
     let plan = plan_in(routes, buf.as_slice(), head, headers);
     match receive_planned(reader, buf, head.len, plan) {
-        Ok(asking) => Ok(Asked { asking, is_head }),
+        Ok(operation) => Ok(Asked { operation, is_head }),
         Err(Stop::Memory) => Err(ReceiveStop::MemoryFor(is_head)),
         Err(Stop::Io) => Err(ReceiveStop::Io),
     }

@@ -19,7 +19,7 @@ use std::io::Write;
 /// Why a register was not written to its end; some of it may have gone out.
 #[derive(Clone, Copy, PartialEq, Eq, Debug)]
 pub enum ExportStop {
-    /// The desk told this fault, or want of memory.
+    /// The desk reported this fault, or lack of memory.
     Fault(Fault),
     /// The writer answered an error.
     Io,
@@ -126,7 +126,7 @@ fn write_entry_register<W: Write>(
 /// Writes the due register of a day as CSV: its columns `record,ref,class,schedule,action,due,held,confirmed`, and a
 /// line for each record that is here and due on that day or before it, by due day, then number. Each line goes out
 /// before the next is made, and at `Ok` all of them were sent out. It changes nothing. `Fault(Memory)` comes where
-/// memory was refused, `Fault(Reopen)` where the desk was given up, and then nothing is written; `Io` where the
+/// memory was refused, `Fault(Reopen)` where the desk was poisoned, and then nothing is written; `Io` where the
 /// writer answered an error. At `Fault(Memory)` and `Io` some of the register may have gone out.
 pub fn export_due<S: Alter, W: Write>(
     alloc: Global,

@@ -59,7 +59,7 @@ fn answers_status(answers: &[Answer]) -> Status
     if has_refusal(answers) {
         Status::Conflict
     } else {
-        Status::Fine
+        Status::Ok
     }
 }
 
@@ -101,12 +101,12 @@ pub(crate) fn bad_act_reply(alloc: Global, place: u64, refusal: Refusal) -> Resu
 
 /// The status of the answer to one act.
 fn answer_status(answer: &Answer) -> Status
-    ensures { result ≡ (if is_refusal answer.now then Status.Conflict else Status.Fine) }
+    ensures { result ≡ (if is_refusal answer.now then Status.Conflict else Status.Ok) }
 {
     if is_refusal(answer) {
         Status::Conflict
     } else {
-        Status::Fine
+        Status::Ok
     }
 }
 
@@ -118,16 +118,16 @@ pub(crate) fn answer_reply(alloc: Global, answer: &Answer) -> Result<Reply, Memo
     json_reply(alloc, answer_status(answer), &value)
 }
 
-/// What is told of a record, with the entry that ended it.
+/// What is reported of a record, with the entry that ended it.
 pub(crate) fn record_reply(
     alloc: Global,
-    told: &RecordView,
+    reported: &RecordView,
     ending: Option<&Entry>,
 ) -> Result<Reply, Memory>
-    ensures { IfOk result (λ reply. response reply ≡ record_response (Some told.now) (option_copied ending.entry)) }
+    ensures { IfOk result (λ reply. response reply ≡ record_response (Some reported.now) (option_copied ending.entry)) }
 {
-    let value = record_value(alloc, told, ending)?;
-    json_reply(alloc, Status::Fine, &value)
+    let value = record_value(alloc, reported, ending)?;
+    json_reply(alloc, Status::Ok, &value)
 }
 
 /// The rows of what is due, in JSON.
@@ -147,7 +147,7 @@ pub(crate) fn due_reply(alloc: Global, rows: DueRows<'_>) -> Result<Reply, Memor
 {
     let values = row_values(alloc, rows)?;
     let value = due_value(values);
-    json_reply(alloc, Status::Fine, &value)
+    json_reply(alloc, Status::Ok, &value)
 }
 
 /// The rows of what is overdue, in JSON.
@@ -175,7 +175,7 @@ pub(crate) fn overdue_reply(
 {
     let values = overdue_values(alloc, rows, days)?;
     let value = overdue_value(values);
-    json_reply(alloc, Status::Fine, &value)
+    json_reply(alloc, Status::Ok, &value)
 }
 
 /// A content, or that there is none.
@@ -185,7 +185,7 @@ pub(crate) fn content_reply(content: Option<Vec<u8>>) -> Reply
     match content {
         None => failure_reply(Failure::Content),
         Some(bytes) => Reply {
-            status: Status::Fine,
+            status: Status::Ok,
             kind: Kind::Octets,
             allow: Allow::Any,
             body: Body::Bytes(bytes),
@@ -200,7 +200,7 @@ pub(crate) fn certificate_reply(certificate: Option<String>) -> Reply
     match certificate {
         None => failure_reply(Failure::Certificate),
         Some(text) => Reply {
-            status: Status::Fine,
+            status: Status::Ok,
             kind: Kind::Plain,
             allow: Allow::Any,
             body: Body::Text(text),

@@ -6,7 +6,7 @@ ghost use Rattle.office_wire.specs.Receiving.{asked_for};
 ghost use Rattle.office_wire.specs.Serving.{AnswersNext, HasReply, InHalves, IsFailed, Sends, ServesOne};
 
 use crate::answering::answer;
-use crate::receiving::{Asked, Asking, ReceiveStop, Received, receive};
+use crate::receiving::{Asked, Operation, ReceiveStop, Received, receive};
 use office_base::Io;
 use office_desk::Desk;
 use office_http::{Failure, Reply, Routes, failure_reply, write_reply};
@@ -14,12 +14,12 @@ use sqlite::Alter;
 use std::alloc::Global;
 use std::io::{Read, Write};
 
-/// Does what is asked, and gives an answer in any case: where memory is refused for it, that is told from
+/// Does what is asked, and gives an answer in any case: where memory is refused for it, that is reported from
 /// fixed bytes.
-fn served<S: Alter>(alloc: Global, desk: &mut Desk<S>, asking: &Asking) -> Reply
-    ensures { HasReply S.Store (asked_for asking.now) (response result) desk.old desk.new }
+fn served<S: Alter>(alloc: Global, desk: &mut Desk<S>, operation: &Operation) -> Reply
+    ensures { HasReply S.Store (asked_for operation.now) (response result) desk.old desk.new }
 {
-    match answer(alloc, desk, asking) {
+    match answer(alloc, desk, operation) {
         Ok(reply) => reply,
         Err(_) => failure_reply(Failure::Memory),
     }
@@ -27,7 +27,7 @@ fn served<S: Alter>(alloc: Global, desk: &mut Desk<S>, asking: &Asking) -> Reply
 
 /// An answer that is to be written.
 #[derive(Drop)]
-pub struct Sending {
+pub struct OutgoingReply {
     /// The answer.
     pub reply: Reply,
     /// Whether its head alone is written, as to HEAD.
@@ -35,20 +35,20 @@ pub struct Sending {
 }
 
 /// An answer from fixed bytes.
-fn failed(failure: Failure, is_head: bool) -> Option<Sending>
+fn failed(failure: Failure, is_head: bool) -> Option<OutgoingReply>
     ensures { IsFailed failure is_head result }
 {
     let reply = failure_reply(failure);
-    Some(Sending { reply, is_head })
+    Some(OutgoingReply { reply, is_head })
 }
 
 /// Does what a request asks for, and gives its answer.
-fn answered<S: Alter>(alloc: Global, desk: &mut Desk<S>, asked: Asked) -> Sending
+fn answered<S: Alter>(alloc: Global, desk: &mut Desk<S>, asked: Asked) -> OutgoingReply
     ensures is_head { result.is_head ≡ asked.is_head }
-    ensures has { HasReply S.Store (asked_for asked.asking) (response result.reply) desk.old desk.new }
+    ensures has { HasReply S.Store (asked_for asked.operation) (response result.reply) desk.old desk.new }
 {
-    let reply = served(alloc, desk, &asked.asking);
-    Sending {
+    let reply = served(alloc, desk, &asked.operation);
+    OutgoingReply {
         reply,
         is_head: asked.is_head,
     }
@@ -62,7 +62,7 @@ pub fn answer_next<R: Read, S: Alter>(
     routes: &Routes,
     desk: &mut Desk<S>,
     reader: &mut R,
-) -> Result<Option<Sending>, Io>
+) -> Result<Option<OutgoingReply>, Io>
     ensures next { AnswersNext S.Store R.remaining reader.old reader.new result desk.old desk.new }
     ensures err { OnErr result (desk.new ≡ desk.old) }
 {
@@ -77,8 +77,8 @@ pub fn answer_next<R: Read, S: Alter>(
 }
 
 /// The half of serving after it: writes an answer, if there is one, and gives its status, or 0. `Io` comes where the
-/// writer answered an error; no desk is here, so it stands as if the answer had been written.
-pub fn send<W: Write>(sending: Option<Sending>, writer: &mut W) -> Result<u16, Io>
+/// writer answered an error; no desk is here, so it is as if the answer had been written.
+pub fn send<W: Write>(sending: Option<OutgoingReply>, writer: &mut W) -> Result<u16, Io>
     ensures { Sends sending result (W.contents writer.old) (W.contents writer.new) }
 {
     match sending {
@@ -92,12 +92,12 @@ pub fn send<W: Write>(sending: Option<Sending>, writer: &mut W) -> Result<u16, I
 /// depend on how the bytes were cut.
 ///
 /// It is [`answer_next`] and then [`send`]. `Io` comes where the reader answered an error, and then nothing was
-/// done and nothing written; or where the writer did, and then the desk stands as if the answer had been
-/// written. Where the reader does not tell its bytes, as a socket's does not, the desk still stands where serving
+/// done and nothing written; or where the writer did, and then the desk is as if the answer had been
+/// written. Where the reader does not report its bytes, as a socket's does not, the desk still is where serving
 /// something leaves it.
 ///
-/// A desk that was given up stays as it is, and fault 32 is told in place of all that it would do or tell. Where
-/// it is given up here, the status is 503.
+/// A poisoned desk stays as it is, and fault 32 is reported in place of all that it would do or report. Where
+/// it is poisoned here, the status is 503.
 pub fn serve_one<R: Read, W: Write, S: Alter>(
     alloc: Global,
     routes: &Routes,

@@ -1,4 +1,4 @@
--- The office's command is one of which `clap` tells the matches.
+-- The office's command is one of which `clap` reports the matches.
 use Rattle.std.proofs.Common.{◌≡◌, true, refl}
 use Rattle.clap.specs.Words.{is_simple}
 use Rattle.clap.proofs.OnLiterals.{clap_on_literals}

@@ -60,7 +60,7 @@ abbrev pub exportation_of : Text → Option Register → Result Ordered Refusal
 exportation_of file (Some it) = Ok (exportation_ordered file it)
 exportation_of file None = Err BadText
 
--- what is overdue on a day, where texts were read as the day and as the days to confirm: a text that is no day is told first
+-- what is overdue on a day, where texts were read as the day and as the days to confirm: a text that is no day is reported first
 abbrev pub overdue_of : Text → Option ℤ → Result ℕ Refusal → Result Ordered Refusal
 overdue_of file (Some day) (Ok days) = Ok (overdue_ordered file day days)
 overdue_of file (Some day) (Err refusal) = Err refusal

@@ -11,7 +11,7 @@ is_port n = nat_le 1 n && nat_le n 65_535
 abbrev pub is_connection_count : ℕ → Bool
 is_connection_count n = nat_le 1 n && nat_le n 1_000_000
 
--- both numbers, or the refusal: what is no number is told before what is out of its range
+-- both numbers, or the refusal: what is no number is reported before what is out of its range
 abbrev pub service_numbered : Option ℕ → Option ℕ → Result (ℕ × ℕ) Refusal
 service_numbered (Some port) (Some count) = if is_port port && is_connection_count count then Ok (port, count) else Err BadNumber
 service_numbered (Some port) None = Err BadText

@@ -35,7 +35,7 @@ pub enum Order<'a> {
     Resume {
         file: &'a str,
     },
-    /// Tells the certificate of that run.
+    /// Reports the certificate of that run.
     Certificate {
         file: &'a str,
         run: u32,
@@ -72,7 +72,7 @@ pub enum Order<'a> {
 /// more ASCII digits, from 1 to 4,294,967,295, leading zeros allowed; so are the port of a service, from 1
 /// to 65,535, and its count of connections, from 1 to 1,000,000. The day of an import is written as 2017-06-30;
 /// the register of an export is `entries`, or such a day. The day of what is overdue is written so too, and its
-/// count of days, 3,650 at most, as the numbers above; what is no day or no digits is told before a count that is
+/// count of days, 3,650 at most, as the numbers above; what is no day or no digits is reported before a count that is
 /// over.
 pub fn order_of<'a>(words: Words<'a>) -> Result<Order<'a>, Refusal>
     ensures ok { IfOk result (λ order. order_asked (asked words.entry) ≡ Ok (ordered order)) }

@@ -179,7 +179,7 @@ fn words_of<'a>(matches: &ArgMatches<'a>) -> Words<'a>
 pub fn read_words<'a>(alloc: Global, words: &'a [&'a str]) -> Result<Words<'a>, Error>
     ensures asked { IfOk result (λ w. asked w ≡ asked_in (subcommand_of office_app (map (λ s. s.now) words.entry.now))) }
 
-    // Where the words are a command of the program, only want of memory can fail.
+    // Where the words are a command of the program, only lack of memory can fail.
     ensures taken { takes office_app (map (λ s. s.now) words.entry.now) ≡ true → IfErr result (λ e. kind_of e ≡ ErrorKind.OutOfMemory) }
 {
     let command = office_command(alloc)?;

@@ -20,11 +20,11 @@ pub(crate) fn place_hold(alloc: Global, value: &Value) -> Result<Act, ReadFault>
         return Err(ReadFault::Refused(Refusal::BadText));
     }
     let named = both(day_at(value, "day"), code_at(alloc, value, "code"));
-    let told = both(
+    let reported = both(
         words_at(alloc, value, "reason"),
         words_at(alloc, value, "by"),
     );
-    match both(named, told) {
+    match both(named, reported) {
         Ok(((day, code), (reason, by))) => Ok(Act::PlaceHold {
             day,
             code,

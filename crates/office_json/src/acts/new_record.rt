@@ -82,7 +82,7 @@ fn act_of(heading: Heading, content: Content) -> Act
 }
 
 /// What was read without memory.
-fn told(content: Result<Content, Refusal>) -> Result<Content, ReadFault>
+fn reported(content: Result<Content, Refusal>) -> Result<Content, ReadFault>
     ensures { IsReadAs content result }
 {
     match content {
@@ -112,7 +112,7 @@ pub(crate) fn add_record(alloc: Global, value: &Value) -> Result<Act, ReadFault>
         return Err(ReadFault::Refused(Refusal::BadText));
     }
     let content = content_at(alloc, value, "content")?;
-    match both(read_heading(alloc, value), told(content)) {
+    match both(read_heading(alloc, value), reported(content)) {
         Ok((heading, content)) => Ok(act_of(heading, content)),
         Err(fault) => Err(fault),
     }

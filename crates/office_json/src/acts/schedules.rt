@@ -48,11 +48,11 @@ pub(crate) fn add_class(alloc: Global, value: &Value) -> Result<Act, ReadFault>
         return Err(ReadFault::Refused(Refusal::BadText));
     }
     let named = both(day_at(value, "day"), code_at(alloc, value, "code"));
-    let told = both(
+    let reported = both(
         words_at(alloc, value, "title"),
         code_at(alloc, value, "schedule"),
     );
-    match both(named, told) {
+    match both(named, reported) {
         Ok(((day, code), (title, schedule))) => Ok(Act::AddClass {
             day,
             code,

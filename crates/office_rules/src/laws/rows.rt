@@ -3,18 +3,18 @@ ghost use Rattle.std.specs.Prelude.{◌≡◌, List, length};
 ghost use Rattle.office_rules.specs.Acts.{CanBeMade, IsDecidedFor, step};
 ghost use Rattle.office_rules.specs.Rows.{rows_of, write_rows, all_row_writes};
 ghost use Rattle.office_rules.specs.State.{State, Office, ByteMap, with_contents};
-ghost use Rattle.office_rules.specs.Tables.{StandsFor, TableLists};
+ghost use Rattle.office_rules.specs.Tables.{Represents, TableLists};
 ghost use Rattle.office_rules.specs.Writes.{write, all_writes, all_office_writes, CanWrite, HasPlace, RefsAreFree};
 ghost use Rattle.office_rules.specs.declared.act.Act.{Act};
 ghost use Rattle.office_rules.specs.declared.change.Change.{Change};
 ghost use Rattle.office_rules.specs.declared.change.Decision.TheVariants.{Go};
 ghost use Rattle.office_rules.specs.declared.rows.RowWrite.{RowWrite};
 
-/// Two different states stand for different rows, where each record has a status; and tables that were
-/// read, in which contents have their keys alone, stand for at most one office.
+/// Two different states represent different rows, where each record has a status; and tables that were
+/// read, in which contents have their keys alone, represent at most one office.
 pub fn law_of_one_state()
     ensures one { (s t : State) → length s.office.tree.statuses ≡ length s.office.tree.records → length t.office.tree.statuses ≡ length t.office.tree.records → rows_of s ≡ rows_of t → s ≡ t }
-    ensures tables { (t : TableLists) (s u : State) → length s.office.tree.statuses ≡ length s.office.tree.records → length u.office.tree.statuses ≡ length u.office.tree.records → StandsFor t s → StandsFor t u → s.office ≡ u.office }
+    ensures tables { (t : TableLists) (s u : State) → length s.office.tree.statuses ≡ length s.office.tree.records → length u.office.tree.statuses ≡ length u.office.tree.records → Represents t s → Represents t u → s.office ≡ u.office }
 {}
 
 /// A write of a row that has a place makes of the rows of a state those of the next; and so do the

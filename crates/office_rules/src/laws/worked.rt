@@ -45,7 +45,7 @@ pub fn law_of_a_last_addition()
 
 /// A record that is here and planned to be transferred is sent, held or not. A received record is
 /// skipped while it is held, and else its transfer ends. A receipt for a sent record is refused where
-/// it tells another digest; with the record's own it is accepted and the record is received; for an
+/// it reports another digest; with the record's own it is accepted and the record is received; for an
 /// ended record it is refused.
 pub fn law_of_a_transfer()
     ensures sent { (s : Office) (r : ℕ) → status_of s.tree r ≡ Some status.Here → action_of s.tree r ≡ Some action.Transfer → outcome_of s r ≡ Some outcome.Sent }
@@ -57,7 +57,7 @@ pub fn law_of_a_transfer()
     ensures of_ended { (digest : List ℕ) → first_of (refusals_of_receipt ended_office filing_day 1 digest) ≡ Some Ended }
 {}
 
-/// On any day a new office opens its first run, a step closes it with a certificate that tells no
+/// On any day a new office opens its first run, a step closes it with a certificate that reports no
 /// record, and then there is no run to step.
 pub fn law_of_a_new_office()
     ensures opened { (day : ℤ) → first_day ≤ℤ day → (opening day).0 ≡ Number 1 }
@@ -77,7 +77,7 @@ pub fn law_of_filing()
     ensures first_record { (new : NewRecord) → AsksFor new (codes "r1") (codes "r1") 1 (codes "abc") → IsAccepted (refusals_of_add_record rooted_office filing_day new) }
     ensures second_record { (new : NewRecord) → AsksFor new (codes "r2") (codes "r2") 2 [] → IsAccepted (refusals_of_add_record first_filed filing_day new) }
     ensures third_record { (new : NewRecord) → AsksFor new (codes "r3") (codes "r3") 1 (codes "abc") → IsAccepted (refusals_of_add_record second_filed filing_day new) }
-    ensures filed { (s : Office) (new : NewRecord) (name : List ℕ) (home : ℕ) (bytes : List ℕ) → AsksFor new name name home bytes → after_add_record s filing_day new ≡ with_record s name home bytes }
+    ensures filed { (s : Office) (new : NewRecord) (name : List ℕ) (container : ℕ) (bytes : List ℕ) → AsksFor new name name container bytes → after_add_record s filing_day new ≡ with_record s name container bytes }
 {}
 
 /// Records take the class of their aggregation and its schedule, and are due one year after they were
@@ -97,17 +97,17 @@ pub fn law_of_the_base_office()
     ensures not_counted { (counts confirmed_office.tree 2 ≡ false) × (counts confirmed_office.tree 3 ≡ false) }
 {}
 
-/// A record that is asked for again, with all that its first asking told, is told by its number and
+/// A record that is asked for again, with all that its first asking reported, is reported by its number and
 /// nothing is done. With another title it is refused, since its ref is there.
 pub fn law_of_a_repeated_record()
     ensures same { (new : NewRecord) → AsksFor new (codes "r1") (codes "r1") 1 (codes "abc") → same_record base_office new ≡ Some 1 }
-    ensures told { (s : State) (new : NewRecord) → s.office ≡ base_office → AsksFor new (codes "r1") (codes "r1") 1 (codes "abc") → step_add_record s filing_day new ≡ (Same 1, s) }
+    ensures reported { (s : State) (new : NewRecord) → s.office ≡ base_office → AsksFor new (codes "r1") (codes "r1") 1 (codes "abc") → step_add_record s filing_day new ≡ (Same 1, s) }
     ensures other_title { (new : NewRecord) (title : List ℕ) → title ≢ codes "r1" → AsksFor new (codes "r1") title 1 (codes "abc") → same_record base_office new ≡ None }
     ensures refused { (s : State) (new : NewRecord) (title : List ℕ) → s.office ≡ base_office → title ≢ codes "r1" → AsksFor new (codes "r1") title 1 (codes "abc") → step_add_record s filing_day new ≡ (Refused Exists, s) }
 {}
 
 /// A hold on a class holds the records of that class and no others. Of two holds that cover a record
-/// the one whose code is first in byte order is told, and once that is lifted, the other; once its
+/// the one whose code is first in byte order is reported, and once that is lifted, the other; once its
 /// class is taken off that one too, nothing holds the record. Of a hold on two classes from which one
 /// is taken off the other one still holds its records. An aggregation may not leave a class that a hold
 /// has as a target, and may be given the class that it has.
@@ -126,7 +126,7 @@ pub fn law_of_a_held_class()
 /// A record whose period begins with an event has no due day before one is recorded. An event of 2024-02-29 makes it due
 /// on 2026-02-28, on which its destruction is confirmed. An event of the day after the act is refused. A later event makes
 /// it due later, and the confirmation does not count any more.
-pub fn law_of_a_told_event()
+pub fn law_of_a_reported_event()
     ensures not_due { due_of event_office.tree 1 ≡ None }
     ensures accepted { IsAccepted (refusals_of_event event_office recording_day 1 leap_day) }
     ensures days { (civil leap_day ≡ record { year = 2024; month = 2; day = 29 }) × (civil event_due ≡ record { year = 2026; month = 2; day = 28 }) }

@@ -7,5 +7,5 @@ pub returns : goal.returns
 returns g c = record {
   joined = λ s first rest. (after-append s first rest, answers_joined s first rest);
   alike = λ s acts given found other_found old one other_old other it that.
-      (it.done.answered ∙ sym that.done.answered, it.done.stands (it.clean, it.began), that.done.stands (that.clean, that.began));
+      (it.done.answered ∙ sym that.done.answered, it.done.represents (it.clean, it.began), that.done.represents (that.clean, that.began));
 }

@@ -12,4 +12,4 @@ returns-clause-value c =
     (all_put _ _ _ _ _ _ (rw none at c.in_ok-put_first.ensures) c.in_ok-put_second.ensures c.in_ok-put_third.ensures c.in_ok-put_last.ensures)
 
 pub returns-clause-no_float : goal.returns-clause-no_float
-returns-clause-no_float c = rw (returns-clause-value c) (record_has_none c.args.told.now _)
+returns-clause-no_float c = rw (returns-clause-value c) (record_has_none c.args.reported.now _)

@@ -8,8 +8,8 @@ use Rattle.office_plan.proofs.due.due_of.Goals as goal
 pub returns-in-Ok : goal.returns-in-Ok
 unfolding due_asked
 returns-in-Ok c =
-    let told : ℤ → Result ℤ Refusal = λ due. Ok due in
-    ap told c.due_made.ensures
+    let reported : ℤ → Result ℤ Refusal = λ due. Ok due in
+    ap reported c.due_made.ensures
     ∙ made-both due_made c.read_period.result (period_part c.args.unit.now c.args.count.now) c.read_move.result (move_asked c.args.offset.now c.args.day.now) c.both.result (Ok c.in-Ok.operands) c.in-Ok.is c.both.ensures c.read_period.ensures c.read_move.ensures
 
 pub returns-in-Err : goal.returns-in-Err

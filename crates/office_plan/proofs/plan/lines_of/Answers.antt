@@ -9,5 +9,5 @@ loop-before-init c = c.new-out.ensures.items ∙ sym (due_lines-none c.args.tree
 pub loop-before-preserved : goal.loop-before-preserved
 loop-before-preserved c =
     c.in_ok-push_line.ensures
-    ∙ ap (λ (front : List ℕ). front ++ due_line c.args.tree.now (c.loop-before.before + 1)) c.loop-before.invariant
+    ∙ ap (λ (prefix : List ℕ). prefix ++ due_line c.args.tree.now (c.loop-before.before + 1)) c.loop-before.invariant
     ∙ sym (due_lines-more c.args.tree.now c.loop-before.before)

@@ -8,7 +8,7 @@ returns-in_default-clause-every c digest formed same = absurd (c.in_default.not-
 pub returns-then-not-is_written-clause-every : goal.returns-then-not-is_written-clause-every
 returns-then-not-is_written-clause-every c digest formed same =
     let read = digest_read c.args.text.now digest c.from_hex.result formed same c.from_hex.ensures in
-    let told : c.is_written.result ≡ true = is_so_written c.args.text.now digest c.in-Ok.digest c.is_written.result same (same_digest c.from_hex.result digest c.in-Ok.digest read c.in-Ok.is) c.is_written.ensures in
+    let reported : c.is_written.result ≡ true = is_so_written c.args.text.now digest c.in-Ok.digest c.is_written.result same (same_digest c.from_hex.result digest c.in-Ok.digest read c.in-Ok.is) c.is_written.ensures in
     let other = c.if-not-is_written.true in
     absurd cc
 

@@ -10,8 +10,8 @@ use Rattle.office_run.proofs.running.init_on.Goals as goal
 pub returns-in-Ok-clause-ends : goal.returns-in-Ok-clause-ends
 returns-in-Ok-clause-ends g c =
     let it = c.in-Ok.ensures.ok in
-    carried g.S.Store c.args.conn c.in-Ok.desk.held _ g.W.Write.contents _ _ (Shown g.S.Store InitEnds) c.tell_version.result c.close.ensures.same it.clean
-    (opened-ends _ _ _ _ _ c.tell_version.ensures.endings c.tell_version.ensures.written (opened g.S.Store c.args.conn c.in-Ok.desk it))
+    carried g.S.Store c.args.conn c.in-Ok.desk.held _ g.W.Write.contents _ _ (Shown g.S.Store InitEnds) c.report_version.result c.close.ensures.same it.clean
+    (opened-ends _ _ _ _ _ c.report_version.ensures.endings c.report_version.ensures.written (opened g.S.Store c.args.conn c.in-Ok.desk it))
 
 pub returns-in-Err-clause-ends : goal.returns-in-Err-clause-ends
 returns-in-Err-clause-ends g c =

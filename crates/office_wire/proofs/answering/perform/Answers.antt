@@ -17,7 +17,7 @@ returns-in-Ok g c =
       kept = λ was. (it.gone was).0;
       gone = λ was. absurd (let wrong = (it.gone was).1.0 in cc);
       -- a desk that ended by an answer is open
-      told = λ is_open. let still = it.here is_open in search rules;
+      reported = λ is_open. let still = it.here is_open in search rules;
     }
 
 pub returns : goal.returns
@@ -31,5 +31,5 @@ returns g c =
       };
       kept = λ was. (it.gone was).0;
       gone = search rules;
-      told = λ is_open gone. stopped_unavailable response c.stopped_reply.result _ _ c.stopped_reply.ensures;
+      reported = λ is_open gone. stopped_unavailable response c.stopped_reply.result _ _ c.stopped_reply.ensures;
     }

@@ -1,4 +1,4 @@
-use Rattle.office_wire.proofs.Told.{body_performed}
+use Rattle.office_wire.proofs.Reported.{body_performed}
 use Rattle.office_wire.proofs.answering.perform_body.Goals as goal
 
 pub returns-in-Ok : goal.returns-in-Ok

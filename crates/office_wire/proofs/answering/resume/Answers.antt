@@ -21,7 +21,7 @@ returns-in-Ok g c =
       kept = λ was. (it.gone was).0;
       gone = λ was. absurd (let wrong = (it.gone was).1 in cc);
       -- a desk that ended by an answer is open
-      told = λ is_open. let still = it.here is_open in search rules;
+      reported = λ is_open. let still = it.here is_open in search rules;
     }
 
 pub returns-in-Err : goal.returns-in-Err
@@ -38,5 +38,5 @@ returns-in-Err g c =
       };
       kept = λ was. (it.gone was).0;
       gone = search rules;
-      told = λ is_open gone. fault_unavailable response c.fault_reply.result _ c.fault_reply.ensures;
+      reported = λ is_open gone. fault_unavailable response c.fault_reply.result _ c.fault_reply.ensures;
     }

@@ -21,4 +21,4 @@ returns-in-Ok g c =
 pub returns-in-Err-Refused : goal.returns-in-Err-Refused
 returns-in-Err-Refused g c =
     not_called g.S.Store _ _
-    (λ s stands. (s, (rw (bad_row _ _ (rw c.in-Err-Refused.field-0-is at c.in-Err-Refused.ensures)) (ap (λ (why : Refusal). Refused why) c.in-Err-Refused.refusal-is, refl)), stands))
+    (λ s represents. (s, (rw (bad_row _ _ (rw c.in-Err-Refused.field-0-is at c.in-Err-Refused.ensures)) (ap (λ (why : Refusal). Refused why) c.in-Err-Refused.refusal-is, refl)), represents))

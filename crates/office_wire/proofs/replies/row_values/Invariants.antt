@@ -3,7 +3,7 @@ use Rattle.serde_json.specs.View.{view}
 use Rattle.office_json.specs.DueJson.{due_row_data}
 use Rattle.office_wire.proofs.replies.row_values.Given as goal
 
--- what was told of rows, and what is to be told of those that are left, is what is to be told of all
+-- what was reported of rows, and what is to be reported of those that are left, is what is to be reported of all
 abbrev pub invariant-loop-row : goal.invariant-loop-row
 invariant-loop-row l = map view l.values.items ++ map due_row_data l.rows ≡ map due_row_data l.initial.rows
 

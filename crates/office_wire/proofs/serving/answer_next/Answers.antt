@@ -1,6 +1,6 @@
 use Rattle.std.proofs.Common.{ap, Err}
 use Rattle.office_wire.specs.declared.receiving.ReceiveStop.{ReceiveStop}
-use Rattle.office_wire.proofs.Replied.{asked_next, failed_next, headless_next, silent_next, starved_next, unread_next}
+use Rattle.office_wire.proofs.Replied.{asked_next, failed_next, headless_next, silent_next, out_of_memory_next, unread_next}
 use Rattle.office_wire.proofs.serving.answer_next.Goals as goal
 
 pub returns-in-Ok-Nothing-clause-next : goal.returns-in-Ok-Nothing-clause-next
@@ -19,7 +19,7 @@ returns-in-Err-Memory-clause-next g c =
 
 pub returns-in-Err-MemoryFor-clause-next : goal.returns-in-Err-MemoryFor-clause-next
 returns-in-Err-MemoryFor-clause-next g c =
-    starved_next g.S.Store _ _ _ _ _ (rw c.in-Err-MemoryFor.is_head-is at c.failed-in-Err-MemoryFor.ensures) (rw c.in-Err-MemoryFor.field-0-is at c.in-Err-MemoryFor.ensures.came)
+    out_of_memory_next g.S.Store _ _ _ _ _ (rw c.in-Err-MemoryFor.is_head-is at c.failed-in-Err-MemoryFor.ensures) (rw c.in-Err-MemoryFor.field-0-is at c.in-Err-MemoryFor.ensures.came)
 
 pub returns-in-Err-Io-clause-next : goal.returns-in-Err-Io-clause-next
 returns-in-Err-Io-clause-next g c = failed_next g.S.Store _ _ _ _

@@ -8,7 +8,7 @@ use Rattle.office_holds.proofs.holds.Holds.is_held_class.Goals as goal
 
 pub returns : goal.returns
 returns c =
-    c.bind_class.ensures
+    c.is_class_bound.ensures
     ∙ ap (nat_lt 0) (c.self.invariant.1.counted (target.Class c.args.class.now))
     ∙ sym (class_by_count (the_view c.self.inside) c.args.class.now)
     ∙ ap (λ holds. is_held_class holds c.args.class.now) c.self.view_is

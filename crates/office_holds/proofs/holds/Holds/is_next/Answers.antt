@@ -12,11 +12,11 @@ abbrev IsAboveThese : List ℕ → List (List ℕ × HoldState) → Type 0
 IsAboveThese code es = All (λ q. code_cmp q code ≡ Less) (map (λ e. e.0) es)
 
 pub returns-clause-above : goal.returns-clause-above
-returns-clause-above c = λ told.
+returns-clause-above c = λ reported.
     let same = ap entries (sym c.self.view_is) ∙ entries_of_ordered c.self.inside.by_code.entries c.len.ensures.ordered in
-    subst (IsAboveThese c.args.code.now) (sym same) (c.follows.ensures.below told)
+    subst (IsAboveThese c.args.code.now) (sym same) (c.follows.ensures.below reported)
 
 pub returns-clause-not_above : goal.returns-clause-not_above
-returns-clause-not_above c = λ told above.
+returns-clause-not_above c = λ reported above.
     let same = ap entries (sym c.self.view_is) ∙ entries_of_ordered c.self.inside.by_code.entries c.len.ensures.ordered in
-    c.follows.ensures.not_below told (subst (IsAboveThese c.args.code.now) same above)
+    c.follows.ensures.not_below reported (subst (IsAboveThese c.args.code.now) same above)

@@ -7,10 +7,10 @@ pub returns-in-Ok : goal.returns-in-Ok
 unfolding asked place_hold_asked
 returns-in-Ok c =
     let plain : c.has_only.result ≡ true = search rules in
-    act_ok _ _ _ _ (sym c.has_only.ensures ∙ plain) (c.in-Ok.ensures _ _ (c.both-named.ensures _ _ c.day_at.ensures c.code_at.ensures) (c.both-told.ensures _ _ c.words_at.ensures c.words_at-2.ensures))
+    act_ok _ _ _ _ (sym c.has_only.ensures ∙ plain) (c.in-Ok.ensures _ _ (c.both-named.ensures _ _ c.day_at.ensures c.code_at.ensures) (c.both-reported.ensures _ _ c.words_at.ensures c.words_at-2.ensures))
 
 pub returns-in-Err : goal.returns-in-Err
 unfolding place_hold_asked
 returns-in-Err c =
     let plain : c.has_only.result ≡ true = search rules in
-    act_fault _ _ _ _ (sym c.has_only.ensures ∙ plain) (c.in-Err.ensures _ _ (c.both-named.ensures _ _ c.day_at.ensures c.code_at.ensures) (c.both-told.ensures _ _ c.words_at.ensures c.words_at-2.ensures))
+    act_fault _ _ _ _ (sym c.has_only.ensures ∙ plain) (c.in-Err.ensures _ _ (c.both-named.ensures _ _ c.day_at.ensures c.code_at.ensures) (c.both-reported.ensures _ _ c.words_at.ensures c.words_at-2.ensures))

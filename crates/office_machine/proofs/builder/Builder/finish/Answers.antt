@@ -1,5 +1,5 @@
 use Rattle.std.proofs.Common.{subst, sym}
-use Rattle.office_rules.specs.Founding.{HaveKeys}
+use Rattle.office_rules.specs.Loading.{HaveKeys}
 use Rattle.office_rules.specs.Sound.{IsSound, IsSoundOffice}
 use Rattle.office_rules.specs.State.{ByteMap, Office, with_contents}
 use Rattle.office_rules.specs.Tables.{TableLists}

@@ -15,8 +15,8 @@ leads c = IfOk-weaker c.decide.result _ _ (λ d is. is.0) (decided c)
 pub returns-clause-step : goal.returns-clause-step
 returns-clause-step c = leads c
 
-pub returns-clause-told : goal.returns-clause-told
-returns-clause-told c = IfOk-weaker c.decide.result _ _ (λ d is. is.1) (decided c)
+pub returns-clause-reported : goal.returns-clause-reported
+returns-clause-reported c = IfOk-weaker c.decide.result _ _ (λ d is. is.1) (decided c)
 
 pub returns-clause-feasible : goal.returns-clause-feasible
 returns-clause-feasible c = IfOk-weaker c.decide.result _ _ (λ d. feasible c.args.self.now c.args.act.now d c.sound.ensures c.formed.ensures) (leads c)

@@ -1,5 +1,5 @@
 use Rattle.std.proofs.Common.{IfOk, subst}
-use Rattle.office_rules.specs.Founding.{HaveKeys}
+use Rattle.office_rules.specs.Loading.{HaveKeys}
 use Rattle.office_rules.specs.State.{ByteMap}
 use Rattle.office_rules.specs.Tables.{TableLists}
 use Rattle.office_machine.proofs.machine.Machine.from_tables.Goals as goal

@@ -17,9 +17,9 @@ returns c =
     let old = c.record.result.now in
     let status = c.status-status.result in
     let there = subst (λ (t : TreeState). numbered t.records c.args.number ≡ Some old) tree c.record.ensures in
-    let standing = subst (λ (t : TreeState). numbered t.statuses c.args.number ≡ Some status) tree c.status-status.ensures in
+    let representing = subst (λ (t : TreeState). numbered t.statuses c.args.number ≡ Some status) tree c.status-status.ensures in
     let class = option_copied c.args.class in
     let next = λ (contents : ByteMap). step_reclassify (with_contents c.args.self.now contents) c.args.day (classified.Record c.args.number) class in
     going c.args.self.now next Done _ c.go.result c.go.ensures (λ change answer writes.
     record_reclassified c.args.self.now c.args.day c.args.number class old (record (c.in_ok-head.head) { class = c.in_ok-class.class }) status change
-    (subst IsSound tree c.sound.ensures) c.requires there standing (λ i. record (c.in_ok-head.ensures i) { class = c.in_ok-class.ensures i }) (sym answer) writes)
+    (subst IsSound tree c.sound.ensures) c.requires there representing (λ i. record (c.in_ok-head.ensures i) { class = c.in_ok-class.ensures i }) (sym answer) writes)

@@ -42,9 +42,9 @@ pub returns : goal.returns
 returns c =
     let t = c.self.inside.tree in
     let table = sym (c.dated.ensures (conditions_of_confirm t c.args.day c.args.record_no c.args.action) c.check_confirm.ensures.first) ∙ c.in_default.is in
-    let told = c.in_ok-confirmation.ensures ∙ ap (confirming c.args.action c.args.day c.args.by.now) c.due_of.ensures in
-    let reads : IsRead t c.args.record_no c.record.result.now c.status-status.result = record { sound = c.sound.ensures; there = c.record.ensures; standing = c.status-status.ensures } in
+    let reported = c.in_ok-confirmation.ensures ∙ ap (confirming c.args.action c.args.day c.args.by.now) c.due_of.ensures in
+    let reads : IsRead t c.args.record_no c.record.result.now c.status-status.result = record { sound = c.sound.ensures; there = c.record.ensures; representing = c.status-status.ensures } in
     let next = λ (contents : ByteMap). step_confirm (with_contents c.args.self.now contents) c.args.day c.args.record_no c.args.action c.args.by.now in
     going c.args.self.now next Done _ c.go.result c.go.ensures (λ change answer writes.
     confirmed_on c.args.self.now t c.args.day c.args.record_no c.args.action c.args.by.now c.record.result.now (record (c.in_ok-head.head) { confirmation = c.in_ok-confirmation.confirmation }) c.status-status.result change
-    (ap (λ o. o.tree) c.self.view_is) table reads (λ i. record (c.in_ok-head.ensures i) { confirmation = told i }) answer writes)
+    (ap (λ o. o.tree) c.self.view_is) table reads (λ i. record (c.in_ok-head.ensures i) { confirmation = reported i }) answer writes)

@@ -4,7 +4,7 @@ use Rattle.office_holds.specs.Conditions.{conditions_of_hold_on}
 use Rattle.office_holds.specs.Forms.{FitsHoldLimits}
 use Rattle.office_rules.specs.Conditions.{conditions_of_covering, conditions_of_target, refusals_of_hold_on}
 use Rattle.office_rules.specs.Effects.{after_hold_on}
-use Rattle.office_machine.specs.Lesser.{lesser}
+use Rattle.office_machine.specs.MinRefusal.{min_refusal}
 use Rattle.office_rules.specs.State.{ByteMap, Office, with_contents, with_office}
 use Rattle.office_rules.specs.Steps.{step_hold_on}
 use Rattle.office_rules.specs.declared.answer.Answer.TheVariants.{Done}
@@ -12,7 +12,7 @@ use Rattle.office_rules.specs.declared.rows.RowWrite.TheVariants as row_write
 use Rattle.office_machine.specs.DayWrites.{day_writes}
 use Rattle.office_machine.proofs.DecidedHolds.{covering_change}
 use Rattle.office_machine.proofs.Decisions.{going, refused_step}
-use Rattle.office_machine.proofs.LesserRefusals.{lesser_of_covering}
+use Rattle.office_machine.proofs.MinRefusals.{min_refusal_of_covering}
 use Rattle.office_machine.proofs.parts.Parts.decide_hold_on.Goals.{After-dated}
 use Rattle.office_machine.proofs.parts.Parts.decide_hold_on.Goals as goal
 
@@ -21,9 +21,9 @@ table c =
     let s = c.args.self.now in
     let code = c.args.code.now in
     let target = c.args.target.now in
-    let apart = c.lesser.ensures ∙ (λ i. lesser (c.check_cover-by_holds.ensures.first i) (c.check_target-by_tree.ensures i)) in
-    let by_parts = ap (λ (o : Office). lesser (first_of (conditions_of_hold_on o.holds code target)) (first_of (conditions_of_target o.tree target))) c.self.view_is in
-    c.dated.ensures (conditions_of_covering s code target) (apart ∙ by_parts ∙ lesser_of_covering s code target)
+    let apart = c.min_refusal.ensures ∙ (λ i. min_refusal (c.check_cover-by_holds.ensures.first i) (c.check_target-by_tree.ensures i)) in
+    let by_parts = ap (λ (o : Office). min_refusal (first_of (conditions_of_hold_on o.holds code target)) (first_of (conditions_of_target o.tree target))) c.self.view_is in
+    c.dated.ensures (conditions_of_covering s code target) (apart ∙ by_parts ∙ min_refusal_of_covering s code target)
 
 pub returns-in-Some : goal.returns-in-Some
 returns-in-Some c = (

@@ -5,11 +5,11 @@ use Rattle.office_terms.specs.declared.classified.Classified.{Classified}
 use Rattle.office_holds.specs.Conditions.{conditions_of_leaving_class}
 use Rattle.office_rules.specs.Conditions.{conditions_of_reclassifying, refusals_of_reclassify}
 use Rattle.office_rules.specs.Effects.{after_reclassify}
-use Rattle.office_machine.specs.Lesser.{lesser}
+use Rattle.office_machine.specs.MinRefusal.{min_refusal}
 use Rattle.office_rules.specs.State.{Office, with_contents, with_office}
 use Rattle.office_rules.specs.declared.answer.Answer.TheVariants.{Done}
 use Rattle.office_machine.proofs.Decisions.{refused_step}
-use Rattle.office_machine.proofs.LesserRefusals.{lesser_of_reclassifying}
+use Rattle.office_machine.proofs.MinRefusals.{min_refusal_of_reclassifying}
 use Rattle.office_machine.proofs.parts.Parts.decide_reclassify.Goals.{After-dated}
 use Rattle.office_machine.proofs.parts.Parts.decide_reclassify.Goals as goal
 
@@ -17,9 +17,9 @@ table : (c : After-dated) → c.dated.result ≡ first_of (refusals_of_reclassif
 table c =
     let s = c.args.self.now in
     let class = option_copied c.args.class in
-    let apart = c.lesser.ensures ∙ (λ i. lesser (c.check_reclassify-by_tree.ensures.first i) (c.check_reclassify-by_holds.ensures.first i)) in
-    let by_parts = ap (λ (o : Office). lesser (first_of (conditions_of_reclassify o.tree c.args.target class)) (first_of (conditions_of_leaving_class o.holds o.tree c.args.target class))) c.self.view_is in
-    c.dated.ensures (conditions_of_reclassifying s c.args.target class) (apart ∙ by_parts ∙ lesser_of_reclassifying s c.args.target class)
+    let apart = c.min_refusal.ensures ∙ (λ i. min_refusal (c.check_reclassify-by_tree.ensures.first i) (c.check_reclassify-by_holds.ensures.first i)) in
+    let by_parts = ap (λ (o : Office). min_refusal (first_of (conditions_of_reclassify o.tree c.args.target class)) (first_of (conditions_of_leaving_class o.holds o.tree c.args.target class))) c.self.view_is in
+    c.dated.ensures (conditions_of_reclassifying s c.args.target class) (apart ∙ by_parts ∙ min_refusal_of_reclassifying s c.args.target class)
 
 pub returns-in-Some : goal.returns-in-Some
 returns-in-Some c = (

@@ -43,7 +43,7 @@ returns c =
     let schedule = option_copied c.args.schedule in
     let table = sym (c.dated.ensures (conditions_of_review t c.args.day c.args.record_no schedule) c.check_review.ensures.first) ∙ c.in_default.is in
     let own = c.in_ok-schedule.ensures ∙ ap (or_else schedule) c.as_ref.ensures.value in
-    let reads : IsRead t c.args.record_no c.record-old.result.now c.status-status.result = record { sound = c.sound.ensures; there = c.record-old.ensures; standing = c.status-status.ensures } in
+    let reads : IsRead t c.args.record_no c.record-old.result.now c.status-status.result = record { sound = c.sound.ensures; there = c.record-old.ensures; representing = c.status-status.ensures } in
     let next = λ (contents : ByteMap). step_review (with_contents c.args.self.now contents) c.args.day c.args.record_no schedule c.args.by.now in
     going c.args.self.now next Done _ c.go.result c.go.ensures (λ change answer writes.
     reviewed_on c.args.self.now t c.args.day c.args.record_no schedule c.args.by.now c.record-old.result.now (record (c.in_ok-head.head) { review = Some (record { day = c.args.day; by = c.in_ok-by.by }); schedule = c.in_ok-schedule.schedule }) c.status-status.result change

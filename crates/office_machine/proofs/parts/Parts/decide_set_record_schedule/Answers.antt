@@ -39,7 +39,7 @@ returns c =
     let t = c.self.inside.tree in
     let schedule = option_copied c.args.schedule in
     let table = sym (c.dated.ensures (conditions_of_set_record_schedule t c.args.record_no schedule) c.check_set_record_schedule.ensures.first) ∙ c.in_default.is in
-    let reads : IsRead t c.args.record_no c.record.result.now c.status-status.result = record { sound = c.sound.ensures; there = c.record.ensures; standing = c.status-status.ensures } in
+    let reads : IsRead t c.args.record_no c.record.result.now c.status-status.result = record { sound = c.sound.ensures; there = c.record.ensures; representing = c.status-status.ensures } in
     let next = λ (contents : ByteMap). step_set_record_schedule (with_contents c.args.self.now contents) c.args.day c.args.record_no schedule in
     going c.args.self.now next Done _ c.go.result c.go.ensures (λ change answer writes.
     scheduled c.args.self.now t c.args.day c.args.record_no schedule c.record.result.now (record (c.in_ok-head.head) { schedule = c.in_ok-own.own }) c.status-status.result change

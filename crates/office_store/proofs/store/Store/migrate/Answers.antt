@@ -6,9 +6,9 @@ use Rattle.office_rules.specs.Rows.{rows_of}
 use Rattle.office_sql.specs.declared.editions.Edition.TheVariants as edition
 use Rattle.office_sql.specs.Migrated.{Migrates}
 use Rattle.office_store.specs.Calling.{AreMoved}
-use Rattle.office_store.specs.Stands.{AreOfficeTables, OldStands, Stands}
+use Rattle.office_store.specs.RepresentsRows.{AreOfficeTables, OldRepresentsRows, RepresentsRows}
 use Rattle.office_store.proofs.Saved.{over_trees}
-use Rattle.office_store.proofs.MovedRows.{moved_stand, ready_to_move, rest_moved}
+use Rattle.office_store.proofs.MovedRows.{moved_represent, ready_to_move, rest_moved}
 use Rattle.office_store.proofs.store.Store.migrate.Goals as goal
 
 pub returns : goal.returns
@@ -22,14 +22,14 @@ returns g c =
           let t = rows_of s in
           let r = c.migrate_all.result in
           let moves : Migrates t.day old new r = subst (λ h. Migrates t.day (state g.S.Store h) new r) c.self.view_is (c.migrate_all.ensures.migrates t.day) in
-          let ready = ready_to_move t old.now.trees holds.stands in
+          let ready = ready_to_move t old.now.trees holds.represents in
           let it : AreMoved t old new r = record {
-            ok = IfOk-weaker r _ _ (λ x did. record { rest = did.1; stands = moved_stand t old.now new.now holds.stands did.0 }) (moves.ok clean holds.rest ready);
+            ok = IfOk-weaker r _ _ (λ x did. record { rest = did.1; represents = moved_represent t old.now new.now holds.represents did.0 }) (moves.ok clean holds.rest ready);
             err = IfErr-weaker r _ _ (λ x left db may. elim (left db may) [
               | inl same ↦ inl same
-              | inr next ↦ inr (subst (Stands t) (sym next.2) (moved_stand t old.now next.0 holds.stands next.1), subst AreOfficeTables (sym next.2) (over_trees edition.Two next.0 next.1.is_office))
+              | inr next ↦ inr (subst (RepresentsRows t) (sym next.2) (moved_represent t old.now next.0 holds.represents next.1), subst AreOfficeTables (sym next.2) (over_trees edition.Two next.0 next.1.is_office))
             ]) (moves.err clean holds.rest ready);
-            undone = λ is_open. IfErr-weaker r _ _ (λ x left. record { rest = left.1; stands = subst (λ (d : Database). OldStands t d.trees) (sym left.0) holds.stands }) (moves.undone clean holds.rest ready is_open);
+            undone = λ is_open. IfErr-weaker r _ _ (λ x left. record { rest = left.1; represents = subst (λ (d : Database). OldRepresentsRows t d.trees) (sym left.0) holds.represents }) (moves.undone clean holds.rest ready is_open);
             rest = rest_moved t.day old new r clean holds.rest ready moves;
           } in
           let ok = it.ok in

@@ -1,19 +1,19 @@
 use Rattle.std.proofs.Common.{◌≡◌, ◌∙◌, Some, sym, ap, subst}
 use Rattle.std.specs.FinMap.{from_entries}
 use Rattle.office_terms.specs.Lists.{numbered}
-use Rattle.office_tree.specs.Outlooks.{IsOutlook}
+use Rattle.office_tree.specs.RecordCaches.{IsRecordCache}
 use Rattle.office_terms.specs.Rows.{put_event}
 use Rattle.office_tree.specs.Stored.{IsStored}
 use Rattle.office_terms.specs.Tree.{TreeState, code_cmp}
-use Rattle.office_tree.specs.declared.outlook.Outlook.{Outlook}
+use Rattle.office_tree.specs.declared.record_cache.RecordCache.{RecordCache}
 use Rattle.office_tree.specs.contracts.tree.Tree.{the_view}
 use Rattle.office_tree.proofs.EventPlaces.{event_inserted}
 use Rattle.office_tree.proofs.EventPut.{event_stored}
 use Rattle.office_tree.proofs.Kept.{last_additions}
 use Rattle.office_tree.proofs.tree.Tree.put_event.Goals as goal
 
-pub renew-requires-clause-last : goal.renew-requires-clause-last
-renew-requires-clause-last c = rw (c.deref-4.ensures.value, c.deref.ensures.value, c.deref-2.ensures.value) (last_additions (the_view c.self.inside) c.self.inside.tallies.items c.self.invariant.0.tallies)
+pub refresh-requires-clause-last : goal.refresh-requires-clause-last
+refresh-requires-clause-last c = rw (c.deref-4.ensures.value, c.deref.ensures.value, c.deref-2.ensures.value) (last_additions (the_view c.self.inside) c.self.inside.summaries.items c.self.invariant.0.summaries)
 
 pub returns-clause-ok : goal.returns-clause-ok
 returns-clause-ok c =
@@ -29,7 +29,7 @@ invariant_of-self-2 c =
     let by_aggregation_ref = from_entries {R = code_cmp} c.self.inside.by_aggregation_ref.entries in
     let by_record_ref = from_entries {R = code_cmp} c.self.inside.by_record_ref.entries in
     let new = event_inserted c.self.inside.events.entries c.insert.new.self.entries r event c.in_ok-insert.ensures.updates.0 in
-    let here = λ (it : Outlook) (e : numbered c.renew.new.self.rows.items r ≡ Some it). subst (λ (t : TreeState). IsOutlook c.self.inside.plans t r it) (λ i. record tree { aggregations = c.deref.ensures.value i; records = c.deref-2.ensures.value i; statuses = c.deref-3.ensures.value i; events = new i }) (c.renew.ensures.here it e) in
-    let kept = event_stored tree by_aggregation_ref by_record_ref c.self.inside.plans c.self.inside.outlooks.rows.items c.renew.new.self.rows.items c.self.inside.tallies.items c.self.inside.homes.last.items c.self.inside.homes.before.items r event
-    c.self.invariant.0 c.renew.ensures.count here c.renew.ensures.others in
-    (subst (λ (t : TreeState). IsStored t by_aggregation_ref by_record_ref c.self.inside.plans c.renew.new.self.rows.items c.self.inside.tallies.items c.self.inside.homes.last.items c.self.inside.homes.before.items) (sym (ap (λ events. record tree { events = events }) new)) kept, c.self.invariant.1, c.self.invariant.2)
+    let here = λ (it : RecordCache) (e : numbered c.refresh.new.self.rows.items r ≡ Some it). subst (λ (t : TreeState). IsRecordCache c.self.inside.schedule_numbers t r it) (λ i. record tree { aggregations = c.deref.ensures.value i; records = c.deref-2.ensures.value i; statuses = c.deref-3.ensures.value i; events = new i }) (c.refresh.ensures.here it e) in
+    let kept = event_stored tree by_aggregation_ref by_record_ref c.self.inside.schedule_numbers c.self.inside.record_caches.rows.items c.refresh.new.self.rows.items c.self.inside.summaries.items c.self.inside.child_lists.last.items c.self.inside.child_lists.before.items r event
+    c.self.invariant.0 c.refresh.ensures.count here c.refresh.ensures.others in
+    (subst (λ (t : TreeState). IsStored t by_aggregation_ref by_record_ref c.self.inside.schedule_numbers c.refresh.new.self.rows.items c.self.inside.summaries.items c.self.inside.child_lists.last.items c.self.inside.child_lists.before.items) (sym (ap (λ events. record tree { events = events }) new)) kept, c.self.invariant.1, c.self.invariant.2)

@@ -1,7 +1,0 @@
-use Rattle.std.specs.List.{AllByRecursion}
-use Rattle.office_terms.specs.Forms.{IsCode}
-use Rattle.office_holds.specs.Forms.{IsFormedHold}
-use Rattle.office_holds.proofs.examining.formed_holds.Given as goal
-
-abbrev pub invariant-loop-code : goal.invariant-loop-code
-invariant-loop-code l = AllByRecursion (λ it. IsCode it.0 × IsFormedHold it.1) l.code-iterator → AllByRecursion (λ it. IsCode it.0 × IsFormedHold it.1) l.holds.entries

@@ -1,6 +1,0 @@
-use Rattle.std.specs.List.{AllByRecursion}
-use Rattle.office_terms.specs.Forms.{IsCode}
-use Rattle.office_holds.proofs.sets.formed_codes.Given as goal
-
-abbrev pub invariant-loop-code : goal.invariant-loop-code
-invariant-loop-code l = AllByRecursion IsCode l.code-iterator → AllByRecursion IsCode l.codes.keys

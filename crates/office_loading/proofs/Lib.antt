@@ -1,0 +1,13 @@
+pub mod Endings
+pub mod EntryTests
+pub mod FoundSound
+pub mod FoundTables
+pub mod FoundTree
+pub mod Collected
+pub mod MapRows
+pub mod NextRows
+pub mod PartsTests
+pub mod RecordRows
+pub mod RunEntries
+pub mod RunTests
+pub mod Stored

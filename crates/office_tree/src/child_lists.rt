@@ -1,0 +1,174 @@
+//! What is in each aggregation, as linked lists: its records, or the aggregations in it.
+ghost use Rattle.std.specs.Prelude.{◌≡◌, ◌++◌, ◌∷◌, ◌+◌, ◌<◌, ◌≤◌, ℕ, List, [], IfOk, IfSome, OnOk, Some, length, vec_len, vec_capacity};
+ghost use Rattle.std.specs.Option.{unwrap_or};
+ghost use Rattle.office_tree.specs.ChildLists.{AreLinked, HasChildren, child_lists_of};
+ghost use Rattle.office_terms.specs.Lists.{numbered};
+ghost use Rattle.office_terms.specs.declared.aggregation.Aggregation.{Aggregation};
+ghost use Rattle.office_terms.specs.declared.head.Record.{Record};
+
+use crate::pushing::push_row;
+use office_base::Memory;
+use office_terms::{AggNo, Aggregation, Record};
+use std::alloc::Global;
+
+/// The number of a record, or of an aggregation in another.
+type ThingNo = u32;
+
+/// What is in each aggregation, linked, so that it is gone through without the others, records and aggregations alike:
+/// for each aggregation the number of the last thing in it, for each thing that of the one before it in the same
+/// aggregation, 0 for none.
+#[derive(Drop)]
+pub(crate) struct ChildLists {
+    pub(crate) last: Vec<ThingNo>,
+    pub(crate) before: Vec<ThingNo>,
+}
+
+impl ChildLists {
+    /// No aggregations, and nothing in them.
+    pub(crate) fn new(alloc: Global) -> ChildLists
+        ensures last { result.last.items ≡ [] }
+        ensures before { result.before.items ≡ [] }
+    {
+        ChildLists {
+            last: Vec::new(alloc),
+            before: Vec::new(alloc),
+        }
+    }
+
+    /// The number of the last thing in the aggregation; 0 for none.
+    pub(crate) fn last(&self, container: AggNo) -> ThingNo
+        requires low { 0 < container }
+        requires high { container ≤ length self.now.last.items }
+        ensures { numbered self.now.last.items container ≡ Some result }
+    {
+        self.last[container as usize - 1]
+    }
+
+    /// The number of the thing before this one in the same aggregation; 0 for none.
+    pub(crate) fn before(&self, thing: ThingNo) -> ThingNo
+        requires low { 0 < thing }
+        requires high { thing ≤ length self.now.before.items }
+        ensures { numbered self.now.before.items thing ≡ Some result }
+    {
+        self.before[thing as usize - 1]
+    }
+
+    /// Makes room for one more aggregation.
+    pub(crate) fn make_container_room(&mut self) -> Result<(), Memory>
+        ensures last { self.new.last.items ≡ self.old.last.items }
+        ensures before { self.new.before.items ≡ self.old.before.items }
+        ensures room { OnOk result (vec_len self.new.last < vec_capacity self.new.last) }
+    {
+        self.last.try_reserve(1)?;
+        Ok(())
+    }
+
+    /// Makes room for one more thing.
+    pub(crate) fn make_thing_room(&mut self) -> Result<(), Memory>
+        ensures last { self.new.last.items ≡ self.old.last.items }
+        ensures before { self.new.before.items ≡ self.old.before.items }
+        ensures room { OnOk result (vec_len self.new.before < vec_capacity self.new.before) }
+    {
+        self.before.try_reserve(1)?;
+        Ok(())
+    }
+
+    /// Makes room for one more aggregation, which is a thing too.
+    pub(crate) fn make_child_room(&mut self) -> Result<(), Memory>
+        ensures last { self.new.last.items ≡ self.old.last.items }
+        ensures before { self.new.before.items ≡ self.old.before.items }
+        ensures container_room { OnOk result (vec_len self.new.last < vec_capacity self.new.last) }
+        ensures thing_room { OnOk result (vec_len self.new.before < vec_capacity self.new.before) }
+    {
+        self.last.try_reserve(1)?;
+        self.before.try_reserve(1)?;
+        Ok(())
+    }
+
+    /// Adds the next aggregation, for which there is room.
+    pub(crate) fn add_container(&mut self)
+        requires { vec_len self.old.last < vec_capacity self.old.last }
+        ensures linked { (child_lists : List ℕ) (count : ℕ) → AreLinked child_lists count self.old.last.items self.old.before.items → AreLinked child_lists (count + 1) self.new.last.items self.new.before.items }
+        ensures before { self.new.before ≡ self.old.before }
+    {
+        push_row(&mut self.last, 0);
+    }
+
+    /// Adds the next thing, for which there is room, to the aggregation.
+    pub(crate) fn add_thing(&mut self, container: AggNo)
+        requires room { vec_len self.old.before < vec_capacity self.old.before }
+        requires few { length self.old.before.items ≤ 200_000 }
+        requires low { 0 < container }
+        requires high { container ≤ length self.old.last.items }
+        ensures { (child_lists : List ℕ) (count : ℕ) → AreLinked child_lists count self.old.last.items self.old.before.items → AreLinked (child_lists ++ container ∷ []) count self.new.last.items self.new.before.items }
+    {
+        let before = self.last(container);
+        push_row(&mut self.before, before);
+        self.last[container as usize - 1] = self.before.len() as ThingNo;
+    }
+
+    /// Adds the next thing, for which there is room, which is in no aggregation.
+    pub(crate) fn add_outside(&mut self)
+        requires { vec_len self.old.before < vec_capacity self.old.before }
+        ensures { (child_lists : List ℕ) (count : ℕ) → AreLinked child_lists count self.old.last.items self.old.before.items → AreLinked (child_lists ++ 0 ∷ []) count self.new.last.items self.new.before.items }
+    {
+        push_row(&mut self.before, 0);
+    }
+
+    /// Adds the next thing, for which there is room, to the aggregation that is its parent, if it has one.
+    pub(crate) fn add_child(&mut self, parent: Option<AggNo>)
+        requires room { vec_len self.old.before < vec_capacity self.old.before }
+        requires few { length self.old.before.items ≤ 200_000 }
+        requires within { IfSome parent (λ p. (0 < p) × (p ≤ length self.old.last.items)) }
+        ensures { (child_lists : List ℕ) (count : ℕ) → AreLinked child_lists count self.old.last.items self.old.before.items → AreLinked (child_lists ++ unwrap_or parent 0 ∷ []) count self.new.last.items self.new.before.items }
+    {
+        match parent {
+            Some(container) => self.add_thing(container),
+            None => self.add_outside(),
+        }
+    }
+}
+
+/// So many aggregations with nothing in them.
+fn empty_child_lists(alloc: Global, count: usize) -> Result<ChildLists, Memory>
+    ensures { IfOk result (λ child_lists. AreLinked [] count child_lists.last.items child_lists.before.items) }
+{
+    let mut child_lists = ChildLists::new(alloc);
+    for _i in 0..count {
+        child_lists.make_container_room()?;
+        child_lists.add_container();
+    }
+    Ok(child_lists)
+}
+
+/// So many aggregations with these records.
+pub(crate) fn child_lists_of(
+    alloc: Global,
+    count: usize,
+    records: &[Record],
+) -> Result<ChildLists, Memory>
+    requires within { (r : ℕ) (head : Record) → numbered records.now r ≡ Some head → (0 < head.aggregation) × (head.aggregation ≤ count) }
+    requires few { length records.now ≤ 200_000 }
+    ensures { IfOk result (λ child_lists. AreLinked (child_lists_of records.now) count child_lists.last.items child_lists.before.items) }
+{
+    let mut child_lists = empty_child_lists(alloc, count)?;
+    for i in 0..records.len() {
+        child_lists.make_thing_room()?;
+        child_lists.add_thing(records[i].aggregation);
+    }
+    Ok(child_lists)
+}
+
+/// These aggregations, each in its parent.
+pub(crate) fn children_of(alloc: Global, aggregations: &[Aggregation]) -> Result<ChildLists, Memory>
+    requires within { (a : ℕ) (it : Aggregation) → numbered aggregations.now a ≡ Some it → IfSome it.parent (λ p. (0 < p) × (p ≤ length aggregations.now)) }
+    requires few { length aggregations.now ≤ 50_000 }
+    ensures { IfOk result (λ child_lists. HasChildren aggregations.now child_lists.last.items child_lists.before.items) }
+{
+    let mut child_lists = empty_child_lists(alloc, aggregations.len())?;
+    for i in 0..aggregations.len() {
+        child_lists.make_thing_room()?;
+        child_lists.add_child(aggregations[i].parent);
+    }
+    Ok(child_lists)
+}
