@@ -24,8 +24,8 @@ returns-in-Ok g c =
       gone = λ was. absurd (let wrong = was in cc (c.is_poisoned.ensures, c.if-is_poisoned.false));
     }
 
-pub returns-in-Err : goal.returns-in-Err
-returns-in-Err g c =
+pub returns : goal.returns
+returns g c =
     record {
       call = called g.S.Store _ _ _ _ c.in-Err.ensures (λ s it. (rw c.import_reader-rdr.ensures.source at it));
       gone = λ was. absurd (let wrong = was in cc (c.is_poisoned.ensures, c.if-is_poisoned.false));
