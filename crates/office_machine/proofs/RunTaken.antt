@@ -32,10 +32,10 @@ use Rattle.office_rules.specs.declared.change.Change.{Change}
 use Rattle.office_rules.specs.declared.rows.RowWrite.{RowWrite}
 use Rattle.office_rules.specs.declared.rows.RowWrite.TheVariants as row_write
 use Rattle.office_rules.specs.declared.run.Run.{Run}
-use Rattle.office_rules.proofs.Accepted.{tree_sound}
 use Rattle.office_rules.proofs.SoundRuns.{open_there}
 use Rattle.office_rules.proofs.SoundSteps.{with_outcome}
 use Rattle.office_rules.proofs.SoundTaken as sound_taken
+use Rattle.office_machine.proofs.OfficeSound.{sound_tree}
 
 -- ---- what is so of a record that a step takes from a sound office
 
@@ -45,10 +45,6 @@ TakenFrom s run r = (contents : ByteMap) × sound_taken.Taken (with_contents s c
 taken_from : (s : Office) (run r : ℕ) → IsSoundOffice s → next_ready s run ≡ Some r → TakenFrom s run r
 unfolding IsSoundOffice
 taken_from s run r (contents, sound) next = (contents, sound_taken.taken (with_contents s contents) run r sound next)
-
-sound_tree : (s : Office) → IsSoundOffice s → tree.IsSound s.tree
-unfolding IsSoundOffice
-sound_tree s (contents, sound) = tree_sound (with_contents s contents) sound
 
 record_there : (t : TreeState) (r : ℕ) (head : Record) → numbered t.records r ≡ Some head → has_record t r ≡ true
 record_there t r head there = let within = numbered_within t.records r head there in grind (arith, nat_tests)

@@ -40,7 +40,8 @@ impl Parts {
     /// What is decided of an act on schedules and classes.
     #[tactic(auto, unfolding(office_rules::specs::Acts::step))]
     fn decide_on_schedules(&self, alloc: Global, act: &Act) -> Result<Decision, Memory>
-        requires { IsOnSchedules act.now }
+        requires sound { IsSoundOffice self.now }
+        requires kind { IsOnSchedules act.now }
         ensures { IfOk result (λ d. IsDecidedTo self.now (λ contents. step (with_contents self.now contents) act.now) d) }
     {
         match act {
@@ -78,7 +79,8 @@ impl Parts {
     /// What is decided of an act on aggregations, or of an own class of one or of a record.
     #[tactic(auto, unfolding(office_rules::specs::Acts::step))]
     fn decide_on_aggregations(&self, alloc: Global, act: &Act) -> Result<Decision, Memory>
-        requires { IsOnAggregations act.now }
+        requires sound { IsSoundOffice self.now }
+        requires kind { IsOnAggregations act.now }
         ensures { IfOk result (λ d. IsDecidedTo self.now (λ contents. step (with_contents self.now contents) act.now) d) }
     {
         match act {
@@ -147,7 +149,8 @@ impl Parts {
     /// What is decided of an act on holds.
     #[tactic(auto, unfolding(office_rules::specs::Acts::step))]
     fn decide_on_holds(&self, alloc: Global, act: &Act) -> Result<Decision, Memory>
-        requires { IsOnHolds act.now }
+        requires sound { IsSoundOffice self.now }
+        requires kind { IsOnHolds act.now }
         ensures { IfOk result (λ d. IsDecidedTo self.now (λ contents. step (with_contents self.now contents) act.now) d) }
     {
         match act {

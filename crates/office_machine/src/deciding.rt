@@ -5,6 +5,7 @@ ghost use Rattle.office_base.specs.declared.refusal.Refusal.{Refusal};
 ghost use Rattle.office_terms.specs.Conditions.{first_of};
 ghost use Rattle.office_rules.specs.Acts.{IsDecidedTo, IsGoing};
 ghost use Rattle.office_rules.specs.Conditions.{dated};
+ghost use Rattle.office_rules.specs.Sound.{IsSoundOffice};
 ghost use Rattle.office_rules.specs.State.{with_contents};
 ghost use Rattle.office_machine.specs.DayWrites.{day_writes};
 ghost use Rattle.office_rules.specs.Steps.{step_add_aggregation, step_add_class, step_add_schedule, step_close_aggregation, step_set_class_schedule};
@@ -100,12 +101,12 @@ impl Parts {
         code: &Code,
         schedule: Schedule,
     ) -> Result<Decision, Memory>
+        requires { IsSoundOffice self.now }
         ensures { IfOk result (λ d. IsDecidedTo self.now (λ contents. step_add_schedule (with_contents self.now contents) day code.now schedule) d) }
     {
         if let Some(refusal) = self.dated(day, self.tree.check_add_schedule(code)) {
             return Ok(Decision::Stay(Answer::Refused(refusal)));
         }
-        self.tree.sound();
         let code = code.copy(alloc)?;
         self.go(
             alloc,
@@ -124,12 +125,12 @@ impl Parts {
         title: &Text,
         schedule: &Code,
     ) -> Result<Decision, Memory>
+        requires { IsSoundOffice self.now }
         ensures { IfOk result (λ d. IsDecidedTo self.now (λ contents. step_add_class (with_contents self.now contents) day code.now (record { title = title.now; schedule = schedule.now })) d) }
     {
         if let Some(refusal) = self.dated(day, self.tree.check_add_class(code, schedule)) {
             return Ok(Decision::Stay(Answer::Refused(refusal)));
         }
-        self.tree.sound();
         let title = title.copy(alloc)?;
         let (code, schedule) = copy_codes(alloc, code, schedule)?;
         let class = Class { title, schedule };
@@ -144,6 +145,7 @@ impl Parts {
         class: &Code,
         schedule: &Code,
     ) -> Result<Decision, Memory>
+        requires { IsSoundOffice self.now }
         ensures { IfOk result (λ d. IsDecidedTo self.now (λ contents. step_set_class_schedule (with_contents self.now contents) day class.now schedule.now) d) }
     {
         if let Some(refusal) = self.dated(
@@ -152,7 +154,6 @@ impl Parts {
         ) {
             return Ok(Decision::Stay(Answer::Refused(refusal)));
         }
-        self.tree.sound();
         let title = match self.tree.class(class) {
             Some(it) => it.title.copy(alloc)?,
             None => unreachable!(),
@@ -172,6 +173,7 @@ impl Parts {
         parent: Option<AggNo>,
         class: Option<&Code>,
     ) -> Result<Decision, Memory>
+        requires { IsSoundOffice self.now }
         ensures { IfOk result (λ d. IsDecidedTo self.now (λ contents. step_add_aggregation (with_contents self.now contents) day ref_text.now title.now parent (option_copied class.entry)) d) }
     {
         if let Some(refusal) = self.dated(
@@ -180,7 +182,6 @@ impl Parts {
         ) {
             return Ok(Decision::Stay(Answer::Refused(refusal)));
         }
-        self.tree.sound();
         let number = self.tree.aggregation_count() + 1;
         let aggregation = open_aggregation(alloc, ref_text, title, parent, class)?;
         let write = RowWrite::Aggregation {
@@ -197,12 +198,12 @@ impl Parts {
         day: Day,
         aggregation: AggNo,
     ) -> Result<Decision, Memory>
+        requires { IsSoundOffice self.now }
         ensures { IfOk result (λ d. IsDecidedTo self.now (λ contents. step_close_aggregation (with_contents self.now contents) day aggregation) d) }
     {
         if let Some(refusal) = self.dated(day, self.tree.check_close_aggregation(aggregation)) {
             return Ok(Decision::Stay(Answer::Refused(refusal)));
         }
-        self.tree.sound();
         let mut closed = self.tree.aggregation(aggregation).copy(alloc)?;
         closed.closed = Some(day);
         let write = RowWrite::Aggregation {

@@ -3,6 +3,7 @@ ghost use Rattle.std.specs.Prelude.{◌≡◌, IfOk};
 ghost use Rattle.office_terms.specs.Conditions.{first_of};
 ghost use Rattle.office_rules.specs.Acts.{IsDecidedTo};
 ghost use Rattle.office_rules.specs.Conditions.{conditions_of_target, lacks_target, target_status};
+ghost use Rattle.office_rules.specs.Sound.{IsSoundOffice};
 ghost use Rattle.office_rules.specs.State.{with_contents};
 ghost use Rattle.office_rules.specs.Steps.{step_hold_off, step_hold_on, step_lift_hold, step_place_hold};
 
@@ -65,12 +66,12 @@ impl Parts {
         reason: &Text,
         by: &Text,
     ) -> Result<Decision, Memory>
+        requires { IsSoundOffice self.now }
         ensures { IfOk result (λ d. IsDecidedTo self.now (λ contents. step_place_hold (with_contents self.now contents) day code.now reason.now by.now) d) }
     {
         if let Some(refusal) = self.dated(day, self.holds.check_place(code)) {
             return Ok(Decision::Stay(Answer::Refused(refusal)));
         }
-        self.holds.sound();
         let code = code.copy(alloc)?;
         let (reason, placed_by) = copy_texts(alloc, reason, by)?;
         let hold = HoldRow {
@@ -90,6 +91,7 @@ impl Parts {
         code: &Code,
         target: &Target,
     ) -> Result<Decision, Memory>
+        requires { IsSoundOffice self.now }
         ensures { IfOk result (λ d. IsDecidedTo self.now (λ contents. step_hold_on (with_contents self.now contents) day code.now target.now) d) }
     {
         let by_holds = self.holds.check_cover(code, target);
@@ -97,7 +99,6 @@ impl Parts {
         if let Some(refusal) = self.dated(day, min_refusal(by_holds, by_tree)) {
             return Ok(Decision::Stay(Answer::Refused(refusal)));
         }
-        self.holds.sound();
         let hold = code.copy(alloc)?;
         let target = target.copy(alloc)?;
         self.go(alloc, Answer::Done, RowWrite::Target { hold, target }, day)
@@ -133,12 +134,12 @@ impl Parts {
         day: Day,
         code: &Code,
     ) -> Result<Decision, Memory>
+        requires { IsSoundOffice self.now }
         ensures { IfOk result (λ d. IsDecidedTo self.now (λ contents. step_lift_hold (with_contents self.now contents) day code.now) d) }
     {
         if let Some(refusal) = self.dated(day, self.holds.check_lift(code)) {
             return Ok(Decision::Stay(Answer::Refused(refusal)));
         }
-        self.holds.sound();
         let Some(before) = self.holds.hold(code) else {
             unreachable!();
         };

@@ -134,7 +134,6 @@ impl Parts {
         if let Some(refusal) = self.dated(day, check) {
             return Ok(Decision::Stay(Answer::Refused(refusal)));
         }
-        self.tree.sound();
         let number = self.tree.record_count() + 1;
         let bytes = Vec::from_slice(alloc, &new.content)?;
         let head = new_head(alloc, day, new, digest)?;
@@ -159,6 +158,7 @@ impl Parts {
         record_no: RecordNo,
         schedule: Option<&Code>,
     ) -> Result<Decision, Memory>
+        requires { IsSoundOffice self.now }
         ensures { IfOk result (λ d. IsDecidedTo self.now (λ contents. step_set_record_schedule (with_contents self.now contents) day record_no (option_copied schedule.entry)) d) }
     {
         if let Some(refusal) = self.dated(
@@ -167,7 +167,6 @@ impl Parts {
         ) {
             return Ok(Decision::Stay(Answer::Refused(refusal)));
         }
-        self.tree.sound();
         let status = self.tree.status(record_no);
         let own = copy_code(alloc, schedule)?;
         let mut head = self.tree.record(record_no).copy(alloc)?;
@@ -189,12 +188,12 @@ impl Parts {
         action: Action,
         by: &Text,
     ) -> Result<Decision, Memory>
+        requires { IsSoundOffice self.now }
         ensures { IfOk result (λ d. IsDecidedTo self.now (λ contents. step_confirm (with_contents self.now contents) day record_no action by.now) d) }
     {
         if let Some(refusal) = self.dated(day, self.tree.check_confirm(day, record_no, action)) {
             return Ok(Decision::Stay(Answer::Refused(refusal)));
         }
-        self.tree.sound();
         let status = self.tree.status(record_no);
         let confirmation = confirmed(alloc, action, self.tree.due_of(record_no), day, by)?;
         let mut head = self.tree.record(record_no).copy(alloc)?;
@@ -216,12 +215,12 @@ impl Parts {
         schedule: Option<&Code>,
         by: &Text,
     ) -> Result<Decision, Memory>
+        requires { IsSoundOffice self.now }
         ensures { IfOk result (λ d. IsDecidedTo self.now (λ contents. step_review (with_contents self.now contents) day record_no (option_copied schedule.entry) by.now) d) }
     {
         if let Some(refusal) = self.dated(day, self.tree.check_review(day, record_no, schedule)) {
             return Ok(Decision::Stay(Answer::Refused(refusal)));
         }
-        self.tree.sound();
         let status = self.tree.status(record_no);
         let old = self.tree.record(record_no);
         let by = by.copy(alloc)?;
@@ -246,12 +245,12 @@ impl Parts {
         digest: [u8; 32],
         by: &Text,
     ) -> Result<Decision, Memory>
+        requires { IsSoundOffice self.now }
         ensures { IfOk result (λ d. IsDecidedTo self.now (λ contents. step_receipt (with_contents self.now contents) day record_no digest by.now) d) }
     {
         if let Some(refusal) = self.dated(day, self.tree.check_receipt(record_no, digest)) {
             return Ok(Decision::Stay(Answer::Refused(refusal)));
         }
-        self.tree.sound();
         let by = by.copy(alloc)?;
         let mut head = self.tree.record(record_no).copy(alloc)?;
         head.receipt = Some(Receipt { day, by });

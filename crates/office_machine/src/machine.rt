@@ -7,7 +7,6 @@ ghost use Rattle.office_rules.specs.Acts.{CanBeMade, IsDecidedFor, IsFeasible, K
 ghost use Rattle.office_rules.specs.Readings.{IsDueList, IsOverdueList, all_entries_of, ending_entry, record_view};
 ghost use Rattle.office_rules.specs.Registers.{AreDueRows, AreOverdueRows, entry_rows};
 ghost use Rattle.office_rules.specs.Runs.{looked_at, next_in_run};
-ghost use Rattle.office_rules.specs.Sound.{IsSoundOffice};
 ghost use Rattle.office_rules.specs.State.{empty_office};
 ghost use Rattle.office_rules.specs.Writes.{all_office_writes};
 
@@ -66,7 +65,6 @@ impl Machine {
         ensures feasible { IfOk result (λ d. IsFeasible self.now d) }
         ensures held { IfOk result (λ d. may_release act.now ≡ false → KeepsHeld self.now d) }
     {
-        self.sound();
         act.formed();
         self.parts.decide(alloc, act)
     }
@@ -86,7 +84,6 @@ impl Machine {
     pub fn next_in_run(&self) -> Option<RecordNo>
         ensures { result ≡ next_in_run self.now }
     {
-        self.sound();
         self.parts.next_in_run()
     }
 
@@ -97,7 +94,6 @@ impl Machine {
         ensures answer { result.0 ≡ next_in_run self.now }
         ensures count { result.1 ≡ looked_at self.now }
     {
-        self.sound();
         self.parts.next_counted()
     }
 
@@ -112,7 +108,6 @@ impl Machine {
     pub fn entry_of(&self, alloc: Global, record_no: RecordNo) -> Result<Option<Entry>, Memory>
         ensures { IfOk result (λ entry. entry ≡ ending_entry self.now record_no) }
     {
-        self.sound();
         self.parts.entry_that_ended(alloc, record_no)
     }
 
@@ -174,7 +169,6 @@ impl Machine {
     pub fn entry_rows(&self) -> EntryRows<'_>
         ensures { result ≡ entry_rows self.now }
     {
-        self.sound();
         self.parts.entry_rows()
     }
 
@@ -197,12 +191,5 @@ impl Machine {
         ensures { result ≡ self.now.day }
     {
         self.parts.day
-    }
-
-    /// Gives proofs the fact that an office is sound; a call does nothing.
-    pub(crate) fn sound(&self)
-        ensures { IsSoundOffice self.now }
-    {
-        let _ = &self.parts;
     }
 }

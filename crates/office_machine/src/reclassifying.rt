@@ -5,6 +5,7 @@ ghost use Rattle.office_terms.specs.Conditions.{first_of};
 ghost use Rattle.office_terms.specs.declared.classified.Classified.TheVariants as classified;
 ghost use Rattle.office_rules.specs.Acts.{IsDecidedTo};
 ghost use Rattle.office_rules.specs.Conditions.{refusals_of_reclassify};
+ghost use Rattle.office_rules.specs.Sound.{IsSoundOffice};
 ghost use Rattle.office_rules.specs.State.{with_contents};
 ghost use Rattle.office_rules.specs.Steps.{step_reclassify};
 
@@ -26,10 +27,10 @@ impl Parts {
         number: AggNo,
         class: Option<&Code>,
     ) -> Result<Decision, Memory>
-        requires { first_of (refusals_of_reclassify self.now day (classified.Aggregation number) (option_copied class)) ≡ None }
+        requires sound { IsSoundOffice self.now }
+        requires accepted { first_of (refusals_of_reclassify self.now day (classified.Aggregation number) (option_copied class)) ≡ None }
         ensures { IfOk result (λ d. IsDecidedTo self.now (λ contents. step_reclassify (with_contents self.now contents) day (classified.Aggregation number) (option_copied class.entry)) d) }
     {
-        self.tree.sound();
         let class = copy_code(alloc, class)?;
         let mut aggregation = self.tree.aggregation(number).copy(alloc)?;
         aggregation.class = class;
@@ -48,10 +49,10 @@ impl Parts {
         number: RecordNo,
         class: Option<&Code>,
     ) -> Result<Decision, Memory>
-        requires { first_of (refusals_of_reclassify self.now day (classified.Record number) (option_copied class)) ≡ None }
+        requires sound { IsSoundOffice self.now }
+        requires accepted { first_of (refusals_of_reclassify self.now day (classified.Record number) (option_copied class)) ≡ None }
         ensures { IfOk result (λ d. IsDecidedTo self.now (λ contents. step_reclassify (with_contents self.now contents) day (classified.Record number) (option_copied class.entry)) d) }
     {
-        self.tree.sound();
         let status = self.tree.status(number);
         let class = copy_code(alloc, class)?;
         let mut head = self.tree.record(number).copy(alloc)?;
@@ -72,6 +73,7 @@ impl Parts {
         target: Classified,
         class: Option<&Code>,
     ) -> Result<Decision, Memory>
+        requires { IsSoundOffice self.now }
         ensures { IfOk result (λ d. IsDecidedTo self.now (λ contents. step_reclassify (with_contents self.now contents) day target (option_copied class.entry)) d) }
     {
         let by_tree = self.tree.check_reclassify(target, class);

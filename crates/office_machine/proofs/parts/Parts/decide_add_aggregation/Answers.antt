@@ -1,7 +1,6 @@
-use Rattle.std.proofs.Common.{◌≡◌, ◌∙◌, ◌∷◌, suc, ◌+◌, length, sym, ap, subst, arith, refl}
+use Rattle.std.proofs.Common.{◌≡◌, ◌∙◌, ◌∷◌, suc, ◌+◌, length, sym, ap, arith, refl}
 use Rattle.std.specs.Option.{option_copied}
 use Rattle.office_terms.specs.Conditions.{first_of, conditions_of_add_aggregation}
-use Rattle.office_terms.specs.Sound.{IsSound}
 use Rattle.office_terms.specs.Tree.{TreeState}
 use Rattle.office_rules.specs.Conditions.{refusals_of_add_aggregation}
 use Rattle.office_rules.specs.Effects.{after_add_aggregation}
@@ -12,6 +11,7 @@ use Rattle.office_rules.specs.declared.rows.RowWrite.TheVariants as row_write
 use Rattle.office_machine.specs.DayWrites.{day_writes}
 use Rattle.office_machine.proofs.DecidedTree.{none_of, aggregation_change}
 use Rattle.office_machine.proofs.Decisions.{going, refused_step}
+use Rattle.office_machine.proofs.OfficeSound.{sound_tree}
 use Rattle.office_machine.proofs.parts.Parts.decide_add_aggregation.Goals.{After-dated}
 use Rattle.office_machine.proofs.parts.Parts.decide_add_aggregation.Goals as goal
 
@@ -39,5 +39,5 @@ returns c =
     let number : suc (length s.tree.aggregations) ≡ c.aggregation_count-number.result + 1 = omega (arith, count) in
     let next = λ (contents : ByteMap). step_add_aggregation (with_contents s contents) c.args.day c.args.ref_text.now c.args.title.now c.args.parent (option_copied c.args.class) in
     going s next (Number (c.aggregation_count-number.result + 1)) _ c.go.result c.go.ensures (λ change answer writes.
-    aggregation_change s c.args.day c.args.ref_text.now c.args.title.now c.args.parent (option_copied c.args.class) change (subst IsSound tree c.sound.ensures) accepted (ap Number number ∙ sym answer)
+    aggregation_change s c.args.day c.args.ref_text.now c.args.title.now c.args.parent (option_copied c.args.class) change (sound_tree c.args.self.now c.requires) accepted (ap Number number ∙ sym answer)
     (writes ∙ (λ i. row_write.Aggregation (count i + 1) (it i) ∷ day_writes c.args.self.now c.args.day)))

@@ -1,6 +1,5 @@
-use Rattle.std.proofs.Common.{◌≡◌, ◌∙◌, ◌∷◌, sym, ap, subst, refl}
+use Rattle.std.proofs.Common.{◌≡◌, ◌∙◌, ◌∷◌, sym, ap, refl}
 use Rattle.office_terms.specs.Conditions.{first_of, conditions_of_add_class}
-use Rattle.office_terms.specs.Sound.{IsSound}
 use Rattle.office_terms.specs.Tree.{TreeState}
 use Rattle.office_terms.specs.declared.class.Class.{Class}
 use Rattle.office_rules.specs.Conditions.{refusals_of_add_class}
@@ -12,6 +11,7 @@ use Rattle.office_rules.specs.declared.rows.RowWrite.TheVariants as row_write
 use Rattle.office_machine.specs.DayWrites.{day_writes}
 use Rattle.office_machine.proofs.DecidedTree.{none_of, class_change}
 use Rattle.office_machine.proofs.Decisions.{going, refused_step}
+use Rattle.office_machine.proofs.OfficeSound.{sound_tree}
 use Rattle.office_machine.proofs.parts.Parts.decide_add_class.Goals.{After-dated}
 use Rattle.office_machine.proofs.parts.Parts.decide_add_class.Goals as goal
 
@@ -41,5 +41,5 @@ returns c =
     let codes = c.in_ok-code.ensures in
     let next = λ (contents : ByteMap). step_add_class (with_contents c.args.self.now contents) c.args.day c.args.code.now (asked p) in
     going c.args.self.now next Done _ c.go.result c.go.ensures (λ change answer writes.
-    class_change c.args.self.now c.args.day c.args.code.now (asked p) change (subst IsSound (ap (λ o. o.tree) c.self.view_is) c.sound.ensures) accepted (sym answer)
+    class_change c.args.self.now c.args.day c.args.code.now (asked p) change (sound_tree c.args.self.now c.requires) accepted (sym answer)
     (writes ∙ (λ i. row_write.Class (codes i).0 (record { title = title i; schedule = (codes i).1 }) ∷ day_writes c.args.self.now c.args.day)))

@@ -1,6 +1,5 @@
-use Rattle.std.proofs.Common.{◌≡◌, ◌∙◌, ◌∷◌, sym, ap, subst, refl}
+use Rattle.std.proofs.Common.{◌≡◌, ◌∙◌, ◌∷◌, sym, ap, refl}
 use Rattle.office_terms.specs.Conditions.{first_of, conditions_of_add_schedule}
-use Rattle.office_terms.specs.Sound.{IsSound}
 use Rattle.office_terms.specs.Tree.{TreeState}
 use Rattle.office_rules.specs.Conditions.{refusals_of_add_schedule}
 use Rattle.office_rules.specs.Effects.{after_add_schedule}
@@ -11,6 +10,7 @@ use Rattle.office_rules.specs.declared.rows.RowWrite.TheVariants as row_write
 use Rattle.office_machine.specs.DayWrites.{day_writes}
 use Rattle.office_machine.proofs.DecidedTree.{none_of, schedule_change}
 use Rattle.office_machine.proofs.Decisions.{going, refused_step}
+use Rattle.office_machine.proofs.OfficeSound.{sound_tree}
 use Rattle.office_machine.proofs.parts.Parts.decide_add_schedule.Goals.{After-dated}
 use Rattle.office_machine.proofs.parts.Parts.decide_add_schedule.Goals as goal
 
@@ -34,4 +34,4 @@ returns c =
     let next = λ (contents : ByteMap). step_add_schedule (with_contents c.args.self.now contents) c.args.day c.args.code.now c.args.schedule in
     let row = ap (λ code. row_write.Schedule code c.args.schedule ∷ day_writes c.args.self.now c.args.day) c.in_ok-code.ensures in
     going c.args.self.now next Done _ c.go.result c.go.ensures (λ change answer writes.
-    schedule_change c.args.self.now c.args.day c.args.code.now c.args.schedule change (subst IsSound (ap (λ o. o.tree) c.self.view_is) c.sound.ensures) accepted (sym answer) (writes ∙ row))
+    schedule_change c.args.self.now c.args.day c.args.code.now c.args.schedule change (sound_tree c.args.self.now c.requires) accepted (sym answer) (writes ∙ row))

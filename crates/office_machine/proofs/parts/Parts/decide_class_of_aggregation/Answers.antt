@@ -1,7 +1,6 @@
 use Rattle.std.proofs.Common.{◌≡◌, Some, ap, subst, sym}
 use Rattle.std.specs.Option.{option_copied}
 use Rattle.office_terms.specs.Lists.{numbered}
-use Rattle.office_terms.specs.Sound.{IsSound}
 use Rattle.office_terms.specs.Tree.{TreeState}
 use Rattle.office_terms.specs.declared.classified.Classified.TheVariants as classified
 use Rattle.office_rules.specs.State.{ByteMap, with_contents}
@@ -9,6 +8,7 @@ use Rattle.office_rules.specs.Steps.{step_reclassify}
 use Rattle.office_rules.specs.declared.answer.Answer.TheVariants.{Done}
 use Rattle.office_machine.proofs.DecidedClasses.{aggregation_reclassified}
 use Rattle.office_machine.proofs.Decisions.{going}
+use Rattle.office_machine.proofs.OfficeSound.{sound_tree}
 use Rattle.office_machine.proofs.parts.Parts.decide_class_of_aggregation.Goals as goal
 
 pub returns : goal.returns
@@ -20,4 +20,4 @@ returns c =
     let next = λ (contents : ByteMap). step_reclassify (with_contents c.args.self.now contents) c.args.day (classified.Aggregation c.args.number) class in
     going c.args.self.now next Done _ c.go.result c.go.ensures (λ change answer writes.
     aggregation_reclassified c.args.self.now c.args.day c.args.number class old (record (c.in_ok-aggregation.aggregation) { class = c.in_ok-class.class }) change
-    (subst IsSound tree c.sound.ensures) c.requires there (λ i. record (c.in_ok-aggregation.ensures i) { class = c.in_ok-class.ensures i }) (sym answer) writes)
+    (sound_tree c.args.self.now c.requires.sound) c.requires.accepted there (λ i. record (c.in_ok-aggregation.ensures i) { class = c.in_ok-class.ensures i }) (sym answer) writes)

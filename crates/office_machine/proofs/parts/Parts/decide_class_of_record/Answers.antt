@@ -1,7 +1,6 @@
 use Rattle.std.proofs.Common.{◌≡◌, Some, ap, subst, sym}
 use Rattle.std.specs.Option.{option_copied}
 use Rattle.office_terms.specs.Lists.{numbered}
-use Rattle.office_terms.specs.Sound.{IsSound}
 use Rattle.office_terms.specs.Tree.{TreeState}
 use Rattle.office_terms.specs.declared.classified.Classified.TheVariants as classified
 use Rattle.office_rules.specs.State.{ByteMap, with_contents}
@@ -9,6 +8,7 @@ use Rattle.office_rules.specs.Steps.{step_reclassify}
 use Rattle.office_rules.specs.declared.answer.Answer.TheVariants.{Done}
 use Rattle.office_machine.proofs.DecidedClasses.{record_reclassified}
 use Rattle.office_machine.proofs.Decisions.{going}
+use Rattle.office_machine.proofs.OfficeSound.{sound_tree}
 use Rattle.office_machine.proofs.parts.Parts.decide_class_of_record.Goals as goal
 
 pub returns : goal.returns
@@ -22,4 +22,4 @@ returns c =
     let next = λ (contents : ByteMap). step_reclassify (with_contents c.args.self.now contents) c.args.day (classified.Record c.args.number) class in
     going c.args.self.now next Done _ c.go.result c.go.ensures (λ change answer writes.
     record_reclassified c.args.self.now c.args.day c.args.number class old (record (c.in_ok-head.head) { class = c.in_ok-class.class }) status change
-    (subst IsSound tree c.sound.ensures) c.requires there representing (λ i. record (c.in_ok-head.ensures i) { class = c.in_ok-class.ensures i }) (sym answer) writes)
+    (sound_tree c.args.self.now c.requires.sound) c.requires.accepted there representing (λ i. record (c.in_ok-head.ensures i) { class = c.in_ok-class.ensures i }) (sym answer) writes)

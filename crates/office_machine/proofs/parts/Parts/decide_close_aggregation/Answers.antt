@@ -1,7 +1,6 @@
-use Rattle.std.proofs.Common.{◌≡◌, ◌∙◌, ◌∷◌, Some, sym, ap, subst, refl}
+use Rattle.std.proofs.Common.{◌≡◌, ◌∙◌, ◌∷◌, Some, sym, ap, refl}
 use Rattle.office_terms.specs.Conditions.{first_of, conditions_of_close_aggregation}
 use Rattle.office_terms.specs.Lists.{numbered}
-use Rattle.office_terms.specs.Sound.{IsSound}
 use Rattle.office_terms.specs.Tree.{TreeState, has_aggregation}
 use Rattle.office_terms.proofs.Accepting.{none_holds, not_false}
 use Rattle.office_terms.proofs.Keeping.{as_closed}
@@ -14,6 +13,7 @@ use Rattle.office_rules.specs.declared.rows.RowWrite.TheVariants as row_write
 use Rattle.office_machine.specs.DayWrites.{day_writes}
 use Rattle.office_machine.proofs.DecidedTree.{none_of, closing_change}
 use Rattle.office_machine.proofs.Decisions.{going, refused_step}
+use Rattle.office_machine.proofs.OfficeSound.{sound_tree}
 use Rattle.office_machine.proofs.parts.Parts.decide_close_aggregation.Goals.{After-dated}
 use Rattle.office_machine.proofs.parts.Parts.decide_close_aggregation.Goals as goal
 
@@ -39,7 +39,7 @@ returns c =
     let there : numbered s.tree.aggregations c.args.aggregation ≡ Some c.aggregation.result.now = ap (λ (t : TreeState). numbered t.aggregations c.args.aggregation) (sym tree) ∙ c.aggregation.ensures in
     let next = λ (contents : ByteMap). step_close_aggregation (with_contents s contents) c.args.day c.args.aggregation in
     going s next Done _ c.go.result c.go.ensures (λ change answer writes.
-    closing_change s c.args.day c.args.aggregation c.aggregation.result.now change (subst IsSound tree c.sound.ensures) accepted there (sym answer)
+    closing_change s c.args.day c.args.aggregation c.aggregation.result.now change (sound_tree c.args.self.now c.requires) accepted there (sym answer)
     (writes ∙ ap (λ it. row_write.Aggregation c.args.aggregation (as_closed c.args.day it) ∷ day_writes c.args.self.now c.args.day) c.in_ok-closed.ensures))
 
 pub aggregation-requires : goal.aggregation-requires

@@ -1,6 +1,7 @@
-use Rattle.std.proofs.Common.{◌∙◌, sym, ap, refl}
+use Rattle.std.proofs.Common.{◌∙◌, sym, ap, refl, subst}
 use Rattle.office_terms.specs.Conditions.{first_of, conditions_of_confirm}
 use Rattle.office_terms.specs.Tree.{TreeState}
+use Rattle.office_terms.specs.Sound.{IsSound}
 use Rattle.office_rules.specs.Conditions.{refusals_of_confirm}
 use Rattle.office_rules.specs.Effects.{after_confirm}
 use Rattle.office_rules.specs.State.{ByteMap, with_contents, with_office}
@@ -8,6 +9,7 @@ use Rattle.office_rules.specs.Steps.{step_confirm}
 use Rattle.office_rules.specs.declared.answer.Answer.TheVariants.{Done}
 use Rattle.office_machine.proofs.DecidedRecords.{IsRead, accepted_in, confirming, record_to_confirm, confirmed_on}
 use Rattle.office_machine.proofs.Decisions.{going, refused_step}
+use Rattle.office_machine.proofs.OfficeSound.{sound_tree}
 use Rattle.office_machine.proofs.parts.Parts.decide_confirm.Goals as goal
 
 pub returns-in-Some : goal.returns-in-Some
@@ -43,7 +45,7 @@ returns c =
     let t = c.self.inside.tree in
     let table = sym (c.dated.ensures (conditions_of_confirm t c.args.day c.args.record_no c.args.action) c.check_confirm.ensures.first) ∙ c.in_default.is in
     let reported = c.in_ok-confirmation.ensures ∙ ap (confirming c.args.action c.args.day c.args.by.now) c.due_of.ensures in
-    let reads : IsRead t c.args.record_no c.record.result.now c.status-status.result = record { sound = c.sound.ensures; there = c.record.ensures; representing = c.status-status.ensures } in
+    let reads : IsRead t c.args.record_no c.record.result.now c.status-status.result = record { sound = subst IsSound (sym (ap (λ o. o.tree) c.self.view_is)) (sound_tree c.args.self.now c.requires); there = c.record.ensures; representing = c.status-status.ensures } in
     let next = λ (contents : ByteMap). step_confirm (with_contents c.args.self.now contents) c.args.day c.args.record_no c.args.action c.args.by.now in
     going c.args.self.now next Done _ c.go.result c.go.ensures (λ change answer writes.
     confirmed_on c.args.self.now t c.args.day c.args.record_no c.args.action c.args.by.now c.record.result.now (record (c.in_ok-head.head) { confirmation = c.in_ok-confirmation.confirmation }) c.status-status.result change

@@ -1,7 +1,6 @@
-use Rattle.std.proofs.Common.{◌≡◌, ◌∙◌, ◌∷◌, sym, ap, subst, refl}
+use Rattle.std.proofs.Common.{◌≡◌, ◌∙◌, ◌∷◌, sym, ap, refl}
 use Rattle.office_terms.specs.Conditions.{first_of}
 use Rattle.office_holds.specs.Conditions.{conditions_of_hold_on}
-use Rattle.office_holds.specs.Forms.{FitsHoldLimits}
 use Rattle.office_rules.specs.Conditions.{conditions_of_covering, conditions_of_target, refusals_of_hold_on}
 use Rattle.office_rules.specs.Effects.{after_hold_on}
 use Rattle.office_machine.specs.MinRefusal.{min_refusal}
@@ -13,6 +12,7 @@ use Rattle.office_machine.specs.DayWrites.{day_writes}
 use Rattle.office_machine.proofs.DecidedHolds.{covering_change}
 use Rattle.office_machine.proofs.Decisions.{going, refused_step}
 use Rattle.office_machine.proofs.MinRefusals.{min_refusal_of_covering}
+use Rattle.office_machine.proofs.OfficeSound.{few_holds}
 use Rattle.office_machine.proofs.parts.Parts.decide_hold_on.Goals.{After-dated}
 use Rattle.office_machine.proofs.parts.Parts.decide_hold_on.Goals as goal
 
@@ -41,4 +41,4 @@ returns c =
     let target = c.in_ok-target.ensures in
     let next = λ (contents : ByteMap). step_hold_on (with_contents s contents) c.args.day c.args.code.now c.args.target.now in
     going s next Done _ c.go.result c.go.ensures (λ change answer writes.
-    covering_change s c.args.day c.args.code.now c.args.target.now change (subst FitsHoldLimits (ap (λ o. o.holds) c.self.view_is) c.sound.ensures) accepted (sym answer) (writes ∙ (λ i. row_write.Target (code i) (target i) ∷ day_writes c.args.self.now c.args.day)))
+    covering_change s c.args.day c.args.code.now c.args.target.now change (few_holds c.args.self.now c.requires) accepted (sym answer) (writes ∙ (λ i. row_write.Target (code i) (target i) ∷ day_writes c.args.self.now c.args.day)))

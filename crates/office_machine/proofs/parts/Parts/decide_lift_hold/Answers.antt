@@ -1,9 +1,8 @@
-use Rattle.std.proofs.Common.{◌≡◌, ◌∙◌, ◌∷◌, Some, sym, ap, subst, refl}
+use Rattle.std.proofs.Common.{◌≡◌, ◌∙◌, ◌∷◌, Some, sym, ap, refl}
 use Rattle.std.specs.FinMap.{get}
 use Rattle.std.specs.Option.{option_copied}
 use Rattle.office_terms.specs.Conditions.{first_of}
 use Rattle.office_holds.specs.Conditions.{conditions_of_lift_hold}
-use Rattle.office_holds.specs.Forms.{FitsHoldLimits}
 use Rattle.office_holds.specs.Holds.{HoldMap}
 use Rattle.office_rules.specs.Conditions.{refusals_of_lift_hold}
 use Rattle.office_rules.specs.Effects.{after_lift_hold}
@@ -14,6 +13,7 @@ use Rattle.office_rules.specs.declared.rows.RowWrite.TheVariants as row_write
 use Rattle.office_machine.specs.DayWrites.{day_writes}
 use Rattle.office_machine.proofs.DecidedHolds.{hold_there, lifting_change}
 use Rattle.office_machine.proofs.Decisions.{going, refused_step}
+use Rattle.office_machine.proofs.OfficeSound.{few_holds}
 use Rattle.office_machine.proofs.parts.Parts.decide_lift_hold.Goals.{After-dated}
 use Rattle.office_machine.proofs.parts.Parts.decide_lift_hold.Goals as goal
 
@@ -40,7 +40,7 @@ returns c =
     let row = c.in_ok-hold.ensures ∙ c.row.ensures in
     let next = λ (contents : ByteMap). step_lift_hold (with_contents s contents) c.args.day c.args.code.now in
     going s next Done _ c.go.result c.go.ensures (λ change answer writes.
-    lifting_change s c.args.day c.args.code.now c.in-Some-hold.before.now change (subst FitsHoldLimits (ap (λ o. o.holds) c.self.view_is) c.sound.ensures) accepted there (sym answer)
+    lifting_change s c.args.day c.args.code.now c.in-Some-hold.before.now change (few_holds c.args.self.now c.requires) accepted there (sym answer)
     (writes ∙ (λ i. row_write.Hold (code i) (record (row i) { lifted = Some c.args.day }) ∷ day_writes c.args.self.now c.args.day)))
 
 pub unreachable-requires : goal.unreachable-requires

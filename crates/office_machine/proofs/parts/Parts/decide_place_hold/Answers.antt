@@ -1,7 +1,6 @@
-use Rattle.std.proofs.Common.{◌≡◌, ◌∙◌, ◌∷◌, sym, ap, subst, refl}
+use Rattle.std.proofs.Common.{◌≡◌, ◌∙◌, ◌∷◌, sym, ap, refl}
 use Rattle.office_terms.specs.Conditions.{first_of}
 use Rattle.office_holds.specs.Conditions.{conditions_of_place_hold}
-use Rattle.office_holds.specs.Forms.{FitsHoldLimits}
 use Rattle.office_holds.specs.Holds.{HoldMap}
 use Rattle.office_rules.specs.Conditions.{refusals_of_place_hold}
 use Rattle.office_rules.specs.Effects.{after_place_hold}
@@ -12,6 +11,7 @@ use Rattle.office_rules.specs.declared.rows.RowWrite.TheVariants as row_write
 use Rattle.office_machine.specs.DayWrites.{day_writes}
 use Rattle.office_machine.proofs.DecidedHolds.{placed_row, placing_change}
 use Rattle.office_machine.proofs.Decisions.{going, refused_step}
+use Rattle.office_machine.proofs.OfficeSound.{few_holds}
 use Rattle.office_machine.proofs.parts.Parts.decide_place_hold.Goals.{After-dated}
 use Rattle.office_machine.proofs.parts.Parts.decide_place_hold.Goals as goal
 
@@ -37,5 +37,5 @@ returns c =
     let texts = c.in_ok-reason.ensures in
     let next = λ (contents : ByteMap). step_place_hold (with_contents s contents) c.args.day c.args.code.now c.args.reason.now c.args.by.now in
     going s next Done _ c.go.result c.go.ensures (λ change answer writes.
-    placing_change s c.args.day c.args.code.now c.args.reason.now c.args.by.now change (subst FitsHoldLimits (ap (λ o. o.holds) c.self.view_is) c.sound.ensures) accepted (sym answer)
+    placing_change s c.args.day c.args.code.now c.args.reason.now c.args.by.now change (few_holds c.args.self.now c.requires) accepted (sym answer)
     (writes ∙ (λ i. row_write.Hold (code i) (placed_row c.args.day (texts i).0 (texts i).1) ∷ day_writes c.args.self.now c.args.day)))

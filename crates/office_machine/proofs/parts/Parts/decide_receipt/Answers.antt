@@ -1,6 +1,7 @@
-use Rattle.std.proofs.Common.{◌∙◌, Some, sym, ap, refl}
+use Rattle.std.proofs.Common.{◌∙◌, Some, sym, ap, refl, subst}
 use Rattle.office_terms.specs.Conditions.{first_of, conditions_of_receipt}
 use Rattle.office_terms.specs.Tree.{TreeState}
+use Rattle.office_terms.specs.Sound.{IsSound}
 use Rattle.office_rules.specs.Conditions.{refusals_of_receipt}
 use Rattle.office_rules.specs.Effects.{after_receipt}
 use Rattle.office_rules.specs.State.{ByteMap, with_contents, with_office}
@@ -8,6 +9,7 @@ use Rattle.office_rules.specs.Steps.{step_receipt}
 use Rattle.office_rules.specs.declared.answer.Answer.TheVariants.{Done}
 use Rattle.office_machine.proofs.DecidedRecords.{accepted_in, record_to_receipt, received_on}
 use Rattle.office_machine.proofs.Decisions.{going, refused_step}
+use Rattle.office_machine.proofs.OfficeSound.{sound_tree}
 use Rattle.office_machine.proofs.parts.Parts.decide_receipt.Goals as goal
 
 pub returns-in-Some : goal.returns-in-Some
@@ -33,4 +35,4 @@ returns c =
     let next = λ (contents : ByteMap). step_receipt (with_contents c.args.self.now contents) c.args.day c.args.record_no c.args.digest c.args.by.now in
     going c.args.self.now next Done _ c.go.result c.go.ensures (λ change answer writes.
     received_on c.args.self.now t c.args.day c.args.record_no c.args.digest c.args.by.now c.record.result.now (record (c.in_ok-head.head) { receipt = Some (record { day = c.args.day; by = c.in_ok-by.by }) }) change
-    (ap (λ o. o.tree) c.self.view_is) table c.sound.ensures c.record.ensures (λ i. record (c.in_ok-head.ensures i) { receipt = Some (record { day = c.args.day; by = c.in_ok-by.ensures i }) }) answer writes)
+    (ap (λ o. o.tree) c.self.view_is) table (subst IsSound (sym (ap (λ o. o.tree) c.self.view_is)) (sound_tree c.args.self.now c.requires)) c.record.ensures (λ i. record (c.in_ok-head.ensures i) { receipt = Some (record { day = c.args.day; by = c.in_ok-by.ensures i }) }) answer writes)

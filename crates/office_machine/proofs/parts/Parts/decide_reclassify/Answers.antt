@@ -30,12 +30,12 @@ returns-in-Some c = (
   refl,
 )
 
-pub decide_class_of_aggregation-requires : goal.decide_class_of_aggregation-requires
-decide_class_of_aggregation-requires c =
-    let accepted = sym (table (goal.at.decide_class_of_aggregation-requires c).After-dated) ∙ c.in_default.is in
+pub decide_class_of_aggregation-requires-clause-accepted : goal.decide_class_of_aggregation-requires-clause-accepted
+decide_class_of_aggregation-requires-clause-accepted c =
+    let accepted = sym (table (goal.at.decide_class_of_aggregation-requires-clause-accepted c).After-dated) ∙ c.in_default.is in
     subst (λ (what : Classified). first_of (refusals_of_reclassify c.args.self.now c.args.day what (option_copied c.args.class)) ≡ None) c.in-Aggregation.is accepted
 
-pub decide_class_of_record-requires : goal.decide_class_of_record-requires
-decide_class_of_record-requires c =
-    let accepted = sym (table (goal.at.decide_class_of_record-requires c).After-dated) ∙ c.in_default.is in
+pub decide_class_of_record-requires-clause-accepted : goal.decide_class_of_record-requires-clause-accepted
+decide_class_of_record-requires-clause-accepted c =
+    let accepted = sym (table (goal.at.decide_class_of_record-requires-clause-accepted c).After-dated) ∙ c.in_default.is in
     subst (λ (what : Classified). first_of (refusals_of_reclassify c.args.self.now c.args.day what (option_copied c.args.class)) ≡ None) c.in-Record.is accepted

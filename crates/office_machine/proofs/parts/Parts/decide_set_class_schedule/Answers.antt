@@ -1,7 +1,6 @@
-use Rattle.std.proofs.Common.{◌≡◌, ◌∙◌, ◌∷◌, Some, sym, ap, subst, refl}
+use Rattle.std.proofs.Common.{◌≡◌, ◌∙◌, ◌∷◌, Some, sym, ap, refl}
 use Rattle.std.specs.FinMap.{get}
 use Rattle.office_terms.specs.Conditions.{first_of, conditions_of_set_class_schedule}
-use Rattle.office_terms.specs.Sound.{IsSound}
 use Rattle.office_terms.specs.Tree.{TreeState}
 use Rattle.office_rules.specs.Conditions.{refusals_of_set_class_schedule}
 use Rattle.office_rules.specs.Effects.{after_set_class_schedule}
@@ -13,6 +12,7 @@ use Rattle.office_rules.proofs.Accepted.{dated_accepted}
 use Rattle.office_machine.specs.DayWrites.{day_writes}
 use Rattle.office_machine.proofs.DecidedTree.{none_of, class_there, class_schedule_change}
 use Rattle.office_machine.proofs.Decisions.{going, refused_step}
+use Rattle.office_machine.proofs.OfficeSound.{sound_tree}
 use Rattle.office_machine.proofs.parts.Parts.decide_set_class_schedule.Goals.{After-dated}
 use Rattle.office_machine.proofs.parts.Parts.decide_set_class_schedule.Goals as goal
 
@@ -40,7 +40,7 @@ returns c =
     let codes = c.in_ok-code.ensures in
     let next = λ (contents : ByteMap). step_set_class_schedule (with_contents s contents) c.args.day c.args.class.now c.args.schedule.now in
     going s next Done _ c.go.result c.go.ensures (λ change answer writes.
-    class_schedule_change s c.args.day c.args.class.now c.args.schedule.now c.in-Some-class.it.now change (subst IsSound tree c.sound.ensures) accepted there (sym answer)
+    class_schedule_change s c.args.day c.args.class.now c.args.schedule.now c.in-Some-class.it.now change (sound_tree c.args.self.now c.requires) accepted there (sym answer)
     (writes ∙ (λ i. row_write.Class (codes i).0 (record { title = title i; schedule = (codes i).1 }) ∷ day_writes c.args.self.now c.args.day)))
 
 pub unreachable-requires : goal.unreachable-requires

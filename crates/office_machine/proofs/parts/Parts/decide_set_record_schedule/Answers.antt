@@ -1,7 +1,8 @@
-use Rattle.std.proofs.Common.{◌∙◌, sym, ap, refl}
+use Rattle.std.proofs.Common.{◌∙◌, sym, ap, refl, subst}
 use Rattle.std.specs.Option.{option_copied}
 use Rattle.office_terms.specs.Conditions.{first_of, conditions_of_set_record_schedule}
 use Rattle.office_terms.specs.Tree.{TreeState}
+use Rattle.office_terms.specs.Sound.{IsSound}
 use Rattle.office_rules.specs.Conditions.{refusals_of_set_record_schedule}
 use Rattle.office_rules.specs.Effects.{after_set_record_schedule}
 use Rattle.office_rules.specs.State.{ByteMap, with_contents, with_office}
@@ -9,6 +10,7 @@ use Rattle.office_rules.specs.Steps.{step_set_record_schedule}
 use Rattle.office_rules.specs.declared.answer.Answer.TheVariants.{Done}
 use Rattle.office_machine.proofs.DecidedRecords.{IsRead, accepted_in, record_to_schedule, scheduled}
 use Rattle.office_machine.proofs.Decisions.{going, refused_step}
+use Rattle.office_machine.proofs.OfficeSound.{sound_tree}
 use Rattle.office_machine.proofs.parts.Parts.decide_set_record_schedule.Goals as goal
 
 pub returns-in-Some : goal.returns-in-Some
@@ -39,7 +41,7 @@ returns c =
     let t = c.self.inside.tree in
     let schedule = option_copied c.args.schedule in
     let table = sym (c.dated.ensures (conditions_of_set_record_schedule t c.args.record_no schedule) c.check_set_record_schedule.ensures.first) ∙ c.in_default.is in
-    let reads : IsRead t c.args.record_no c.record.result.now c.status-status.result = record { sound = c.sound.ensures; there = c.record.ensures; representing = c.status-status.ensures } in
+    let reads : IsRead t c.args.record_no c.record.result.now c.status-status.result = record { sound = subst IsSound (sym (ap (λ o. o.tree) c.self.view_is)) (sound_tree c.args.self.now c.requires); there = c.record.ensures; representing = c.status-status.ensures } in
     let next = λ (contents : ByteMap). step_set_record_schedule (with_contents c.args.self.now contents) c.args.day c.args.record_no schedule in
     going c.args.self.now next Done _ c.go.result c.go.ensures (λ change answer writes.
     scheduled c.args.self.now t c.args.day c.args.record_no schedule c.record.result.now (record (c.in_ok-head.head) { schedule = c.in_ok-own.own }) c.status-status.result change
