@@ -1,52 +1,22 @@
 //! What an act asks for is well-formed, stated as functions for proofs. A call does nothing: the
 //! types see to it.
-ghost use Rattle.std.specs.Prelude.{◌≤◌, IfSome};
-ghost use Rattle.office_days.specs.Limits.{IsDayNumber, longest};
-ghost use Rattle.office_terms.specs.Forms.{IsCode, IsText};
+ghost use Rattle.std.specs.Prelude.{IfSome};
+ghost use Rattle.office_terms.specs.Forms.{IsCode};
 ghost use Rattle.office_holds.specs.Forms.{IsWellFormedTarget};
 ghost use Rattle.office_rules.specs.Acts.{IsOnAggregations, IsOnHolds, IsOnRecords, IsOnRuns, IsOnSchedules};
 ghost use Rattle.office_rules.specs.Forms.{IsWellFormedAct};
 ghost use Rattle.office_rules.specs.Meanings.{IsWellFormedNewRecord};
 
 use crate::{Act, NewRecord};
-use office_days::{Day, Period};
-use office_terms::{Code, Target, Text};
+use office_terms::{Code, Target};
 
-/// A code is of its form.
-fn well_formed_code(code: &Code)
-    ensures { IsCode code.now }
-{
-    let _ = code.text();
-}
-
-/// And so is one where there may be none.
+/// A code, if there is one, is of its form.
 fn well_formed_code_or_none(code: &Option<Code>)
     ensures { IfSome code.now IsCode }
 {
     if let Some(code) = code {
-        well_formed_code(code);
+        let _ = code.text();
     }
-}
-
-/// A text is of its form.
-fn well_formed_text(text: &Text)
-    ensures { IsText text.now }
-{
-    let _ = text.text();
-}
-
-/// A day is one that may be handed in.
-fn well_formed_day(day: Day)
-    ensures { IsDayNumber day }
-{
-    let _ = day.number();
-}
-
-/// A period is within the limit of its unit.
-fn well_formed_period(period: Period)
-    ensures { period.count ≤ longest period.unit }
-{
-    let _ = period.count();
 }
 
 /// A target's code is of its form.
@@ -54,7 +24,9 @@ fn well_formed_target(target: &Target)
     ensures { IsWellFormedTarget target.now }
 {
     match target {
-        Target::Class(code) => well_formed_code(code),
+        Target::Class(code) => {
+            let _ = code.text();
+        }
         Target::Aggregation(_) | Target::Record(_) => {}
     }
 }
@@ -63,9 +35,9 @@ fn well_formed_target(target: &Target)
 fn well_formed_new_record(new: &NewRecord)
     ensures { IsWellFormedNewRecord new.now }
 {
-    well_formed_text(&new.ref_text);
-    well_formed_text(&new.title);
-    well_formed_day(new.originated);
+    let _ = new.ref_text.text();
+    let _ = new.title.text();
+    let _ = new.originated.number();
     well_formed_code_or_none(&new.class);
     well_formed_code_or_none(&new.schedule);
 }
@@ -108,9 +80,9 @@ impl Act {
                 period,
                 ..
             } => {
-                well_formed_day(*day);
-                well_formed_code(code);
-                well_formed_period(*period);
+                let _ = day.number();
+                let _ = code.text();
+                let _ = period.count();
             }
             Act::AddClass {
                 day,
@@ -118,19 +90,19 @@ impl Act {
                 title,
                 schedule,
             } => {
-                well_formed_day(*day);
-                well_formed_code(code);
-                well_formed_text(title);
-                well_formed_code(schedule);
+                let _ = day.number();
+                let _ = code.text();
+                let _ = title.text();
+                let _ = schedule.text();
             }
             Act::SetClassSchedule {
                 day,
                 class,
                 schedule,
             } => {
-                well_formed_day(*day);
-                well_formed_code(class);
-                well_formed_code(schedule);
+                let _ = day.number();
+                let _ = class.text();
+                let _ = schedule.text();
             }
             _ => unreachable!(),
         }
@@ -149,14 +121,16 @@ impl Act {
                 class,
                 ..
             } => {
-                well_formed_day(*day);
-                well_formed_text(ref_text);
-                well_formed_text(title);
+                let _ = day.number();
+                let _ = ref_text.text();
+                let _ = title.text();
                 well_formed_code_or_none(class);
             }
-            Act::CloseAggregation { day, .. } => well_formed_day(*day),
+            Act::CloseAggregation { day, .. } => {
+                let _ = day.number();
+            }
             Act::Reclassify { day, class, .. } => {
-                well_formed_day(*day);
+                let _ = day.number();
                 well_formed_code_or_none(class);
             }
             _ => unreachable!(),
@@ -170,16 +144,16 @@ impl Act {
     {
         match self {
             Act::AddRecord { day, record } => {
-                well_formed_day(*day);
+                let _ = day.number();
                 well_formed_new_record(record);
             }
             Act::SetRecordSchedule { day, schedule, .. } => {
-                well_formed_day(*day);
+                let _ = day.number();
                 well_formed_code_or_none(schedule);
             }
             Act::Confirm { day, by, .. } | Act::Receipt { day, by, .. } => {
-                well_formed_day(*day);
-                well_formed_text(by);
+                let _ = day.number();
+                let _ = by.text();
             }
             Act::Review {
                 day,
@@ -187,9 +161,9 @@ impl Act {
                 by,
                 ..
             } => {
-                well_formed_day(*day);
+                let _ = day.number();
                 well_formed_code_or_none(schedule);
-                well_formed_text(by);
+                let _ = by.text();
             }
             Act::Event {
                 day,
@@ -197,9 +171,9 @@ impl Act {
                 by,
                 ..
             } => {
-                well_formed_day(*day);
-                well_formed_day(*occurred);
-                well_formed_text(by);
+                let _ = day.number();
+                let _ = occurred.number();
+                let _ = by.text();
             }
             _ => unreachable!(),
         }
@@ -217,18 +191,18 @@ impl Act {
                 reason,
                 by,
             } => {
-                well_formed_day(*day);
-                well_formed_code(code);
-                well_formed_text(reason);
-                well_formed_text(by);
+                let _ = day.number();
+                let _ = code.text();
+                let _ = reason.text();
+                let _ = by.text();
             }
             Act::HoldOn {
                 day,
                 hold: code,
                 target,
             } => {
-                well_formed_day(*day);
-                well_formed_code(code);
+                let _ = day.number();
+                let _ = code.text();
                 well_formed_target(target);
             }
             Act::HoldOff {
@@ -237,8 +211,8 @@ impl Act {
                 ..
             }
             | Act::LiftHold { day, hold: code } => {
-                well_formed_day(*day);
-                well_formed_code(code);
+                let _ = day.number();
+                let _ = code.text();
             }
             _ => unreachable!(),
         }
@@ -251,8 +225,8 @@ impl Act {
     {
         match self {
             Act::OpenRun { day, by } => {
-                well_formed_day(*day);
-                well_formed_text(by);
+                let _ = day.number();
+                let _ = by.text();
             }
             Act::RunStep => {}
             _ => unreachable!(),
