@@ -3,6 +3,7 @@ pub mod CertificateLines
 pub mod Columns
 pub mod Counts
 pub mod DateBytes
+pub mod DigestDigits
 pub mod Digests
 pub mod ReadDigests
 pub mod Texts

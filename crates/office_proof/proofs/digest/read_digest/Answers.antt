@@ -1,18 +1,20 @@
-use Rattle.std.proofs.Common.{◌≡◌, ℕ, List, true, Some, ap}
-use Rattle.office_proof.proofs.ReadDigests.{digest_read, is_so_written, same_digest}
+use Rattle.std.proofs.Common.{sym, ap, ◌∙◌}
+use Rattle.office_proof.specs.Digits.{digest_named}
+use Rattle.office_proof.proofs.ReadDigests.{long_text, named_by, named_none, named_some}
 use Rattle.office_proof.proofs.digest.read_digest.Goals as goal
 
-pub returns-in_default-clause-every : goal.returns-in_default-clause-every
-returns-in_default-clause-every c digest formed same = absurd (c.in_default.not-Ok digest (digest_read c.args.text.now digest c.from_hex.result formed same c.from_hex.ensures))
+pub returns-then-text-ne64-clause-named : goal.returns-then-text-ne64-clause-named
+returns-then-text-ne64-clause-named c =
+    named_none c.args.text.now (λ digest formed same. c.if-text-ne64.true (long_text c.args.text.now digest formed same))
 
-pub returns-then-not-is_written-clause-every : goal.returns-then-not-is_written-clause-every
-returns-then-not-is_written-clause-every c digest formed same =
-    let read = digest_read c.args.text.now digest c.from_hex.result formed same c.from_hex.ensures in
-    let reported : c.is_written.result ≡ true = is_so_written c.args.text.now digest c.in-Ok.digest c.is_written.result same (same_digest c.from_hex.result digest c.in-Ok.digest read c.in-Ok.is) c.is_written.ensures in
-    let other = c.if-not-is_written.true in
-    absurd cc
+pub returns-then-text-ne64-clause-every : goal.returns-then-text-ne64-clause-every
+returns-then-text-ne64-clause-every c digest formed same = absurd (c.if-text-ne64.true (long_text c.args.text.now digest formed same))
+
+pub returns-clause-named : goal.returns-clause-named
+returns-clause-named c = named_by c.as_bytes.result.now c.digest_in.result c.digest_in.ensures.formed c.digest_in.ensures.exact c.digest_in.ensures.none ∙ ap (λ t. digest_named t) c.as_bytes.ensures.value
 
 pub returns-clause-every : goal.returns-clause-every
 returns-clause-every c digest formed same =
-    let read = digest_read c.args.text.now digest c.from_hex.result formed same c.from_hex.ensures in
-    ap (λ (d : List ℕ). Some d) (same_digest c.from_hex.result c.in-Ok.digest digest c.in-Ok.is read)
+    named_by c.as_bytes.result.now c.digest_in.result c.digest_in.ensures.formed c.digest_in.ensures.exact c.digest_in.ensures.none
+    ∙ ap (λ t. digest_named t) c.as_bytes.ensures.value
+    ∙ sym (named_some c.args.text.now digest formed same)
