@@ -11,5 +11,5 @@ pub(crate) fn must(is_so: bool, row: &str, reported: &str) -> Result<(), Fail> {
     if is_so {
         return Ok(());
     }
-    Err(Fail::new(format_args!("{row}, told {told}")))
+    Err(Fail::new(format_args!("{row}, reported {reported}")))
 }
