@@ -46,6 +46,15 @@ impl Period {
         Some(Period { unit, count })
     }
 
+    /// The same of a count that was read of a text, whatever its size.
+    pub fn of_count(unit: Unit, count: u64) -> Option<Period>
+        ensures within { IsSome result ↔ (count ≤ longest unit) }
+        ensures unit { IfSome result (λ p. p.unit ≡ unit) }
+        ensures count { IfSome result (λ p. p.count ≡ count) }
+    {
+        Period::new(unit, u32::try_from(count).ok()?)
+    }
+
     /// In what the period is counted.
     pub fn unit(self) -> Unit
         ensures { result ≡ self.unit }

@@ -5,7 +5,7 @@ use Rattle.office_base.specs.declared.refusal.Refusal.{Refusal}
 use Rattle.office_base.specs.declared.refusal.Refusal.TheVariants.{BadText}
 use Rattle.office_rules.specs.declared.act.Act.{Act}
 use Rattle.office_json.specs.Acts.{Asked, asked, IsActRead, IsReadFault}
-use Rattle.office_json.specs.Parts.{fault_of, made}
+use Rattle.office_json.specs.Parts.{IsReadAs, fault_of, made}
 use Rattle.office_json.specs.declared.read_fault.ReadFault.{ReadFault}
 use Rattle.office_json.specs.declared.read_fault.ReadFault.TheVariants.{Refused, Memory}
 use Rattle.office_json.proofs.Made.{fault_made}
@@ -17,6 +17,10 @@ act_ok plain f part p h k = rw (h, k) refl
 -- they are not
 pub act_fault : {A : Type 0} (plain : Bool) (f : A → Asked) (part : Result A Refusal) (fault : ReadFault) → plain ≡ true → fault ≡ fault_of part → fault ≡ fault_of (cond plain (made f part) (Err BadText))
 act_fault plain f part fault h k = rw h (k ∙ sym (fault_made f part))
+
+-- what is read of an object without strange members is what is read of its parts
+pub only_read : {A : Type 0} (plain : Bool) (part : Result A Refusal) (read : Result A ReadFault) → plain ≡ true → IsReadAs part read → IsReadAs (cond plain part (Err BadText)) read
+only_read plain part read h k = rw h k
 
 -- a fault that is reported of an act without a content
 pub plain_fault : (d : Data) (part : Result Asked Refusal) (fault : ReadFault) → fault ≡ fault_of part → IsReadFault d part fault

@@ -8,6 +8,7 @@ use Rattle.office_base.specs.declared.refusal.Refusal.TheVariants.{BadText}
 use Rattle.office_rules.specs.declared.act.Act.{Act}
 use Rattle.office_rules.specs.declared.act.Act.TheVariants as act
 use Rattle.office_rules.specs.declared.new_record.NewRecord.{NewRecord}
+use Rattle.office_terms.specs.declared.target.Target.{Target}
 use Rattle.office_json.specs.Contents.{content_part}
 use Rattle.office_json.specs.Members.{only}
 use Rattle.office_json.specs.Parts.{both, fault_of, made, optional, day_part, code_part, text_part, trigger_part, offset_part, action_part, digest_part, number_part, period_part}
@@ -143,19 +144,18 @@ place_hold_asked d =
     (both (both (day_part (get (codes "day") d)) (code_part (get (codes "code") d)))
     (both (text_part (get (codes "reason") d)) (text_part (get (codes "by") d)))))
 
-unfoldable pub hold_on_asked : Data → Result Asked Refusal
-hold_on_asked d =
+-- what puts a target on a hold, or takes it off: the day, the hold and the target
+unfoldable pub hold_target_part : Data → Result (ℤ × (List ℕ × Target)) Refusal
+hold_target_part d =
     only (codes "act" ∷ codes "day" ∷ codes "hold" ∷ codes "target" ∷ []) d
-    (made (λ p. asks (act.HoldOn p.0 p.1.0 p.1.1))
     (both (day_part (get (codes "day") d))
-    (both (code_part (get (codes "hold") d)) (target_part (get (codes "target") d)))))
+    (both (code_part (get (codes "hold") d)) (target_part (get (codes "target") d))))
+
+unfoldable pub hold_on_asked : Data → Result Asked Refusal
+hold_on_asked d = made (λ p. asks (act.HoldOn p.0 p.1.0 p.1.1)) (hold_target_part d)
 
 unfoldable pub hold_off_asked : Data → Result Asked Refusal
-hold_off_asked d =
-    only (codes "act" ∷ codes "day" ∷ codes "hold" ∷ codes "target" ∷ []) d
-    (made (λ p. asks (act.HoldOff p.0 p.1.0 p.1.1))
-    (both (day_part (get (codes "day") d))
-    (both (code_part (get (codes "hold") d)) (target_part (get (codes "target") d)))))
+hold_off_asked d = made (λ p. asks (act.HoldOff p.0 p.1.0 p.1.1)) (hold_target_part d)
 
 unfoldable pub lift_hold_asked : Data → Result Asked Refusal
 lift_hold_asked d =

@@ -3,7 +3,9 @@ ghost use Rattle.std.specs.Prelude.{◌≡◌, ◌≤◌, IfOk, IsSome, OnErr, S
 ghost use Rattle.serde_json.specs.Find.{as_str, get};
 ghost use Rattle.serde_json.specs.View.{view};
 ghost use Rattle.office_json.specs.Contents.{TakesEncodings, content_named, content_of, content_part};
+ghost use Rattle.office_json.specs.Parts.{IsReadAs};
 
+use crate::ReadFault;
 use crate::members::text_at;
 use base64::DecodeAllocError;
 use base64::engine::general_purpose::STANDARD;
@@ -37,6 +39,16 @@ impl Content {
             return Err(Refusal::BadNumber);
         }
         Ok(Content { bytes })
+    }
+
+    /// What [`read_content`] gives once there was memory for it, as the other parts of an act are given.
+    pub fn as_part(content: Result<Content, Refusal>) -> Result<Content, ReadFault>
+        ensures { IsReadAs content result }
+    {
+        match content {
+            Ok(content) => Ok(content),
+            Err(refusal) => Err(ReadFault::Refused(refusal)),
+        }
     }
 
     /// The bytes themselves.

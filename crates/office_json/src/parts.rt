@@ -1,10 +1,9 @@
 //! The parts of an act: days, codes, texts, words, digests and numbers, each a member of its name.
-ghost use Rattle.std.specs.Prelude.{◌≡◌, ◌↔◌, ◌≤◌, IfSome, IsSome, Result, codes, ok_or};
+ghost use Rattle.std.specs.Prelude.{◌≡◌, Result, codes, ok_or};
 ghost use Rattle.serde_json.specs.Find.{get};
 ghost use Rattle.serde_json.specs.View.{view};
 ghost use Rattle.office_base.specs.declared.refusal.Refusal.{Refusal};
 ghost use Rattle.office_base.specs.declared.refusal.Refusal.TheVariants.{BadText};
-ghost use Rattle.office_days.specs.Limits.{longest};
 ghost use Rattle.office_terms.specs.Codes.{code_named};
 ghost use Rattle.office_terms.specs.TextForms.{text_named};
 ghost use Rattle.office_json.specs.Parts.{both, IsReadAs, action_part, code_part, count_part, day_part, digest_part, number_part, offset_part, optional, period_part, text_part, trigger_part};
@@ -156,15 +155,6 @@ fn count_at(value: &Value, name: &str) -> Result<u64, Refusal>
     }
 }
 
-/// The period of so many units, where that is not over the unit's limit.
-fn period_of(unit: Unit, count: u64) -> Option<Period>
-    ensures within { IsSome result ↔ (count ≤ longest unit) }
-    ensures unit { IfSome result (λ p. p.unit ≡ unit) }
-    ensures count { IfSome result (λ p. p.count ≡ count) }
-{
-    Period::new(unit, u32::try_from(count).ok()?)
-}
-
 /// The period of the members `unit` and `count`.
 #[tactic(auto, unfolding(crate::specs::Parts::period_part))]
 pub(crate) fn period_at(value: &Value) -> Result<Period, ReadFault>
@@ -174,7 +164,7 @@ pub(crate) fn period_at(value: &Value) -> Result<Period, ReadFault>
         .and_then(Unit::read)
         .ok_or(Refusal::BadText)?;
     let count = count_at(value, "count")?;
-    period_of(unit, count).ok_or(ReadFault::Refused(Refusal::BadNumber))
+    Period::of_count(unit, count).ok_or(ReadFault::Refused(Refusal::BadNumber))
 }
 
 /// A code that may be null or missing.

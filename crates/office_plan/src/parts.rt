@@ -1,6 +1,5 @@
 //! Periods, days, codes and numbers as the words of a plan file write them.
-ghost use Rattle.std.specs.Prelude.{◌≡◌, ◌≤◌, ◌↔◌, IsSome, IfSome, IfOk};
-ghost use Rattle.office_days.specs.Limits.{longest};
+ghost use Rattle.std.specs.Prelude.{◌≡◌, IfOk};
 ghost use Rattle.office_days.specs.Texts.{day_named};
 ghost use Rattle.office_base.specs.ThingNumbers.{thing_number};
 ghost use Rattle.office_plan.specs.Parts.{both, code_part, named_part, optional_part, period_part};
@@ -29,15 +28,6 @@ pub fn both<A: Drop, B: Drop>(
     }
 }
 
-/// The period of so many units, where that is not over the unit's limit.
-fn period_of(unit: Unit, count: u64) -> Option<Period>
-    ensures within { IsSome result ↔ (count ≤ longest unit) }
-    ensures unit { IfSome result (λ p. p.unit ≡ unit) }
-    ensures count { IfSome result (λ p. p.count ≡ count) }
-{
-    Period::new(unit, u32::try_from(count).ok()?)
-}
-
 /// A period by the words for its unit and its count.
 #[tactic(auto, unfolding(crate::specs::Parts::period_part))]
 pub fn read_period(unit: &str, count: &str) -> Result<Period, Refusal>
@@ -45,7 +35,7 @@ pub fn read_period(unit: &str, count: &str) -> Result<Period, Refusal>
 {
     let unit = Unit::read(unit).ok_or(Refusal::BadText)?;
     let count = read_numeral(count).ok_or(Refusal::BadText)?;
-    period_of(unit, count).ok_or(Refusal::BadNumber)
+    Period::of_count(unit, count).ok_or(Refusal::BadNumber)
 }
 
 /// A day by its text.

@@ -1,4 +1,5 @@
 pub mod Acts
+pub mod Answers
 pub mod Conditions
 pub mod Disposing
 pub mod Effects

@@ -1,4 +1,8 @@
 //! The answers to acts.
+ghost use Rattle.std.specs.Prelude.{◌≡◌};
+ghost use Rattle.std.specs.List.{list_any};
+ghost use Rattle.office_rules.specs.Answers.{is_refusal};
+
 use office_base::Refusal;
 use office_proof::{Outcome, RunNo};
 use office_terms::RecordNo;
@@ -18,4 +22,20 @@ pub enum Answer {
     RunClosed(RunNo),
     /// It is refused, and nothing was done.
     Refused(Refusal),
+}
+
+impl Answer {
+    /// Whether it refuses the act.
+    pub fn is_refusal(self) -> bool
+        ensures { result ≡ is_refusal self }
+    {
+        matches!(self, Answer::Refused(_))
+    }
+}
+
+/// Whether one of the answers refuses its act.
+pub fn has_refusal(answers: &[Answer]) -> bool
+    ensures { result ≡ list_any is_refusal answers.now }
+{
+    answers.iter().any(|answer| answer.is_refusal())
 }

@@ -28,7 +28,7 @@ mod table_row;
 mod tables;
 
 pub use act::Act;
-pub use answer::Answer;
+pub use answer::{Answer, has_refusal};
 pub use change::{Change, Decision};
 pub use copies::{copy_code, copy_codes, copy_entry, copy_plan, copy_text, copy_texts};
 pub use due_row::DueRow;

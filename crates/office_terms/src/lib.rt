@@ -19,6 +19,7 @@ mod aggregation;
 mod class;
 mod classified;
 mod code;
+mod conditions;
 mod confirming;
 mod event;
 mod formed;
@@ -36,6 +37,7 @@ pub use aggregation::{AggNo, Aggregation};
 pub use class::Class;
 pub use classified::Classified;
 pub use code::Code;
+pub use conditions::first_of;
 pub use confirming::same_action;
 pub use event::Event;
 pub use formed::{

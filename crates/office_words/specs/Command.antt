@@ -2,6 +2,7 @@
 use Rattle.std.specs.Prelude.{true, codes, List, [], ◌∷◌, Option, Some, None, unwrap_or, if◌then◌else◌}
 use Rattle.std.specs.Str.{bytes_eq}
 use Rattle.clap.specs.Words.{App, Row, Rule, Text, first_of, new_app, new_rule, with_rule, with_subcommand}
+use Rattle.office_words.specs.declared.command.CommandRow.{CommandRow}
 use Rattle.office_words.specs.declared.command.Operand.{Operand}
 use Rattle.office_words.specs.declared.words.Words.{Words}
 use Rattle.office_words.specs.declared.words.Words.TheVariants.{Apply, Certificate, Due, Export, Import, Init, Nothing, Overdue, Plan, Resume, Serve}
@@ -13,7 +14,16 @@ operand name = record (new_rule name) { required = true }
 -- with these operands
 abbrev pub with_operands : App → List Operand → App
 with_operands app [] = app
-with_operands app (x ∷ xs) = with_operands (with_rule app (operand x.name.now)) xs
+with_operands app (x ∷ xs) = with_operands (with_rule app (operand x.0.now)) xs
+
+-- with the command of a row
+abbrev pub with_row : App → CommandRow → App
+with_row app row = with_subcommand app (with_operands (new_app row.name.now) row.operands.now).top
+
+-- with the commands of these rows, one after another
+abbrev pub with_rows : App → List CommandRow → App
+with_rows app [] = app
+with_rows app (row ∷ rows) = with_rows (with_row app row) rows
 
 -- `due UNIT COUNT OFFSET DAY`
 abbrev pub due_app : App
@@ -79,13 +89,9 @@ with_file_commands app = with_subcommand (with_subcommand app init_app.top) appl
 unfoldable pub with_run_commands : App → App
 with_run_commands app = with_subcommand (with_subcommand app resume_app.top) certificate_app.top
 
--- with the commands that write registers as CSV
-unfoldable pub with_registers : App → App
-with_registers app = with_subcommand (with_subcommand app export_app.top) overdue_app.top
-
 -- with the commands that take and give texts of CSV
 unfoldable pub with_csv_commands : App → App
-with_csv_commands app = with_registers (with_subcommand app import_app.top)
+with_csv_commands app = with_subcommand (with_subcommand (with_subcommand app import_app.top) export_app.top) overdue_app.top
 
 -- with the command that answers requests to that office
 unfoldable pub with_service_command : App → App

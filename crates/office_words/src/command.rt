@@ -1,25 +1,30 @@
 //! The commands of the program, as `clap` knows them.
 ghost use Rattle.std.specs.Prelude.{◌≡◌, IfOk, false};
-ghost use Rattle.clap.specs.Words.{app_of, new_app, rule_of, with_subcommand};
+ghost use Rattle.clap.specs.Words.{app_of, new_app, rule_of};
 ghost use Rattle.clap.specs.declared.builder.command.Command.TheViews.{out-Command as fields_of};
-ghost use Rattle.office_words.specs.Command.{office_app, operand, with_csv_commands, with_file_commands, with_operands, with_plain_commands, with_registers, with_run_commands, with_service_command};
+ghost use Rattle.office_words.specs.Command.{office_app, operand, with_csv_commands, with_file_commands, with_operands, with_plain_commands, with_row, with_rows, with_run_commands, with_service_command};
 
 use clap::{Arg, Command};
 use std::alloc::{AllocError, Global};
 
-/// An operand of a command, which must be there, and what the help says of it.
+/// An operand of a command, which must be there: its name, and what the help says of it.
 #[derive(Clone, Copy)]
-pub(crate) struct Operand<'a> {
+pub(crate) struct Operand<'a>(&'a str, &'a str);
+
+/// A command: its name, what the help says of it, and its operands in their order.
+#[derive(Clone, Copy)]
+pub(crate) struct CommandRow<'a> {
     name: &'a str,
-    help: &'a str,
+    about: &'a str,
+    operands: &'a [Operand<'a>],
 }
 
 impl<'a> Operand<'a> {
     fn arg(&self, alloc: Global) -> Arg<'a>
-        ensures rule { rule_of result ≡ operand self.now.name.now }
+        ensures rule { rule_of result ≡ operand self.now.0.now }
         ensures global { result.global ≡ false }
     {
-        Arg::new(alloc, self.name).required(true).help(self.help)
+        Arg::new(alloc, self.0).required(true).help(self.1)
     }
 }
 
@@ -40,20 +45,33 @@ fn command_of<'a>(
     Ok(command)
 }
 
-/// With a command of that name, which has these operands.
+/// With the command of a row.
 fn with_command<'a>(
     alloc: Global,
     command: Command<'a>,
-    name: &'a str,
-    about: &'a str,
-    operands: &[Operand<'a>],
+    row: &CommandRow<'a>,
 ) -> Result<Command<'a>, AllocError>
-    ensures { IfOk result (λ c. app_of c ≡ with_subcommand (app_of command.entry) (with_operands (new_app name.entry.now) operands.now).top) }
+    ensures { IfOk result (λ c. app_of c ≡ with_row (app_of command.entry) row.now) }
 {
-    match command_of(alloc, name, about, operands) {
+    match command_of(alloc, row.name, row.about, row.operands) {
         Ok(subcommand) => command.subcommand(subcommand),
         Err(error) => Err(error),
     }
+}
+
+/// With the commands of these rows, one after another.
+fn with_commands<'a>(
+    alloc: Global,
+    base: Command<'a>,
+    rows: &[CommandRow<'a>],
+) -> Result<Command<'a>, AllocError>
+    ensures { IfOk result (λ c. app_of c ≡ with_rows (app_of base.entry) rows.now) }
+{
+    let mut command = base;
+    for row in rows {
+        command = with_command(alloc, command, row)?;
+    }
+    Ok(command)
 }
 
 /// With the commands that open no office.
@@ -61,39 +79,32 @@ fn with_command<'a>(
 fn with_plain_commands<'a>(alloc: Global, command: Command<'a>) -> Result<Command<'a>, AllocError>
     ensures { IfOk result (λ c. app_of c ≡ with_plain_commands (app_of command.entry)) }
 {
-    let command = with_command(
+    with_commands(
         alloc,
         command,
-        "due",
-        "Prints the due day of a period that begins on a day",
         &[
-            Operand {
-                name: "UNIT",
-                help: "days, weeks, months or years",
+            CommandRow {
+                name: "due",
+                about: "Prints the due day of a period that begins on a day",
+                operands: &[
+                    Operand("UNIT", "days, weeks, months or years"),
+                    Operand("COUNT", "How many of them"),
+                    Operand(
+                        "OFFSET",
+                        "none, month, quarter or from-month-1 to from-month-12",
+                    ),
+                    Operand("DAY", "The start day, as 2017-06-30"),
+                ],
             },
-            Operand {
-                name: "COUNT",
-                help: "How many of them",
-            },
-            Operand {
-                name: "OFFSET",
-                help: "none, month, quarter or from-month-1 to from-month-12",
-            },
-            Operand {
-                name: "DAY",
-                help: "The start day, as 2017-06-30",
+            CommandRow {
+                name: "plan",
+                about: "Prints the due day of each record of a plan file",
+                operands: &[Operand(
+                    "FILE",
+                    "A file of schedules, classes, aggregations and records",
+                )],
             },
         ],
-    )?;
-    with_command(
-        alloc,
-        command,
-        "plan",
-        "Prints the due day of each record of a plan file",
-        &[Operand {
-            name: "FILE",
-            help: "A file of schedules, classes, aggregations and records",
-        }],
     )
 }
 
@@ -102,29 +113,22 @@ fn with_plain_commands<'a>(alloc: Global, command: Command<'a>) -> Result<Comman
 fn with_file_commands<'a>(alloc: Global, command: Command<'a>) -> Result<Command<'a>, AllocError>
     ensures { IfOk result (λ c. app_of c ≡ with_file_commands (app_of command.entry)) }
 {
-    let command = with_command(
+    with_commands(
         alloc,
         command,
-        "init",
-        "Opens the office in a file, or makes a new one there",
-        &[Operand {
-            name: "FILE",
-            help: "The office's file",
-        }],
-    )?;
-    with_command(
-        alloc,
-        command,
-        "apply",
-        "Does the acts of a JSON array, one after another",
         &[
-            Operand {
-                name: "FILE",
-                help: "The office's file",
+            CommandRow {
+                name: "init",
+                about: "Opens the office in a file, or makes a new one there",
+                operands: &[Operand("FILE", "The office's file")],
             },
-            Operand {
-                name: "ACTS",
-                help: "A file with the JSON array of acts",
+            CommandRow {
+                name: "apply",
+                about: "Does the acts of a JSON array, one after another",
+                operands: &[
+                    Operand("FILE", "The office's file"),
+                    Operand("ACTS", "A file with the JSON array of acts"),
+                ],
             },
         ],
     )
@@ -135,72 +139,22 @@ fn with_file_commands<'a>(alloc: Global, command: Command<'a>) -> Result<Command
 fn with_run_commands<'a>(alloc: Global, command: Command<'a>) -> Result<Command<'a>, AllocError>
     ensures { IfOk result (λ c. app_of c ≡ with_run_commands (app_of command.entry)) }
 {
-    let command = with_command(
+    with_commands(
         alloc,
         command,
-        "resume",
-        "Takes up the run that is open, to its end",
-        &[Operand {
-            name: "FILE",
-            help: "The office's file",
-        }],
-    )?;
-    with_command(
-        alloc,
-        command,
-        "certificate",
-        "Prints the certificate of a run",
         &[
-            Operand {
-                name: "FILE",
-                help: "The office's file",
+            CommandRow {
+                name: "resume",
+                about: "Takes up the run that is open, to its end",
+                operands: &[Operand("FILE", "The office's file")],
             },
-            Operand {
-                name: "N",
-                help: "The number of the run, from 1",
-            },
-        ],
-    )
-}
-
-/// With the commands that write registers as CSV.
-#[tactic(auto, unfolding(crate::specs::Command::with_registers))]
-fn with_registers<'a>(alloc: Global, command: Command<'a>) -> Result<Command<'a>, AllocError>
-    ensures { IfOk result (λ c. app_of c ≡ with_registers (app_of command.entry)) }
-{
-    let command = with_command(
-        alloc,
-        command,
-        "export",
-        "Writes a register of the office as CSV",
-        &[
-            Operand {
-                name: "FILE",
-                help: "The office's file",
-            },
-            Operand {
-                name: "REGISTER",
-                help: "entries, or the day of what is due, as 2017-06-30",
-            },
-        ],
-    )?;
-    with_command(
-        alloc,
-        command,
-        "overdue",
-        "Writes the register of what is overdue as CSV",
-        &[
-            Operand {
-                name: "FILE",
-                help: "The office's file",
-            },
-            Operand {
-                name: "DAY",
-                help: "The day on which it is overdue, as 2017-06-30",
-            },
-            Operand {
-                name: "COUNT",
-                help: "Days after its due day within which a record is to be confirmed, 3650 at most",
+            CommandRow {
+                name: "certificate",
+                about: "Prints the certificate of a run",
+                operands: &[
+                    Operand("FILE", "The office's file"),
+                    Operand("N", "The number of the run, from 1"),
+                ],
             },
         ],
     )
@@ -211,27 +165,47 @@ fn with_registers<'a>(alloc: Global, command: Command<'a>) -> Result<Command<'a>
 fn with_csv_commands<'a>(alloc: Global, command: Command<'a>) -> Result<Command<'a>, AllocError>
     ensures { IfOk result (λ c. app_of c ≡ with_csv_commands (app_of command.entry)) }
 {
-    let command = with_command(
+    with_commands(
         alloc,
         command,
-        "import",
-        "Adds the records of a CSV file, one after another",
         &[
-            Operand {
-                name: "FILE",
-                help: "The office's file",
+            CommandRow {
+                name: "import",
+                about: "Adds the records of a CSV file, one after another",
+                operands: &[
+                    Operand("FILE", "The office's file"),
+                    Operand("DAY", "The day on which they are added, as 2017-06-30"),
+                    Operand(
+                        "CSV",
+                        "A file of ref, title, originated, aggregation, class, schedule, content",
+                    ),
+                ],
             },
-            Operand {
-                name: "DAY",
-                help: "The day on which they are added, as 2017-06-30",
+            CommandRow {
+                name: "export",
+                about: "Writes a register of the office as CSV",
+                operands: &[
+                    Operand("FILE", "The office's file"),
+                    Operand(
+                        "REGISTER",
+                        "entries, or the day of what is due, as 2017-06-30",
+                    ),
+                ],
             },
-            Operand {
-                name: "CSV",
-                help: "A file of ref, title, originated, aggregation, class, schedule, content",
+            CommandRow {
+                name: "overdue",
+                about: "Writes the register of what is overdue as CSV",
+                operands: &[
+                    Operand("FILE", "The office's file"),
+                    Operand("DAY", "The day on which it is overdue, as 2017-06-30"),
+                    Operand(
+                        "COUNT",
+                        "Days after its due day within which a record is to be confirmed, 3650 at most",
+                    ),
+                ],
             },
         ],
-    )?;
-    with_registers(alloc, command)
+    )
 }
 
 /// With the command that answers requests to that office.
@@ -239,25 +213,21 @@ fn with_csv_commands<'a>(alloc: Global, command: Command<'a>) -> Result<Command<
 fn with_service_command<'a>(alloc: Global, command: Command<'a>) -> Result<Command<'a>, AllocError>
     ensures { IfOk result (λ c. app_of c ≡ with_service_command (app_of command.entry)) }
 {
-    with_command(
+    with_commands(
         alloc,
         command,
-        "serve",
-        "Answers requests at a port of this machine",
-        &[
-            Operand {
-                name: "FILE",
-                help: "The office's file",
-            },
-            Operand {
-                name: "PORT",
-                help: "From 1 to 65535",
-            },
-            Operand {
-                name: "COUNT",
-                help: "How many connections are served, from 1 to 1000000",
-            },
-        ],
+        &[CommandRow {
+            name: "serve",
+            about: "Answers requests at a port of this machine",
+            operands: &[
+                Operand("FILE", "The office's file"),
+                Operand("PORT", "From 1 to 65535"),
+                Operand(
+                    "COUNT",
+                    "How many connections are served, from 1 to 1000000",
+                ),
+            ],
+        }],
     )
 }
 

@@ -1,13 +1,16 @@
 //! The acts on holds.
 ghost use Rattle.serde_json.specs.View.{view};
-ghost use Rattle.office_json.specs.Acts.{IsActRead, hold_off_asked, hold_on_asked, lift_hold_asked, place_hold_asked};
+ghost use Rattle.office_json.specs.Acts.{IsActRead, hold_off_asked, hold_on_asked, hold_target_part, lift_hold_asked, place_hold_asked};
+ghost use Rattle.office_json.specs.Parts.{IsReadAs};
 
 use crate::ReadFault;
 use crate::members::has_only;
 use crate::parts::{both, code_at, day_at, words_at};
 use crate::targets::target_at;
 use office_base::Refusal;
+use office_days::Day;
 use office_rules::Act;
+use office_terms::{Code, Target};
 use serde_json::Value;
 use std::alloc::Global;
 
@@ -35,10 +38,10 @@ pub(crate) fn place_hold(alloc: Global, value: &Value) -> Result<Act, ReadFault>
     }
 }
 
-/// `hold-on`: a target is put on a hold.
-#[tactic(auto, unfolding(crate::specs::Acts::hold_on_asked, crate::specs::Acts::asked))]
-pub(crate) fn hold_on(alloc: Global, value: &Value) -> Result<Act, ReadFault>
-    ensures { IsActRead (hold_on_asked (view value.now)) result }
+/// What puts a target on a hold, or takes it off.
+#[tactic(auto, unfolding(crate::specs::Acts::hold_target_part))]
+fn hold_target(alloc: Global, value: &Value) -> Result<(Day, (Code, Target)), ReadFault>
+    ensures { IsReadAs (hold_target_part (view value.now)) result }
 {
     if !has_only(value, &["act", "day", "hold", "target"]) {
         return Err(ReadFault::Refused(Refusal::BadText));
@@ -47,34 +50,27 @@ pub(crate) fn hold_on(alloc: Global, value: &Value) -> Result<Act, ReadFault>
         code_at(alloc, value, "hold"),
         target_at(alloc, value, "target"),
     );
-    match both(day_at(value, "day"), what) {
-        Ok((day, (code, target))) => Ok(Act::HoldOn {
-            day,
-            hold: code,
-            target,
-        }),
+    both(day_at(value, "day"), what)
+}
+
+/// `hold-on`: a target is put on a hold.
+#[tactic(auto, using(crate::proofs::Made::fault_made), unfolding(crate::specs::Acts::hold_on_asked, crate::specs::Acts::asked))]
+pub(crate) fn hold_on(alloc: Global, value: &Value) -> Result<Act, ReadFault>
+    ensures { IsActRead (hold_on_asked (view value.now)) result }
+{
+    match hold_target(alloc, value) {
+        Ok((day, (hold, target))) => Ok(Act::HoldOn { day, hold, target }),
         Err(fault) => Err(fault),
     }
 }
 
 /// `hold-off`: a target is taken off a hold.
-#[tactic(auto, unfolding(crate::specs::Acts::hold_off_asked, crate::specs::Acts::asked))]
+#[tactic(auto, using(crate::proofs::Made::fault_made), unfolding(crate::specs::Acts::hold_off_asked, crate::specs::Acts::asked))]
 pub(crate) fn hold_off(alloc: Global, value: &Value) -> Result<Act, ReadFault>
     ensures { IsActRead (hold_off_asked (view value.now)) result }
 {
-    if !has_only(value, &["act", "day", "hold", "target"]) {
-        return Err(ReadFault::Refused(Refusal::BadText));
-    }
-    let what = both(
-        code_at(alloc, value, "hold"),
-        target_at(alloc, value, "target"),
-    );
-    match both(day_at(value, "day"), what) {
-        Ok((day, (code, target))) => Ok(Act::HoldOff {
-            day,
-            hold: code,
-            target,
-        }),
+    match hold_target(alloc, value) {
+        Ok((day, (hold, target))) => Ok(Act::HoldOff { day, hold, target }),
         Err(fault) => Err(fault),
     }
 }

@@ -81,16 +81,6 @@ fn act_of(heading: Heading, content: Content) -> Act
     }
 }
 
-/// What was read without memory.
-fn reported(content: Result<Content, Refusal>) -> Result<Content, ReadFault>
-    ensures { IsReadAs content result }
-{
-    match content {
-        Ok(content) => Ok(content),
-        Err(refusal) => Err(ReadFault::Refused(refusal)),
-    }
-}
-
 /// `add-record`: a record is added with its content.
 #[tactic(auto, unfolding(crate::specs::Acts::add_record_asked))]
 pub(crate) fn add_record(alloc: Global, value: &Value) -> Result<Act, ReadFault>
@@ -112,7 +102,7 @@ pub(crate) fn add_record(alloc: Global, value: &Value) -> Result<Act, ReadFault>
         return Err(ReadFault::Refused(Refusal::BadText));
     }
     let content = content_at(alloc, value, "content")?;
-    match both(read_heading(alloc, value), reported(content)) {
+    match both(read_heading(alloc, value), Content::as_part(content)) {
         Ok((heading, content)) => Ok(act_of(heading, content)),
         Err(fault) => Err(fault),
     }

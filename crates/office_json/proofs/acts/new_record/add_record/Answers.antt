@@ -12,7 +12,7 @@ pub returns-in-Ok-clause-ok : goal.returns-in-Ok-clause-ok
 unfolding add_record_asked
 returns-in-Ok-clause-ok c =
     let plain : c.has_only.result ≡ true = search rules in
-    let content : IsReadAs (content_part (get (codes "content") (view c.args.value.now))) c.reported.result = subst (λ (part : Result (List ℕ) Refusal). IsReadAs part c.reported.result) c.in_ok-content.ensures.part c.reported.ensures in
+    let content : IsReadAs (content_part (get (codes "content") (view c.args.value.now))) c.as_part.result = subst (λ (part : Result (List ℕ) Refusal). IsReadAs part c.as_part.result) c.in_ok-content.ensures.part c.as_part.ensures in
     let accepted : Asked → Result Asked Refusal = λ it. Ok it in
     act_ok _ added _ _ (sym c.has_only.ensures ∙ plain) (c.in-Ok.ensures _ _ c.read_heading.ensures content) ∙ ap accepted (sym c.act_of.ensures)
 
@@ -20,5 +20,5 @@ pub returns-in-Err-clause-err : goal.returns-in-Err-clause-err
 unfolding add_record_asked
 returns-in-Err-clause-err c =
     let plain : c.has_only.result ≡ true = search rules in
-    let content : IsReadAs (content_part (get (codes "content") (view c.args.value.now))) c.reported.result = subst (λ (part : Result (List ℕ) Refusal). IsReadAs part c.reported.result) c.in_ok-content.ensures.part c.reported.ensures in
+    let content : IsReadAs (content_part (get (codes "content") (view c.args.value.now))) c.as_part.result = subst (λ (part : Result (List ℕ) Refusal). IsReadAs part c.as_part.result) c.in_ok-content.ensures.part c.as_part.ensures in
     plain_fault (view c.args.value.now) _ _ (act_fault _ added _ _ (sym c.has_only.ensures ∙ plain) (c.in-Err.ensures _ _ c.read_heading.ensures content))

@@ -6,7 +6,7 @@ use Rattle.office_store.specs.Stored.{IsEventPair, IsRowOf, event_handed, event_
 use Rattle.office_store.specs.Taken.{TakesIn}
 use Rattle.office_store.proofs.TablesCome.{events_begun, events_whole}
 use Rattle.office_store.proofs.Takings.{none_taken, table_taken}
-use Rattle.office_store.proofs.tables.events.Goals as goal
+use Rattle.office_store.proofs.adopting.take_events.Goals as goal
 
 pub returns-in-One-clause-takes : goal.returns-in-One-clause-takes
 returns-in-One-clause-takes g c =

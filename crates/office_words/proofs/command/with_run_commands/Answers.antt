@@ -1,9 +1,0 @@
-use Rattle.std.proofs.Common.{◌≡◌, IfOk, subst}
-use Rattle.clap.specs.Words.{App, app_of, with_subcommand}
-use Rattle.office_words.specs.Command.{certificate_app, with_run_commands}
-use Rattle.office_words.proofs.command.with_run_commands.Goals as goal
-
-pub returns : goal.returns
-unfolding with_run_commands
-returns c =
-    subst (λ (app : App). IfOk c.with_command-2.result (λ made. app_of made ≡ with_subcommand app certificate_app.top)) c.in_ok-command.ensures c.with_command-2.ensures
