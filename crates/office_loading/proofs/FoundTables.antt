@@ -13,7 +13,8 @@ use Rattle.office_rules.specs.Rows.{rows_of}
 use Rattle.office_rules.specs.State.{ByteMap, Office, State}
 use Rattle.office_rules.specs.Tables.{Represents, TableLists}
 use Rattle.office_loading.specs.TreeRows.{AreTreeRows}
-use Rattle.office_loading.proofs.MapRows.{keys_of_none, with_no_bytes}
+use Rattle.office_loading.specs.Keys.{bare_rows}
+use Rattle.office_loading.proofs.MapRows.{keys_of_none}
 
 -- an office with these rows, whatever its contents are
 pub tables_of : (t : TableLists) (s : Office) → t.days ≡ s.day ∷ [] → AreTreeRows t.schedules t.classes t.aggregations t.records t.events s.tree → AreRowsOf t.holds t.targets s.holds
@@ -37,7 +38,7 @@ tables_of t s day tree holds runs by certificates contents keys = record {
 -- there are contents of keys that ascend
 pub some_contents : (keys : List ℕ) → IsStrictlySortedBy nat_cmp keys → (contents : ByteMap) × HaveKeys contents keys
 some_contents keys ascend =
-    let bytes = with_no_bytes keys in
+    let bytes = bare_rows keys in
     (from_entries bytes, ap keys_of (entries_of_ordered nat_cmp nat_cmp_total bytes (subst (λ ks. IsStrictlySortedBy nat_cmp ks) (sym (keys_of_none keys)) ascend)) ∙ keys_of_none keys)
 
 -- the rows of a state's tree

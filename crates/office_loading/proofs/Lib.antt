@@ -1,9 +1,11 @@
+pub mod AscendingKeys
+pub mod Collected
 pub mod Endings
 pub mod EntryTests
 pub mod FoundSound
 pub mod FoundTables
 pub mod FoundTree
-pub mod Collected
+pub mod LiveKeys
 pub mod MapRows
 pub mod NextRows
 pub mod PartsTests

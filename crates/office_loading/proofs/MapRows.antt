@@ -1,5 +1,5 @@
 -- Rows of entries and of keys, one by one.
-use Rattle.std.proofs.Common.{◌≡◌, ℕ, List, [], ◌∷◌, ◌++◌, map, refl, sym, ap, subst, ◌∙◌}
+use Rattle.std.proofs.Common.{◌≡◌, ℕ, List, [], ◌∷◌, ◌++◌, refl, sym, ap, subst, ◌∙◌}
 use Rattle.std.proofs.lemmas.List.{map-append}
 use Rattle.std.proofs.lemmas.List.Elements.{All-from_recursion}
 use Rattle.std.specs.List.{All}
@@ -12,12 +12,9 @@ use Rattle.office_proof.specs.declared.entry.Entry.{Entry}
 use Rattle.office_base.proofs.Ascending.{above_prefix}
 use Rattle.office_rules.specs.Loading.{entry_rows}
 use Rattle.office_rules.specs.State.{entry_cmp}
+use Rattle.office_loading.specs.Keys.{bare_rows}
 
--- each key with no bytes
-abbrev pub with_no_bytes : List ℕ → List (ℕ × List ℕ)
-with_no_bytes keys = map (λ k. (k, [])) keys
-
-pub keys_of_none : (keys : List ℕ) → keys_of (with_no_bytes keys) ≡ keys
+pub keys_of_none : (keys : List ℕ) → keys_of (bare_rows keys) ≡ keys
 keys_of_none [] = refl
 keys_of_none (k ∷ ks) = ap (λ rest. k ∷ rest) (keys_of_none ks)
 
@@ -30,7 +27,7 @@ pub next_key : (done : List ℕ) (k : ℕ) (rest : List ℕ) → IsStrictlySorte
 next_key done k rest ascend =
     let keys = sym (keys_of_none (done ++ k ∷ rest)) ∙ ap keys_of (map-append (λ q. (q, [])) done (k ∷ rest)) in
     subst (All (λ q. nat_cmp q k ≡ Less)) (keys_of_none done)
-    (next_above nat_cmp (with_no_bytes done) k [] (with_no_bytes rest) (subst (λ ks. IsStrictlySortedBy nat_cmp ks) keys ascend))
+    (next_above nat_cmp (bare_rows done) k [] (bare_rows rest) (subst (λ ks. IsStrictlySortedBy nat_cmp ks) keys ascend))
 
 -- the same of entries under their runs and records
 pub next_entry : (done : List Entry) (e : Entry) (rest : List Entry) → IsStrictlySortedBy entry_cmp (keys_of (entry_rows (done ++ e ∷ rest))) → All (λ q. entry_cmp q (e.run, e.record_no) ≡ Less) (keys_of (entry_rows done))

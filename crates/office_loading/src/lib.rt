@@ -9,6 +9,7 @@
 #![tactic(auto)]
 
 mod certificate;
+mod keys;
 mod loaded;
 mod loader;
 mod loading;

@@ -7,6 +7,7 @@ mod planning;
 mod recording;
 
 use crate::Certificate;
+use crate::keys::ContentKeys;
 use http_server::Log;
 use office_base::Rebuild;
 use office_days::Day;
@@ -31,8 +32,7 @@ pub struct Loader {
     pub(crate) statuses: Vec<Status>,
     /// By record.
     pub(crate) events: BTreeMap<RecordNo, Event>,
-    /// The keys of contents.
-    pub(crate) contents: BTreeMap<RecordNo, ()>,
+    pub(crate) contents: ContentKeys,
     pub(crate) holds: Holds,
     /// The targets in the order in which they came, for proofs alone; it takes no memory.
     pub(crate) targets: Log<Code, Target>,
@@ -63,7 +63,7 @@ impl Model for Loader {
       aggregations = numbered_rows g.aggregations.items;
       records = numbered_rows (record_rows g.heads.items g.statuses.items);
       events = g.events.entries;
-      contents = map (λ e. e.0) g.contents.entries;
+      contents = g.contents;
       holds = hold_rows g.holds;
       targets = g.targets.items;
       runs = numbered_rows g.runs.items;
@@ -87,7 +87,7 @@ impl Loader {
             heads: Vec::new(alloc),
             statuses: Vec::new(alloc),
             events: BTreeMap::new(alloc),
-            contents: BTreeMap::new(alloc),
+            contents: ContentKeys::new(alloc),
             holds: Holds::new(alloc),
             targets: Log::new(),
             runs: Vec::new(alloc),

@@ -1,7 +1,5 @@
 //! The office that the rows so far represent, or that there is none.
-ghost use Rattle.std.specs.Prelude.{◌≡◌, IfOk, length, map};
-ghost use Rattle.std.specs.BTreeMap.{IsOrdered};
-ghost use Rattle.std.specs.Ordering.{nat_cmp};
+ghost use Rattle.std.specs.Prelude.{◌≡◌, IfOk, length};
 ghost use Rattle.office_base.specs.Rows.{OnDamaged, numbered_rows};
 ghost use Rattle.office_terms.specs.Sound as sound_tree;
 ghost use Rattle.office_terms.specs.Tree.{TreeState};
@@ -17,6 +15,7 @@ mod entries;
 pub(crate) mod records;
 mod runs;
 
+use crate::keys::ContentKeys;
 use crate::{Loaded, Loader};
 use office_base::{Rebuild, ordered};
 use office_terms::{Aggregation, Class, Code, Event, Record, RecordNo, Schedule, Status};
@@ -59,11 +58,10 @@ fn tree_of(
 impl Loader {
     /// The parts of which the rows are, and the keys of contents; damaged only where there is no sound
     /// office of such rows.
-    fn parts(self) -> Result<(Loaded, BTreeMap<RecordNo, ()>), Rebuild>
+    fn parts(self) -> Result<(Loaded, ContentKeys), Rebuild>
         ensures parts { IfOk result (λ p. AreTablesOf self p.0) }
         ensures keys { IfOk result (λ p. (contents : ByteMap) × HaveKeys contents self.contents) }
-        ensures marks { IfOk result (λ p. map (λ e. e.0) p.1.entries ≡ self.contents) }
-        ensures ordered { IfOk result (λ p. IsOrdered nat_cmp p.1) }
+        ensures same_keys { IfOk result (λ p. p.1 ≡ self.contents) }
         ensures damaged { OnDamaged result (RepresentNone self) }
     {
         let Some(day) = self.day else {
@@ -71,7 +69,7 @@ impl Loader {
         };
         ordered(&self.entries);
         ordered(&self.certificates);
-        ordered(&self.contents);
+        self.contents.ascending();
         let tree = tree_of(
             self.alloc,
             self.schedules,
@@ -103,7 +101,7 @@ impl Loader {
         let alloc = self.alloc;
         let (office, keys) = self.parts()?;
         office.tree.sound();
-        match office.is_sound(alloc, &keys) {
+        match office.is_sound(alloc, keys.as_slice()) {
             Ok(true) => Ok(office),
             Ok(false) => Err(Rebuild::Damaged),
             Err(_) => Err(Rebuild::Memory),

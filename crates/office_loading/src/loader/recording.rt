@@ -32,6 +32,6 @@ impl Loader {
         ensures ok { OnOk result (self.new ≡ with_row self.old (of_table.Content number)) }
         ensures damaged { OnDamaged result ((t : TableLists) → Begins (with_row self.old (of_table.Content number)) t → RepresentNone t) }
     {
-        push_keyed(&mut self.contents, number, ())
+        self.contents.push(number)
     }
 }

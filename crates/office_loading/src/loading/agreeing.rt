@@ -1,24 +1,24 @@
 //! The parts of an office examined together.
-ghost use Rattle.std.specs.Prelude.{◌≡◌, IsTrue, Ok, false, map, true};
-ghost use Rattle.std.specs.BTreeMap.{IsOrdered};
-ghost use Rattle.std.specs.FinMap.{from_entries};
+ghost use Rattle.std.specs.Prelude.{◌≡◌, IsTrue, Ok, false, true};
+ghost use Rattle.std.specs.List.Sorted.{IsStrictlySortedBy};
 ghost use Rattle.std.specs.Ordering.{nat_cmp};
 ghost use Rattle.office_terms.specs.Examined.{AreContentsShort};
 ghost use Rattle.office_rules.specs.Loading.{AreEntriesKeyed, DoPartsAgree, ArePartsSound, HaveKeys, IsWellFormedOffice, IsOfficeBy};
 ghost use Rattle.office_rules.specs.Sound.{IsSound};
 ghost use Rattle.office_rules.specs.State.{ByteMap, with_contents};
+ghost use Rattle.office_loading.specs.Keys.{bare_contents};
 
 use crate::Loaded;
 use office_base::Memory;
 use office_terms::RecordNo;
 use std::alloc::Global;
-use std::collections::BTreeMap;
 
 impl Loaded {
     /// Whether they agree with each other, and with the keys of contents.
-    pub(crate) fn do_agree(&self, keys: &BTreeMap<RecordNo, ()>) -> bool
-        ensures yes { IsTrue result → DoPartsAgree self.now (from_entries {R = nat_cmp} keys.now.entries) }
-        ensures no { result ≡ false → DoPartsAgree self.now (from_entries {R = nat_cmp} keys.now.entries) → ⊥ }
+    pub(crate) fn do_agree(&self, keys: &[RecordNo]) -> bool
+        requires { IsStrictlySortedBy nat_cmp keys.now }
+        ensures yes { IsTrue result → DoPartsAgree self.now (bare_contents keys.now) }
+        ensures no { result ≡ false → DoPartsAgree self.now (bare_contents keys.now) → ⊥ }
     {
         if self.runs.len() > 10_000 {
             return false;
@@ -36,9 +36,10 @@ impl Loaded {
     }
 
     /// Whether what the parts name is there.
-    fn are_parts_sound(&self, keys: &BTreeMap<RecordNo, ()>) -> bool
-        ensures yes { IsTrue result → ArePartsSound self.now (from_entries {R = nat_cmp} keys.now.entries) }
-        ensures no { result ≡ false → ArePartsSound self.now (from_entries {R = nat_cmp} keys.now.entries) → ⊥ }
+    fn are_parts_sound(&self, keys: &[RecordNo]) -> bool
+        requires { IsStrictlySortedBy nat_cmp keys.now }
+        ensures yes { IsTrue result → ArePartsSound self.now (bare_contents keys.now) }
+        ensures no { result ≡ false → ArePartsSound self.now (bare_contents keys.now) → ⊥ }
     {
         if !self.holds.do_targets_exist(&self.tree) {
             return false;
@@ -83,15 +84,11 @@ impl Loaded {
     }
 
     /// Whether they are sound with contents of these keys.
-    pub(crate) fn is_sound(
-        &self,
-        alloc: Global,
-        keys: &BTreeMap<RecordNo, ()>,
-    ) -> Result<bool, Memory>
+    pub(crate) fn is_sound(&self, alloc: Global, keys: &[RecordNo]) -> Result<bool, Memory>
         requires keyed { AreEntriesKeyed self.now.entries }
-        requires ordered { IsOrdered nat_cmp keys.now }
-        ensures yes { result ≡ Ok true → (contents : ByteMap) → HaveKeys contents (map (λ e. e.0) keys.now.entries) → IsSound (with_contents self.now contents) }
-        ensures no { result ≡ Ok false → (contents : ByteMap) → HaveKeys contents (map (λ e. e.0) keys.now.entries) → IsSound (with_contents self.now contents) → ⊥ }
+        requires ordered { IsStrictlySortedBy nat_cmp keys.now }
+        ensures yes { result ≡ Ok true → (contents : ByteMap) → HaveKeys contents keys.now → IsSound (with_contents self.now contents) }
+        ensures no { result ≡ Ok false → (contents : ByteMap) → HaveKeys contents keys.now → IsSound (with_contents self.now contents) → ⊥ }
     {
         if !self.do_agree(keys) {
             return Ok(false);

@@ -1,8 +1,9 @@
 //! What is examined of runs, certificates and the keys of contents.
-ghost use Rattle.std.specs.Prelude.{◌≡◌, ◌↔◌, ◌<◌, ◌^◌, ◌≤ℤ◌, ℕ, IsTrue, Some, true, false, length, not};
+ghost use Rattle.std.specs.Prelude.{◌≡◌, ◌↔◌, ◌<◌, ◌^◌, ◌≤ℤ◌, ℕ, IsTrue, Some, true, false, length, not, slice_get};
 ghost use Rattle.std.specs.BTreeMap as map;
 ghost use Rattle.std.specs.FinMap.{contains_key, from_entries, get};
 ghost use Rattle.std.specs.List.{All};
+ghost use Rattle.std.specs.List.Sorted.{IsStrictlySortedBy};
 ghost use Rattle.std.specs.Ordering.{nat_cmp};
 ghost use Rattle.office_days.specs.Limits.{IsDayNumber};
 ghost use Rattle.office_terms.specs.Disposal.{is_ended};
@@ -13,6 +14,7 @@ ghost use Rattle.office_rules.specs.Sound.{IsWellFormedRun, RunsAgree};
 ghost use Rattle.office_rules.specs.declared.run.Run.{Run};
 ghost use Rattle.office_proof.specs.Forms.{IsWellFormedEntry};
 ghost use Rattle.office_proof.specs.declared.entry.Entry.{Entry};
+ghost use Rattle.office_loading.specs.Keys.{bare_contents};
 
 use crate::{Certificate, Loaded};
 use office_days::Day;
@@ -112,31 +114,47 @@ fn is_live(tree: &Tree, record_no: RecordNo) -> bool
 }
 
 /// Whether each key is the number of a record that is not ended.
-fn are_live(tree: &Tree, keys: &BTreeMap<RecordNo, ()>) -> bool
-    ensures { IsTrue result ↔ All (λ r. holds_of (numbered tree.now.statuses r) (λ status. not (is_ended status)) ≡ true) (map.keys keys.now) }
+fn are_live(tree: &Tree, keys: &[RecordNo]) -> bool
+    ensures { IsTrue result ↔ All (λ r. holds_of (numbered tree.now.statuses r) (λ status. not (is_ended status)) ≡ true) keys.now }
 {
-    keys.keys().all(|record_no| is_live(tree, *record_no))
+    keys.iter().all(|record_no| is_live(tree, *record_no))
 }
 
-/// Whether the number of each record that is not ended is a key.
-fn are_live_keyed(tree: &Tree, keys: &BTreeMap<RecordNo, ()>) -> bool
-    ensures yes { IsTrue result → (r : ℕ) (status : Status) → numbered tree.now.statuses r ≡ Some status → not (is_ended status) ≡ true → contains_key (from_entries {R = nat_cmp} keys.now.entries) r ≡ true }
-    ensures no { result ≡ false → ((r : ℕ) (status : Status) → numbered tree.now.statuses r ≡ Some status → not (is_ended status) ≡ true → contains_key (from_entries {R = nat_cmp} keys.now.entries) r ≡ true) → ⊥ }
+/// Whether the key at that place is the number.
+fn is_key_at(keys: &[RecordNo], at: usize, record_no: RecordNo) -> bool
+    ensures yes { IsTrue result → slice_get keys.now at ≡ Some record_no }
+    ensures no { result ≡ false → slice_get keys.now at ≡ Some record_no → ⊥ }
+{
+    at < keys.len() && keys[at] == record_no
+}
+
+/// Whether the number of each record that is not ended is a key: both ascend, so each goes once by.
+fn are_live_keyed(tree: &Tree, keys: &[RecordNo]) -> bool
+    requires ascend { IsStrictlySortedBy nat_cmp keys.now }
+    requires live { All (λ r. holds_of (numbered tree.now.statuses r) (λ status. not (is_ended status)) ≡ true) keys.now }
+    ensures yes { IsTrue result → (r : ℕ) (status : Status) → numbered tree.now.statuses r ≡ Some status → not (is_ended status) ≡ true → contains_key (bare_contents keys.now) r ≡ true }
+    ensures no { result ≡ false → ((r : ℕ) (status : Status) → numbered tree.now.statuses r ≡ Some status → not (is_ended status) ≡ true → contains_key (bare_contents keys.now) r ≡ true) → ⊥ }
 {
     tree.sound();
+    let mut at = 0;
     for before in 0..tree.record_count() {
         let record_no = before + 1;
-        if is_live(tree, record_no) && !keys.contains_key(&record_no) {
+        if !is_live(tree, record_no) {
+            continue;
+        }
+        if !is_key_at(keys, at, record_no) {
             return false;
         }
+        at += 1;
     }
     true
 }
 
 /// Whether the keys are the numbers of exactly the records that are not ended.
-fn are_keys_of_live(tree: &Tree, keys: &BTreeMap<RecordNo, ()>) -> bool
-    ensures yes { IsTrue result → AreKeysOfLive tree.now.statuses (from_entries {R = nat_cmp} keys.now.entries) }
-    ensures no { result ≡ false → AreKeysOfLive tree.now.statuses (from_entries {R = nat_cmp} keys.now.entries) → ⊥ }
+fn are_keys_of_live(tree: &Tree, keys: &[RecordNo]) -> bool
+    requires { IsStrictlySortedBy nat_cmp keys.now }
+    ensures yes { IsTrue result → AreKeysOfLive tree.now.statuses (bare_contents keys.now) }
+    ensures no { result ≡ false → AreKeysOfLive tree.now.statuses (bare_contents keys.now) → ⊥ }
 {
     if !are_live(tree, keys) {
         return false;
@@ -216,9 +234,10 @@ impl Loaded {
     }
 
     /// Whether these are the numbers of exactly the records that are not ended.
-    pub(crate) fn are_keys_of_live(&self, keys: &BTreeMap<RecordNo, ()>) -> bool
-        ensures yes { IsTrue result → AreKeysOfLive self.now.tree.statuses (from_entries {R = nat_cmp} keys.now.entries) }
-        ensures no { result ≡ false → AreKeysOfLive self.now.tree.statuses (from_entries {R = nat_cmp} keys.now.entries) → ⊥ }
+    pub(crate) fn are_keys_of_live(&self, keys: &[RecordNo]) -> bool
+        requires { IsStrictlySortedBy nat_cmp keys.now }
+        ensures yes { IsTrue result → AreKeysOfLive self.now.tree.statuses (bare_contents keys.now) }
+        ensures no { result ≡ false → AreKeysOfLive self.now.tree.statuses (bare_contents keys.now) → ⊥ }
     {
         are_keys_of_live(&self.tree, keys)
     }

@@ -1,4 +1,4 @@
-use Rattle.std.proofs.Common.{map, refl, sym, ap, subst, ◌∙◌}
+use Rattle.std.proofs.Common.{refl, sym, ap, subst, ◌∙◌}
 use Rattle.std.specs.Cmp.{nat_cmp_total}
 use Rattle.std.specs.Ordering.{nat_cmp}
 use Rattle.office_base.proofs.Exits.{damaged_exit}
@@ -31,4 +31,4 @@ returns-clause-parts c =
 
 pub returns-clause-keys : goal.returns-clause-keys
 returns-clause-keys c =
-    subst (λ (u : TableLists). (contents : ByteMap) × HaveKeys contents u.contents) c.self.view_is (some_contents (map (λ e. e.0) c.self.inside.contents.entries) c.ordered-3.ensures)
+    subst (λ (u : TableLists). (contents : ByteMap) × HaveKeys contents u.contents) c.self.view_is (some_contents c.self.inside.contents c.ascending.ensures)

@@ -1,5 +1,4 @@
-use Rattle.std.proofs.Common.{[], ◌∷◌, map, sym, ap, subst, ◌∙◌}
-use Rattle.std.proofs.lemmas.List.{map-append}
+use Rattle.std.proofs.Common.{sym, ap, subst, ◌∙◌}
 use Rattle.std.proofs.lemmas.Result.{IfOk-weaker}
 use Rattle.office_base.proofs.Exits.{damaged_so}
 use Rattle.office_rules.specs.Tables.{Begins, TableLists, with_row}
@@ -10,12 +9,12 @@ use Rattle.office_loading.proofs.loader.Loader.put_content.Goals as goal
 
 pub returns-clause-ok : goal.returns-clause-ok
 returns-clause-ok c =
-    IfOk-weaker c.push_keyed.result _ _ (λ _ came.
-    ap (λ keys. record (the_view c.self.inside) { contents = keys }) (ap (map (λ e. e.0)) came ∙ map-append (λ e. e.0) c.self.inside.contents.entries ((c.args.number, tt) ∷ []))
-    ∙ ap (λ (u : TableLists). with_row u (row.Content c.args.number)) c.self.view_is) c.push_keyed.ensures.ok
+    IfOk-weaker c.push.result _ _ (λ _ came.
+    ap (λ keys. record (the_view c.self.inside) { contents = keys }) came
+    ∙ ap (λ (u : TableLists). with_row u (row.Content c.args.number)) c.self.view_is) c.push.ensures.ok
 
 pub returns-clause-damaged : goal.returns-clause-damaged
 returns-clause-damaged c =
-    damaged_so c.push_keyed.result c.push_keyed.ensures.damaged (λ fails t begins s represent sound.
+    damaged_so c.push.result c.push.ensures.damaged (λ fails t begins s represent sound.
     let prefix = subst (λ (u : TableLists). Begins (with_row u (row.Content c.args.number)) t) (sym c.self.view_is) begins in
-    fails (next_content t s represent (map (λ e. e.0) c.self.inside.contents.entries) c.args.number prefix.contents))
+    fails (next_content t s represent c.self.inside.contents c.args.number prefix.contents))
