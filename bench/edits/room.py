@@ -35,7 +35,7 @@ class Room:
     """The copy: the sources of a crate, and what was built and kept of it and of those below."""
 
     def __init__(self, name: str) -> None:
-        self.name = name
+        self.name, self.checks = name, 0
         self.held = tempfile.TemporaryDirectory(prefix="mutants-")
         self.top = pathlib.Path(self.held.name)
         self.crate = self.top / "crates" / name
@@ -62,6 +62,9 @@ class Room:
         """The status and the report of a check of the crate as it is in the copy."""
         ran = subprocess.run(["rt", "check"], cwd=self.crate, stdin=subprocess.DEVNULL, stdout=subprocess.PIPE,
                              stderr=subprocess.STDOUT, text=True, errors="replace")
+        self.checks += 1
+        if os.environ.get("REPORTS"):
+            (pathlib.Path(os.environ["REPORTS"]) / f"{self.name}_{self.checks}").write_text(ran.stdout)
         return ran.returncode, ran.stdout
 
     def begin(self) -> str:
