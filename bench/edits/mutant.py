@@ -108,10 +108,11 @@ def tried_of(texts: Texts) -> dict[str, Tried]:
     return found
 
 
-def write_tried(tried: dict[str, Tried]) -> None:
-    """Writes `NAME/tried` of each crate, a line a mutant that is still there; where none was tried there is no file."""
+def write_tried(tried: dict[str, Tried], only: str = "") -> None:
+    """Writes `NAME/tried` of each crate, or of one, a line a mutant that is still there; where none was tried there is
+    no file."""
     there = [it.key for it in mutants_of(texts_of_folder(TOP))]
-    for crate in sorted({key.partition("/")[0] for key in there}):
+    for crate in [only] if only else sorted({key.partition("/")[0] for key in there}):
         lines = [f"{key.partition('/')[2]} {tried[key].sum} {tried[key].where}".rstrip() + "\n"
                  for key in there if key.startswith(f"{crate}/") and key in tried]
         file = TOP / "bench/edits" / crate / "tried"

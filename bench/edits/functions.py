@@ -1,0 +1,69 @@
+"""The functions of a source, each with the lines of its head and of its body."""
+import importlib.machinery
+import importlib.util
+import re
+from types import ModuleType
+from typing import NamedTuple
+
+from mutant import TOP
+
+FUNCTION = re.compile(r"^( *)(?:pub )?(?:pub\([a-z ]+\) )?(?:const )?(?:unsafe )?fn (\w+)")
+CALLED = re.compile(r"(?:(\w+)(?:::<[^>]*>)?::|(\.))?\b(\w+)(?:::<[^>]*>)?\(")
+
+
+class Function(NamedTuple):
+    """A function: its type, which is empty if it has none, its name, its file, its lines from 0 on (the first, the one
+    where its head ends, the last), and what it calls."""
+
+    owner: str
+    name: str
+    file: str
+    first: int
+    begin: int
+    last: int
+    calls: frozenset[tuple[str, str]]
+
+    @property
+    def full(self) -> str:
+        return f"{self.owner}::{self.name}" if self.owner else self.name
+
+
+def script(name: str) -> ModuleType:
+    """A command of bench, as a module."""
+    loader = importlib.machinery.SourceFileLoader(name, str(TOP / "bench" / name))
+    module = importlib.util.module_from_spec(importlib.util.spec_from_loader(name, loader))
+    loader.exec_module(module)
+    return module
+
+
+clauses = script("clauses")
+
+
+def end_of(lines: list[str], at: int, indent: str) -> tuple[int, int]:
+    """The lines where the head of a function ends, and its body."""
+    begin = at
+    while not re.match(rf"{indent}([^ ].*)?(\{{|\{{\}}|;)$|.*\}};$", lines[begin]):
+        begin += 1
+    end = begin
+    while lines[begin].endswith("{") and lines[end] != f"{indent}}}":
+        end += 1
+    return begin, end
+
+
+def functions(file: str, text: str) -> list[Function]:
+    """The functions of a source, but those of its tests."""
+    found, owner, lines = [], "", text.split("\n")
+    for at, line in enumerate(lines):
+        if line.startswith("#[cfg(test)]"):
+            break
+        if clauses.BLOCK.match(line):
+            owner = clauses.of_block(line)[0]
+        elif line.startswith("}"):
+            owner = ""
+        named = FUNCTION.match(line)
+        if named:
+            begin, end = end_of(lines, at, named[1])
+            body = "\n".join(lines[begin:end + 1])
+            calls = frozenset((of or dot, name) for of, dot, name in CALLED.findall(body))
+            found.append(Function(owner, named[2], file, at, begin, end, calls))
+    return found
