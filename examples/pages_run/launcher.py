@@ -103,12 +103,12 @@ def line_of_preview() -> str:
 
 def judge_help(trial: Trial) -> None:
     """Without a program the help is that of .ci/help.txt and .ci/help, and neither it nor the version needs the kit."""
-    wanted = (TOP / ".ci/help.txt").read_text() + "\nWords of ./office itself:\n"
+    wanted = (TOP / ".ci/help.txt").read_text() + "\nCommands of ./office itself:\n"
     for words in ("", "help", "-h", "--help"):
         done = trial.run(f"clone/office {words}", PATH="/usr/bin:/bin")
         judge(f"office {words} shows the help at once", done[:2] == (2, "") and done.err.startswith(wanted), f"{done}")
         own = re.findall(r"^  (\w+)", done.err.removeprefix(wanted), re.M)
-        judge(f"office {words} shows the launcher's words", own == ["build", "install", "package", "version"], f"{own}")
+        judge(f"office {words} shows the launcher's own", own == ["build", "install", "package", "version"], f"{own}")
     last = re.findall(r"^## (\S+) \((\S+)\)$", (TOP / "CHANGELOG.md").read_text(), re.M)[0]
     for words in ("version", "--version"):
         done = trial.run(f"clone/office {words}", PATH="/usr/bin:/bin")
@@ -120,8 +120,8 @@ def judge_help(trial: Trial) -> None:
             judge(f"office {words} shows its help at once", done == kept, f"{done}")
     for words in ("help build", "build --help", "install -h"):
         done = trial.run(f"clone/office {words}", PATH="/usr/bin:/bin")
-        judge(f"office {words} shows the launcher's words, and builds nothing", done[:2] == (2, "")
-              and done.err.startswith("Words of ./office itself:\n"), f"{done}")
+        judge(f"office {words} shows the launcher's commands, and builds nothing", done[:2] == (2, "")
+              and done.err.startswith("Commands of ./office itself:\n"), f"{done}")
 
 
 def judge_previews(trial: Trial) -> None:
@@ -153,8 +153,8 @@ def judge_previews(trial: Trial) -> None:
             judge(f"wrong operands, {wrong}, are seen at once", done == (2, "", usage), f"{done}")
     for wrong in ("aply", "-V"):
         done = trial.run(f"clone/office {wrong} archive.db acts.json")
-        judge(f"a wrong word, {wrong}, is seen at once", done == (2, "", f"office: there is no word '{wrong}': "
-              "./office help shows the words\n"), f"{done}")
+        judge(f"a wrong word, {wrong}, is seen at once", done == (2, "", f"office: there is no command '{wrong}': "
+              "./office help shows the commands\n"), f"{done}")
     said = "rt: the sources do not compile\nrun=none proved=no\n"
     done = trial.run("clone/office due years 7 none 2017-06-30", SAYS=said, STATUS="2")
     judge("a preview that does not end says so", done.status == 2 and "rt: the sources" in done.err
@@ -180,7 +180,7 @@ def judge_build(trial: Trial) -> None:
     judge("a second build has nothing to do, and the program runs", done == (0, "built: due days\n", ""), f"{done}")
     done = trial.run("clone/office help")
     judge("its help is the program's own, and the launcher's words", done.out == "built: help\n"
-          and done.err.startswith("\nWords of ./office itself:\n  build "), f"{done}")
+          and done.err.startswith("\nCommands of ./office itself:\n  build "), f"{done}")
     (trial.top / "crates/office_tree/src/lib.rt").write_text("// changed\n")
     done = trial.run("clone/office build")
     judge("after a change it guesses by the last build", done.status == 0 and "by the last build" in done.err, done.err)
