@@ -9,12 +9,17 @@ import re
 import shutil
 import signal
 import subprocess
+import sys
 import time
 from collections.abc import Callable
 
 from pages_run.commands import TOP, blocks
 from pages_run.judging import judge
 from pages_run.shell import Done, Shell
+
+sys.path.append(str(TOP / "examples/package"))
+
+from making.words import table  # noqa: E402
 
 # crates enough for a build: one below another
 CRATES = "office_days:\noffice_base:\noffice_tree: office_days office_base\noffice: office_tree\n"
@@ -97,18 +102,26 @@ def line_of_preview() -> str:
 
 
 def judge_help(trial: Trial) -> None:
-    """Without a program the help is that of .ci/help.txt, and neither it nor the version needs the kit."""
-    wanted = (2, "", (TOP / ".ci/help.txt").read_text())
+    """Without a program the help is that of .ci/help.txt and .ci/help, and neither it nor the version needs the kit."""
+    wanted = (TOP / ".ci/help.txt").read_text() + "\nCommands of ./office itself:\n"
     for words in ("", "help", "-h", "--help"):
         done = trial.run(f"clone/office {words}", PATH="/usr/bin:/bin")
-        judge(f"office {words} shows the help at once", done == wanted, f"{done}")
+        judge(f"office {words} shows the help at once", done[:2] == (2, "") and done.err.startswith(wanted), f"{done}")
+        own = re.findall(r"^  (\w+)", done.err.removeprefix(wanted), re.M)
+        judge(f"office {words} shows the launcher's own", own == ["build", "install", "package", "version"], f"{own}")
     last = re.findall(r"^## (\S+) \((\S+)\)$", (TOP / "CHANGELOG.md").read_text(), re.M)[0]
     for words in ("version", "--version"):
         done = trial.run(f"clone/office {words}", PATH="/usr/bin:/bin")
         judge(f"office {words} is that of CHANGELOG", done.out.startswith(f"office {last[0]} of {last[1]}"), f"{done}")
-    done = trial.run("clone/office help due", PRINTS="", SAYS=ended(2, "the words of due\n"), STATUS="2")
-    wanted = (2, "", line_of_preview() + "the words of due\n")
-    judge("the help of one word is the program's own", done == wanted, f"{done}")
+    for word in table():
+        kept = (2, "", (TOP / f".ci/help/{word.name}.txt").read_text())
+        for words in (f"help {word.name}", f"{word.name} --help"):
+            done = trial.run(f"clone/office {words}", PATH="/usr/bin:/bin")
+            judge(f"office {words} shows its help at once", done == kept, f"{done}")
+    for words in ("help build", "build --help", "install -h"):
+        done = trial.run(f"clone/office {words}", PATH="/usr/bin:/bin")
+        judge(f"office {words} shows the launcher's commands, and builds nothing", done[:2] == (2, "")
+              and done.err.startswith("Commands of ./office itself:\n"), f"{done}")
 
 
 def judge_previews(trial: Trial) -> None:
@@ -133,6 +146,15 @@ def judge_previews(trial: Trial) -> None:
         done = trial.run(f"clone/office {few}")
         judge(f"too few words, {few}, are seen at once", done == (2, "", f"usage: ./office {usage}\n")
               and trial.words.read_text() == words, f"{done}")
+    for word in table():
+        usage = f"usage: ./office {' '.join([word.name, *word.operands])}\n"
+        for wrong in (word.name, f"{word.name}{' 1' * (len(word.operands) + 1)}"):
+            done = trial.run(f"clone/office {wrong}")
+            judge(f"wrong operands, {wrong}, are seen at once", done == (2, "", usage), f"{done}")
+    for wrong in ("aply", "-V"):
+        done = trial.run(f"clone/office {wrong} archive.db acts.json")
+        judge(f"a wrong word, {wrong}, is seen at once", done == (2, "", f"office: there is no command '{wrong}': "
+              "./office help shows the commands\n"), f"{done}")
     said = "rt: the sources do not compile\nrun=none proved=no\n"
     done = trial.run("clone/office due years 7 none 2017-06-30", SAYS=said, STATUS="2")
     judge("a preview that does not end says so", done.status == 2 and "rt: the sources" in done.err
@@ -156,6 +178,9 @@ def judge_build(trial: Trial) -> None:
     judge("its figures are kept", set(figures) == {"office", "office_days", "office_base", "office_tree"}, f"{figures}")
     done = trial.run("clone/office build && clone/office due days")
     judge("a second build has nothing to do, and the program runs", done == (0, "built: due days\n", ""), f"{done}")
+    done = trial.run("clone/office help")
+    judge("its help is the program's own, and the launcher's words", done.out == "built: help\n"
+          and done.err.startswith("\nCommands of ./office itself:\n  build "), f"{done}")
     (trial.top / "crates/office_tree/src/lib.rt").write_text("// changed\n")
     done = trial.run("clone/office build")
     judge("after a change it guesses by the last build", done.status == 0 and "by the last build" in done.err, done.err)

@@ -23,6 +23,9 @@ def is_installed(shell: Shell) -> None:
     judge("the installed program works", done.out == "2024-02-29\n", done.out + done.err)
     done = shell.run("DIR/office help")
     judge("its help is that of .ci/help.txt", done == (2, "", (TOP / ".ci/help.txt").read_text()), f"{done}")
+    for file in sorted((TOP / ".ci/help").iterdir()):
+        done = shell.run(f"DIR/office help {file.stem}")
+        judge(f"its help of {file.stem} is that of .ci/help", done == (2, "", file.read_text()), f"{done}")
     other = shell.path("other")
     other.mkdir()
     shutil.copy(shell.path("office"), other / "office")

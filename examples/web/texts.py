@@ -1,6 +1,6 @@
 """The words of refusals, faults, statuses and answers of the proxy are in web/texts, and the same in docs/ERRORS.md.
 
-Each language has the same texts, with the same places for values.
+Each language has the same texts, with the same places for values. The addresses in docs/WEB.md are those of the views.
 """
 import collections
 import json
@@ -84,6 +84,18 @@ def there(texts, key):
     return part is not None
 
 
+def addresses(page):
+    """The views that the addresses of docs/WEB.md name, each once, in the order of its table."""
+    cells = [row[1] for row in table(page, "What each view does")]
+    return list(dict.fromkeys(name for cell in cells for name in re.findall(r"#(\w+)", cell)))
+
+
+def views(page):
+    """The views of the page, in their order."""
+    listed = re.search(r"const VIEWS = \{([^}]*)\}", (page / "office.js").read_text())
+    return re.findall(r"^  (\w+)[:,]", listed.group(1), re.M)
+
+
 def tell():
     page = (TOP / "docs/ERRORS.md").read_text()
     english = json.loads((TOP / "web/texts/en.json").read_text())
@@ -93,5 +105,7 @@ def tell():
     judge("there are English and German", {"en", "de"} <= {file.stem for file in files}, str(files))
     for file in files:
         language(file, flat(english))
+    shown = addresses((TOP / "docs/WEB.md").read_text())
+    same("docs/WEB.md has the address of each view", sorted(shown), sorted(views(TOP / "web")))
     missing = sorted(key for key in named(TOP / "web") if not there(english, key) and not key.endswith(".js"))
     judge("each text that the page names is there", not missing, str(missing))

@@ -64,7 +64,7 @@ def office(version: str, day: str, scripts: list[str]) -> str:
         ".SH DESCRIPTION",
         "\\fBoffice\\fP destroys, reviews or transfers records on the day on which they are due, touches none that is",
         "under a legal hold, and leaves a certificate of what happened. An office is one SQLite file.",
-        ".SH WORDS", *rows(words), ".TP", "\\fBoffice help\\fP", "Shows the words.",
+        ".SH COMMANDS", *rows(words), ".TP", "\\fBoffice help\\fP", "Shows the commands.",
         ".SH OPERANDS", inline(operands),
         ".SH EXIT STATUS", inline(status),
         ".SH ENVIRONMENT", *[line for name, text in ENVIRONMENT for line in (".TP", f"\\fB{name}\\fP", inline(text))],

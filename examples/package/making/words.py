@@ -32,7 +32,7 @@ class Word(NamedTuple):
 def table() -> list[Word]:
     """The words, in the order of the table."""
     text = README.read_text()
-    rows = text[text.index("| Words | Standard output |"):].split("\n\n")[0].split("\n")[2:]
+    rows = text[text.index("| Command | Standard output |"):].split("\n\n")[0].split("\n")[2:]
     found = []
     for row in rows:
         calls, prints = row.strip("| ").split(" | ", 1)
@@ -43,4 +43,4 @@ def table() -> list[Word]:
 def notes() -> str:
     """The paragraph below the table: operands, and the exit status."""
     text = README.read_text()
-    return text[text.index("| Words | Standard output |"):].split("\n\n")[1].replace("\n", " ")
+    return text[text.index("| Command | Standard output |"):].split("\n\n")[1].replace("\n", " ")

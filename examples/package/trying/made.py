@@ -76,6 +76,24 @@ def judge_completion(top: pathlib.Path) -> None:
         judge(f"bash completes 'office {typed}'", offered >= wanted if not typed else offered == wanted, offered)
 
 
+def judge_tools(top: pathlib.Path) -> None:
+    """The tools of the pages work where the package puts them: a list of acts is read, and a sheet converted."""
+    here = top / "usr/share/doc/office/examples"
+    done = run(["python3", "-B", here / "acts/check", here / "first/acts.json"])
+    judge("the package's acts/check reads a list", done.status == 0 and done.out.startswith("acts: 6, wrong: 0;"), done)
+    done = run(["python3", "-B", here / "import/convert", here / "import/letters.csv"])
+    judge("the package's import/convert reads a sheet", done.status == 0 and done.out.count("\n") > 1, done)
+
+
+def judge_named(top: pathlib.Path) -> None:
+    """What the commands of OPERATING.md copy from examples is in the package, but for what it puts elsewhere."""
+    doc, page = top / "usr/share/doc/office", (TOP / "docs/OPERATING.md").read_text()
+    named = set(re.findall(r"(?m)(?<=[ ])examples/[a-z]+/[\w@.-]+", "\n".join(re.findall(r"(?m)^    .*", page))))
+    elsewhere = {it.source for it in staging.listed() if not f"/{it.folder}".startswith("/usr/share/doc")}
+    missing = sorted(it for it in named if TOP / it not in elsewhere and not (doc / it).exists())
+    judge("the package has the examples that OPERATING.md copies", not missing and len(named) > 20, missing or named)
+
+
 def tree(top: pathlib.Path) -> dict[str, tuple[int, bytes]]:
     """Each file below a folder, with its mode and its bytes."""
     files = [it for it in top.rglob("*") if it.is_file() and "DEBIAN" not in it.parts]
@@ -87,7 +105,7 @@ def clone(place: pathlib.Path) -> pathlib.Path:
     top = place / "clone"
     out = top / "crates/office/out"
     out.mkdir(parents=True)
-    for name in ("docs", "examples", "web"):
+    for name in ("docs", "examples", "web", "bench/fuzzing"):
         shutil.copytree(TOP / name, top / name, ignore=shutil.ignore_patterns("__pycache__"))
     for name in ("office", "crates.txt", "README.md", "CHANGELOG.md"):
         shutil.copy(TOP / name, top)
@@ -145,5 +163,7 @@ def judge_made(file: pathlib.Path, place: pathlib.Path) -> None:
     judge_lintian(file)
     judge_manual(top)
     judge_completion(top)
+    judge_tools(top)
+    judge_named(top)
     judge_launcher(file, top, place)
     judge_refusals(place)
