@@ -115,12 +115,18 @@ def in_new_loops(texts: Texts, batch: list[Planned]) -> list[Planned]:
 
 
 def is_of(it: Function, parts: list[str]) -> bool:
-    """Whether the modules, the type and the name of what the report speaks of are those of a function."""
+    """Whether the modules, the type and the name of what the report speaks of are those of a function. A type may be of
+    another module than its function."""
     modules = re.sub(r"^crates/\w+/src/|\.rt$", "", it.file).split("/")
-    modules = [] if modules in (["lib"], ["main"]) else modules
-    rest = parts[len(modules):]
-    owners = rest[:-1] if it.owner else ["".join(rest[:-1])]
-    return parts[:len(modules)] == modules and rest[-1:] == [it.name] and any(own.startswith(it.owner) for own in owners)
+    if "fn" in parts:
+        # a closure in a function
+        at = parts.index("fn")
+        parts = [*parts[:at], *parts[at + 1:at + 2]]
+    if parts[-1:] != [it.name]:
+        return False
+    if it.owner:
+        return len(parts) > 1 and parts[-2].startswith(it.owner)
+    return parts[:-1] == ([] if modules in (["lib"], ["main"]) else modules)
 
 
 def is_in(it: Planned, line: str) -> bool:
