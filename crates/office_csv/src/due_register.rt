@@ -8,7 +8,7 @@ ghost use Rattle.office_terms.specs.Words.{action_word};
 ghost use Rattle.office_rules.specs.Registers.{due_reported};
 ghost use Rattle.office_csv.specs.Registers.{day_field, due_columns, due_line, row_of, yes_or_no};
 
-use crate::fields::{code_field, due_field, number_field, put_row, row_of};
+use crate::fields::{code_field, due_field, number_field, put_fields};
 use office_base::{Memory, Stop};
 use office_rules::DueRow;
 use std::alloc::Global;
@@ -28,11 +28,11 @@ pub(crate) fn action_of<'a>(reported: &'a DueRow<'a>) -> &'a str
     reported.action.text()
 }
 
-/// The header of the due register.
-fn due_header(alloc: Global) -> Result<Vec<u8>, Memory>
-    ensures { IfOk result (λ row. row.items ≡ row_of due_columns) }
+/// Writes the header of the due register.
+pub fn write_due_header<W: Write>(alloc: Global, out: &mut W) -> Result<(), Stop>
+    ensures { OnOk result (Appends (W.contents out.old) (W.contents out.new) (row_of due_columns)) }
 {
-    row_of(
+    put_fields(
         alloc,
         &[
             b"record",
@@ -44,38 +44,40 @@ fn due_header(alloc: Global) -> Result<Vec<u8>, Memory>
             b"held",
             b"confirmed",
         ],
+        out,
     )
 }
 
 /// The texts in the line of a row that are written of its number and its due day.
 #[derive(Drop)]
-struct Written {
-    number: String,
-    due: Vec<u8>,
+pub(crate) struct DueTexts {
+    pub(crate) number: String,
+    pub(crate) due: Vec<u8>,
 }
 
 /// They, of a row.
-fn texts_of(alloc: Global, reported: &DueRow<'_>) -> Result<Written, Memory>
+pub(crate) fn due_texts(alloc: Global, reported: &DueRow<'_>) -> Result<DueTexts, Memory>
     ensures number { IfOk result (λ it. string_bytes it.number ≡ decimal reported.now.number) }
     ensures due { IfOk result (λ it. it.due.items ≡ day_field reported.now.due) }
 {
-    Ok(Written {
+    Ok(DueTexts {
         number: number_field(alloc, reported.number)?,
         due: due_field(alloc, reported.due)?,
     })
 }
 
-/// The line of a row, and what is written of it.
-fn line_written<'a>(
+/// Writes the line of a row, and of what is written of it.
+fn put_line<'a, W: Write>(
     alloc: Global,
     reported: &'a DueRow<'a>,
-    texts: &'a Written,
-) -> Result<Vec<u8>, Memory>
-    ensures { IfOk result (λ row. row.items ≡ row_of (
+    texts: &'a DueTexts,
+    out: &mut W,
+) -> Result<(), Stop>
+    ensures { OnOk result (Appends (W.contents out.old) (W.contents out.new) (row_of (
         string_bytes texts.now.number ∷ reported.now.ref_text.now ∷ reported.now.class.now ∷ reported.now.schedule.now ∷ action_word reported.now.action ∷ texts.now.due.items
-        ∷ unwrap_or (option_copied reported.now.held) [] ∷ yes_or_no reported.now.counts ∷ [])) }
+        ∷ unwrap_or (option_copied reported.now.held) [] ∷ yes_or_no reported.now.counts ∷ []))) }
 {
-    row_of(
+    put_fields(
         alloc,
         &[
             texts.number.as_bytes(),
@@ -87,27 +89,12 @@ fn line_written<'a>(
             code_field(reported.held).as_bytes(),
             counts_word(reported).as_bytes(),
         ],
+        out,
     )
 }
 
-/// The line of a row.
-#[tactic(auto, unfolding(crate::specs::Registers::due_line))]
-fn due_line(alloc: Global, reported: &DueRow<'_>) -> Result<Vec<u8>, Memory>
-    ensures { IfOk result (λ row. row.items ≡ due_line (due_reported reported.now)) }
-{
-    let texts = texts_of(alloc, reported)?;
-    line_written(alloc, reported, &texts)
-}
-
-/// Writes the header of the due register.
-pub fn write_due_header<W: Write>(alloc: Global, out: &mut W) -> Result<(), Stop>
-    ensures { OnOk result (Appends (W.contents out.old) (W.contents out.new) (row_of due_columns)) }
-{
-    let header = due_header(alloc)?;
-    put_row(out, &header)
-}
-
 /// Writes the line of a record that is due.
+#[tactic(auto, unfolding(crate::specs::Registers::due_line))]
 pub fn write_due_line<W: Write>(
     alloc: Global,
     reported: &DueRow<'_>,
@@ -115,6 +102,6 @@ pub fn write_due_line<W: Write>(
 ) -> Result<(), Stop>
     ensures { OnOk result (Appends (W.contents out.old) (W.contents out.new) (due_line (due_reported reported.now))) }
 {
-    let line = due_line(alloc, reported)?;
-    put_row(out, &line)
+    let texts = due_texts(alloc, reported)?;
+    put_line(alloc, reported, &texts, out)
 }

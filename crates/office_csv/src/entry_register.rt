@@ -9,18 +9,18 @@ ghost use Rattle.office_proof.specs.Outcomes.{outcome_word};
 ghost use Rattle.office_rules.specs.Registers.{entry_view};
 ghost use Rattle.office_csv.specs.Registers.{day_field, entry_columns, entry_line, row_of};
 
-use crate::fields::{code_field, due_field, number_field, put_row, row_of};
+use crate::fields::{code_field, due_field, number_field, put_fields};
 use office_base::{Memory, Stop};
 use office_proof::Entry;
 use office_rules::EntryRow;
 use std::alloc::Global;
 use std::io::Write;
 
-/// The header of the register of entries.
-fn entry_header(alloc: Global) -> Result<Vec<u8>, Memory>
-    ensures { IfOk result (λ row. row.items ≡ row_of entry_columns) }
+/// Writes the header of the register of entries.
+pub fn write_entry_header<W: Write>(alloc: Global, out: &mut W) -> Result<(), Stop>
+    ensures { OnOk result (Appends (W.contents out.old) (W.contents out.new) (row_of entry_columns)) }
 {
-    row_of(
+    put_fields(
         alloc,
         &[
             b"run",
@@ -35,6 +35,7 @@ fn entry_header(alloc: Global) -> Result<Vec<u8>, Memory>
             b"length",
             b"digest",
         ],
+        out,
     )
 }
 
@@ -70,19 +71,20 @@ fn outcome_of(entry: &Entry) -> &str
     entry.outcome.text()
 }
 
-/// The line of a row, and what is written of it.
-fn line_written<'a>(
+/// Writes the line of a row, and of what is written of it.
+fn put_line<W: Write>(
     alloc: Global,
-    reported: &'a EntryRow<'a>,
-    texts: &'a Written,
-) -> Result<Vec<u8>, Memory>
-    ensures { IfOk result (λ row. row.items ≡ row_of (
+    reported: &EntryRow<'_>,
+    texts: &Written,
+    out: &mut W,
+) -> Result<(), Stop>
+    ensures { OnOk result (Appends (W.contents out.old) (W.contents out.new) (row_of (
         string_bytes texts.now.run ∷ string_bytes texts.now.number ∷ reported.now.ref_text.now ∷ outcome_word reported.now.entry.now.outcome ∷ reported.now.entry.now.class
         ∷ reported.now.entry.now.schedule ∷ texts.now.due.items ∷ unwrap_or reported.now.entry.now.hold [] ∷ reported.now.entry.now.confirmed_by ∷ string_bytes texts.now.length
-        ∷ string_bytes texts.now.digest ∷ [])) }
+        ∷ string_bytes texts.now.digest ∷ []))) }
 {
     let entry = reported.entry;
-    row_of(
+    put_fields(
         alloc,
         &[
             texts.run.as_bytes(),
@@ -97,27 +99,12 @@ fn line_written<'a>(
             texts.length.as_bytes(),
             texts.digest.as_bytes(),
         ],
+        out,
     )
 }
 
-/// The line of a row.
-#[tactic(auto, unfolding(crate::specs::Registers::entry_line))]
-fn entry_line(alloc: Global, reported: &EntryRow<'_>) -> Result<Vec<u8>, Memory>
-    ensures { IfOk result (λ row. row.items ≡ entry_line (entry_view reported.now)) }
-{
-    let texts = texts_of(alloc, reported)?;
-    line_written(alloc, reported, &texts)
-}
-
-/// Writes the header of the register of entries.
-pub fn write_entry_header<W: Write>(alloc: Global, out: &mut W) -> Result<(), Stop>
-    ensures { OnOk result (Appends (W.contents out.old) (W.contents out.new) (row_of entry_columns)) }
-{
-    let header = entry_header(alloc)?;
-    put_row(out, &header)
-}
-
 /// Writes the line of an entry.
+#[tactic(auto, unfolding(crate::specs::Registers::entry_line))]
 pub fn write_entry_line<W: Write>(
     alloc: Global,
     reported: &EntryRow<'_>,
@@ -125,6 +112,6 @@ pub fn write_entry_line<W: Write>(
 ) -> Result<(), Stop>
     ensures { OnOk result (Appends (W.contents out.old) (W.contents out.new) (entry_line (entry_view reported.now))) }
 {
-    let line = entry_line(alloc, reported)?;
-    put_row(out, &line)
+    let texts = texts_of(alloc, reported)?;
+    put_line(alloc, reported, &texts, out)
 }

@@ -47,7 +47,7 @@ pub(crate) fn code_field<'a>(code: Option<&'a Code>) -> &'a str
 }
 
 /// The row of these fields, with its line feed.
-pub(crate) fn row_of(alloc: Global, fields: &[&[u8]]) -> Result<Vec<u8>, Memory>
+fn row_of(alloc: Global, fields: &[&[u8]]) -> Result<Vec<u8>, Memory>
     ensures { IfOk result (λ row. row.items ≡ row_of (map (λ field. field.now) fields.now)) }
 {
     let mut writer = WriterBuilder::new().from_writer(Vec::new(alloc));
@@ -60,9 +60,10 @@ pub(crate) fn row_of(alloc: Global, fields: &[&[u8]]) -> Result<Vec<u8>, Memory>
     }
 }
 
-/// Writes a row, as it is.
-pub(crate) fn put_row<W: Write>(out: &mut W, row: &[u8]) -> Result<(), Stop>
-    ensures { OnOk result (Appends (W.contents out.old) (W.contents out.new) row.now) }
+/// Writes the row of these fields.
+pub(crate) fn put_fields<W: Write>(alloc: Global, fields: &[&[u8]], out: &mut W) -> Result<(), Stop>
+    ensures { OnOk result (Appends (W.contents out.old) (W.contents out.new) (row_of (map (λ field. field.now) fields.now))) }
 {
-    out.write_all(row).or(Err(Stop::Io))
+    let row = row_of(alloc, fields)?;
+    out.write_all(&row).or(Err(Stop::Io))
 }

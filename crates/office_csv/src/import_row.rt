@@ -76,16 +76,6 @@ fn code_of(alloc: Global, field: &str) -> Result<Option<Code>, ReadFault>
     }
 }
 
-/// What was read without memory.
-fn reported(content: Result<Content, Refusal>) -> Result<Content, ReadFault>
-    ensures { IsReadAs content result }
-{
-    match content {
-        Ok(content) => Ok(content),
-        Err(refusal) => Err(ReadFault::Refused(refusal)),
-    }
-}
-
 /// A new record of its parts.
 fn record_of(
     named: (Text, Text),
@@ -120,7 +110,7 @@ fn record_of(
 pub fn read_import_row(alloc: Global, row: &ImportRow) -> Result<NewRecord, ReadFault>
     ensures { IsRowRead (named row.now) result }
 {
-    let content = reported(read_content(alloc, row.content)?);
+    let content = Content::as_part(read_content(alloc, row.content)?);
     let named = both(
         read_words(alloc, row.ref_text),
         read_words(alloc, row.title),

@@ -9,7 +9,7 @@ use Rattle.office_csv.proofs.import_row.read_import_row.Goals as goal
 pub returns-in-Ok : goal.returns-in-Ok
 unfolding record_asked
 returns-in-Ok c =
-    let content = subst (λ (part : Result (List ℕ) Refusal). IsReadAs part c.reported-content.result) c.in_ok-read_content.ensures c.reported-content.ensures in
+    let content = subst (λ (part : Result (List ℕ) Refusal). IsReadAs part c.as_part-content.result) c.in_ok-read_content.ensures c.as_part-content.ensures in
     let asked : AskedRecord → Result AskedRecord Refusal = λ it. Ok it in
     ap (made asked_record) (c.in-Ok.ensures _ _ (c.both.ensures _ _ (c.both-named.ensures _ _ c.read_words.ensures c.read_words-2.ensures) (c.both-placed.ensures _ _ c.day_of.ensures c.number_of.ensures))
     (c.both-2.ensures _ _ (c.both-planned.ensures _ _ c.code_of.ensures c.code_of-2.ensures) content)) ∙ ap asked (sym c.record_of.ensures)
@@ -17,6 +17,6 @@ returns-in-Ok c =
 pub returns-in-Err : goal.returns-in-Err
 unfolding record_asked
 returns-in-Err c =
-    let content = subst (λ (part : Result (List ℕ) Refusal). IsReadAs part c.reported-content.result) c.in_ok-read_content.ensures c.reported-content.ensures in
+    let content = subst (λ (part : Result (List ℕ) Refusal). IsReadAs part c.as_part-content.result) c.in_ok-read_content.ensures c.as_part-content.ensures in
     inr (c.in-Err.ensures _ _ (c.both.ensures _ _ (c.both-named.ensures _ _ c.read_words.ensures c.read_words-2.ensures) (c.both-placed.ensures _ _ c.day_of.ensures c.number_of.ensures))
     (c.both-2.ensures _ _ (c.both-planned.ensures _ _ c.code_of.ensures c.code_of-2.ensures) content) ∙ sym (fault_made asked_record _))
