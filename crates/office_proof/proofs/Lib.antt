@@ -5,5 +5,6 @@ pub mod Counts
 pub mod DateBytes
 pub mod DigestDigits
 pub mod Digests
+pub mod LowerDigits
 pub mod ReadDigests
 pub mod Texts

@@ -1,8 +1,12 @@
 -- A digest as it is written: in 64 lower-case hexadecimal digits. Source: own.
-use Rattle.std.specs.Prelude.{ℕ, List, Option, Some, None, Result, Ok, Err, if◌then◌else◌}
+use Rattle.std.specs.Prelude.{◌≤◌, ◌⊎◌, ℕ, List, Option, Some, None, Result, Ok, Err, if◌then◌else◌}
 use Rattle.std.specs.Str.{bytes_eq}
 use Rattle.hex.specs.Hex.{decode_sized, encode_lower}
 use Rattle.hex.specs.declared.error.FromHexError.{FromHexError}
+
+-- a lower-case hexadecimal digit: 0 to 9 or a to f
+abbrev pub IsLowerDigit : ℕ → Type 0
+IsLowerDigit b = ((48 ≤ b) × (b ≤ 57)) ⊎ ((97 ≤ b) × (b ≤ 102))
 
 -- the digest that was decoded of a text, where the text is what writes it
 abbrev pub digest_written : Result (List ℕ) FromHexError → List ℕ → Option (List ℕ)

@@ -1,9 +1,10 @@
 //! SHA-256 digests: that of a content, and one read from its digits.
-ghost use Rattle.std.specs.Prelude.{◌≡◌, ◌≢◌, ◌<◌, ◌∷◌, [], ℕ, List, None, Some, IfSome, length, slice_index};
+ghost use Rattle.std.specs.Prelude.{◌≡◌, ◌≢◌, ◌<◌, ◌∷◌, [], ℕ, List, None, Some, IfSome, IsTrue, false, length, slice_index};
+ghost use Rattle.std.specs.List.{All};
 ghost use Rattle.hex.specs.Hex.{encode_lower, lower_digits};
 ghost use Rattle.sha2.specs.Sha256.{sha256};
 ghost use Rattle.office_terms.specs.Forms.{IsDigest};
-ghost use Rattle.office_proof.specs.Digits.{digest_named};
+ghost use Rattle.office_proof.specs.Digits.{IsLowerDigit, digest_named};
 
 use sha2::{Digest, Sha256};
 
@@ -14,29 +15,60 @@ pub fn digest_of(content: &[u8]) -> [u8; 32]
     Sha256::digest(content)
 }
 
-/// The value of a lower-case hexadecimal digit.
-fn digit_value(digit: u8) -> Option<u8>
-    ensures small { IfSome result (λ value. value < 16) }
-    ensures some { IfSome result (λ value. slice_index lower_digits value ≡ digit) }
-    ensures every { (value : ℕ) → value < 16 → slice_index lower_digits value ≡ digit → result ≡ Some value }
+/// Whether the byte is a lower-case hexadecimal digit.
+fn is_digit(byte: u8) -> bool
+    ensures yes { IsTrue result → IsLowerDigit byte }
+    ensures no { result ≡ false → IsLowerDigit byte → ⊥ }
 {
-    match digit {
-        b'0'..=b'9' => Some(digit - b'0'),
-        b'a'..=b'f' => Some(digit - b'a' + 10),
-        _ => None,
+    matches!(byte, b'0'..=b'9' | b'a'..=b'f')
+}
+
+/// Whether all bytes are lower-case hexadecimal digits. It looks at all of them, many at a time.
+fn are_digits(text: &[u8]) -> bool
+    ensures yes { IsTrue result → All IsLowerDigit text.now }
+    ensures no { result ≡ false → All IsLowerDigit text.now → ⊥ }
+{
+    let mut are = true;
+    for i in 0..text.len() {
+        are = are & is_digit(text[i]);
+    }
+    are
+}
+
+/// The value of a lower-case hexadecimal digit.
+fn digit_value(digit: u8) -> u8
+    requires { IsLowerDigit digit }
+    ensures small { result < 16 }
+    ensures written { slice_index lower_digits result ≡ digit }
+{
+    if digit <= b'9' {
+        digit - b'0'
+    } else {
+        digit - b'a' + 10
     }
 }
 
 /// The byte that two lower-case hexadecimal digits write.
-fn byte_of(high: u8, low: u8) -> Option<u8>
-    ensures small { IfSome result (λ byte. byte < 256) }
-    ensures some { IfSome result (λ byte. encode_lower (byte ∷ []) ≡ high ∷ low ∷ []) }
-    ensures every { (byte : ℕ) → byte < 256 → encode_lower (byte ∷ []) ≡ high ∷ low ∷ [] → result ≡ Some byte }
+fn byte_of(high: u8, low: u8) -> u8
+    requires high { IsLowerDigit high }
+    requires low { IsLowerDigit low }
+    ensures { encode_lower (result ∷ []) ≡ high ∷ low ∷ [] }
 {
-    match (digit_value(high), digit_value(low)) {
-        (Some(high), Some(low)) => Some(high * 16 + low),
-        _ => None,
+    digit_value(high) * 16 + digit_value(low)
+}
+
+/// The digest that 64 digits write.
+fn digest_of_digits(text: &[u8]) -> [u8; 32]
+    requires long { length text.now ≡ 64 }
+    requires digits { All IsLowerDigit text.now }
+    ensures formed { IsDigest result }
+    ensures exact { text.now ≡ encode_lower result }
+{
+    let mut digest = [0u8; 32];
+    for i in 0..32 {
+        digest[i] = byte_of(text[2 * i], text[2 * i + 1]);
     }
+    digest
 }
 
 /// The digest that 64 bytes write.
@@ -46,14 +78,10 @@ fn digest_in(text: &[u8]) -> Option<[u8; 32]>
     ensures exact { IfSome result (λ digest. text.now ≡ encode_lower digest) }
     ensures none { result ≡ None → (digest : List ℕ) → IsDigest digest → text.now ≢ encode_lower digest }
 {
-    let mut digest = [0u8; 32];
-    for i in 0..32 {
-        let Some(byte) = byte_of(text[2 * i], text[2 * i + 1]) else {
-            return None;
-        };
-        digest[i] = byte;
+    if !are_digits(text) {
+        return None;
     }
-    Some(digest)
+    Some(digest_of_digits(text))
 }
 
 /// The digest that a text writes in 64 lower-case hexadecimal digits; `None` where it writes none, as
