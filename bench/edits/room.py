@@ -34,8 +34,8 @@ def linked(folder: pathlib.Path, to: pathlib.Path) -> None:
 class Room:
     """The copy: the sources of a crate, and what was built and kept of it and of those below."""
 
-    def __init__(self, name: str) -> None:
-        self.name, self.checks = name, 0
+    def __init__(self, name: str, jobs: int = 2) -> None:
+        self.name, self.jobs, self.checks = name, jobs, 0
         self.held = tempfile.TemporaryDirectory(prefix="mutants-")
         self.top = pathlib.Path(self.held.name)
         self.crate = self.top / "crates" / name
@@ -60,8 +60,8 @@ class Room:
 
     def check(self) -> tuple[int, str]:
         """The status and the report of a check of the crate as it is in the copy."""
-        ran = subprocess.run(["rt", "check"], cwd=self.crate, stdin=subprocess.DEVNULL, stdout=subprocess.PIPE,
-                             stderr=subprocess.STDOUT, text=True, errors="replace")
+        ran = subprocess.run(["rt", "check", "--jobs", str(self.jobs)], cwd=self.crate, stdin=subprocess.DEVNULL,
+                             stdout=subprocess.PIPE, stderr=subprocess.STDOUT, text=True, errors="replace")
         self.checks += 1
         if os.environ.get("REPORTS"):
             (pathlib.Path(os.environ["REPORTS"]) / f"{self.name}_{self.checks}").write_text(ran.stdout)
