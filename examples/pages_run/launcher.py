@@ -38,6 +38,7 @@ run)
     printf '#!/bin/sh\\necho "built: $*"\\n' >out/office && chmod +x out/office
     ;;
 try)
+    sleep "${SLOW:-0}"
     printf '%s\\n' "$*" >"$WORDS"
     while [ $# -gt 0 ] && [ "$1" != -- ]; do
         case $1 in office.plan=*) cat -- "${1#*=}" >>"$WORDS" ;; esac
@@ -128,6 +129,10 @@ def judge_previews(trial: Trial) -> None:
     done = trial.run("clone/office due years 7 from-month-4 2017-06-30", PRINTS="2025-04-01\n", SAYS=ended(0))
     judge("a preview prints what the program prints, and README's line", done == (0, "2025-04-01\n", line_of_preview()),
           f"{done}")
+    done = trial.run("clone/office due days 1 none 2024-02-28", PRINTS="2024-02-29\n", SAYS=ended(0), SLOW="4")
+    judge("a preview that takes long says so", (done.status, done.out) == (0, "2024-02-29\n") and done.err.startswith(
+        line_of_preview() + "office: the preview is still being compiled, after 5 minutes: "), f"{done}")
+    trial.run("clone/office due years 7 from-month-4 2017-06-30", PRINTS="2025-04-01\n", SAYS=ended(0))
     words = trial.words.read_text()
     judge("it is done by rt try", words == "try -- due years 7 from-month-4 2017-06-30\n", words)
     refused = ended(1, "office: line 14 refused 10\n")
