@@ -5,10 +5,9 @@ use Rattle.office_store.specs.declared.fault.Fault.TheVariants as fault
 use Rattle.office_wire.specs.declared.registers.ExportStop.{ExportStop}
 use Rattle.office_wire.specs.declared.registers.ExportStop.TheVariants as export
 use Rattle.office_words.specs.declared.register.Register.{Register}
-use Rattle.office_run.specs.Endings.{ending_of_export}
-use Rattle.office_run.specs.Exporting.{Exports, IsRegister}
-use Rattle.office_run.specs.declared.ending.Ending.{Ending}
-use Rattle.office_run.specs.declared.ending.Ending.TheVariants as how
+use Rattle.office_run.specs.Exporting.{Exports, IsRegister, ending_of_export}
+use Rattle.office_orders.specs.declared.ending.Ending.{Ending}
+use Rattle.office_orders.specs.declared.ending.Ending.TheVariants as how
 
 -- an export that is so of the states that are reported in one way is so of those reported in another
 pub exports_of : (Of Others : (State → Type 0) → Type 0) → ((P : State → Type 0) → Of P → Others P) → (it : Register) (written after : Option (List ℕ)) (e : Ending) → Exports Of it written after e → Exports Others it written after e

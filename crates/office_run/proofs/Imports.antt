@@ -14,10 +14,9 @@ use Rattle.office_csv.specs.ImportRows.{Fields}
 use Rattle.office_wire.specs.Importing.{ArePrefixRows, AreSomeRows, EndsImport, Imports, IsRowStopped, Stops}
 use Rattle.office_wire.specs.declared.importing.ImportStop.{ImportStop}
 use Rattle.office_wire.specs.declared.importing.ImportStop.TheVariants as import
-use Rattle.office_run.specs.Endings.{ending_of_import}
-use Rattle.office_run.specs.Importing.{AreAllSaved, ImportsAt, IsRowCut}
-use Rattle.office_run.specs.declared.ending.Ending.{Ending}
-use Rattle.office_run.specs.declared.ending.Ending.TheVariants as how
+use Rattle.office_run.specs.Importing.{AreAllSaved, ImportsAt, IsRowCut, ending_of_import}
+use Rattle.office_orders.specs.declared.ending.Ending.{Ending}
+use Rattle.office_orders.specs.declared.ending.Ending.TheVariants as how
 
 -- what is imported into the states that are reported in one way is so into those reported in another
 pub imports_of : (Of Others : (State → Type 0) → Type 0) → ((P : State → Type 0) → Of P → Others P) → (day : ℤ) (text : Option (List ℕ)) (new : FileState) (written after : Option (List ℕ)) (e : Ending) → ImportsAt Of day text new written after e → ImportsAt Others day text new written after e

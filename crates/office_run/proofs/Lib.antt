@@ -1,9 +1,3 @@
-pub mod Applications
-pub mod Callings
-pub mod Certificates
-pub mod DeskActs
-pub mod Desks
-pub mod Endings
 pub mod Exports
 pub mod Imports
 pub mod NextFiles
@@ -11,6 +5,4 @@ pub mod NextService
 pub mod NextStates
 pub mod Openings
 pub mod Reopenings
-pub mod Resumptions
 pub mod Services
-pub mod Unopened

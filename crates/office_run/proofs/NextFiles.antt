@@ -19,7 +19,7 @@ use Rattle.office_store.specs.RepresentsRows.{RepresentsRowsIn}
 use Rattle.office_words.specs.Orders.{Ordered}
 use Rattle.office_run.specs.Files.{HeldOffice, IsLeftOf, RunsInFiles, ServesInFiles}
 use Rattle.office_run.specs.NextWord.{HoldsOfficeAt, IsLeftBy, IsServedTo, LeavesAt, LeavesFilesAt}
-use Rattle.office_run.specs.declared.ending.Ending.{Ending}
+use Rattle.office_orders.specs.declared.ending.Ending.{Ending}
 use Rattle.office_run.specs.declared.opening.FilesLeft.{FilesLeft}
 use Rattle.office_run.specs.declared.opening.FilesLeft.TheVariants as files
 use Rattle.office_run.proofs.NextService.{service_left}

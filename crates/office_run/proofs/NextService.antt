@@ -26,10 +26,10 @@ use Rattle.office_json.specs.Lists.{NoActs, acts_in, bad_act, not_json}
 use Rattle.office_http.specs.Replies.{Response}
 use Rattle.office_wire.specs.Answering.{IsUnreported, PerformsAsked, Resumes, Serves, RunsOutOfMemory}
 use Rattle.office_wire.specs.Connections.{Turn, Turns}
-use Rattle.office_wire.specs.Receiving.{Wanted, acts, certificate_reported, content_reported, cut, due_reported, overdue_reported, record_reported, refused, resumption}
+use Rattle.office_requests.specs.Receiving.{Wanted, acts, certificate_reported, content_reported, cut, due_reported, overdue_reported, record_reported, refused, resumption}
 use Rattle.office_run.specs.NextWord.{IsServedTo, LeavesAt}
 use Rattle.office_run.specs.Serving.{IsDeskOf, ServiceEnds}
-use Rattle.office_run.specs.declared.ending.Ending.{Ending}
+use Rattle.office_orders.specs.declared.ending.Ending.{Ending}
 use Rattle.office_run.proofs.NextStates.{IsEnded, IsOneDatabase, StaySound, at_rows, at_stop, at_unopened, well_formed_prefix, found_same, sound_acts, sound_steps}
 use Rattle.office_run.proofs.Services.{clean_turn, clean_turns}
 

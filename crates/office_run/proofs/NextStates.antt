@@ -36,16 +36,17 @@ use Rattle.office_wire.specs.Importing.{ArePrefixRows, AreRowsDone, AreSomeRows,
 use Rattle.office_words.specs.Orders.{Ordered, application_ordered, certificate_ordered, due_day_ordered, exportation_ordered, importation_ordered, init_file_ordered, nothing_ordered, overdue_ordered, plan_file_ordered, resumption_ordered, service_ordered}
 use Rattle.office_words.specs.declared.register.Register.{Register}
 use Rattle.office_words.specs.declared.register.Register.TheVariants as register
-use Rattle.office_run.specs.Applying.{AreStopped, Applies, Performs}
-use Rattle.office_run.specs.Certifying.{CertificateEnds}
+use Rattle.office_orders.specs.Applying.{AreStopped, Applies, Performs}
+use Rattle.office_orders.specs.Certifying.{CertificateEnds}
 use Rattle.office_run.specs.Exporting.{ExportEnds}
 use Rattle.office_run.specs.Importing.{ImportsAt, IsRowCut}
 use Rattle.office_run.specs.NextWord.{AreActsDone, AreRowsAdded, AreStepsTaken, IsLeftBy, IsOfficeAt, IsUntouched, LeavesAt}
-use Rattle.office_run.specs.Opening.{IsNotOpened, IsOfOpened, IsOpened, IsUnopened}
-use Rattle.office_run.specs.Resuming.{ResumeEnds, Resumes}
-use Rattle.office_run.specs.Running.{InitEnds, RunEnds}
-use Rattle.office_run.specs.declared.ending.Ending.{Ending}
-use Rattle.office_run.specs.declared.ending.Ending.TheVariants as how
+use Rattle.office_orders.specs.Opening.{IsNotOpened, IsOfOpened, IsOpened, IsUnopened}
+use Rattle.office_orders.specs.Resuming.{ResumeEnds, Resumes}
+use Rattle.office_orders.specs.Making.{InitEnds}
+use Rattle.office_run.specs.Running.{RunEnds}
+use Rattle.office_orders.specs.declared.ending.Ending.{Ending}
+use Rattle.office_orders.specs.declared.ending.Ending.TheVariants as how
 
 -- ---- what the laws say
 

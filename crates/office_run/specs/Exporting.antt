@@ -1,15 +1,23 @@
 -- How `export` and `overdue` end. Source: own.
-use Rattle.std.specs.Prelude.{◌≡◌, ◌⊎◌, ℕ, List, Option, ⊤}
+use Rattle.std.specs.Prelude.{◌≡◌, ◌⊎◌, ℕ, List, Option, Result, Ok, Err, ⊤}
 use Rattle.std.specs.Io.KnownBytes.{Appends}
 use Rattle.sqlite.specs.State.{State as FileState}
 use Rattle.office_rules.specs.State.{Office, State}
 use Rattle.office_store.specs.declared.fault.Fault.TheVariants as fault
 use Rattle.office_wire.specs.Exporting.{IsDueRegister, IsEntryRegister, IsOverdueRegister}
+use Rattle.office_wire.specs.declared.registers.ExportStop.{ExportStop}
+use Rattle.office_wire.specs.declared.registers.ExportStop.TheVariants as export
 use Rattle.office_words.specs.declared.register.Register.{Register}
 use Rattle.office_words.specs.declared.register.Register.TheVariants as register
-use Rattle.office_run.specs.declared.ending.Ending.{Ending}
-use Rattle.office_run.specs.declared.ending.Ending.TheVariants as how
-use Rattle.office_run.specs.Opening.{IsNotOpened, IsOfOpened, IsOpened}
+use Rattle.office_orders.specs.declared.ending.Ending.{Ending}
+use Rattle.office_orders.specs.declared.ending.Ending.TheVariants as how
+use Rattle.office_orders.specs.Opening.{IsNotOpened, IsOfOpened, IsOpened}
+
+-- what stopped an export is reported as such
+abbrev pub ending_of_export : Result (Unit {0}) ExportStop → Ending
+ending_of_export (Ok done) = how.Done
+ending_of_export (Err (export.Fault f)) = how.Fault f
+ending_of_export (Err export.Io) = how.File
 
 -- the text of a register of the office
 abbrev pub IsRegisterText : Register → Office → List ℕ → Type 0

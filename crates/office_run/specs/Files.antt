@@ -15,8 +15,8 @@ use Rattle.office_store.specs.declared.fault.Fault.TheVariants as fault
 use Rattle.office_words.specs.Orders.{Ordered}
 use Rattle.office_run.specs.Running.{RunEnds}
 use Rattle.office_run.specs.Serving.{ServiceEnds}
-use Rattle.office_run.specs.declared.ending.Ending.{Ending}
-use Rattle.office_run.specs.declared.ending.Ending.TheVariants as how
+use Rattle.office_orders.specs.declared.ending.Ending.{Ending}
+use Rattle.office_orders.specs.declared.ending.Ending.TheVariants as how
 use Rattle.office_run.specs.declared.opening.FilesLeft.{FilesLeft}
 use Rattle.office_run.specs.declared.opening.FilesLeft.TheVariants as files
 

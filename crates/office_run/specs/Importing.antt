@@ -1,5 +1,5 @@
 -- How `import` ends. Source: own.
-use Rattle.std.specs.Prelude.{◌≡◌, ◌⊎◌, ◌+◌, ◌==◌, ℕ, ℤ, Bool, true, false, List, [], ◌∷◌, ◌++◌, length, Option, Ok, option_map}
+use Rattle.std.specs.Prelude.{◌≡◌, ◌⊎◌, ◌+◌, ◌==◌, ℕ, ℤ, Bool, true, false, if◌then◌else◌, List, [], ◌∷◌, ◌++◌, length, Option, Result, Ok, Err, option_map}
 use Rattle.std.specs.Io.KnownBytes.{Appends}
 use Rattle.csv.specs.Reading.{strip_bom}
 use Rattle.csv.specs.declared.parser.State.TheVariants.{StartRecord}
@@ -16,10 +16,20 @@ use Rattle.office_desk.specs.Leaving.{StopsLeaving}
 use Rattle.office_json.specs.Acts.{AskedRecord}
 use Rattle.office_csv.specs.ImportRows.{Fields, record_asked}
 use Rattle.office_csv.specs.ImportText.{LacksHeader}
+use Rattle.office_wire.specs.declared.importing.ImportStop.{ImportStop}
+use Rattle.office_wire.specs.declared.importing.ImportStop.TheVariants as import
 use Rattle.office_wire.specs.Importing.{IsAdding, AreAllRows, ArePrefixRows, AreRowsBeforeBad, AreRowsDone, AreSomeRows, lines_from, refused_count}
-use Rattle.office_run.specs.Opening.{IsNotOpened, IsOfOpened}
-use Rattle.office_run.specs.declared.ending.Ending.{Ending}
-use Rattle.office_run.specs.declared.ending.Ending.TheVariants as how
+use Rattle.office_orders.specs.Opening.{IsNotOpened, IsOfOpened}
+use Rattle.office_orders.specs.declared.ending.Ending.{Ending}
+use Rattle.office_orders.specs.declared.ending.Ending.TheVariants as how
+
+-- a row that is refused is reported by the exit status alone, and what stopped an import as such
+abbrev pub ending_of_import : Result ℕ ImportStop → Ending
+ending_of_import (Ok refused) = if refused == 0 then how.Done else how.SomeRefused
+ending_of_import (Err import.Header) = how.CsvHeader
+ending_of_import (Err (import.Row number)) = how.CsvRow number
+ending_of_import (Err (import.Fault f)) = how.Fault f
+ending_of_import (Err import.Io) = how.File
 
 -- rows were done from a state on: the tables are those of the state after them, and their lines are written
 pub record AreSaved (day : ℤ) (rows : List Fields) (answers : List Answer) (u : State) (new : FileState) (written after : Option (List ℕ)) (t : State) : Type 0 where

@@ -28,8 +28,8 @@ use Rattle.office_json.specs.Answers.{answer_lines}
 use Rattle.office_json.specs.Lists.{acts_in}
 use Rattle.office_csv.specs.ImportRows.{Fields}
 use Rattle.office_wire.specs.Importing.{ArePrefixRows, AreRowsDone, IsRowDone, lines_from}
-use Rattle.office_run.specs.declared.ending.Ending.{Ending}
-use Rattle.office_run.specs.declared.ending.Ending.TheVariants as how
+use Rattle.office_orders.specs.declared.ending.Ending.{Ending}
+use Rattle.office_orders.specs.declared.ending.Ending.TheVariants as how
 use Rattle.office_run.specs.declared.opening.FilesLeft.{FilesLeft}
 use Rattle.office_run.specs.declared.opening.FilesLeft.TheVariants as files
 

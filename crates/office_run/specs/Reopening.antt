@@ -16,7 +16,7 @@ use Rattle.office_rules.specs.State.{State}
 use Rattle.office_words.specs.Orders.{Ordered}
 use Rattle.office_run.specs.Files.{HeldOffice, IsLeftOf, LeavesAnOffice, RunsInFiles, ServesInFiles}
 use Rattle.office_run.specs.NextWord.{HoldsOfficeAt, IsLeftBy, IsServedTo, LeavesFilesAt}
-use Rattle.office_run.specs.declared.ending.Ending.{Ending}
+use Rattle.office_orders.specs.declared.ending.Ending.{Ending}
 use Rattle.office_run.specs.declared.opening.FilesLeft.{FilesLeft}
 use Rattle.office_run.specs.declared.opening.FilesLeft.TheVariants as files
 

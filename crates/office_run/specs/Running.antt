@@ -1,45 +1,23 @@
 -- How an order on the office in a file ends. Source: own.
 use Rattle.std.specs.Prelude.{◌≡◌, ℕ, List, ◌∷◌, [], ◌++◌, codes, Option}
 use Rattle.std.specs.Fmt.{decimal}
-use Rattle.std.specs.Io.KnownBytes.{Appends}
 use Rattle.sqlite.specs.Held.{Held}
 use Rattle.sqlite_trees.specs.declared.store.Store.{Ghosts}
-use Rattle.sqlite.specs.State.{State as FileState}
 use Rattle.office_words.specs.Orders.{Ordered, application_ordered, certificate_ordered, due_day_ordered, exportation_ordered, importation_ordered, init_file_ordered, nothing_ordered, overdue_ordered, plan_file_ordered, resumption_ordered, service_ordered}
 use Rattle.office_words.specs.declared.register.Register.TheVariants as register
-use Rattle.office_run.specs.declared.ending.Ending.{Ending}
-use Rattle.office_run.specs.declared.ending.Ending.TheVariants as how
-use Rattle.office_run.specs.Applying.{ApplyEnds}
-use Rattle.office_run.specs.Calling.{CarriedOut, Exits, Shown}
-use Rattle.office_run.specs.Certifying.{CertificateEnds}
+use Rattle.office_orders.specs.declared.ending.Ending.{Ending}
+use Rattle.office_orders.specs.declared.ending.Ending.TheVariants as how
+use Rattle.office_orders.specs.Applying.{ApplyEnds}
+use Rattle.office_orders.specs.Calling.{CarriedOut, Exits, Shown}
+use Rattle.office_orders.specs.Certifying.{CertificateEnds}
 use Rattle.office_run.specs.Exporting.{ExportEnds}
 use Rattle.office_run.specs.Importing.{ImportEnds}
-use Rattle.office_run.specs.Opening.{IsOpened, IsUnopened}
-use Rattle.office_run.specs.Resuming.{ResumeEnds}
-
--- the line that reports the version of the office's file
-abbrev pub version_line : List ℕ
-version_line = codes "version 2" ++ 10 ∷ []
+use Rattle.office_orders.specs.Making.{InitEnds}
+use Rattle.office_orders.specs.Resuming.{ResumeEnds}
 
 -- the line that reports where a service listens
 abbrev pub listening_line : ℕ → List ℕ
 listening_line port = codes "listening 127.0.0.1:" ++ decimal port ++ 10 ∷ []
-
--- `init FILE`, by its ending: the version is written where it is done, and nothing at a fault
-abbrev pub InitEnds : FileState → FileState → Option (List ℕ) → Option (List ℕ) → Ending → Type 0
-InitEnds old new written after how.Done = IsOpened old new × Appends written after version_line
-InitEnds old new written after (how.Refused refusal) = ⊥
-InitEnds old new written after (how.LineRefused line refusal) = ⊥
-InitEnds old new written after how.SomeRefused = ⊥
-InitEnds old new written after (how.ActRefused place refusal) = ⊥
-InitEnds old new written after how.NotJson = ⊥
-InitEnds old new written after how.CsvHeader = ⊥
-InitEnds old new written after (how.CsvRow number) = ⊥
-InitEnds old new written after how.BadWords = ⊥
-InitEnds old new written after how.Socket = ⊥
-InitEnds old new written after how.SomeFailed = ⊥
-InitEnds old new written after how.File = IsOpened old new
-InitEnds old new written after (how.Fault f) = IsUnopened f old new × (after ≡ written)
 
 -- nothing is done
 abbrev pub IsNotRun : {S : Type 0} → Held S → Held S → Option (List ℕ) → Option (List ℕ) → Ending → Type 0

@@ -11,10 +11,10 @@ use Rattle.office_desk.specs.Desk.{DeskState}
 use Rattle.office_desk.specs.Leaving.{IsAt}
 use Rattle.office_desk.specs.Opening.{OldRepresent, RepresentState}
 use Rattle.office_wire.specs.Connections.{Turns}
-use Rattle.office_run.specs.declared.ending.Ending.{Ending}
-use Rattle.office_run.specs.declared.ending.Ending.TheVariants as how
-use Rattle.office_run.specs.Endings.{ending_of_service}
-use Rattle.office_run.specs.Opening.{IsNotOpened}
+use Rattle.office_orders.specs.declared.ending.Ending.{Ending}
+use Rattle.office_orders.specs.declared.ending.Ending.TheVariants as how
+use Rattle.office_orders.specs.Endings.{ending_of_service}
+use Rattle.office_orders.specs.Opening.{IsNotOpened}
 use Rattle.office_run.specs.Running.{listening_line}
 
 -- a desk was opened over a connection: it is at the state of a new office where there was none, else at one that the tables represent

@@ -1,17 +1,28 @@
 //! The registers of the office in a file.
 ghost use Rattle.std.specs.Prelude.{◌≡◌, false};
 ghost use Rattle.office_rules.specs.State.{State};
-ghost use Rattle.office_run.specs.Calling.{EndsShown};
+ghost use Rattle.office_orders.specs.Calling.{EndsShown};
 ghost use Rattle.office_wire.specs.Exporting.{Exports as WritesText};
-ghost use Rattle.office_run.specs.Exporting.{ExportEnds, Exports, IsRegisterText};
+ghost use Rattle.office_run.specs.Exporting.{ExportEnds, Exports, IsRegisterText, ending_of_export};
 
-use crate::ending::Ending;
 use office_desk::Desk;
+use office_orders::Ending;
 use office_wire::{ExportStop, export_due, export_entries, export_overdue};
 use office_words::Register;
 use sqlite::{Alter, Connection};
 use std::alloc::Global;
 use std::io::Write;
+
+/// The ending of an export.
+fn ending_of_export(done: Result<(), ExportStop>) -> Ending
+    ensures { result ≡ ending_of_export done }
+{
+    match done {
+        Ok(()) => Ending::Done,
+        Err(ExportStop::Fault(fault)) => Ending::Fault(fault),
+        Err(ExportStop::Io) => Ending::File,
+    }
+}
 
 /// Writes a register at a desk.
 fn write_register<W: Write, S: Alter>(
@@ -41,7 +52,7 @@ fn export_at<W: Write, S: Alter>(
     ensures exports { Exports (λ P. (s : State) → s.office ≡ desk.old.office → P s) register (W.contents out.old) (W.contents out.new) result }
     ensures kept { desk.new ≡ desk.old }
 {
-    Ending::of_export(write_register(alloc, desk, register, out))
+    ending_of_export(write_register(alloc, desk, register, out))
 }
 
 /// `export FILE entries`, `export FILE DAY` or `overdue FILE DAY COUNT` over a connection to the file.

@@ -4,11 +4,11 @@ ghost use Rattle.sqlite_trees.specs.Tree.{Trees};
 ghost use Rattle.sqlite_wal.specs.Files.{image_at};
 ghost use Rattle.sqlite.specs.Held.{state};
 ghost use Rattle.office_words.specs.Orders.{ordered};
-ghost use Rattle.office_run.specs.Calling.{Exits};
+ghost use Rattle.office_orders.specs.Calling.{Exits};
 ghost use Rattle.office_run.specs.Files.{IsLeftOf, RunsInFiles};
 
-use crate::ending::Ending;
-use crate::running::{report, run_on};
+use crate::running::run_on;
+use office_orders::{Ending, report};
 use office_store::Fault;
 use office_words::Order;
 use sqlite::{Alter, Connection, FileFrom, FileStore, Files, Start};

@@ -1,14 +1,14 @@
 //! The office in a file, served over TCP.
 ghost use Rattle.std.specs.Prelude.{◌≡◌, false};
 ghost use Rattle.sqlite_wal.specs.Files.{image_at};
-ghost use Rattle.office_run.specs.Calling.{CarriedOut};
+ghost use Rattle.office_orders.specs.Calling.{CarriedOut};
 ghost use Rattle.office_run.specs.Files.{ServesInFiles};
 ghost use Rattle.office_run.specs.Serving.{ServesAt, ServiceEnds};
 
-use crate::ending::Ending;
 use crate::opening::{FilesLeft, close, law_of_the_last_commit};
 use crate::running::report_listening;
 use office_desk::Desk;
+use office_orders::Ending;
 use office_store::Fault;
 use office_wire::{Routes, serve_all};
 use sqlite::{Alter, Connection, FileFrom, Start};

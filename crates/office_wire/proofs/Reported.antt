@@ -12,7 +12,7 @@ use Rattle.office_http.specs.Replies.{Response, failure_response, response}
 use Rattle.office_http.specs.declared.failure.Failure.TheVariants as failure
 use Rattle.office_http.specs.declared.reply.Reply.{Reply}
 use Rattle.office_wire.specs.Answering.{Answers, ArePerformed, ArePerformedBy, IsAnswered, IsGiven, IsGivenUnavailable, IsPerformed, IsUnavailable, PerformsAsked, Serves, RunsOutOfMemory, gone_acts, gone_response}
-use Rattle.office_wire.specs.Receiving.{Wanted, acts}
+use Rattle.office_requests.specs.Receiving.{Wanted, acts}
 use Rattle.office_wire.specs.Serving.{HasReply}
 use Rattle.office_wire.proofs.Calls.{answered}
 use Rattle.office_wire.proofs.Unavailable.{memory_unavailable}

@@ -29,7 +29,7 @@ use Rattle.office_http.specs.declared.reply.Reply.{Reply}
 use Rattle.office_http.specs.declared.status.Status.TheVariants as status
 use Rattle.office_wire.specs.Calling.{AnsweredAt}
 use Rattle.office_wire.specs.declared.answering.Reported.{Reported}
-use Rattle.office_wire.specs.Receiving.{Wanted, refused, cut, acts, resumption, record_reported, content_reported, due_reported, overdue_reported, certificate_reported}
+use Rattle.office_requests.specs.Receiving.{Wanted, refused, cut, acts, resumption, record_reported, content_reported, due_reported, overdue_reported, certificate_reported}
 use Rattle.office_wire.specs.Replies.{acts_response, answer_response, bad_act_response, certificate_response, content_response, due_response, fault_response, overdue_response, record_response, stopped_response}
 
 -- ---- acts; Reported says which answer is given

@@ -3,6 +3,5 @@ pub mod Calling
 pub mod Connections
 pub mod Exporting
 pub mod Importing
-pub mod Receiving
 pub mod Replies
 pub mod Serving

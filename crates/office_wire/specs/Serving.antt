@@ -14,7 +14,7 @@ use Rattle.office_http.specs.Requests.{Request, IsRequest, nothing, headless, as
 use Rattle.office_http.specs.declared.failure.Failure.TheVariants as failure
 use Rattle.office_wire.specs.Answering.{Answers, IsUnavailable, RunsOutOfMemory, gone_response}
 use Rattle.office_wire.specs.Calling.{AnsweredAt, CalledAt}
-use Rattle.office_wire.specs.Receiving.{Wanted, wanted}
+use Rattle.office_requests.specs.Receiving.{Wanted, wanted}
 
 -- an answer is written, to HEAD its head alone, and the status is its
 abbrev pub Writes : Bool → Response → ℕ → Option (List ℕ) → Option (List ℕ) → Type 0

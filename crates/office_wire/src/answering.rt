@@ -3,9 +3,8 @@ ghost use Rattle.std.specs.FinMap.{get};
 ghost use Rattle.std.specs.Prelude.{◌≡◌, ◌⊎◌, IfErr, IfOk, IsTrue, false, option_map, string_bytes};
 ghost use Rattle.office_rules.specs.Readings.{ending_entry, record_view};
 ghost use Rattle.office_wire.specs.Answering.{ArePerformedBy, IsAnswered, IsPerformed, IsRead, IsReportedOf};
-ghost use Rattle.office_wire.specs.Receiving.{acts, asked_for, certificate_reported, content_reported, due_reported, overdue_reported, record_reported, resumption};
+ghost use Rattle.office_requests.specs.Receiving.{acts, asked_for, certificate_reported, content_reported, due_reported, overdue_reported, record_reported, resumption};
 
-use crate::receiving::Operation;
 use crate::replies::{
     acts_reply, answer_reply, bad_act_reply, certificate_reply, content_reply, due_reply,
     fault_reply, overdue_reply, record_reply, stopped_reply,
@@ -16,6 +15,7 @@ use office_desk::Desk;
 use office_http::{Failure, Reply, check_reply, failure_reply};
 use office_json::{ListFault, read_acts};
 use office_proof::Entry;
+use office_requests::Operation;
 use office_rules::laws::resuming::law_of_resumption;
 use office_rules::{Act, RecordView};
 use office_store::Fault;

@@ -2,11 +2,11 @@
 ghost use Rattle.std.specs.Prelude.{◌≡◌, ◌||◌};
 ghost use Rattle.office_wire.specs.Connections.{Ends, ServesAll, Turn, has_failed};
 
-use crate::deadline::{Timed, is_interrupted};
 use crate::serving::serve_one;
 use office_base::Io;
 use office_desk::Desk;
 use office_http::Routes;
+use office_requests::{Timed, is_interrupted};
 use sqlite::Alter;
 use std::alloc::Global;
 use std::io::{BufWriter, Read, Write};
@@ -88,7 +88,7 @@ fn serve_stream<C: Read + Write + OpenStream + Drop, K: Clock, S: Alter>(
     if writer.flush().is_err() {
         return Err(Io);
     }
-    finish(reader.stream());
+    finish(&mut reader.into_stream());
     Ok(status)
 }
 

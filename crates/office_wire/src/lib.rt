@@ -1,31 +1,26 @@
 //! The office on the wire: one request of HTTP is read, what it asks for is done at the desk, and the
 //! answer is written.
 //!
-//! [`receive`] reads all of a request and touches no desk; [`answer`] does what it asks for and reads
-//! nothing; [`answer_next`] joins them and writes nothing, [`send`] writes the answer and touches no desk, and
+//! [`receive`] of `office_requests` reads all of a request and touches no desk; [`answer`] does what it asks for and
+//! reads nothing; [`answer_next`] joins them and writes nothing, [`send`] writes the answer and touches no desk, and
 //! [`serve_one`] is these two. Acts and answers in JSON are those of
 //! `office_json`, heads and the bytes of an answer those of `office_http`. [`serve_all`] serves connections
 //! over TCP, one after another, each within its time ([`LONGEST`]).
 #![tactic(auto)]
 
 mod answering;
-mod body;
 mod connections;
-mod deadline;
 mod importing;
-mod receiving;
 mod registers;
 mod replies;
 mod serving;
 
 pub use answering::answer;
-pub use body::ActsBody;
 pub use connections::{Service, serve_all};
-pub use deadline::LONGEST;
 pub use importing::{ImportStop, import_records};
 pub use office_base::Io;
 pub use office_http::Routes;
 pub use office_json::{ReadFault, answer_value, read_act};
-pub use receiving::{Asked, Operation, ReceiveStop, Received, receive};
+pub use office_requests::{ActsBody, Asked, LONGEST, Operation, ReceiveStop, Received, receive};
 pub use registers::{ExportStop, export_due, export_entries, export_overdue};
 pub use serving::{OutgoingReply, answer_next, send, serve_one};

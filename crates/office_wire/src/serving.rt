@@ -2,14 +2,14 @@
 //! writer and the other no desk.
 ghost use Rattle.std.specs.Prelude.{◌≡◌, OnErr};
 ghost use Rattle.office_http.specs.Replies.{response};
-ghost use Rattle.office_wire.specs.Receiving.{asked_for};
+ghost use Rattle.office_requests.specs.Receiving.{asked_for};
 ghost use Rattle.office_wire.specs.Serving.{AnswersNext, HasReply, InHalves, IsFailed, Sends, ServesOne};
 
 use crate::answering::answer;
-use crate::receiving::{Asked, Operation, ReceiveStop, Received, receive};
 use office_base::Io;
 use office_desk::Desk;
 use office_http::{Failure, Reply, Routes, failure_reply, write_reply};
+use office_requests::{Asked, Operation, ReceiveStop, Received, receive};
 use sqlite::Alter;
 use std::alloc::Global;
 use std::io::{Read, Write};

@@ -2,13 +2,13 @@ use Rattle.std.proofs.Common.{◌≡◌, ◌∙◌, ap, inl, inr, refl}
 use Rattle.sqlite.specs.Held.{state}
 use Rattle.office_rules.specs.State.{State}
 use Rattle.office_desk.specs.Desk.{DeskState}
-use Rattle.office_run.specs.Calling.{Shown}
+use Rattle.office_orders.specs.Calling.{Shown}
 use Rattle.office_run.specs.Exporting.{ExportEnds}
-use Rattle.office_run.specs.Opening.{IsOfOpened}
-use Rattle.office_run.proofs.Callings.{carried}
-use Rattle.office_run.proofs.Desks.{of_office, opened}
+use Rattle.office_orders.specs.Opening.{IsOfOpened}
+use Rattle.office_orders.proofs.Callings.{carried}
+use Rattle.office_orders.proofs.Desks.{of_office, opened}
 use Rattle.office_run.proofs.Exports.{exports_of}
-use Rattle.office_run.proofs.Unopened.{unopened}
+use Rattle.office_orders.proofs.Unopened.{unopened}
 use Rattle.office_run.proofs.exporting.export_on.Goals as goal
 
 pub returns-in-Ok : goal.returns-in-Ok

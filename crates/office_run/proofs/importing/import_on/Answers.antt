@@ -1,12 +1,12 @@
 use Rattle.std.proofs.Common.{inl, inr, refl}
 use Rattle.sqlite.specs.Held.{state}
-use Rattle.office_run.specs.Calling.{AtDesk, Shown}
+use Rattle.office_orders.specs.Calling.{AtDesk, Shown}
 use Rattle.office_run.specs.Importing.{ImportEnds}
-use Rattle.office_run.specs.Opening.{IsOfOpened}
-use Rattle.office_run.proofs.Callings.{carried}
-use Rattle.office_run.proofs.Desks.{of_desk}
+use Rattle.office_orders.specs.Opening.{IsOfOpened}
+use Rattle.office_orders.proofs.Callings.{carried}
+use Rattle.office_orders.proofs.Desks.{of_desk}
 use Rattle.office_run.proofs.Imports.{imports_of}
-use Rattle.office_run.proofs.Unopened.{unopened}
+use Rattle.office_orders.proofs.Unopened.{unopened}
 use Rattle.office_run.proofs.importing.import_on.Goals as goal
 
 pub returns-in-Ok : goal.returns-in-Ok

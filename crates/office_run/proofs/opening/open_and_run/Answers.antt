@@ -1,7 +1,7 @@
 use Rattle.std.proofs.Common.{inl, inr, refl}
 use Rattle.sqlite_wal.specs.Files.{image_at}
 use Rattle.office_store.specs.declared.fault.Fault.TheVariants.{Store}
-use Rattle.office_run.specs.declared.ending.Ending.TheVariants.{Fault}
+use Rattle.office_orders.specs.declared.ending.Ending.TheVariants.{Fault}
 use Rattle.office_run.proofs.Openings.{opened_from}
 use Rattle.office_run.proofs.opening.open_and_run.Goals as goal
 

@@ -1,9 +1,8 @@
 use Rattle.std.proofs.Common.{inl, inr, refl}
 use Rattle.office_run.specs.Serving.{ServiceEnds}
-use Rattle.office_run.proofs.Callings.{carried}
-use Rattle.office_run.proofs.Desks.{desk_of}
-use Rattle.office_run.proofs.Services.{clean_served}
-use Rattle.office_run.proofs.Unopened.{unopened}
+use Rattle.office_orders.proofs.Callings.{carried}
+use Rattle.office_run.proofs.Services.{clean_served, desk_of}
+use Rattle.office_orders.proofs.Unopened.{unopened}
 use Rattle.office_run.proofs.serving.serve_on.Goals as goal
 
 pub returns-in-Ok : goal.returns-in-Ok

@@ -1,4 +1,4 @@
-use Rattle.office_wire.specs.Receiving.{content_reported, resumption}
+use Rattle.office_requests.specs.Receiving.{content_reported, resumption}
 use Rattle.office_wire.proofs.Reported.{performed}
 use Rattle.office_wire.proofs.answering.answer.Goals as goal
 
