@@ -4,6 +4,7 @@ use Rattle.std.specs.List.{list_any}
 use Rattle.std.specs.Prelude.{IfErr, OnOk}
 use Rattle.std.specs.Io.KnownBytes.{Appends}
 use Rattle.sqlite.specs.State.{State as FileState}
+use Rattle.office_rules.specs.Answers.{is_refusal}
 use Rattle.office_rules.specs.Acts.{answers}
 use Rattle.office_rules.specs.State.{State}
 use Rattle.office_rules.specs.declared.act.Act.{Act}
@@ -13,7 +14,7 @@ use Rattle.office_json.specs.Acts.{asked}
 use Rattle.office_json.specs.Answers.{answer_lines}
 use Rattle.office_json.specs.Lists.{acts_in}
 use Rattle.office_orders.specs.Applying.{AreDone, AreStopped, Applies, Performs}
-use Rattle.office_orders.specs.Endings.{ending_of_acts, is_refusal}
+use Rattle.office_orders.specs.Endings.{ending_of_acts}
 use Rattle.office_orders.specs.declared.ending.Ending.{Ending}
 use Rattle.office_orders.specs.declared.ending.Ending.TheVariants as how
 

@@ -5,6 +5,7 @@ use Rattle.std.specs.Io.KnownBytes.{Appends}
 use Rattle.sqlite.specs.Held.{Held, state}
 use Rattle.sqlite.specs.State.{State as FileState}
 use Rattle.sqlite_trees.specs.declared.store.Store.{Ghosts}
+use Rattle.office_rules.specs.Answers.{is_refusal}
 use Rattle.office_rules.specs.Acts.{after as after_acts, answers}
 use Rattle.office_rules.specs.Rows.{rows_of}
 use Rattle.office_rules.specs.State.{State}
@@ -20,7 +21,6 @@ use Rattle.office_json.specs.Answers.{answer_lines}
 use Rattle.office_json.specs.Lists.{acts_in, not_json, bad_act}
 use Rattle.office_orders.specs.declared.ending.Ending.{Ending}
 use Rattle.office_orders.specs.declared.ending.Ending.TheVariants as how
-use Rattle.office_orders.specs.Endings.{is_refusal}
 use Rattle.office_orders.specs.Opening.{IsNotOpened, IsOfOpened}
 
 -- the acts were done one after another: the tables are those after them, and these acts report what became of contents

@@ -1,12 +1,12 @@
 -- What the program reports its caller at the end. Source: own.
-use Rattle.std.specs.Prelude.{ℕ, List, [], ◌∷◌, ◌++◌, codes, Option, Some, None, Result, Ok, Err, if◌then◌else◌, Bool, true, false}
+use Rattle.std.specs.Prelude.{ℕ, List, [], ◌∷◌, ◌++◌, codes, Option, Some, None, Result, Ok, Err, if◌then◌else◌, Bool}
 use Rattle.std.specs.Fmt.{decimal}
 use Rattle.std.specs.List.{list_any}
 use Rattle.office_base.specs.declared.refusal.Refusal.{Refusal}
 use Rattle.office_base.specs.Refusals.{refusal_number}
 use Rattle.office_base.specs.declared.output.Io.{Io}
+use Rattle.office_rules.specs.Answers.{is_refusal}
 use Rattle.office_rules.specs.declared.answer.Answer.{Answer}
-use Rattle.office_rules.specs.declared.answer.Answer.TheVariants as answer
 use Rattle.office_store.specs.Faults.{fault_number}
 use Rattle.office_store.specs.declared.fault.Fault.{Fault as AnyFault}
 use Rattle.office_store.specs.declared.fault.Fault.TheVariants as fault
@@ -27,11 +27,6 @@ ending_of_plan (Ok None) = Done
 ending_of_plan (Ok (Some p)) = LineRefused p.0 p.1
 ending_of_plan (Err stop.Io) = File
 ending_of_plan (Err stop.Memory) = Fault fault.Memory
-
--- an answer that is a refusal
-abbrev pub is_refusal : Answer → Bool
-is_refusal (answer.Refused refusal) = true
-is_refusal _ = false
 
 -- a fault is reported as such, and a refusal among the answers by the exit status alone
 abbrev pub ending_of_acts : Result (Unit {0}) AnyFault → List Answer → Ending

@@ -1,10 +1,8 @@
 //! How a word of the program ends: the exit status, and the line on standard error.
-ghost use Rattle.std.specs.List.{list_any};
 ghost use Rattle.std.specs.Prelude.{◌≡◌};
-ghost use Rattle.office_orders.specs.Endings.{is_refusal};
 
 use office_base::{Io, Refusal, Stop};
-use office_rules::Answer;
+use office_rules::{Answer, has_refusal};
 use office_store::Fault;
 use std::fmt;
 
@@ -37,20 +35,6 @@ pub enum Ending {
     SomeFailed,
     /// It was begun, and a fault stopped it; of lack of memory too.
     Fault(Fault),
-}
-
-/// Whether an answer is a refusal.
-fn is_refusal(answer: &Answer) -> bool
-    ensures { result ≡ is_refusal answer.now }
-{
-    matches!(answer, Answer::Refused(_))
-}
-
-/// Whether one of the answers is a refusal.
-fn has_refusal(answers: &[Answer]) -> bool
-    ensures { result ≡ list_any is_refusal answers.now }
-{
-    answers.iter().any(|answer| is_refusal(answer))
 }
 
 impl Ending {
