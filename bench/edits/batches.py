@@ -16,7 +16,7 @@ TOLD = re.compile(r"(?:note: )?(?:\./)?(?:src|proofs)/\S+?:\d+:\d+:")
 SOURCE = re.compile(r"(?:note: )?(?:\./)?(src/\S+?\.rt):(\d+):\d+:")
 PROOF = re.compile(r"(?:note: )?(?:\./)?proofs/(\S+)/\w+\.antt:\d+:\d+:")
 # what a proof file says where it names what the mutant took away, which says little of the contract
-NAMES = re.compile(r"(has no field|is not in scope|has no `|was not admitted)")
+NAMES = re.compile(r"(?:note: )?(?:\./)?proofs/.*(has no field|is not in scope|has no `|was not admitted)")
 VERDICT = re.compile(r"^fn (\S+): (.*)$")
 UNPROVED = re.compile(r"not proved|no proof")
 
@@ -148,7 +148,7 @@ def is_unproved(it: Planned, lines: list[str]) -> bool:
 def refusal(it: Planned, report: str) -> str:
     """The first goal in its functions that was not proved, or nothing where a mutant is not plainly refused."""
     lines = report.split("\n")
-    told = [line for line in lines if TOLD.match(line) and is_in(it, line) and not NAMES.search(line)]
+    told = [line for line in lines if TOLD.match(line) and is_in(it, line) and not NAMES.match(line)]
     told = [line for line in told if ": error" in line or line.startswith("note: ")]
     return told[0][:160] if told and is_unproved(it, lines) else ""
 

@@ -23,10 +23,18 @@ def below(name: str) -> list[str]:
     return found
 
 
+def link_or_copy(one: str, other: str) -> None:
+    """Links a file, or copies it where it is of another disk."""
+    try:
+        os.link(one, other)
+    except OSError:
+        shutil.copy2(one, other)
+
+
 def linked(folder: pathlib.Path, to: pathlib.Path) -> None:
     """A copy of what was kept; what was proved is linked, since a check replaces such a file and never writes in it."""
     def copy(one: str, other: str) -> None:
-        (os.link if one.endswith(".oantt") else shutil.copy2)(one, other)
+        (link_or_copy if one.endswith(".oantt") else shutil.copy2)(one, other)
 
     shutil.copytree(folder, to, copy_function=copy)
 
@@ -51,7 +59,7 @@ class Room:
                     shutil.copytree(TOP / "crates" / it / part, self.top / "crates" / it / part)
             if (TOP / "crates" / it / "out/rlib").is_dir():
                 shutil.copytree(TOP / "crates" / it / "out/rlib", self.top / "crates" / it / "out/rlib",
-                                copy_function=os.link)
+                                copy_function=link_or_copy)
         self.kept = self.crate / "out/incremental"
         self.start = self.top / "start"
         if (TOP / "crates" / name / "out/incremental").is_dir():
