@@ -18,7 +18,8 @@ PROOF = re.compile(r"(?:note: )?(?:\./)?proofs/(\S+)/\w+\.antt:\d+:\d+:")
 # what a proof file says where it names what the mutant took away, which says little of the contract
 NAMES = re.compile(r"(?:note: )?(?:\./)?proofs/.*(has no field|is not in scope|has no `|was not admitted)")
 VERDICT = re.compile(r"^fn (\S+): (.*)$")
-UNPROVED = re.compile(r"not proved|no proof")
+# not where only what the function calls is not proved
+UNPROVED = re.compile(r"(not proved|no proof)(?!: (it calls|it passes|the borrow checker))")
 
 
 class Planned(NamedTuple):
@@ -125,7 +126,7 @@ def is_of(it: Function, parts: list[str]) -> bool:
     if parts[-1:] != [it.name]:
         return False
     if it.owner:
-        return len(parts) > 1 and parts[-2].startswith(it.owner)
+        return parts[-2:-1] == [it.owner]
     return parts[:-1] == ([] if modules in (["lib"], ["main"]) else modules)
 
 
