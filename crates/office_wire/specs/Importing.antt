@@ -10,6 +10,7 @@ use Rattle.sqlite_trees.specs.declared.store.Store.{Ghosts}
 use Rattle.office_base.specs.Refusals.{refusal_number}
 use Rattle.office_base.specs.declared.refusal.Refusal.{Refusal}
 use Rattle.office_rules.specs.Acts.{step}
+use Rattle.office_rules.specs.Answers.{is_refusal}
 use Rattle.office_rules.specs.Forms.{IsWellFormedAct}
 use Rattle.office_rules.specs.State.{State}
 use Rattle.office_rules.specs.declared.act.Act.{Act}
@@ -88,14 +89,6 @@ line_of number (kind.RunClosed n) = decimal number ++ codes "\n"
 abbrev pub lines_from : ℕ → List Answer → List ℕ
 lines_from before [] = []
 lines_from before (answer ∷ rest) = line_of (before + 1) answer ++ lines_from (before + 1) rest
-
-abbrev pub is_refusal : Answer → Bool
-is_refusal (kind.Refused why) = true
-is_refusal kind.Done = false
-is_refusal (kind.Number n) = false
-is_refusal (kind.Same n) = false
-is_refusal (kind.Step r outcome) = false
-is_refusal (kind.RunClosed n) = false
 
 abbrev pub one_if : Bool → ℕ
 one_if true = 1

@@ -1,12 +1,12 @@
 -- The answers of HTTP to what is asked of the office. Source: own; statuses are those of RFC 9110 section 15.
-use Rattle.std.specs.Prelude.{ℕ, Bool, true, false, List, Option, Some, None, if◌then◌else◌}
+use Rattle.std.specs.Prelude.{ℕ, Bool, List, Option, Some, None, if◌then◌else◌}
 use Rattle.std.specs.List.{list_any}
 use Rattle.serde_json.specs.Data.{Data}
 use Rattle.serde_json.specs.Written.{compact_text}
 use Rattle.office_base.specs.declared.refusal.Refusal.{Refusal}
 use Rattle.office_proof.specs.declared.entry.Entry.{Entry}
 use Rattle.office_rules.specs.declared.answer.Answer.{Answer}
-use Rattle.office_rules.specs.declared.answer.Answer.TheVariants as answer
+use Rattle.office_rules.specs.Answers.{is_refusal}
 use Rattle.office_rules.specs.Registers.{DueRowView}
 use Rattle.office_rules.specs.declared.record_view.RecordView.{RecordView}
 use Rattle.office_store.specs.Faults.{fault_number}
@@ -27,18 +27,13 @@ use Rattle.office_http.specs.declared.status.Status.TheVariants as status
 unfoldable pub json_response : Status → Data → Response
 json_response code value = record { status = code; kind = kind.Json; allow = allow.Any; body = compact_text value }
 
--- an answer that is a refusal
-abbrev pub is_refusal : Answer → Bool
-is_refusal (answer.Refused refusal) = true
-is_refusal _ = false
-
--- the status of answers: 409 where one of them is a refusal, else 200
-abbrev pub answers_status : List Answer → Status
-answers_status answers = if list_any is_refusal answers then status.Conflict else status.Ok
+-- the status of what was answered: 409 where it is refused, else 200
+abbrev pub answered_status : Bool → Status
+answered_status is_refused = if is_refused then status.Conflict else status.Ok
 
 -- the answers to acts
 abbrev pub acts_response : List Answer → Response
-acts_response answers = json_response (answers_status answers) (answers_data answers)
+acts_response answers = json_response (answered_status (list_any is_refusal answers)) (answers_data answers)
 
 -- the answers to the acts before a fault, and the fault
 abbrev pub stopped_response : List Answer → Fault → Response
@@ -54,7 +49,7 @@ bad_act_response place refusal = json_response status.BadRequest (bad_act_data p
 
 -- the answer to one act
 abbrev pub answer_response : Answer → Response
-answer_response it = json_response (if is_refusal it then status.Conflict else status.Ok) (answer_data it)
+answer_response it = json_response (answered_status (is_refusal it)) (answer_data it)
 
 -- a record with the entry that ended it; 404 where there is none
 abbrev pub record_response : Option RecordView → Option Entry → Response

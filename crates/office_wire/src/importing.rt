@@ -7,7 +7,7 @@ ghost use Rattle.csv.specs.Records.{fields_of};
 ghost use Rattle.office_csv.specs.ImportRows.{named};
 ghost use Rattle.office_csv.specs.ImportText.{IsPlain};
 ghost use Rattle.office_wire.specs.Calling.{CalledAt};
-ghost use Rattle.office_wire.specs.Importing.{EndsImport, EndsLine, EndsRow, EndsRows, EndsTaking, ImportsText, is_refusal, line_of, one_if, stop_at};
+ghost use Rattle.office_wire.specs.Importing.{EndsImport, EndsLine, EndsRow, EndsRows, EndsTaking, ImportsText, line_of, one_if, stop_at};
 
 use csv::{Reader, StringRecord};
 use office_base::Io;
@@ -66,16 +66,6 @@ fn write_line<W: Write>(number: u64, answer: Answer, out: &mut W) -> Result<(), 
     written.or(Err(Io))
 }
 
-/// Whether an answer refuses.
-fn is_refusal(answer: Answer) -> bool
-    ensures { result ≡ is_refusal answer }
-{
-    match answer {
-        Answer::Refused(_) => true,
-        _ => false,
-    }
-}
-
 /// Does what a row of seven fields asks for, and writes its line. Whether it was refused.
 fn do_row<S: Alter, W: Write>(
     alloc: Global,
@@ -89,7 +79,7 @@ fn do_row<S: Alter, W: Write>(
 {
     match answer_row(alloc, desk, day, row) {
         Ok(answer) => match write_line(number, answer, out) {
-            Ok(()) => Ok(is_refusal(answer)),
+            Ok(()) => Ok(answer.is_refusal()),
             Err(Io) => Err(ImportStop::Io),
         },
         Err(fault) => Err(ImportStop::Fault(fault)),

@@ -1,7 +1,7 @@
 //! The registers of the office, written as CSV.
 ghost use Rattle.std.specs.Prelude.{◌≡◌, ◌⊎◌, [], OnOk};
 ghost use Rattle.std.specs.Io.KnownBytes.{Appends};
-ghost use Rattle.office_csv.specs.Registers.{due_lines, due_register, entry_lines, entry_register, overdue_lines, overdue_register};
+ghost use Rattle.office_csv.specs.Registers.{due_register, entry_register, overdue_register};
 ghost use Rattle.office_wire.specs.Exporting.{Exports, IsDueRegister, IsEntryRegister, IsOverdueRegister};
 
 use office_base::Stop;
@@ -39,88 +39,56 @@ fn stopped(stop: Stop) -> ExportStop
 fn flush<W: Write>(out: &mut W) -> Result<(), Stop>
     ensures { OnOk result (Appends (W.contents out.old) (W.contents out.new) []) }
 {
-    match out.flush() {
-        Ok(()) => Ok(()),
-        Err(_) => Err(Stop::Io),
-    }
+    out.flush().or(Err(Stop::Io))
 }
 
-/// Writes a line for each row that is left.
+/// Writes the due register: its header, and a line for each row.
 #[tactic(auto, using(office_json::proofs::Appending::appends_both, office_json::proofs::Appending::appends_none))]
-fn write_due_lines<W: Write>(alloc: Global, mut rows: DueRows<'_>, out: &mut W) -> Result<(), Stop>
-    ensures { OnOk result (Appends (W.contents out.old) (W.contents out.new) (due_lines rows.entry)) }
+fn write_due_register<W: Write>(
+    alloc: Global,
+    mut rows: DueRows<'_>,
+    out: &mut W,
+) -> Result<(), Stop>
+    ensures { OnOk result (Appends (W.contents out.old) (W.contents out.new) (due_register rows.entry)) }
 {
+    write_due_header(alloc, out)?;
     while let Some(row) = rows.next_row() {
         write_due_line(alloc, &row, out)?;
     }
     flush(out)
 }
 
-/// Writes the due register.
-#[tactic(auto, using(office_json::proofs::Appending::appends_both))]
-fn write_due_register<W: Write>(alloc: Global, rows: DueRows<'_>, out: &mut W) -> Result<(), Stop>
-    ensures { OnOk result (Appends (W.contents out.old) (W.contents out.new) (due_register rows.entry)) }
-{
-    write_due_header(alloc, out)?;
-    write_due_lines(alloc, rows, out)
-}
-
-/// Writes a line for each row that is left, with its deadline.
+/// Writes the overdue register, each row with its deadline.
 #[tactic(auto, using(office_json::proofs::Appending::appends_both, office_json::proofs::Appending::appends_none))]
-fn write_overdue_lines<W: Write>(
-    alloc: Global,
-    mut rows: DueRows<'_>,
-    days: ConfirmDays,
-    out: &mut W,
-) -> Result<(), Stop>
-    ensures { OnOk result (Appends (W.contents out.old) (W.contents out.new) (overdue_lines days rows.entry)) }
-{
-    while let Some(row) = rows.next_row() {
-        write_overdue_line(alloc, &row, days, out)?;
-    }
-    flush(out)
-}
-
-/// Writes the overdue register.
-#[tactic(auto, using(office_json::proofs::Appending::appends_both))]
 fn write_overdue_register<W: Write>(
     alloc: Global,
-    rows: DueRows<'_>,
+    mut rows: DueRows<'_>,
     days: ConfirmDays,
     out: &mut W,
 ) -> Result<(), Stop>
     ensures { OnOk result (Appends (W.contents out.old) (W.contents out.new) (overdue_register days rows.entry)) }
 {
     write_overdue_header(alloc, out)?;
-    write_overdue_lines(alloc, rows, days, out)
-}
-
-/// Writes a line for each row that is left.
-#[tactic(auto, using(office_json::proofs::Appending::appends_both, office_json::proofs::Appending::appends_none))]
-fn write_entry_lines<W: Write>(
-    alloc: Global,
-    mut rows: EntryRows<'_>,
-    out: &mut W,
-) -> Result<(), Stop>
-    ensures { OnOk result (Appends (W.contents out.old) (W.contents out.new) (entry_lines rows.entry)) }
-{
     while let Some(row) = rows.next_row() {
-        write_entry_line(alloc, &row, out)?;
+        write_overdue_line(alloc, &row, days, out)?;
     }
     flush(out)
 }
 
 /// Writes the register of entries.
-#[tactic(auto, using(office_json::proofs::Appending::appends_both))]
+#[tactic(auto, using(office_json::proofs::Appending::appends_both, office_json::proofs::Appending::appends_none))]
 fn write_entry_register<W: Write>(
     alloc: Global,
-    rows: EntryRows<'_>,
+    mut rows: EntryRows<'_>,
     out: &mut W,
 ) -> Result<(), Stop>
     ensures { OnOk result (Appends (W.contents out.old) (W.contents out.new) (entry_register rows.entry)) }
 {
     write_entry_header(alloc, out)?;
-    write_entry_lines(alloc, rows, out)
+    while let Some(row) = rows.next_row() {
+        write_entry_line(alloc, &row, out)?;
+    }
+    flush(out)
 }
 
 /// Writes the due register of a day as CSV: its columns `record,ref,class,schedule,action,due,held,confirmed`, and a
@@ -137,10 +105,7 @@ pub fn export_due<S: Alter, W: Write>(
     ensures { Exports (IsDueRegister day) W.contents out.old out.new result desk.old desk.new }
 {
     match desk.due_rows(day) {
-        Ok(rows) => match write_due_register(alloc, rows, out) {
-            Ok(()) => Ok(()),
-            Err(stop) => Err(stopped(stop)),
-        },
+        Ok(rows) => write_due_register(alloc, rows, out).map_err(stopped),
         Err(fault) => Err(ExportStop::Fault(fault)),
     }
 }
@@ -158,10 +123,7 @@ pub fn export_overdue<S: Alter, W: Write>(
     ensures { Exports (IsOverdueRegister day days) W.contents out.old out.new result desk.old desk.new }
 {
     match desk.overdue_rows(day, days) {
-        Ok(rows) => match write_overdue_register(alloc, rows, days, out) {
-            Ok(()) => Ok(()),
-            Err(stop) => Err(stopped(stop)),
-        },
+        Ok(rows) => write_overdue_register(alloc, rows, days, out).map_err(stopped),
         Err(fault) => Err(ExportStop::Fault(fault)),
     }
 }
@@ -177,10 +139,7 @@ pub fn export_entries<S: Alter, W: Write>(
     ensures { Exports IsEntryRegister W.contents out.old out.new result desk.old desk.new }
 {
     match desk.entry_rows() {
-        Ok(rows) => match write_entry_register(alloc, rows, out) {
-            Ok(()) => Ok(()),
-            Err(stop) => Err(stopped(stop)),
-        },
+        Ok(rows) => write_entry_register(alloc, rows, out).map_err(stopped),
         Err(fault) => Err(ExportStop::Fault(fault)),
     }
 }

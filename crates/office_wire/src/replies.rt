@@ -1,13 +1,12 @@
 //! The answers of HTTP to what is asked of the office.
-ghost use Rattle.std.specs.Prelude.{◌≡◌, false, IfOk, if◌then◌else◌, map, option_map, string_bytes};
-ghost use Rattle.std.specs.List.{list_any};
+ghost use Rattle.std.specs.Prelude.{◌≡◌, false, IfOk, map, option_map, string_bytes};
 ghost use Rattle.std.specs.Option.{option_copied};
 ghost use Rattle.serde_json.specs.View.{view};
 ghost use Rattle.serde_json.specs.Written.{has_float};
 ghost use Rattle.office_json.specs.DueJson.{due_row_data};
 ghost use Rattle.office_json.specs.OverdueJson.{overdue_row_data};
 ghost use Rattle.office_http.specs.Replies.{response};
-ghost use Rattle.office_wire.specs.Replies.{acts_response, answer_response, answers_status, bad_act_response, certificate_response, content_response, due_response, fault_response, is_refusal, json_response, overdue_response, record_response, stopped_response};
+ghost use Rattle.office_wire.specs.Replies.{acts_response, answer_response, answered_status, bad_act_response, certificate_response, content_response, due_response, fault_response, json_response, overdue_response, record_response, stopped_response};
 
 use office_base::{Memory, Refusal};
 use office_days::ConfirmDays;
@@ -18,7 +17,7 @@ use office_json::{
     overdue_row_value, overdue_value, record_value, stopped_value, text_of,
 };
 use office_proof::Entry;
-use office_rules::{Answer, RecordView};
+use office_rules::{Answer, RecordView, has_refusal};
 use office_store::Fault;
 use serde_json::Value;
 use std::alloc::Global;
@@ -38,25 +37,11 @@ fn json_reply(alloc: Global, status: Status, value: &Value) -> Result<Reply, Mem
     })
 }
 
-/// Whether an answer is a refusal.
-fn is_refusal(answer: &Answer) -> bool
-    ensures { result ≡ is_refusal answer.now }
+/// The status of what was answered, which is refused or not.
+fn answered_status(is_refused: bool) -> Status
+    ensures { result ≡ answered_status is_refused }
 {
-    matches!(answer, Answer::Refused(_))
-}
-
-/// Whether one of the answers is a refusal.
-fn has_refusal(answers: &[Answer]) -> bool
-    ensures { result ≡ list_any is_refusal answers.now }
-{
-    answers.iter().any(|answer| is_refusal(answer))
-}
-
-/// The status of answers to acts.
-fn answers_status(answers: &[Answer]) -> Status
-    ensures { result ≡ answers_status answers.now }
-{
-    if has_refusal(answers) {
+    if is_refused {
         Status::Conflict
     } else {
         Status::Ok
@@ -68,7 +53,7 @@ pub(crate) fn acts_reply(alloc: Global, answers: &[Answer]) -> Result<Reply, Mem
     ensures { IfOk result (λ reply. response reply ≡ acts_response answers.now) }
 {
     let value = answers_value(alloc, answers)?;
-    json_reply(alloc, answers_status(answers), &value)
+    json_reply(alloc, answered_status(has_refusal(answers)), &value)
 }
 
 /// The answers to the acts before a fault, and the fault.
@@ -99,23 +84,12 @@ pub(crate) fn bad_act_reply(alloc: Global, place: u64, refusal: Refusal) -> Resu
     json_reply(alloc, Status::BadRequest, &value)
 }
 
-/// The status of the answer to one act.
-fn answer_status(answer: &Answer) -> Status
-    ensures { result ≡ (if is_refusal answer.now then Status.Conflict else Status.Ok) }
-{
-    if is_refusal(answer) {
-        Status::Conflict
-    } else {
-        Status::Ok
-    }
-}
-
 /// The answer to one act.
 pub(crate) fn answer_reply(alloc: Global, answer: &Answer) -> Result<Reply, Memory>
     ensures { IfOk result (λ reply. response reply ≡ answer_response answer.now) }
 {
     let value = answer_value(alloc, answer)?;
-    json_reply(alloc, answer_status(answer), &value)
+    json_reply(alloc, answered_status(answer.is_refusal()), &value)
 }
 
 /// What is reported of a record, with the entry that ended it.

@@ -1,7 +1,7 @@
 use Rattle.std.proofs.Common.{Option, List, ℕ, length}
 use Rattle.std.specs.Io.KnownBytes.{Appends}
 use Rattle.office_csv.specs.Registers.{due_lines}
-use Rattle.office_wire.proofs.registers.write_due_lines.Given as goal
+use Rattle.office_wire.proofs.registers.write_due_register.Given as goal
 
 -- what appends the lines of the rows that are left has appended them all
 abbrev pub invariant-loop-row : goal.invariant-loop-row

@@ -1,12 +1,12 @@
 use Rattle.std.proofs.Common.{Option, List, ℕ, length}
 use Rattle.std.specs.Io.KnownBytes.{Appends}
-use Rattle.office_csv.specs.Registers.{entry_lines}
-use Rattle.office_wire.proofs.registers.write_entry_lines.Given as goal
+use Rattle.office_csv.specs.Registers.{overdue_lines}
+use Rattle.office_wire.proofs.registers.write_overdue_register.Given as goal
 
 -- what appends the lines of the rows that are left has appended them all
 abbrev pub invariant-loop-row : goal.invariant-loop-row
 invariant-loop-row g l =
-    (new : Option (List ℕ)) → Appends (g.W.Write.contents l.out) new (entry_lines l.rows) → Appends (g.W.Write.contents l.initial.out) new (entry_lines l.initial.rows)
+    (new : Option (List ℕ)) → Appends (g.W.Write.contents l.out) new (overdue_lines l.days l.rows) → Appends (g.W.Write.contents l.initial.out) new (overdue_lines l.days l.initial.rows)
 
 abbrev pub decreases-loop-row : goal.decreases-loop-row
 decreases-loop-row g l = length l.rows
