@@ -7,6 +7,7 @@ ghost use Rattle.std.specs.IoError.{error_kind};
 
 use std::io;
 use std::io::{ErrorKind, Read, Write};
+use std::marker::Model;
 use std::net::OpenStream;
 use std::time::{Clock, Duration};
 
@@ -26,7 +27,7 @@ fn left(began: Duration, now: Duration) -> Option<Duration>
 }
 
 /// A side of a connection, whose time begins as it is first read or written. It reports no bytes beforehand, as
-/// a socket does not.
+/// a socket does not. Contracts see a `Side`: the connection, and when its time began, once it has.
 #[derive(Drop)]
 pub struct Timed<'a, C, K> {
     stream: C,
@@ -34,10 +35,20 @@ pub struct Timed<'a, C, K> {
     began: Option<Duration>,
 }
 
+impl<'a, C, K> Model for Timed<'a, C, K> {
+    ghost use Rattle.office_requests.specs.Sides.{Side, side_code};
+
+    ghost Value = { Side C };
+
+    ghost coded = { side_code C.code };
+
+    ghost view = { λ side. record { connection = side.stream; began = side.began } };
+}
+
 impl<'a, C: OpenStream, K: Clock> Timed<'a, C, K> {
     /// A side of that connection, by that clock. Its time has not begun.
     pub fn new(stream: C, clock: &'a K) -> Timed<'a, C, K>
-        ensures stream { result.stream ≡ stream }
+        ensures connection { result.connection ≡ stream }
         ensures waits { result.began ≡ None }
     {
         Timed {
@@ -49,7 +60,7 @@ impl<'a, C: OpenStream, K: Clock> Timed<'a, C, K> {
 
     /// The connection itself, whose time does not matter any more.
     pub fn into_stream(self) -> C
-        ensures { result ≡ self.entry.stream }
+        ensures { result ≡ self.entry.connection }
     {
         self.stream
     }

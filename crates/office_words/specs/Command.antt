@@ -89,9 +89,17 @@ with_file_commands app = with_subcommand (with_subcommand app init_app.top) appl
 unfoldable pub with_run_commands : App → App
 with_run_commands app = with_subcommand (with_subcommand app resume_app.top) certificate_app.top
 
+-- with the command that adds records from a text of CSV
+unfoldable pub with_import_command : App → App
+with_import_command app = with_subcommand app import_app.top
+
+-- with the commands that write registers as CSV
+unfoldable pub with_register_commands : App → App
+with_register_commands app = with_subcommand (with_subcommand app export_app.top) overdue_app.top
+
 -- with the commands that take and give texts of CSV
 unfoldable pub with_csv_commands : App → App
-with_csv_commands app = with_subcommand (with_subcommand (with_subcommand app import_app.top) export_app.top) overdue_app.top
+with_csv_commands app = with_register_commands (with_import_command app)
 
 -- with the command that answers requests to that office
 unfoldable pub with_service_command : App → App

@@ -2,7 +2,7 @@
 ghost use Rattle.std.specs.Prelude.{◌≡◌, IfOk, false};
 ghost use Rattle.clap.specs.Words.{app_of, new_app, rule_of};
 ghost use Rattle.clap.specs.declared.builder.command.Command.TheViews.{out-Command as fields_of};
-ghost use Rattle.office_words.specs.Command.{office_app, operand, with_csv_commands, with_file_commands, with_operands, with_plain_commands, with_row, with_rows, with_run_commands, with_service_command};
+ghost use Rattle.office_words.specs.Command.{office_app, operand, with_csv_commands, with_file_commands, with_import_command, with_operands, with_plain_commands, with_register_commands, with_row, with_rows, with_run_commands, with_service_command};
 
 use clap::{Arg, Command};
 use std::alloc::{AllocError, Global};
@@ -160,27 +160,41 @@ fn with_run_commands<'a>(alloc: Global, command: Command<'a>) -> Result<Command<
     )
 }
 
-/// With the commands that take and give texts of CSV.
-#[tactic(auto, unfolding(crate::specs::Command::with_csv_commands))]
-fn with_csv_commands<'a>(alloc: Global, command: Command<'a>) -> Result<Command<'a>, AllocError>
-    ensures { IfOk result (λ c. app_of c ≡ with_csv_commands (app_of command.entry)) }
+/// With the command that adds records from a text of CSV.
+#[tactic(auto, unfolding(crate::specs::Command::with_import_command))]
+fn with_import_command<'a>(alloc: Global, command: Command<'a>) -> Result<Command<'a>, AllocError>
+    ensures { IfOk result (λ c. app_of c ≡ with_import_command (app_of command.entry)) }
+{
+    with_commands(
+        alloc,
+        command,
+        &[CommandRow {
+            name: "import",
+            about: "Adds the records of a CSV file, one after another",
+            operands: &[
+                Operand("FILE", "The office's file"),
+                Operand("DAY", "The day on which they are added, as 2017-06-30"),
+                Operand(
+                    "CSV",
+                    "A file of ref, title, originated, aggregation, class, schedule, content",
+                ),
+            ],
+        }],
+    )
+}
+
+/// With the commands that write registers as CSV.
+#[tactic(auto, unfolding(crate::specs::Command::with_register_commands))]
+fn with_register_commands<'a>(
+    alloc: Global,
+    command: Command<'a>,
+) -> Result<Command<'a>, AllocError>
+    ensures { IfOk result (λ c. app_of c ≡ with_register_commands (app_of command.entry)) }
 {
     with_commands(
         alloc,
         command,
         &[
-            CommandRow {
-                name: "import",
-                about: "Adds the records of a CSV file, one after another",
-                operands: &[
-                    Operand("FILE", "The office's file"),
-                    Operand("DAY", "The day on which they are added, as 2017-06-30"),
-                    Operand(
-                        "CSV",
-                        "A file of ref, title, originated, aggregation, class, schedule, content",
-                    ),
-                ],
-            },
             CommandRow {
                 name: "export",
                 about: "Writes a register of the office as CSV",
@@ -206,6 +220,15 @@ fn with_csv_commands<'a>(alloc: Global, command: Command<'a>) -> Result<Command<
             },
         ],
     )
+}
+
+/// With the commands that take and give texts of CSV.
+#[tactic(auto, unfolding(crate::specs::Command::with_csv_commands))]
+fn with_csv_commands<'a>(alloc: Global, command: Command<'a>) -> Result<Command<'a>, AllocError>
+    ensures { IfOk result (λ c. app_of c ≡ with_csv_commands (app_of command.entry)) }
+{
+    let command = with_import_command(alloc, command)?;
+    with_register_commands(alloc, command)
 }
 
 /// With the command that answers requests to that office.
