@@ -1,6 +1,7 @@
 pub mod Amending
 pub mod BareHolds
 pub mod BindingCounts
+pub mod Cached
 pub mod Classes
 pub mod CountedTargets
 pub mod Covering
@@ -8,7 +9,6 @@ pub mod CoveringRows
 pub mod Entries
 pub mod FirstCovering
 pub mod Keeping
-pub mod Kept
 pub mod Keys
 pub mod Lasting
 pub mod NextHolds

@@ -32,7 +32,7 @@ impl Model for Holds {
     ghost use Rattle.std.specs.FinMap as map;
     ghost use Rattle.std.specs.FinSet.{from_list};
     ghost use Rattle.office_holds.specs.Forms.{FitsHoldLimits};
-    ghost use Rattle.office_holds.specs.HoldCounts.{IsKept};
+    ghost use Rattle.office_holds.specs.HoldCounts.{AreCached};
     ghost use Rattle.office_holds.specs.Holds.{HoldMap};
 
     ghost Value = { HoldMap };
@@ -41,7 +41,7 @@ impl Model for Holds {
 
     ghost view = { λ h. map.from_entries h.by_code.entries };
 
-    ghost invariant = { λ h. FitsHoldLimits (map.from_entries h.by_code.entries) × IsKept (map.from_entries h.by_code.entries) h.counts (from_list h.in_force.keys) };
+    ghost invariant = { λ h. FitsHoldLimits (map.from_entries h.by_code.entries) × AreCached (map.from_entries h.by_code.entries) h.counts (from_list h.in_force.keys) };
 }
 
 impl Holds {

@@ -4,7 +4,7 @@ use Rattle.office_terms.specs.Lists.{holds_of}
 use Rattle.office_terms.specs.Tree.{above, class_of}
 use Rattle.office_holds.specs.Holds.{hold_covers, least_covering}
 use Rattle.office_holds.specs.contracts.holds.Holds.{the_view}
-use Rattle.office_holds.proofs.Kept.{least_by_kept}
+use Rattle.office_holds.proofs.Cached.{least_by_cached}
 use Rattle.office_holds.proofs.holds.Holds.covering.Goals as goal
 
 pub returns : goal.returns
@@ -15,5 +15,5 @@ returns c =
     c.first_covering.ensures.value
     ∙ ap (λ numbers. slice_get (filter (λ code. holds_of (get holds code) (λ hold. hold_covers hold r numbers (Some c.class_of.result.now))) codes) 0) (c.deref.ensures.0 ∙ c.above-above.ensures)
     ∙ ap (λ class. slice_get (filter (λ code. holds_of (get holds code) (λ hold. hold_covers hold r (above c.args.tree.now r) class)) codes) 0) (sym c.class_of.ensures)
-    ∙ least_by_kept holds c.self.inside.counts codes r (above c.args.tree.now r) (class_of c.args.tree.now r) c.self.invariant.1 c.first_covering.ensures.ordered
+    ∙ least_by_cached holds c.self.inside.counts codes r (above c.args.tree.now r) (class_of c.args.tree.now r) c.self.invariant.1 c.first_covering.ensures.ordered
     ∙ ap (λ h. least_covering h c.args.tree.now r) c.self.view_is

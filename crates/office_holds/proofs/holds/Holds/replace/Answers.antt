@@ -4,7 +4,7 @@ use Rattle.std.specs.Option.{is_none}
 use Rattle.office_terms.specs.Lists.{amended}
 use Rattle.office_holds.specs.Holds.{HoldMap}
 use Rattle.office_holds.specs.Rows.{hold_from}
-use Rattle.office_holds.proofs.Kept.{lifted_then, put_over_lifted}
+use Rattle.office_holds.proofs.Cached.{lifted_then, put_over_lifted}
 use Rattle.office_holds.proofs.holds.Holds.replace.Goals as goal
 
 pub set_row-requires : goal.set_row-requires

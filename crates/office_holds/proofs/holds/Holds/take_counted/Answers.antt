@@ -2,12 +2,12 @@ use Rattle.std.proofs.Common.{ap, sym, subst, ◌∙◌}
 use Rattle.std.specs.FinSet.{from_list}
 use Rattle.office_terms.specs.Tree.{code_cmp}
 use Rattle.office_holds.specs.Forms.{FitsHoldLimits}
-use Rattle.office_holds.specs.HoldCounts.{IsKept}
+use Rattle.office_holds.specs.HoldCounts.{AreCached}
 use Rattle.office_holds.specs.Holds.{HoldMap}
 use Rattle.office_holds.specs.contracts.holds.Holds.{the_view}
 use Rattle.office_holds.specs.HoldCounts.{binds_at}
 use Rattle.office_holds.proofs.Keeping.{FitsHoldLimits-held_off}
-use Rattle.office_holds.proofs.Kept.{IsKept-lost}
+use Rattle.office_holds.proofs.Cached.{AreCached-lost}
 use Rattle.office_holds.proofs.holds.Holds.take_counted.Goals as goal
 
 pub invariant_of-self : goal.invariant_of-self
@@ -16,5 +16,5 @@ invariant_of-self c =
     let k = c.args.code.now in
     let codes = from_list {R = code_cmp} c.self.inside.in_force.keys in
     let bound = ap (λ (h : HoldMap). binds_at h k c.args.target.now) c.self.view_is ∙ c.requires in
-    subst (λ (h : HoldMap). FitsHoldLimits h × IsKept h c.count_down.new.self codes) (sym c.take_target_in.ensures)
-    (FitsHoldLimits-held_off holds c.self.invariant.0 k c.args.target.now, IsKept-lost holds k c.args.target.now c.self.inside.counts codes c.self.invariant.1 c.count_down.new.self bound c.count_down.ensures)
+    subst (λ (h : HoldMap). FitsHoldLimits h × AreCached h c.count_down.new.self codes) (sym c.take_target_in.ensures)
+    (FitsHoldLimits-held_off holds c.self.invariant.0 k c.args.target.now, AreCached-lost holds k c.args.target.now c.self.inside.counts codes c.self.invariant.1 c.count_down.new.self bound c.count_down.ensures)

@@ -16,7 +16,7 @@ use Rattle.office_terms.proofs.Inserting.{get-amended, same_code}
 use Rattle.office_holds.specs.Effects.{held_off, held_on, lifted_hold, with_target, without_target}
 use Rattle.office_holds.specs.Forms.{FitsHoldLimits}
 use Rattle.office_holds.specs.Loading.{same_target}
-use Rattle.office_holds.specs.HoldCounts.{CountsDown, CountsUp, IsKept, binds, binds_at, is_bound, cached_count, may_gain}
+use Rattle.office_holds.specs.HoldCounts.{CountsDown, CountsUp, AreCached, binds, binds_at, is_bound, cached_count, may_gain}
 use Rattle.office_holds.specs.Holds.{HoldMap, HoldState, covers_in, has_target, held_in, hold_covers, is_in_force}
 use Rattle.office_holds.specs.Numbers.{one_if}
 use Rattle.office_holds.specs.Rows.{hold_from, put_hold}
@@ -57,8 +57,8 @@ module _ (holds : HoldMap) (k : List ℕ) where
 
 -- ---- no holds
 
-pub IsKept-empty : (counts : HoldCounts) (codes : FinSet code_cmp) → ((t : Target) → cached_count counts t ≡ 0) → IsKept empty counts codes
-IsKept-empty counts codes zero = record {
+pub AreCached-empty : (counts : HoldCounts) (codes : FinSet code_cmp) → ((t : Target) → cached_count counts t ≡ 0) → AreCached empty counts codes
+AreCached-empty counts codes zero = record {
   counted = λ t. let few = binding_count-le empty t in let none = len-empty code_cmp HoldState in omega (arith, few, none, zero t);
   in_force = λ q hold is. let none = get-empty {X = HoldState} code_cmp q in absurd cc;
 }
@@ -82,8 +82,8 @@ module _ (holds : HoldMap) (k : List ℕ) (day : ℤ) where
   still_in codes q hold true tie each is force = let none = not_lifted (get holds k) hold is in absurd cc
   still_in codes q hold false tie each is force = contains-remove nat_list_cmp_total codes k q ∙ (λ i. not (tie i) && each is force i)
 
-  pub IsKept-lifted_hold : (counts after : HoldCounts) (codes : FinSet code_cmp) → IsKept holds counts codes → CountsDown counts after (binds_at holds k) → IsKept (lifted_hold holds day k) after (set.remove codes k)
-  IsKept-lifted_hold counts after codes kept down = record {
+  pub AreCached-lifted_hold : (counts after : HoldCounts) (codes : FinSet code_cmp) → AreCached holds counts codes → CountsDown counts after (binds_at holds k) → AreCached (lifted_hold holds day k) after (set.remove codes k)
+  AreCached-lifted_hold counts after codes kept down = record {
     counted = λ t.
         let e = binding_count-amended holds k lift_hold t in
         let none = ap one_if (lifted_counts t (get holds k)) in
@@ -112,8 +112,8 @@ module _ (holds : HoldMap) (k : List ℕ) (row : HoldRow) where
     same_targets (target.Aggregation a) hold = refl
     same_targets (target.Record r) hold = refl
 
-  pub IsKept-set_row : (counts : HoldCounts) (codes : FinSet code_cmp) → ((hold : HoldState) → get holds k ≡ Some hold → is_none hold.lifted ≡ is_none row.lifted) → IsKept holds counts codes → IsKept (amended holds k set_columns) counts codes
-  IsKept-set_row counts codes same kept = record {
+  pub AreCached-set_row : (counts : HoldCounts) (codes : FinSet code_cmp) → ((hold : HoldState) → get holds k ≡ Some hold → is_none hold.lifted ≡ is_none row.lifted) → AreCached holds counts codes → AreCached (amended holds k set_columns) counts codes
+  AreCached-set_row counts codes same kept = record {
     counted = λ t.
         let e = binding_count-amended holds k set_columns t in
         let one = ap one_if (same_counts t (get holds k) same) in
@@ -153,23 +153,23 @@ more_in codes k q there = contains-insert nat_list_cmp_total codes k q ∙ or_tr
   or_true false b e = e
 
 -- other counts that are the same do as well
-pub IsKept-same : (holds : HoldMap) (counts after : HoldCounts) (codes : FinSet code_cmp) → ((t : Target) → cached_count after t ≡ cached_count counts t) → IsKept holds counts codes → IsKept holds after codes
-IsKept-same holds counts after codes same kept = record { counted = λ t. same t ∙ kept.counted t; in_force = kept.in_force }
+pub AreCached-same : (holds : HoldMap) (counts after : HoldCounts) (codes : FinSet code_cmp) → ((t : Target) → cached_count after t ≡ cached_count counts t) → AreCached holds counts codes → AreCached holds after codes
+AreCached-same holds counts after codes same kept = record { counted = λ t. same t ∙ kept.counted t; in_force = kept.in_force }
 
 -- a count is far from the greatest number
-pub count_fits : (holds : HoldMap) (counts : HoldCounts) (codes : FinSet code_cmp) (t : Target) → FitsHoldLimits holds → IsKept holds counts codes → cached_count counts t + 1 < 4_294_967_296
+pub count_fits : (holds : HoldMap) (counts : HoldCounts) (codes : FinSet code_cmp) (t : Target) → FitsHoldLimits holds → AreCached holds counts codes → cached_count counts t + 1 < 4_294_967_296
 count_fits holds counts codes t fits kept = let few = binding_count-le holds t in omega (arith, few, kept.counted t, fits.holds_few)
 
 -- a code more among those kept does no harm
-pub IsKept-more : (holds : HoldMap) (counts : HoldCounts) (codes : FinSet code_cmp) (k : List ℕ) → IsKept holds counts codes → IsKept holds counts (set.insert codes k)
-IsKept-more holds counts codes k kept = record { counted = kept.counted; in_force = λ q hold is force. more_in codes k q (kept.in_force q hold is force) }
+pub AreCached-more : (holds : HoldMap) (counts : HoldCounts) (codes : FinSet code_cmp) (k : List ℕ) → AreCached holds counts codes → AreCached holds counts (set.insert codes k)
+AreCached-more holds counts codes k kept = record { counted = kept.counted; in_force = λ q hold is force. more_in codes k q (kept.in_force q hold is force) }
 
 none_left : (b : Bool) → one_if (b && false) ≡ 0
 none_left true = refl
 none_left false = refl
 
-pub IsKept-added : (holds : HoldMap) (k : List ℕ) (row : HoldRow) (counts : HoldCounts) (codes : FinSet code_cmp) → get holds k ≡ None → IsTrue (contains codes k) → IsKept holds counts codes → IsKept (insert holds k (hold_from row None)) counts codes
-IsKept-added holds k row counts codes free there kept = record {
+pub AreCached-added : (holds : HoldMap) (k : List ℕ) (row : HoldRow) (counts : HoldCounts) (codes : FinSet code_cmp) → get holds k ≡ None → IsTrue (contains codes k) → AreCached holds counts codes → AreCached (insert holds k (hold_from row None)) counts codes
+AreCached-added holds k row counts codes free there kept = record {
   counted = λ t.
       let e = binding_count-insert holds k (hold_from row None) t in
       let none = ap (λ (o : Option HoldState). one_if (holds_of o (binds t))) free in
@@ -214,13 +214,13 @@ gained_at n t (Some hold) =
     (λ i. one_if (in_force-with_target n hold i && has-with_target n t hold i))
     ∙ gained (is_in_force hold) (same_target n t) (has_target hold t) (has_target hold n) (λ same. ap (has_target hold) (sym (same_is_equal n t same)))
 
-module _ (holds : HoldMap) (k : List ℕ) (n : Target) (counts : HoldCounts) (codes : FinSet code_cmp) (kept : IsKept holds counts codes) where
+module _ (holds : HoldMap) (k : List ℕ) (n : Target) (counts : HoldCounts) (codes : FinSet code_cmp) (kept : AreCached holds counts codes) where
   still_with : (q : List ℕ) (hold : HoldState) → get (held_on holds k n) q ≡ Some hold → IsAmong codes q hold
   still_with = OfEach-amended (IsAmong codes) holds k (with_target n) kept.in_force (λ hold is force. kept.in_force k hold is (sym (in_force-with_target n hold) ∙ force))
 
   -- it is counted where the hold is in force and did not have it
-  pub IsKept-gained : (after : HoldCounts) → may_gain holds k n ≡ true → CountsUp counts after (same_target n) → IsKept (held_on holds k n) after codes
-  IsKept-gained after gains up = record {
+  pub AreCached-gained : (after : HoldCounts) → may_gain holds k n ≡ true → CountsUp counts after (same_target n) → AreCached (held_on holds k n) after codes
+  AreCached-gained after gains up = record {
     counted = λ t.
         let e = binding_count-amended holds k (with_target n) t in
         let one = gained_at n t (get holds k) in
@@ -230,8 +230,8 @@ module _ (holds : HoldMap) (k : List ℕ) (n : Target) (counts : HoldCounts) (co
   }
 
   -- and else nothing is counted
-  pub IsKept-held_on : may_gain holds k n ≡ false → IsKept (held_on holds k n) counts codes
-  IsKept-held_on none = record {
+  pub AreCached-held_on : may_gain holds k n ≡ false → AreCached (held_on holds k n) counts codes
+  AreCached-held_on none = record {
     counted = λ t.
         let e = binding_count-amended holds k (with_target n) t in
         let one = gained_at n t (get holds k) in
@@ -273,13 +273,13 @@ lost_at n t (Some hold) =
     lost (is_in_force hold) (same_target n t) (has_target hold t) (has_target hold n) (λ same. ap (has_target hold) (sym (same_is_equal n t same)))
     ∙ sym (λ i. one_if (in_force-without_target n hold i && has-without_target n t hold i) + one_if ((is_in_force hold && has_target hold n) && same_target n t))
 
-module _ (holds : HoldMap) (k : List ℕ) (n : Target) (counts : HoldCounts) (codes : FinSet code_cmp) (kept : IsKept holds counts codes) where
+module _ (holds : HoldMap) (k : List ℕ) (n : Target) (counts : HoldCounts) (codes : FinSet code_cmp) (kept : AreCached holds counts codes) where
   still_without : (q : List ℕ) (hold : HoldState) → get (held_off holds k n) q ≡ Some hold → IsAmong codes q hold
   still_without = OfEach-amended (IsAmong codes) holds k (without_target n) kept.in_force (λ hold is force. kept.in_force k hold is (sym (in_force-without_target n hold) ∙ force))
 
   -- it is counted off where the hold is in force and had it
-  pub IsKept-lost : (after : HoldCounts) → binds_at holds k n ≡ true → CountsDown counts after (same_target n) → IsKept (held_off holds k n) after codes
-  IsKept-lost after bound down = record {
+  pub AreCached-lost : (after : HoldCounts) → binds_at holds k n ≡ true → CountsDown counts after (same_target n) → AreCached (held_off holds k n) after codes
+  AreCached-lost after bound down = record {
     counted = λ t.
         let e = binding_count-amended holds k (without_target n) t in
         let one = lost_at n t (get holds k) in
@@ -289,8 +289,8 @@ module _ (holds : HoldMap) (k : List ℕ) (n : Target) (counts : HoldCounts) (co
   }
 
   -- and else nothing is counted
-  pub IsKept-held_off : binds_at holds k n ≡ false → IsKept (held_off holds k n) counts codes
-  IsKept-held_off none = record {
+  pub AreCached-held_off : binds_at holds k n ≡ false → AreCached (held_off holds k n) counts codes
+  AreCached-held_off none = record {
     counted = λ t.
         let e = binding_count-amended holds k (without_target n) t in
         let one = lost_at n t (get holds k) in
@@ -302,9 +302,9 @@ module _ (holds : HoldMap) (k : List ℕ) (n : Target) (counts : HoldCounts) (co
 -- ---- what is reported of a record
 
 -- what the cached counts report of a record is whether it is held
-pub held_by_kept : (holds : HoldMap) (counts : HoldCounts) (codes : FinSet code_cmp) (r : ℕ) (above : List ℕ) (class : List ℕ) → IsKept holds counts codes
+pub held_by_cached : (holds : HoldMap) (counts : HoldCounts) (codes : FinSet code_cmp) (r : ℕ) (above : List ℕ) (class : List ℕ) → AreCached holds counts codes
     → (is_bound counts (target.Record r) || list_any (λ a. is_bound counts (target.Aggregation a)) above || is_bound counts (target.Class class)) ≡ held_in holds r above (Some class)
-held_by_kept holds counts codes r above class kept =
+held_by_cached holds counts codes r above class kept =
     (λ i. nat_lt 0 (kept.counted (target.Record r) i) || any_agree _ _ (λ a. ap (nat_lt 0) (kept.counted (target.Aggregation a))) above i || nat_lt 0 (kept.counted (target.Class class) i))
     ∙ sym (held_by_counts holds r above class)
 
@@ -313,10 +313,10 @@ first_part true b e = refl
 first_part false b e = e
 
 -- and the first of the cached codes whose hold covers it is the least of those that do
-pub least_by_kept : (holds : HoldMap) (counts : HoldCounts) (ks : List (List ℕ)) (r : ℕ) (above : List ℕ) (class : Option (List ℕ)) → IsKept holds counts (from_list {R = code_cmp} ks) → IsStrictlySortedBy code_cmp ks
+pub least_by_cached : (holds : HoldMap) (counts : HoldCounts) (ks : List (List ℕ)) (r : ℕ) (above : List ℕ) (class : Option (List ℕ)) → AreCached holds counts (from_list {R = code_cmp} ks) → IsStrictlySortedBy code_cmp ks
     → slice_get (filter (λ code. holds_of (get holds code) (λ hold. hold_covers hold r above class)) ks) 0 ≡ slice_get (covers_in holds r above class) 0
 unfolding covers_in
-least_by_kept holds counts ks r above class kept sorted =
+least_by_cached holds counts ks r above class kept sorted =
     let test : HoldState → Bool = λ hold. hold_covers hold r above class in
     (λ i. slice_get (filter (λ code. holds_of (get-entries holds code i) test) ks) 0)
     ∙ first_among test (entries holds) ks (entries_rise holds) sorted
