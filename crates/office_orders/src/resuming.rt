@@ -1,4 +1,4 @@
-//! The open run of the office in a file, taken up again to its end.
+//! The open run of the office in a file, resumed to its end.
 ghost use Rattle.std.specs.Prelude.{◌≡◌, ℕ, Option, Some, false, OnOk};
 ghost use Rattle.std.specs.Io.KnownBytes.{Appends};
 ghost use Rattle.office_desk.specs.Resuming.{resumed_answer};

@@ -24,8 +24,8 @@ pub fn law_of_the_next_word<D: Disk + Drop>()
 /// rows whose lines were written and at most one more; of `resume`, after some steps of the run, and where it says
 /// `certificate` after all; of each other word, at the same state. A service ([`crate::open_and_serve`] promises
 /// `ServesInFiles`) leaves it after some acts (`IsServedTo`). It is so where the word ended and the files were
-/// closed, as they read now and after any crash, and where they were not closed, since the disk failed or the process
-/// stopped, after any crash.
+/// closed, as they read now and after any crash, and where they could not be closed, after any crash. Of a word that
+/// was killed, and so has no end, it says nothing: what that leaves is [`law_of_the_next_word`]'s.
 ///
 /// What is concluded of the files is what is asked of them, so the law holds for any number of words after one another.
 /// `text` is what the reader of ACTS or CSV has, where it reports that; the other words read nothing. That the store is

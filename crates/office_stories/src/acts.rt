@@ -9,7 +9,7 @@ use sqlite::Alter;
 use std::alloc::{AllocError, Global};
 use std::test::Fail;
 
-/// Whether words ask for an act, or that the open run is taken up.
+/// Whether words ask for an act, or that the open run is resumed.
 pub(crate) fn is_act(words: &str) -> bool {
     words == "resume" || words.starts_with('{') || words.starts_with('2')
 }
@@ -41,13 +41,13 @@ pub(crate) fn lines_of(alloc: Global, answers: &str) -> Result<String, Fail> {
     joined(alloc, answers, "\n")
 }
 
-/// The open run is taken up.
+/// Resumes the open run.
 fn resume<S: Alter>(desk: &mut Desk<S>, answers: &mut Vec<Answer>) -> Result<(), Fault> {
     let answer = desk.resume()?;
     answers.push(answer).or(Err(Fault::Memory))
 }
 
-/// What the words ask for is done, acts or that the open run is taken up.
+/// What the words ask for is done, acts or that the open run is resumed.
 fn done<S: Alter>(
     alloc: Global,
     desk: &mut Desk<S>,
