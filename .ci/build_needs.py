@@ -14,8 +14,8 @@ import tempfile
 TOP = pathlib.Path(__file__).resolve().parent.parent
 OUT = TOP / "crates/office/out"
 GB = 1_000_000_000
-# the free memory that is needed: the largest check of a build takes 5.9 GB, a preview 4.3 GB
-MEMORY = {"preview": 5 * GB, "build": 6 * GB}
+# the free memory that is needed: the largest check of a build takes 6.4 GB, a preview 4.3 GB
+MEMORY = {"preview": 5 * GB, "build": 7 * GB}
 # the free disk that is needed: a build from nothing leaves 9.5 GB, and one that goes on needs what is not there yet
 DISK = {"preview": GB, "build": 10 * GB}
 LEAST = 2 * GB

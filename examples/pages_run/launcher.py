@@ -251,7 +251,7 @@ def judge_lacks(trial: Trial) -> None:
         lacks(trial, f"no rt, {command}", "put its folder 'bin' there", command, PATH="/usr/bin:/bin")
     memory = trial.shell.path("meminfo")
     memory.write_text("MemAvailable:    2000000 kB\nSwapFree:        1000000 kB\n")
-    for command, needed in (("clone/office build", "6 GB"), (preview, "5 GB")):
+    for command, needed in (("clone/office build", "7 GB"), (preview, "5 GB")):
         with_mount(["--bind", memory], pathlib.Path("/proc/meminfo"), lambda: lacks(
             trial, f"little memory, {command}", f"needs {needed} of free memory, and 3.1 GB are free", command))
     out = trial.top / "crates/office/out"
