@@ -102,7 +102,7 @@ export const failed = (place, answer, ...more) => say(place, "wrong", ...told(an
 
 // ---- tables and lists
 
-/** The words of the columns, as CSS shows them before the cells on a narrow page. */
+/** The words of the columns, as CSS shows them before the cells on a narrow page; a long list has room for them. */
 export function label(table, words) {
   words.forEach((word, at) => table.style.setProperty(`--word-${at + 1}`, JSON.stringify(word)));
 }

@@ -105,7 +105,7 @@ def tell(proxy: Proxy, folder: pathlib.Path, open_browser: Callable[..., Iterato
     with open_browser(folder, "de-DE") as it:
         it.know(proxy.page)
         views(it, proxy, looks.VIEWS)
-        for name in ("due", "certificate"):
+        for name in ("due", "overdue", "certificate"):
             layout.words(it, proxy.page + looks.VIEWS[name], f"German: {name}")
         acts(it, proxy)
         looks.pictures(it, proxy, [name for name in looks.VIEWS if name != "catalogue"], *GERMAN_PICTURES)

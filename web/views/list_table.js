@@ -57,6 +57,9 @@ function fillMark(cell, row, marked) {
   box.setAttribute("aria-label", word("due.markRow").replace("{record}", row.record));
 }
 
+/** The actions of what is due, as CSS has them: their column has room for each of their words. */
+const actionWords = () => JSON.stringify(["destroy", "transfer", "review"].map((it) => word(`actions.${it}`)).join(" "));
+
 const boxOf = (row) => row.firstChild.querySelector("input");
 
 /** The record of a box. */
@@ -91,6 +94,7 @@ export class ListTable {
     });
     this.head.replaceChildren(made("th", { scope: "col", role: "columnheader" }, t("due.columns.mark")), ...sorting);
     label(this.table, [t("due.columns.mark"), ...columns.map(wordOf)]);
+    this.table.style.setProperty("--actions", actionWords());
   }
 
   #fillRow(node, row) {
