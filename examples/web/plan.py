@@ -332,7 +332,7 @@ def reached(plan: Plan) -> None:
     it.one("#plan-schedule-code").send_keys("KEY-1")
     it.one("#plan-schedule-count").send_keys("2", Keys.ENTER)
     it.settled()
-    says("keyboard: Enter adds it", it.seen("#plan-schedule-outcome"), "Schedule KEY-1 is there.")
+    says("keyboard: Enter adds it", it.seen("#plan-schedule-outcome"), WORDS["schedule"]["done"].format(code="KEY-1"))
     same("keyboard: its code is empty again for the next one", it.one("#plan-schedule-code").get_attribute("value"), "")
 
 
