@@ -7,6 +7,7 @@ import time
 
 from selenium.webdriver.common.keys import Keys
 
+import layout
 import looks
 from browser import Browser
 from judging import judge, same
@@ -368,7 +369,7 @@ def readable(view: View, files: list[pathlib.Path]) -> None:
             it.driver.execute_script(SHOWN, size == "1280x900")
             shot(it, "file", size, scheme)
     it.light("light")
-    it.width(1280)
+    layout.words_there(it, "file")
 
 
 def tell(office: Office, proxy: Proxy, browser: Browser, folder: pathlib.Path) -> None:

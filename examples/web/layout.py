@@ -7,6 +7,7 @@ from browser import Browser
 from judging import judge, same
 from place import Proxy
 
+WIDTHS = (1280, 1100, 1000, 800, 400)
 # where the confirmation is, whether nothing covers it, and how many rows are seen whole between the table's head and it
 PANEL = """
 const panel = document.getElementById("due-panel"), box = panel.getBoundingClientRect();
@@ -71,13 +72,25 @@ def panel(browser: Browser, proxy: Proxy) -> None:
 
 def words(browser: Browser, address: str, name: str) -> None:
     """No word of a table is broken within, and no table is wider than the page."""
-    for width in (1280, 1100, 1000, 800, 400):
+    for width in WIDTHS:
         browser.width(width)
         browser.open(address)
-        same(f"{name}: at {width} pixels no word of a table is broken", browser.driver.execute_script(BROKEN), [])
-        wide = browser.driver.execute_script("return document.documentElement.scrollWidth")
-        judge(f"{name}: nor is anything wider than that", wide <= width, str(wide))
+        whole(browser, name, width)
     browser.width(1280)
+
+
+def words_there(browser: Browser, name: str) -> None:
+    """The same of the view that is there, with what was chosen or written in it."""
+    for width in WIDTHS:
+        browser.width(width)
+        whole(browser, name, width)
+    browser.width(1280)
+
+
+def whole(browser: Browser, name: str, width: int) -> None:
+    same(f"{name}: at {width} pixels no word of a table is broken", browser.driver.execute_script(BROKEN), [])
+    wide = browser.driver.execute_script("return document.documentElement.scrollWidth")
+    judge(f"{name}: nor is anything wider than that", wide <= width, str(wide))
 
 
 def on_paper(browser: Browser, address: str, file: pathlib.Path, name: str, wanted: dict[str, int]) -> None:
