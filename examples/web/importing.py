@@ -7,6 +7,7 @@ import json
 import pathlib
 import sys
 
+import layout
 import looks
 from browser import Browser
 from filing import SHOWN
@@ -371,7 +372,7 @@ def readable(view: View) -> None:
             it.driver.execute_script(SHOWN, size == "1280x900")
             shot(it, "import", size, scheme)
     it.light("light")
-    it.width(1280)
+    layout.words_there(it, "import")
 
 
 def tell(office: Office, proxy: Proxy, browser: Browser, folder: pathlib.Path) -> None:
