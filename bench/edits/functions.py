@@ -12,8 +12,8 @@ CALLED = re.compile(r"(?:(\w+)(?:::<[^>]*>)?::|(\.))?\b(\w+)(?:::<[^>]*>)?\(")
 
 
 class Function(NamedTuple):
-    """A function: its type, which is empty if it has none, its name, its file, its lines from 0 on (the first, the one
-    where its head ends, the last), and what it calls."""
+    """A function: its type, which is empty if it has none, its name, its file, its lines from 0 on (the first, which is
+    that of its attributes if it has some, the one where its head ends, the last), and what it calls."""
 
     owner: str
     name: str
@@ -63,7 +63,10 @@ def functions(file: str, text: str) -> list[Function]:
         named = FUNCTION.match(line)
         if named:
             begin, end = end_of(lines, at, named[1])
+            first = at
+            while first and lines[first - 1].startswith(f"{named[1]}#["):
+                first -= 1
             body = "\n".join(lines[begin:end + 1])
             calls = frozenset((of or dot, name) for of, dot, name in CALLED.findall(body))
-            found.append(Function(owner, named[2], file, at, begin, end, calls))
+            found.append(Function(owner, named[2], file, first, begin, end, calls))
     return found
