@@ -41,8 +41,9 @@ pub(crate) fn disk_of_process(rt: &HostRuntime) -> Result<Disk, Ending> {
     }
 }
 
-/// Makes an office's file, empty, where there is none, so that its owner alone may read it, whatever the process
-/// takes away of a mode; the log gets the file's mode as it is made. What hinders it hinders the opening too.
+/// Makes an office's file, empty, where there is none, so that its owner alone may read it,
+/// whatever the process takes away of a mode; the log gets the file's mode as it is made. What
+/// hinders it hinders the opening too.
 fn make_private(rt: &HostRuntime, file: &str) {
     let _ = OpenOptions::new()
         .write(true)
@@ -75,9 +76,9 @@ fn run_over<S: Start, R: Read>(
     }
 }
 
-/// Carries out an order on the office at a place, whose file is made where there is none; `input` is what the
-/// order reads. A file that is no database's stays as it is. Where it is not closed, the file and its log still
-/// have every act.
+/// Carries out an order on the office at a place, whose file is made where there is none; `input`
+/// is what the order reads. A file that is no database's stays as it is. Where it is not closed,
+/// the file and its log still have every act.
 pub(crate) fn run_from<R: Read>(
     rt: &HostRuntime,
     place: Place<'_>,
@@ -110,8 +111,9 @@ fn serve_over<S: Start>(
     ending
 }
 
-/// Serves the office at a place, whose file is made where there is none, at a port of 127.0.0.1, which no other
-/// machine reaches. Where memory is refused for the routes, or the port cannot be bound, the file stays as it is.
+/// Serves the office at a place, whose file is made where there is none, at a port of 127.0.0.1,
+/// which no other machine reaches. Where memory is refused for the routes, or the port cannot be
+/// bound, the file stays as it is.
 pub(crate) fn serve_in(rt: &HostRuntime, place: Place<'_>, port: u16, count: u32) -> Ending {
     let Ok(routes) = Routes::new(rt.alloc()) else {
         return Ending::Fault(Fault::Memory);

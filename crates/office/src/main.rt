@@ -1,8 +1,9 @@
 //! The program `office` of the records disposal office.
 //!
-//! Its words are read by `office_words`. The commands that open no office are done by `office_plan`;
-//! those on the office in a file by `office_run`, which opens it (`disks`). What is here joins the process's own streams,
-//! files and socket to them: for `serve` a port is bound first.
+//! Its words are read by `office_words`. The commands that open no office are done by
+//! `office_plan`; those on the office in a file by `office_run`, which opens it (`disks`). What is
+//! here joins the process's own streams, files and socket to them: for `serve` a port is bound
+//! first.
 #![tactic(auto)]
 
 mod disks;

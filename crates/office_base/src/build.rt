@@ -64,7 +64,8 @@ fn push<T: Drop>(things: &mut Vec<T>, thing: T) -> Result<(), Rebuild>
 /// Puts a row after those of the list; Damaged where its number is not the next.
 pub fn push_numbered<T: Drop>(things: &mut Vec<T>, number: u32, thing: T) -> Result<(), Rebuild>
     ensures ok { OnOk result (things.new.items ≡ things.old.items ++ thing ∷ []) }
-    ensures rows { OnOk result (numbered_rows things.new.items ≡ numbered_rows things.old.items ++ (number, thing) ∷ []) }
+    ensures rows { OnOk result
+        (numbered_rows things.new.items ≡ numbered_rows things.old.items ++ (number, thing) ∷ []) }
     ensures err { OnErr result (things.new.items ≡ things.old.items) }
     ensures number { OnOk result (number ≡ suc (length things.old.items)) }
     ensures damaged { OnDamaged result (number ≢ suc (length things.old.items)) }

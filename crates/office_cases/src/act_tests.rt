@@ -8,8 +8,8 @@ use office_terms::{Code, RecordNo, Target, Text};
 use serde_json::Value;
 use std::io::Write;
 
-/// An act that is read is reported by its members where it places a hold, adds a record, takes an aggregation off
-/// a hold, reclassifies or records an event, and else as `an act`.
+/// An act that is read is reported by its members where it places a hold, adds a record, takes an
+/// aggregation off a hold, reclassifies or records an event, and else as `an act`.
 pub(crate) const ACTS: &str = r#"
     # each kind
     act {"act":"add-schedule","day":"2024-01-02","code":"D1","trigger":"added","unit":"years","count":1,"offset":"none","action":"destroy"} = an act

@@ -8,8 +8,8 @@ pub(crate) fn push_refused(out: &mut Vec<u8>, refusal: Refusal) -> Option<()> {
     write!(out, "refused {}", refusal.number()).ok()
 }
 
-/// What rows write for an answer: `Done`, `Number(1)`, `Same(1)`, `Step(1, Destroyed)`, `RunClosed(1)`, and
-/// `refused 5`.
+/// What rows write for an answer: `Done`, `Number(1)`, `Same(1)`, `Step(1, Destroyed)`,
+/// `RunClosed(1)`, and `refused 5`.
 pub(crate) fn push_answer(out: &mut Vec<u8>, answer: Answer) -> Option<()> {
     match answer {
         Answer::Refused(refusal) => push_refused(out, refusal),

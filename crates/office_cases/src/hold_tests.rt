@@ -11,8 +11,8 @@ use office_tree::Tree;
 use std::alloc::Global;
 use std::io::Write;
 
-/// Two classes with an aggregation of each, records 1 and 3 in the first and record 2 in the second, and record 4
-/// in an aggregation in the first.
+/// Two classes with an aggregation of each, records 1 and 3 in the first and record 2 in the
+/// second, and record 4 in an aggregation in the first.
 pub(crate) const TREE: &str = "
     2024-01-02 add-schedule D1 added years 1 none destroy = Done
     2024-01-02 add-class FIN D1 = Done

@@ -1,4 +1,5 @@
-//! What is reported of an office in memory: what is spent, runs, certificates, records, what is due.
+//! What is reported of an office in memory: what is spent, runs, certificates, records, what is
+//! due.
 ghost use Rattle.std.specs.Prelude.{◌≡◌, IfOk, map};
 ghost use Rattle.serde_json.specs.View.{view};
 ghost use Rattle.office_json.specs.DueJson.{due_row_data};
@@ -51,8 +52,8 @@ pub(crate) const NOTHING_TO_DO: &str = r"
     certificate 1 = CERTIFICATE 1\nDAY 2025-01-02\nBY registrar\nENDED 0\nSENT 0\nSKIPPED 0\nSPENT 0\nSHA256 045ce16f4fb05c273a45025e528fc936c6f459e0efd3c4ac5938925881b5a62a\n
 ";
 
-/// Two classes with an aggregation of each, and three records, all on one day. A record that is there already
-/// is reported as the same on any day, and leaves the office's day as it is.
+/// Two classes with an aggregation of each, and three records, all on one day. A record that is
+/// there already is reported as the same on any day, and leaves the office's day as it is.
 pub(crate) const BASE: &str = "
     today = 0001-01-01
     2024-01-02 add-schedule D1 added years 1 none destroy = Done
@@ -69,8 +70,8 @@ pub(crate) const BASE: &str = "
     today = 2024-01-02
 ";
 
-/// Holds on record 2 by its class and by itself, and one that is placed on record 3 between two steps of a run.
-/// The digest is that of the empty content, worked out with `sha256sum`.
+/// Holds on record 2 by its class and by itself, and one that is placed on record 3 between two
+/// steps of a run. The digest is that of the empty content, worked out with `sha256sum`.
 pub(crate) const RUN: &str = r"
     2025-01-02 place-hold H-9 = Done
     2025-01-02 hold-on H-9 class:LEG = Done
@@ -97,7 +98,8 @@ pub(crate) const RUN: &str = r"
     next = none
 ";
 
-/// Of many records that are due, the candidates alone are looked at: each step looks at one, and the last at none.
+/// Of many records that are due, the candidates alone are looked at: each step looks at one, and
+/// the last at none.
 pub(crate) const FEW_OF_MANY: &str = "
     2024-01-02 add-schedule D1 added years 1 none destroy = Done
     2024-01-02 add-class FIN D1 = Done
@@ -119,8 +121,8 @@ pub(crate) const FEW_OF_MANY: &str = "
     next-counted = none of 0
 ";
 
-/// What is reported of records that are here. The digests are those of `abc`, an example of FIPS 180-4, and of
-/// nothing, by `sha256sum`; what is reported of record 1 has 306 bytes.
+/// What is reported of records that are here. The digests are those of `abc`, an example of FIPS
+/// 180-4, and of nothing, by `sha256sum`; what is reported of record 1 has 306 bytes.
 pub(crate) const HERE: &str = r#"
     record 1 = {"added":"2024-01-02","aggregation":1,"class":"FIN","confirmed":null,"digest":"ba7816bf8f01cfea414140de5dae2223b00361a396177a9cb410ff61f20015ad","due":"2025-01-02","ended":null,"event":null,"held":null,"length":3,"number":1,"originated":"2024-01-02","ref":"r1","schedule":"D1","status":"here","title":"r1"}
     record 4 = none
@@ -141,8 +143,8 @@ pub(crate) const HERE: &str = r#"
     record-ended-as-3 1 = {"added":"2024-01-02","aggregation":1,"class":"FIN","confirmed":null,"digest":"ba7816bf8f01cfea414140de5dae2223b00361a396177a9cb410ff61f20015ad","due":null,"ended":{"outcome":"destroyed","run":3},"event":null,"held":null,"length":3,"number":1,"originated":"2024-01-02","ref":"r1","schedule":"D1","status":"ended","title":"r1"}
 "#;
 
-/// A record whose schedule counts from an event has no due day until its event is recorded; a later event takes
-/// the place of the earlier.
+/// A record whose schedule counts from an event has no due day until its event is recorded; a later
+/// event takes the place of the earlier.
 pub(crate) const EVENTS: &str = r#"
     2024-01-03 add-schedule E event years 2 none destroy = Done
     2024-01-03 set-record-schedule 1 E = Done

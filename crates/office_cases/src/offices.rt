@@ -1,8 +1,8 @@
 //! One office in memory, to which acts are given row by row.
 //!
-//! An act is given in short, its day first, as `2024-01-02 hold-on H-2 record:1`, or as its JSON after the word `act`.
-//! What is short is written out by its form and read as any other act; a title is the ref, and a reason and the
-//! name of who acts are always the same.
+//! An act is given in short, its day first, as `2024-01-02 hold-on H-2 record:1`, or as its JSON
+//! after the word `act`. What is short is written out by its form and read as any other act; a
+//! title is the ref, and a reason and the name of who acts are always the same.
 ghost use Rattle.office_rules.specs.Acts.{CanBeMade};
 
 use crate::answering::push_answer;
@@ -13,7 +13,8 @@ use office_rules::{Act, Change, Decision};
 use serde_json::Value;
 use std::alloc::Global;
 
-/// The form of an act, by its word: `$0` is the day, `$1` the act's word, and `$2` and so on what follows.
+/// The form of an act, by its word: `$0` is the day, `$1` the act's word, and `$2` and so on what
+/// follows.
 fn form_of(name: &str) -> &'static str {
     match name {
         "add-schedule" => {

@@ -8,8 +8,8 @@ use office_http::{
 };
 use std::io::Write;
 
-/// The answer to a request whose head does not pass a check, read in pieces of several sizes; to a failure; and
-/// of bodies that are texts and octets. Each is also written with too little room.
+/// The answer to a request whose head does not pass a check, read in pieces of several sizes; to a
+/// failure; and of bodies that are texts and octets. Each is also written with too little room.
 pub(crate) const ROWS: &str = r#"
     reply GET /nothing HTTP/1.1\r\nHost: h\r\n\r\n = 404 in 113 bytes: HTTP/1.1 404 Not Found\r\nContent-Type: application/json\r\nContent-Length: 16\r\nConnection: close\r\n\r\n{"error":"path"}
     reply HEAD /nothing HTTP/1.1\r\nHost: h\r\n\r\n = 404 in 97 bytes: HTTP/1.1 404 Not Found\r\nContent-Type: application/json\r\nContent-Length: 16\r\nConnection: close\r\n\r\n
@@ -41,8 +41,8 @@ pub(crate) const ROWS: &str = r#"
     octets \0\f = 409 in 105 bytes: HTTP/1.1 409 Conflict\r\nContent-Type: application/octet-stream\r\nContent-Length: 2\r\nConnection: close\r\n\r\n\0\f
 "#;
 
-/// Whether a writer fails that has room for fewer bytes than an answer has, and one with room for them gives its
-/// status.
+/// Whether a writer fails that has room for fewer bytes than an answer has, and one with room for
+/// them gives its status.
 fn fails_at_each_byte(reply: &Reply, is_head: bool, size: usize, status: u16) -> bool {
     for room in 0..size {
         if write_reply(reply, is_head, &mut Narrow { room }) != Err(Io) {

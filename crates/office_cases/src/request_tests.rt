@@ -161,7 +161,8 @@ fn report_body(most: usize, bytes: &[u8], out: &mut Vec<u8>) -> Option<()> {
     }
 }
 
-/// Whether a reader that breaks after these bytes is reported as failing, for a head and for a body.
+/// Whether a reader that breaks after these bytes is reported as failing, for a head and for a
+/// body.
 fn is_reported_as_broken(bytes: &[u8], buf: &mut Vec<u8>) -> bool
     requires { 16_384 ≤ vec_capacity buf.old }
 {

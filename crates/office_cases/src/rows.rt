@@ -9,8 +9,8 @@ use office_machine::Machine;
 use std::alloc::Global;
 use std::test::Fail;
 
-/// The word of a text at that place from 0, or an empty one where there are fewer: words are between
-/// spaces, or between bars where there are any.
+/// The word of a text at that place from 0, or an empty one where there are fewer: words are
+/// between spaces, or between bars where there are any.
 pub(crate) fn word(text: &str, at: usize) -> &str {
     let between = if text.contains("|") { "|" } else { " " };
     text.split(between).nth(at).unwrap_or("")

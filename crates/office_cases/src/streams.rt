@@ -2,7 +2,8 @@
 use std::io;
 use std::io::{ErrorKind, Read, Write};
 
-/// A reader that gives its bytes in pieces of at most so many, and then ends, or fails if it breaks.
+/// A reader that gives its bytes in pieces of at most so many, and then ends, or fails if it
+/// breaks.
 #[derive(Drop)]
 pub(crate) struct Sent<'a> {
     bytes: &'a [u8],

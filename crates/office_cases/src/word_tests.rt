@@ -1,4 +1,5 @@
-//! Words of the command line: which are taken, and of which kind the errors of others are; the disk that a value names.
+//! Words of the command line: which are taken, and of which kind the errors of others are; the disk
+//! that a value names.
 use crate::act_tests::push_day;
 use crate::answering::push_refused;
 use crate::rows::words_of;
@@ -6,8 +7,8 @@ use crate::written::push;
 use office_words::{Order, Register, disk_of, order_of, read_words};
 use std::io::Write;
 
-/// Each row is a command line, or a variable with its value, where it is set. A refusal is that of an operand; what is no
-/// command of the program is reported by the kind of the error of `clap`.
+/// Each row is a command line, or a variable with its value, where it is set. A refusal is that of
+/// an operand; what is no command of the program is reported by the kind of the error of `clap`.
 pub(crate) const ROWS: &str = "
     words office due years 7 from-month-4 2017-06-30 = due years 7 from-month-4 2017-06-30
     words office plan tree.txt = plan tree.txt
@@ -178,7 +179,8 @@ fn report_disk(words: &[&str], out: &mut Vec<u8>) -> Option<()> {
     }
 }
 
-/// What the words of a row order, or the disk that its variable names. With memory at hand, its want is no answer.
+/// What the words of a row order, or the disk that its variable names. With memory at hand, its
+/// want is no answer.
 pub(crate) fn report(word: &str, asked: &[u8], out: &mut Vec<u8>) -> Option<()> {
     let text = str::from_utf8(asked).ok()?;
     let words = words_of(*out.allocator(), text)?;

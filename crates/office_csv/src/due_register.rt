@@ -73,9 +73,13 @@ fn put_line<'a, W: Write>(
     texts: &'a DueTexts,
     out: &mut W,
 ) -> Result<(), Stop>
-    ensures { OnOk result (Appends (W.contents out.old) (W.contents out.new) (row_of (
-        string_bytes texts.now.number ∷ reported.now.ref_text.now ∷ reported.now.class.now ∷ reported.now.schedule.now ∷ action_word reported.now.action ∷ texts.now.due.items
-        ∷ unwrap_or (option_copied reported.now.held) [] ∷ yes_or_no reported.now.counts ∷ []))) }
+    ensures { OnOk result
+        (Appends (W.contents out.old) (W.contents out.new)
+        (row_of (string_bytes texts.now.number ∷ reported.now.ref_text.now
+        ∷ reported.now.class.now ∷ reported.now.schedule.now
+        ∷ action_word reported.now.action ∷ texts.now.due.items
+        ∷ unwrap_or (option_copied reported.now.held) [] ∷ yes_or_no reported.now.counts
+        ∷ []))) }
 {
     put_fields(
         alloc,
@@ -100,7 +104,8 @@ pub fn write_due_line<W: Write>(
     reported: &DueRow<'_>,
     out: &mut W,
 ) -> Result<(), Stop>
-    ensures { OnOk result (Appends (W.contents out.old) (W.contents out.new) (due_line (due_reported reported.now))) }
+    ensures { OnOk result
+        (Appends (W.contents out.old) (W.contents out.new) (due_line (due_reported reported.now))) }
 {
     let texts = due_texts(alloc, reported)?;
     put_line(alloc, reported, &texts, out)

@@ -18,7 +18,8 @@ use std::io::Write;
 
 /// Writes the header of the register of entries.
 pub fn write_entry_header<W: Write>(alloc: Global, out: &mut W) -> Result<(), Stop>
-    ensures { OnOk result (Appends (W.contents out.old) (W.contents out.new) (row_of entry_columns)) }
+    ensures { OnOk result
+        (Appends (W.contents out.old) (W.contents out.new) (row_of entry_columns)) }
 {
     put_fields(
         alloc,
@@ -51,9 +52,13 @@ struct Written {
 
 /// They, of a row.
 fn texts_of(alloc: Global, reported: &EntryRow<'_>) -> Result<Written, Memory>
-    ensures numbers { IfOk result (λ it. (string_bytes it.run ≡ decimal reported.now.entry.now.run) × (string_bytes it.number ≡ decimal reported.now.entry.now.record_no)) }
+    ensures numbers { IfOk result
+        (λ it. (string_bytes it.run ≡ decimal reported.now.entry.now.run)
+        × (string_bytes it.number ≡ decimal reported.now.entry.now.record_no)) }
     ensures due { IfOk result (λ it. it.due.items ≡ day_field reported.now.entry.now.due) }
-    ensures content { IfOk result (λ it. (string_bytes it.length ≡ decimal reported.now.length) × (string_bytes it.digest ≡ encode_lower reported.now.digest.now)) }
+    ensures content { IfOk result
+        (λ it. (string_bytes it.length ≡ decimal reported.now.length)
+        × (string_bytes it.digest ≡ encode_lower reported.now.digest.now)) }
 {
     Ok(Written {
         run: number_field(alloc, reported.entry.run)?,
@@ -78,9 +83,13 @@ fn put_line<W: Write>(
     texts: &Written,
     out: &mut W,
 ) -> Result<(), Stop>
-    ensures { OnOk result (Appends (W.contents out.old) (W.contents out.new) (row_of (
-        string_bytes texts.now.run ∷ string_bytes texts.now.number ∷ reported.now.ref_text.now ∷ outcome_word reported.now.entry.now.outcome ∷ reported.now.entry.now.class
-        ∷ reported.now.entry.now.schedule ∷ texts.now.due.items ∷ unwrap_or reported.now.entry.now.hold [] ∷ reported.now.entry.now.confirmed_by ∷ string_bytes texts.now.length
+    ensures { OnOk result
+        (Appends (W.contents out.old) (W.contents out.new)
+        (row_of (string_bytes texts.now.run ∷ string_bytes texts.now.number
+        ∷ reported.now.ref_text.now ∷ outcome_word reported.now.entry.now.outcome
+        ∷ reported.now.entry.now.class ∷ reported.now.entry.now.schedule
+        ∷ texts.now.due.items ∷ unwrap_or reported.now.entry.now.hold []
+        ∷ reported.now.entry.now.confirmed_by ∷ string_bytes texts.now.length
         ∷ string_bytes texts.now.digest ∷ []))) }
 {
     let entry = reported.entry;
@@ -110,7 +119,8 @@ pub fn write_entry_line<W: Write>(
     reported: &EntryRow<'_>,
     out: &mut W,
 ) -> Result<(), Stop>
-    ensures { OnOk result (Appends (W.contents out.old) (W.contents out.new) (entry_line (entry_view reported.now))) }
+    ensures { OnOk result
+        (Appends (W.contents out.old) (W.contents out.new) (entry_line (entry_view reported.now))) }
 {
     let texts = texts_of(alloc, reported)?;
     put_line(alloc, reported, &texts, out)

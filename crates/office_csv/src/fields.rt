@@ -62,7 +62,9 @@ fn row_of(alloc: Global, fields: &[&[u8]]) -> Result<Vec<u8>, Memory>
 
 /// Writes the row of these fields.
 pub(crate) fn put_fields<W: Write>(alloc: Global, fields: &[&[u8]], out: &mut W) -> Result<(), Stop>
-    ensures { OnOk result (Appends (W.contents out.old) (W.contents out.new) (row_of (map (λ field. field.now) fields.now))) }
+    ensures { OnOk result
+        (Appends (W.contents out.old) (W.contents out.new)
+        (row_of (map (λ field. field.now) fields.now))) }
 {
     let row = row_of(alloc, fields)?;
     out.write_all(&row).or(Err(Stop::Io))

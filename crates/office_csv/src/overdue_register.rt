@@ -18,7 +18,8 @@ use std::io::Write;
 
 /// Writes the header of the overdue register.
 pub fn write_overdue_header<W: Write>(alloc: Global, out: &mut W) -> Result<(), Stop>
-    ensures { OnOk result (Appends (W.contents out.old) (W.contents out.new) (row_of overdue_columns)) }
+    ensures { OnOk result
+        (Appends (W.contents out.old) (W.contents out.new) (row_of overdue_columns)) }
 {
     put_fields(
         alloc,
@@ -51,8 +52,10 @@ fn put_line<'a, W: Write>(
     deadline: &'a [u8],
     out: &mut W,
 ) -> Result<(), Stop>
-    ensures { OnOk result (Appends (W.contents out.old) (W.contents out.new) (row_of (
-        string_bytes texts.now.number ∷ row.now.ref_text.now ∷ row.now.class.now ∷ row.now.schedule.now ∷ action_word row.now.action ∷ texts.now.due.items
+    ensures { OnOk result
+        (Appends (W.contents out.old) (W.contents out.new)
+        (row_of (string_bytes texts.now.number ∷ row.now.ref_text.now ∷ row.now.class.now
+        ∷ row.now.schedule.now ∷ action_word row.now.action ∷ texts.now.due.items
         ∷ deadline.now ∷ unwrap_or (option_copied row.now.held) [] ∷ []))) }
 {
     put_fields(
@@ -79,7 +82,9 @@ pub fn write_overdue_line<W: Write>(
     days: ConfirmDays,
     out: &mut W,
 ) -> Result<(), Stop>
-    ensures { OnOk result (Appends (W.contents out.old) (W.contents out.new) (overdue_line days (due_reported row.now))) }
+    ensures { OnOk result
+        (Appends (W.contents out.old) (W.contents out.new)
+        (overdue_line days (due_reported row.now))) }
 {
     let texts = due_texts(alloc, row)?;
     let deadline = deadline_text(alloc, row, days)?;

@@ -23,8 +23,8 @@ pub enum RowStop {
     Io,
 }
 
-/// A reader of the rows of a text of CSV, which may have any number of fields. A byte order mark at its
-/// start is passed over.
+/// A reader of the rows of a text of CSV, which may have any number of fields. A byte order mark at
+/// its start is passed over.
 pub fn import_reader<R: Read>(alloc: Global, reader: R) -> Reader<R>
     ensures plain { IsPlain result }
     ensures start { reader_state result ≡ st.StartRecord }
@@ -40,9 +40,12 @@ pub fn import_reader<R: Read>(alloc: Global, reader: R) -> Reader<R>
 pub fn next_row<R: Read>(rdr: &mut Reader<R>, row: &mut StringRecord) -> Result<bool, RowStop>
     requires { IsPlain rdr.old }
     ensures plain { IfOk result (λ found. found ≡ true → IsPlain rdr.new) }
-    ensures reads { IfOk result (λ found. ReadsNext default_config (reader_state rdr.old) (source_of R.remaining rdr.old) (source_of R.remaining rdr.new) found (fields_of row.new) (reader_state rdr.new)) }
+    ensures reads { IfOk result
+        (λ found. ReadsNext default_config (reader_state rdr.old) (source_of R.remaining rdr.old)
+        (source_of R.remaining rdr.new) found (fields_of row.new) (reader_state rdr.new)) }
     ensures text { OnOk result (AllText (fields_of row.new)) }
-    ensures bad { result ≡ Err RowStop.NotText → TakesNoText (reader_state rdr.old) (source_of R.remaining rdr.old) }
+    ensures bad { result ≡ Err RowStop.NotText
+        → TakesNoText (reader_state rdr.old) (source_of R.remaining rdr.old) }
 {
     match rdr.read_record(row) {
         Ok(found) => Ok(found),
@@ -96,9 +99,15 @@ fn is_header(row: &StringRecord) -> bool
 pub fn read_header<R: Read>(rdr: &mut Reader<R>, row: &mut StringRecord) -> Result<bool, RowStop>
     requires { IsPlain rdr.old }
     ensures plain { IfOk result (λ named. named ≡ true → IsPlain rdr.new) }
-    ensures heads { IfOk result (λ named. IsTrue named → HeadsText (reader_state rdr.old) (source_of R.remaining rdr.old) (reader_state rdr.new) (source_of R.remaining rdr.new)) }
-    ensures lacks { IfOk result (λ named. named ≡ false → LacksHeader (reader_state rdr.old) (source_of R.remaining rdr.old)) }
-    ensures bad { result ≡ Err RowStop.NotText → LacksHeader (reader_state rdr.old) (source_of R.remaining rdr.old) }
+    ensures heads { IfOk result
+        (λ named. IsTrue named
+        → HeadsText (reader_state rdr.old) (source_of R.remaining rdr.old)
+        (reader_state rdr.new) (source_of R.remaining rdr.new)) }
+    ensures lacks { IfOk result
+        (λ named. named ≡ false
+        → LacksHeader (reader_state rdr.old) (source_of R.remaining rdr.old)) }
+    ensures bad { result ≡ Err RowStop.NotText
+        → LacksHeader (reader_state rdr.old) (source_of R.remaining rdr.old) }
 {
     let found = next_row(rdr, row)?;
     Ok(found && is_header(row))

@@ -36,7 +36,8 @@ impl Day {
         ensures exact { IfSome result (λ d. text.now ≡ day_text (civil d)) }
 
         // Every day of the calendar up to 2999-12-31 is read, as the day that `jiff` numbers so.
-        ensures every { (c : CivilDay) → IsDay c → c.year ≤ 2999 → text.now ≡ day_text c → result ≡ Some (number_of c) }
+        ensures every { (c : CivilDay) → IsDay c → c.year ≤ 2999 → text.now ≡ day_text c
+            → result ≡ Some (number_of c) }
     {
         Day::of_date(read_date(text.as_bytes())?)
     }

@@ -99,8 +99,10 @@ pub fn due_day(start: Day, period: Period, offset: Offset) -> DueDay
     ensures least { IsLeastFrom offset (end_of start period) result }
 
     // Months keep the day of the month, or take the month's last; a year is 12 of them.
-    ensures months { period.unit ≡ Unit.Months → IsMonthsLater period.count (civil start) (civil (end_of start period)) }
-    ensures years { period.unit ≡ Unit.Years → IsMonthsLater (12 * period.count) (civil start) (civil (end_of start period)) }
+    ensures months { period.unit ≡ Unit.Months
+        → IsMonthsLater period.count (civil start) (civil (end_of start period)) }
+    ensures years { period.unit ≡ Unit.Years
+        → IsMonthsLater (12 * period.count) (civil start) (civil (end_of start period)) }
 {
     DueDay::of_date(move_to(end_of(start.date(), period), offset))
 }

@@ -62,7 +62,8 @@ fn four(high: (u8, u8), low: (u8, u8)) -> Option<u32>
 fn date_of_parts(year: u32, month: u32, day: u32) -> Option<Date>
     requires { (year < 10_000) × (month < 100) × (day < 100) }
     ensures value { IfSome result (λ d. IsDayParts d year month day) }
-    ensures none { IsNone result → (c : CivilDay) → IsDay c → c.year ≡ year → c.month ≡ month → c.day ≡ day → ⊥ }
+    ensures none { IsNone result → (c : CivilDay) → IsDay c → c.year ≡ year → c.month ≡ month
+        → c.day ≡ day → ⊥ }
 {
     if year == 0 {
         return None;
@@ -73,7 +74,8 @@ fn date_of_parts(year: u32, month: u32, day: u32) -> Option<Date>
 /// The date that a text names, from the year 1 on.
 pub(crate) fn read_date(text: &[u8]) -> Option<Date>
     ensures value { IfSome result (λ d. (text.now ≡ day_text (day_of d)) × (pos 1 ≤ℤ d.year)) }
-    ensures none { IsNone result → (c : CivilDay) → IsDay c → c.year ≤ 9999 → text.now ≢ day_text c }
+    ensures none { IsNone result → (c : CivilDay) → IsDay c → c.year ≤ 9999
+        → text.now ≢ day_text c }
 {
     if text.len() != 10 || text[4] != b'-' || text[7] != b'-' {
         return None;

@@ -36,8 +36,8 @@ impl<S: Alter> Desk<S> {
         Ok(())
     }
 
-    /// What is reported of the record; `None` where it is not there. `Memory` where a growth was refused,
-    /// `Reopen` where the desk was poisoned.
+    /// What is reported of the record; `None` where it is not there. `Memory` where a growth was
+    /// refused, `Reopen` where the desk was poisoned.
     pub fn record(&self, record_no: RecordNo) -> Result<Option<RecordView>, Fault>
         ensures { Reads self.now (λ view. view ≡ record_view self.now.office record_no) result }
     {
@@ -47,7 +47,8 @@ impl<S: Alter> Desk<S> {
             .map_err(of_memory)
     }
 
-    /// The entry that ended the record; `None` where it is not ended or not there. Faults as of `record`.
+    /// The entry that ended the record; `None` where it is not ended or not there. Faults as of
+    /// `record`.
     pub fn entry_of(&self, record_no: RecordNo) -> Result<Option<Entry>, Fault>
         ensures { Reads self.now (λ entry. entry ≡ ending_entry self.now.office record_no) result }
     {
@@ -65,17 +66,19 @@ impl<S: Alter> Desk<S> {
         self.machine.entries(self.alloc).map_err(of_memory)
     }
 
-    /// The text of the certificate of that run; `None` where it is not closed or not there. Faults as of
-    /// `record`.
+    /// The text of the certificate of that run; `None` where it is not closed or not there. Faults
+    /// as of `record`.
     pub fn certificate(&self, run: RunNo) -> Result<Option<String>, Fault>
-        ensures { Reads self.now (λ text. option_map (λ it. string_bytes it) text ≡ get self.now.office.certificates run) result }
+        ensures { Reads self.now
+            (λ text. option_map (λ it. string_bytes it) text ≡ get self.now.office.certificates run)
+            result }
     {
         self.check_open()?;
         self.machine.certificate(self.alloc, run).map_err(of_memory)
     }
 
-    /// The due list of the day: the records that are here and due on it or before it, by due day, then
-    /// number. Faults as of `record`.
+    /// The due list of the day: the records that are here and due on it or before it, by due day,
+    /// then number. Faults as of `record`.
     pub fn due_list(&self, day: Day) -> Result<Vec<RecordNo>, Fault>
         ensures { Reads self.now (λ list. IsDueList self.now.office.tree day list.items) result }
     {
@@ -83,8 +86,8 @@ impl<S: Alter> Desk<S> {
         self.machine.due_list(self.alloc, day).map_err(of_memory)
     }
 
-    /// What is reported of the records that are due on the day, row by row, in the order of the due list. Faults as
-    /// of `record`.
+    /// What is reported of the records that are due on the day, row by row, in the order of the due
+    /// list. Faults as of `record`.
     pub fn due_rows(&self, day: Day) -> Result<DueRows<'_>, Fault>
         ensures { Reads self.now (λ rows. AreDueRows self.now.office day rows) result }
     {
@@ -92,10 +95,12 @@ impl<S: Alter> Desk<S> {
         self.machine.due_rows(self.alloc, day).map_err(of_memory)
     }
 
-    /// What is overdue on the day: the records that are here whose deadline, so many days after the due day, is
-    /// before it, and of which no confirmation counts; by deadline, then number. Faults as of `record`.
+    /// What is overdue on the day: the records that are here whose deadline, so many days after the
+    /// due day, is before it, and of which no confirmation counts; by deadline, then number. Faults
+    /// as of `record`.
     pub fn overdue_list(&self, day: Day, days: ConfirmDays) -> Result<Vec<RecordNo>, Fault>
-        ensures { Reads self.now (λ list. IsOverdueList self.now.office.tree day days list.items) result }
+        ensures { Reads self.now (λ list. IsOverdueList self.now.office.tree day days list.items)
+            result }
     {
         self.check_open()?;
         self.machine
@@ -113,7 +118,8 @@ impl<S: Alter> Desk<S> {
             .map_err(of_memory)
     }
 
-    /// What is reported of all entries, row by row, by run, then record. `Reopen` where the desk was poisoned.
+    /// What is reported of all entries, row by row, by run, then record. `Reopen` where the desk
+    /// was poisoned.
     pub fn entry_rows(&self) -> Result<EntryRows<'_>, Fault>
         ensures reads { Reads self.now (λ rows. rows ≡ entry_rows self.now.office) result }
         ensures room { result ≢ Err Fault.Memory }

@@ -56,8 +56,8 @@ impl Holds {
         self.set_lifted(code, day);
     }
 
-    /// Puts the columns of a hold in under its code, in place of what was there or as a new hold; the
-    /// targets of a hold that is there stay, and then it takes no memory.
+    /// Puts the columns of a hold in under its code, in place of what was there or as a new hold;
+    /// the targets of a hold that is there stay, and then it takes no memory.
     pub fn put(&mut self, code: Code, row: HoldRow) -> Result<(), Memory>
         requires fits { FitsHoldLimits (put_hold self.old code row) }
         requires stays_lifted { StaysLifted self.old code row }

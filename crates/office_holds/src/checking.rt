@@ -54,8 +54,8 @@ impl Holds {
         None
     }
 
-    /// Why a target is not taken off a hold: there is no such hold or it has no such target, or it is
-    /// lifted.
+    /// Why a target is not taken off a hold: there is no such hold or it has no such target, or it
+    /// is lifted.
     pub fn check_uncover(&self, code: &Code, target: &Target) -> Option<Refusal>
         ensures first { result ≡ first_of (conditions_of_hold_off self.now code.now target.now) }
         ensures least { IsLeastOf (conditions_of_hold_off self.now code.now target.now) result }
@@ -92,8 +92,12 @@ impl Holds {
         target: Classified,
         class: Option<&Code>,
     ) -> Option<Refusal>
-        ensures first { result ≡ first_of (conditions_of_leaving_class self.now tree.now target (option_copied class.entry)) }
-        ensures least { IsLeastOf (conditions_of_leaving_class self.now tree.now target (option_copied class.entry)) result }
+        ensures first { result
+            ≡ first_of
+            (conditions_of_leaving_class self.now tree.now target (option_copied class.entry)) }
+        ensures least { IsLeastOf
+            (conditions_of_leaving_class self.now tree.now target (option_copied class.entry))
+            result }
     {
         if self.leaves_held_class(tree, target, class) {
             return Some(Refusal::HeldClass);

@@ -26,9 +26,11 @@ impl Holds {
         lift_in(&mut self.by_code, code, day);
     }
 
-    /// Gives the hold of that code, if it is there, columns by which it is lifted exactly where it was.
+    /// Gives the hold of that code, if it is there, columns by which it is lifted exactly where it
+    /// was.
     fn set_row(&mut self, code: &Code, row: HoldRow)
-        requires { (hold : HoldState) → get self.old code.now ≡ Some hold → is_none hold.lifted ≡ is_none row.lifted }
+        requires { (hold : HoldState) → get self.old code.now ≡ Some hold
+            → is_none hold.lifted ≡ is_none row.lifted }
         ensures { self.new ≡ amended self.old code.now (λ hold. hold_from row (Some hold)) }
     {
         set_row_in(&mut self.by_code, code, row);
@@ -48,8 +50,8 @@ impl Holds {
         self.set_row(code, row);
     }
 
-    /// Adds a hold of a new code, without targets. Its code goes to those of the holds in force first,
-    /// where it does no harm if there is no memory for the hold.
+    /// Adds a hold of a new code, without targets. Its code goes to those of the holds in force
+    /// first, where it does no harm if there is no memory for the hold.
     pub(crate) fn add(&mut self, code: Code, row: HoldRow) -> Result<(), Memory>
         requires fits { FitsHoldLimits (put_hold self.old code row) }
         requires new { get self.old code ≡ None }

@@ -12,8 +12,8 @@ use office_terms::{AggNo, Code, RecordNo, Target};
 use std::alloc::Global;
 use std::collections::BTreeMap;
 
-/// How many holds in force have each class, aggregation and record as a target. What has no number here
-/// is the target of none.
+/// How many holds in force have each class, aggregation and record as a target. What has no number
+/// here is the target of none.
 #[derive(Drop)]
 pub(crate) struct HoldCounts {
     pub(crate) classes: BTreeMap<Code, u32>,
@@ -78,14 +78,18 @@ impl HoldCounts {
 
     /// Whether a hold in force has one of the aggregations as a target.
     pub(crate) fn is_any_bound(&self, aggregations: &[AggNo]) -> bool
-        ensures { result ≡ list_any (λ a. is_bound self.now (target.Aggregation a)) aggregations.now }
+        ensures { result
+            ≡ list_any (λ a. is_bound self.now (target.Aggregation a)) aggregations.now }
     {
         aggregations.iter().any(|aggregation| number_of(&self.aggregations, aggregation) > 0)
     }
 
     /// Whether a hold in force has as a target the record, one of the aggregations or the class.
     pub(crate) fn bind(&self, record_no: RecordNo, above: &[AggNo], class: &Code) -> bool
-        ensures { result ≡ (is_bound self.now (target.Record record_no) || list_any (λ a. is_bound self.now (target.Aggregation a)) above.now || is_bound self.now (target.Class class.now)) }
+        ensures { result
+            ≡ (is_bound self.now (target.Record record_no)
+            || list_any (λ a. is_bound self.now (target.Aggregation a)) above.now
+            || is_bound self.now (target.Class class.now)) }
     {
         if number_of(&self.records, &record_no) > 0 {
             return true;

@@ -16,7 +16,10 @@ use std::collections::BTreeMap;
 
 /// Whether every target of each hold is in the tree.
 fn do_all_exist(holds: &BTreeMap<Code, Hold>, tree: &Tree) -> bool
-    ensures all { IsTrue result ↔ All (TargetsAreThere tree.now.classes (length tree.now.aggregations) (length tree.now.records)) (map.values holds.now) }
+    ensures all { IsTrue result
+        ↔ All
+        (TargetsAreThere tree.now.classes (length tree.now.aggregations)
+        (length tree.now.records)) (map.values holds.now) }
     ensures ordered { map.IsOrdered code_cmp holds.now }
 {
     holds.values().all(|hold| hold.do_targets_exist(tree))
@@ -24,7 +27,10 @@ fn do_all_exist(holds: &BTreeMap<Code, Hold>, tree: &Tree) -> bool
 
 /// Whether none of the holds was placed or lifted after that day.
 fn are_all_by(holds: &BTreeMap<Code, Hold>, last: Day) -> bool
-    ensures all { IsTrue result ↔ All (λ (hold : HoldState). (hold.placed ≤ℤ last) × IfSome hold.lifted (λ lifted. lifted ≤ℤ last)) (map.values holds.now) }
+    ensures all { IsTrue result
+        ↔ All
+        (λ (hold : HoldState). (hold.placed ≤ℤ last)
+        × IfSome hold.lifted (λ lifted. lifted ≤ℤ last)) (map.values holds.now) }
     ensures ordered { map.IsOrdered code_cmp holds.now }
 {
     holds.values().all(|hold| hold.is_by(last))
@@ -43,8 +49,12 @@ fn well_formed_holds(holds: &BTreeMap<Code, Hold>)
 impl Holds {
     /// Whether every target of every hold is in the tree.
     pub fn do_targets_exist(&self, tree: &Tree) -> bool
-        ensures yes { IsTrue result → TargetsExist self.now tree.now.classes (length tree.now.aggregations) (length tree.now.records) }
-        ensures no { result ≡ false → TargetsExist self.now tree.now.classes (length tree.now.aggregations) (length tree.now.records) → ⊥ }
+        ensures yes { IsTrue result
+            → TargetsExist self.now tree.now.classes (length tree.now.aggregations)
+            (length tree.now.records) }
+        ensures no { result ≡ false
+            → TargetsExist self.now tree.now.classes (length tree.now.aggregations)
+            (length tree.now.records) → ⊥ }
     {
         do_all_exist(&self.by_code, tree)
     }

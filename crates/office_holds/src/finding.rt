@@ -11,8 +11,8 @@ use crate::Hold;
 use office_terms::{AggNo, Code, RecordNo};
 use std::collections::{BTreeMap, BTreeSet};
 
-/// Whether the hold of that code is there and covers a record that these aggregations contain and that
-/// has this class.
+/// Whether the hold of that code is there and covers a record that these aggregations contain and
+/// that has this class.
 fn covers(
     holds: &BTreeMap<Code, Hold>,
     code: &Code,
@@ -20,7 +20,9 @@ fn covers(
     above: &[AggNo],
     class: &Code,
 ) -> bool
-    ensures { result ≡ holds_of (get (from_entries {R = code_cmp} holds.now.entries) code.now) (λ hold. hold_covers hold record_no above.now (Some class.now)) }
+    ensures { result
+        ≡ holds_of (get (from_entries {R = code_cmp} holds.now.entries) code.now)
+        (λ hold. hold_covers hold record_no above.now (Some class.now)) }
 {
     match holds.get(code) {
         Some(hold) => hold.covers(record_no, above, class),
@@ -28,8 +30,8 @@ fn covers(
     }
 }
 
-/// The first of the codes whose hold covers a record that these aggregations contain and that has this
-/// class.
+/// The first of the codes whose hold covers a record that these aggregations contain and that has
+/// this class.
 pub(crate) fn first_covering<'a>(
     holds: &BTreeMap<Code, Hold>,
     codes: &'a BTreeSet<Code>,
@@ -37,7 +39,12 @@ pub(crate) fn first_covering<'a>(
     above: &[AggNo],
     class: &Code,
 ) -> Option<&'a Code>
-    ensures value { option_copied result ≡ slice_get (filter (λ code. holds_of (get (from_entries {R = code_cmp} holds.now.entries) code) (λ hold. hold_covers hold record_no above.now (Some class.now))) codes.now.keys) 0 }
+    ensures value { option_copied result
+        ≡ slice_get
+        (filter
+        (λ code. holds_of (get (from_entries {R = code_cmp} holds.now.entries) code)
+        (λ hold. hold_covers hold record_no above.now (Some class.now))) codes.now.keys)
+        0 }
     ensures ordered { IsOrdered code_cmp codes.now }
 {
     for code in codes.iter() {

@@ -175,7 +175,9 @@ impl Hold {
 
     /// Whether every target is in the tree.
     pub(crate) fn do_targets_exist(&self, tree: &Tree) -> bool
-        ensures { IsTrue result ↔ TargetsAreThere tree.now.classes (length tree.now.aggregations) (length tree.now.records) self.now }
+        ensures { IsTrue result
+            ↔ TargetsAreThere tree.now.classes (length tree.now.aggregations)
+            (length tree.now.records) self.now }
     {
         if !are_classes(&self.classes, tree) {
             return false;
@@ -188,13 +190,14 @@ impl Hold {
 
     /// Whether it was neither placed nor lifted after that day.
     pub(crate) fn is_by(&self, last: Day) -> bool
-        ensures { IsTrue result ↔ (self.now.placed ≤ℤ last) × IfSome self.now.lifted (λ lifted. lifted ≤ℤ last) }
+        ensures { IsTrue result
+            ↔ (self.now.placed ≤ℤ last) × IfSome self.now.lifted (λ lifted. lifted ≤ℤ last) }
     {
         self.row.placed <= last && self.row.lifted.is_none_or(|lifted| lifted <= last)
     }
 
-    /// Gives proofs the fact that its texts and days and the codes of its classes are of their forms; a call
-    /// changes nothing.
+    /// Gives proofs the fact that its texts and days and the codes of its classes are of their
+    /// forms; a call changes nothing.
     pub(crate) fn formed(&self)
         ensures { IsWellFormedHold self.now }
     {

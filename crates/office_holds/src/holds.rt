@@ -15,8 +15,8 @@ use std::alloc::Global;
 use std::collections::{BTreeMap, BTreeSet};
 use std::marker::Model;
 
-/// The register of holds by their codes, in which lifted holds stay. Contracts see a `HoldMap`, which
-/// has at most 1,000 holds, each with at most 1,000 targets.
+/// The register of holds by their codes, in which lifted holds stay. Contracts see a `HoldMap`,
+/// which has at most 1,000 holds, each with at most 1,000 targets.
 #[derive(Drop)]
 pub struct Holds {
     pub(crate) by_code: BTreeMap<Code, Hold>,
@@ -41,7 +41,8 @@ impl Model for Holds {
 
     ghost view = { λ h. map.from_entries h.by_code.entries };
 
-    ghost invariant = { λ h. FitsHoldLimits (map.from_entries h.by_code.entries) × AreCached (map.from_entries h.by_code.entries) h.counts (from_list h.in_force.keys) };
+    ghost invariant = { λ h. FitsHoldLimits (map.from_entries h.by_code.entries)
+        × AreCached (map.from_entries h.by_code.entries) h.counts (from_list h.in_force.keys) };
 }
 
 impl Holds {
@@ -74,7 +75,8 @@ impl Holds {
             .bind(record_no, &above, tree.class_of(record_no))
     }
 
-    /// The least code, in byte order, of the holds that cover the record; `None` where it is not held.
+    /// The least code, in byte order, of the holds that cover the record; `None` where it is not
+    /// held.
     pub fn covering(&self, tree: &Tree, record_no: RecordNo) -> Option<&Code>
         requires { IsTrue (has_record tree.now record_no) }
         ensures { option_copied result ≡ least_covering self.now tree.now record_no }

@@ -16,7 +16,8 @@ use office_tree::Tree;
 /// The class of a record's aggregation, which is the record's where it has none of its own.
 fn class_of_container(tree: &Tree, record_no: RecordNo) -> &Code
     requires { IsTrue (has_record tree.now record_no) }
-    ensures { class_of (reclassified tree.now (classified.Record record_no) None) record_no ≡ Some result.now }
+    ensures { class_of (reclassified tree.now (classified.Record record_no) None) record_no
+        ≡ Some result.now }
 {
     tree.sound();
     let head = tree.record(record_no);
@@ -27,7 +28,9 @@ fn class_of_container(tree: &Tree, record_no: RecordNo) -> &Code
 /// `None` for a root.
 fn class_of_parent(tree: &Tree, aggregation: AggNo) -> Option<&Code>
     requires { IsTrue (has_aggregation tree.now aggregation) }
-    ensures { option_copied result ≡ aggregation_class_of (reclassified tree.now (classified.Aggregation aggregation) None) aggregation }
+    ensures { option_copied result
+        ≡ aggregation_class_of (reclassified tree.now (classified.Aggregation aggregation) None)
+        aggregation }
 {
     tree.sound();
     match tree.aggregation(aggregation).parent {
@@ -39,7 +42,9 @@ fn class_of_parent(tree: &Tree, aggregation: AggNo) -> Option<&Code>
 /// The class of the record once it has this class of its own, or none.
 fn record_class_after<'a>(tree: &'a Tree, record_no: RecordNo, class: Option<&'a Code>) -> &'a Code
     requires { IsTrue (has_record tree.now record_no) }
-    ensures { class_of (reclassified tree.now (classified.Record record_no) (option_copied class.entry)) record_no ≡ Some result.now }
+    ensures { class_of
+        (reclassified tree.now (classified.Record record_no) (option_copied class.entry))
+        record_no ≡ Some result.now }
 {
     match class {
         Some(class) => class,
@@ -54,7 +59,10 @@ fn aggregation_class_after<'a>(
     class: Option<&'a Code>,
 ) -> Option<&'a Code>
     requires { IsTrue (has_aggregation tree.now aggregation) }
-    ensures { option_copied result ≡ aggregation_class_of (reclassified tree.now (classified.Aggregation aggregation) (option_copied class.entry)) aggregation }
+    ensures { option_copied result
+        ≡ aggregation_class_of
+        (reclassified tree.now (classified.Aggregation aggregation) (option_copied class.entry))
+        aggregation }
 {
     match class {
         Some(class) => Some(class),
@@ -82,7 +90,9 @@ impl Holds {
 
     /// Whether a class is left for another, or for none, and a hold in force has it as a target.
     fn leaves(&self, old: &Code, new: Option<&Code>) -> bool
-        ensures { result ≡ (not (holds_of (option_copied new.entry) (bytes_eq old.now)) && is_held_class self.now old.now) }
+        ensures { result
+            ≡ (not (holds_of (option_copied new.entry) (bytes_eq old.now))
+            && is_held_class self.now old.now) }
     {
         if is_class(new, old) {
             return false;
@@ -92,7 +102,9 @@ impl Holds {
 
     /// Whether the aggregation is there and would leave a held class.
     fn aggregation_leaves(&self, tree: &Tree, aggregation: AggNo, class: Option<&Code>) -> bool
-        ensures { result ≡ would_leave_held_class self.now tree.now (classified.Aggregation aggregation) (option_copied class.entry) }
+        ensures { result
+            ≡ would_leave_held_class self.now tree.now (classified.Aggregation aggregation)
+            (option_copied class.entry) }
     {
         if !tree.has_aggregation(aggregation) {
             return false;
@@ -103,7 +115,9 @@ impl Holds {
 
     /// Whether the record is there and would leave a held class.
     fn record_leaves(&self, tree: &Tree, record_no: RecordNo, class: Option<&Code>) -> bool
-        ensures { result ≡ would_leave_held_class self.now tree.now (classified.Record record_no) (option_copied class.entry) }
+        ensures { result
+            ≡ would_leave_held_class self.now tree.now (classified.Record record_no)
+            (option_copied class.entry) }
     {
         if !tree.has_record(record_no) {
             return false;
@@ -119,7 +133,8 @@ impl Holds {
         target: Classified,
         class: Option<&Code>,
     ) -> bool
-        ensures { result ≡ would_leave_held_class self.now tree.now target (option_copied class.entry) }
+        ensures { result
+            ≡ would_leave_held_class self.now tree.now target (option_copied class.entry) }
     {
         match target {
             Classified::Aggregation(aggregation) => {

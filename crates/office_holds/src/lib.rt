@@ -1,13 +1,13 @@
 //! Holds: what must not be destroyed, whatever its schedule says.
 //!
-//! A hold has a code and targets: classes, aggregations and records. It is in force from its placing
-//! until it is lifted; a lifted hold and its targets stay on record. A hold in force covers a record
-//! where one of its targets is the record, an aggregation that contains it at any height, or the
-//! record's class. A record is **held** while at least one hold covers it. A hold blocks destruction,
-//! and not the sending of a copy.
+//! A hold has a code and targets: classes, aggregations and records. It is in force from its
+//! placing until it is lifted; a lifted hold and its targets stay on record. A hold in force covers
+//! a record where one of its targets is the record, an aggregation that contains it at any height,
+//! or the record's class. A record is **held** while at least one hold covers it. A hold blocks
+//! destruction, and not the sending of a copy.
 //!
-//! While a hold is in force it is counted for each of its targets, so that three counts show whether a
-//! record is held, however many holds there are.
+//! While a hold is in force it is counted for each of its targets, so that three counts show
+//! whether a record is held, however many holds there are.
 #![tactic(auto)]
 
 mod changing;

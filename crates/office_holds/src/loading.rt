@@ -13,12 +13,17 @@ use office_base::{Rebuild, follows};
 use office_terms::{Code, HoldRow, Target};
 
 impl Holds {
-    /// Puts a hold of these columns after the others, without targets; damaged only where no holds within
-    /// their limits have rows that begin with those of these and this one.
+    /// Puts a hold of these columns after the others, without targets; damaged only where no holds
+    /// within their limits have rows that begin with those of these and this one.
     pub fn push_row(&mut self, code: Code, row: HoldRow) -> Result<(), Rebuild>
-        ensures ok { OnOk result ((rows : List (List ℕ × HoldRow)) (targets : List (List ℕ × Target)) → AreRowsOf rows targets self.old → AreRowsOf (rows ++ (code, row) ∷ []) targets self.new) }
+        ensures ok { OnOk result
+            ((rows : List (List ℕ × HoldRow)) (targets : List (List ℕ × Target))
+            → AreRowsOf rows targets self.old
+            → AreRowsOf (rows ++ (code, row) ∷ []) targets self.new) }
         ensures err { OnErr result (self.new ≡ self.old) }
-        ensures damaged { OnDamaged result ((holds : HoldMap) (rest : List (List ℕ × HoldRow)) → FitsHoldLimits holds → hold_rows holds ≡ (hold_rows self.old ++ (code, row) ∷ []) ++ rest → ⊥) }
+        ensures damaged { OnDamaged result
+            ((holds : HoldMap) (rest : List (List ℕ × HoldRow)) → FitsHoldLimits holds
+            → hold_rows holds ≡ (hold_rows self.old ++ (code, row) ∷ []) ++ rest → ⊥) }
     {
         if self.is_full() {
             return Err(Rebuild::Damaged);
@@ -42,12 +47,18 @@ impl Holds {
         follows(&self.by_code, code)
     }
 
-    /// Puts a target on the hold of that code; damaged only where no holds within their limits have the
-    /// columns of these and targets that begin with those of these and this one.
+    /// Puts a target on the hold of that code; damaged only where no holds within their limits have
+    /// the columns of these and targets that begin with those of these and this one.
     pub fn push_target(&mut self, code: &Code, target: Target) -> Result<(), Rebuild>
-        ensures ok { OnOk result ((rows : List (List ℕ × HoldRow)) (targets : List (List ℕ × Target)) → AreRowsOf rows targets self.old → AreRowsOf rows (targets ++ (code.now, target) ∷ []) self.new) }
+        ensures ok { OnOk result
+            ((rows : List (List ℕ × HoldRow)) (targets : List (List ℕ × Target))
+            → AreRowsOf rows targets self.old
+            → AreRowsOf rows (targets ++ (code.now, target) ∷ []) self.new) }
         ensures err { OnErr result (self.new ≡ self.old) }
-        ensures damaged { OnDamaged result ((rows : List (List ℕ × HoldRow)) (targets rest : List (List ℕ × Target)) (holds : HoldMap) → AreRowsOf rows targets self.old → FitsHoldLimits holds → AreRowsOf rows (targets ++ (code.now, target) ∷ rest) holds → ⊥) }
+        ensures damaged { OnDamaged result
+            ((rows : List (List ℕ × HoldRow)) (targets rest : List (List ℕ × Target))
+            (holds : HoldMap) → AreRowsOf rows targets self.old → FitsHoldLimits holds
+            → AreRowsOf rows (targets ++ (code.now, target) ∷ rest) holds → ⊥) }
     {
         if !self.takes(code, &target) {
             return Err(Rebuild::Damaged);

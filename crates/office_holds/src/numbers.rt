@@ -25,7 +25,8 @@ pub(crate) fn number_of<K: Ord>(numbers: &BTreeMap<K, u32>, key: &K) -> u32
 pub(crate) fn add_key<K: Ord + Drop>(numbers: &mut BTreeMap<K, u32>, key: K) -> Result<(), Memory>
     requires { tree.get K.cmp numbers.old key ≡ None }
     ensures room { OnOk result (tree.ContainsKey K.cmp numbers.new key) }
-    ensures same { (other : K) → number_at K.cmp numbers.new other ≡ number_at K.cmp numbers.old other }
+    ensures same { (other : K)
+        → number_at K.cmp numbers.new other ≡ number_at K.cmp numbers.old other }
 {
     numbers.insert(key, 0)?;
     Ok(())
@@ -38,7 +39,8 @@ pub(crate) fn make_room_for_code(
     code: &Code,
 ) -> Result<(), Memory>
     ensures room { OnOk result (tree.ContainsKey code_cmp numbers.new code.now) }
-    ensures same { (other : List ℕ) → number_at code_cmp numbers.new other ≡ number_at code_cmp numbers.old other }
+    ensures same { (other : List ℕ)
+        → number_at code_cmp numbers.new other ≡ number_at code_cmp numbers.old other }
 {
     if numbers.contains_key(code) {
         return Ok(());
@@ -52,7 +54,8 @@ pub(crate) fn make_room_for_number(
     number: u32,
 ) -> Result<(), Memory>
     ensures room { OnOk result (tree.ContainsKey nat_cmp numbers.new number) }
-    ensures same { (other : ℕ) → number_at nat_cmp numbers.new other ≡ number_at nat_cmp numbers.old other }
+    ensures same { (other : ℕ)
+        → number_at nat_cmp numbers.new other ≡ number_at nat_cmp numbers.old other }
 {
     if numbers.contains_key(&number) {
         return Ok(());

@@ -42,7 +42,9 @@ pub(crate) fn count_numbers(numbers: &BTreeSet<u32>) -> usize
 
 /// Puts a code into the set.
 pub(crate) fn put_code(codes: &mut BTreeSet<Code>, code: Code) -> Result<(), Memory>
-    ensures ok { OnOk result (set.from_list {R = code_cmp} codes.new.keys ≡ set.insert (set.from_list codes.old.keys) code) }
+    ensures ok { OnOk result
+        (set.from_list {R = code_cmp} codes.new.keys
+        ≡ set.insert (set.from_list codes.old.keys) code) }
     ensures err { OnErr result (codes.new.keys ≡ codes.old.keys) }
 {
     codes.insert(code)?;
@@ -51,7 +53,9 @@ pub(crate) fn put_code(codes: &mut BTreeSet<Code>, code: Code) -> Result<(), Mem
 
 /// Puts a number into the set.
 pub(crate) fn put_number(numbers: &mut BTreeSet<u32>, number: u32) -> Result<(), Memory>
-    ensures ok { OnOk result (set.from_list {R = nat_cmp} numbers.new.keys ≡ set.insert (set.from_list numbers.old.keys) number) }
+    ensures ok { OnOk result
+        (set.from_list {R = nat_cmp} numbers.new.keys
+        ≡ set.insert (set.from_list numbers.old.keys) number) }
     ensures err { OnErr result (numbers.new.keys ≡ numbers.old.keys) }
 {
     numbers.insert(number)?;
@@ -60,35 +64,40 @@ pub(crate) fn put_number(numbers: &mut BTreeSet<u32>, number: u32) -> Result<(),
 
 /// Takes a code out of the set.
 pub(crate) fn take_code(codes: &mut BTreeSet<Code>, code: &Code)
-    ensures { set.from_list {R = code_cmp} codes.new.keys ≡ set.remove (set.from_list codes.old.keys) code.now }
+    ensures { set.from_list {R = code_cmp} codes.new.keys
+        ≡ set.remove (set.from_list codes.old.keys) code.now }
 {
     codes.remove(code);
 }
 
 /// Takes a number out of the set.
 pub(crate) fn take_number(numbers: &mut BTreeSet<u32>, number: u32)
-    ensures { set.from_list {R = nat_cmp} numbers.new.keys ≡ set.remove (set.from_list numbers.old.keys) number }
+    ensures { set.from_list {R = nat_cmp} numbers.new.keys
+        ≡ set.remove (set.from_list numbers.old.keys) number }
 {
     numbers.remove(&number);
 }
 
 /// Whether the set has one of the numbers.
 pub(crate) fn has_any(numbers: &BTreeSet<u32>, these: &[u32]) -> bool
-    ensures { result ≡ list_any (set.contains (set.from_list {R = nat_cmp} numbers.now.keys)) these.now }
+    ensures { result
+        ≡ list_any (set.contains (set.from_list {R = nat_cmp} numbers.now.keys)) these.now }
 {
     these.iter().any(|&number| has_number(numbers, number))
 }
 
 /// Whether each code of the set is that of a class.
 pub(crate) fn are_classes(codes: &BTreeSet<Code>, tree: &Tree) -> bool
-    ensures { IsTrue result ↔ All (λ code. contains_key tree.now.classes code ≡ true) codes.now.keys }
+    ensures { IsTrue result
+        ↔ All (λ code. contains_key tree.now.classes code ≡ true) codes.now.keys }
 {
     codes.iter().all(|code| tree.class(code).is_some())
 }
 
 /// Whether each number of the set is that of an aggregation.
 pub(crate) fn are_aggregations(numbers: &BTreeSet<u32>, tree: &Tree) -> bool
-    ensures { IsTrue result ↔ All (λ number. has_aggregation tree.now number ≡ true) numbers.now.keys }
+    ensures { IsTrue result
+        ↔ All (λ number. has_aggregation tree.now number ≡ true) numbers.now.keys }
 {
     numbers.iter().all(|&number| tree.has_aggregation(number))
 }

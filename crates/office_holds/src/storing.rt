@@ -17,7 +17,8 @@ use std::collections::BTreeMap;
 
 /// Counts each target of the hold of that code down by one, if the hold is there and in force.
 pub(crate) fn count_off(holds: &BTreeMap<Code, Hold>, code: &Code, counts: &mut HoldCounts)
-    ensures { CountsDown counts.old counts.new (binds_at (from_entries holds.now.entries) code.now) }
+    ensures { CountsDown counts.old counts.new
+        (binds_at (from_entries holds.now.entries) code.now) }
 {
     if let Some(hold) = holds.get(code) {
         if !hold.is_lifted() {
@@ -28,7 +29,8 @@ pub(crate) fn count_off(holds: &BTreeMap<Code, Hold>, code: &Code, counts: &mut 
 
 /// Lifts the hold of that code, if it is there.
 pub(crate) fn lift_in(holds: &mut BTreeMap<Code, Hold>, code: &Code, day: Day)
-    ensures { from_entries {R = code_cmp} holds.new.entries ≡ lifted_hold (from_entries holds.old.entries) day code.now }
+    ensures { from_entries {R = code_cmp} holds.new.entries
+        ≡ lifted_hold (from_entries holds.old.entries) day code.now }
 {
     if let Some(hold) = holds.get_mut(code) {
         hold.lift(day);
@@ -37,7 +39,8 @@ pub(crate) fn lift_in(holds: &mut BTreeMap<Code, Hold>, code: &Code, day: Day)
 
 /// Gives the hold of that code other columns, if it is there; its targets stay.
 pub(crate) fn set_row_in(holds: &mut BTreeMap<Code, Hold>, code: &Code, row: HoldRow)
-    ensures { from_entries {R = code_cmp} holds.new.entries ≡ amended (from_entries holds.old.entries) code.now (λ hold. hold_from row (Some hold)) }
+    ensures { from_entries {R = code_cmp} holds.new.entries
+        ≡ amended (from_entries holds.old.entries) code.now (λ hold. hold_from row (Some hold)) }
 {
     if let Some(hold) = holds.get_mut(code) {
         hold.set_row(row);
@@ -51,7 +54,9 @@ pub(crate) fn add_in(
     code: Code,
     row: HoldRow,
 ) -> Result<(), Memory>
-    ensures ok { OnOk result (from_entries {R = code_cmp} holds.new.entries ≡ insert (from_entries holds.old.entries) code (hold_from row None)) }
+    ensures ok { OnOk result
+        (from_entries {R = code_cmp} holds.new.entries
+        ≡ insert (from_entries holds.old.entries) code (hold_from row None)) }
     ensures err { OnErr result (holds.new.entries ≡ holds.old.entries) }
 {
     let hold = Hold::new(alloc, row);
@@ -65,7 +70,9 @@ pub(crate) fn put_target_in(
     code: &Code,
     target: Target,
 ) -> Result<(), Memory>
-    ensures ok { OnOk result (from_entries {R = code_cmp} holds.new.entries ≡ held_on (from_entries holds.old.entries) code.now target) }
+    ensures ok { OnOk result
+        (from_entries {R = code_cmp} holds.new.entries
+        ≡ held_on (from_entries holds.old.entries) code.now target) }
     ensures err { OnErr result (holds.new.entries ≡ holds.old.entries) }
 {
     match holds.get_mut(code) {
@@ -76,7 +83,8 @@ pub(crate) fn put_target_in(
 
 /// Takes a target off the hold of that code, if it is there.
 pub(crate) fn take_target_in(holds: &mut BTreeMap<Code, Hold>, code: &Code, target: &Target)
-    ensures { from_entries {R = code_cmp} holds.new.entries ≡ held_off (from_entries holds.old.entries) code.now target.now }
+    ensures { from_entries {R = code_cmp} holds.new.entries
+        ≡ held_off (from_entries holds.old.entries) code.now target.now }
 {
     if let Some(hold) = holds.get_mut(code) {
         hold.take(target);

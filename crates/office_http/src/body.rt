@@ -11,9 +11,12 @@ use std::io::Read;
 /// Reads until a buffer has so many bytes, for which it has room. Whether it came to that.
 fn fill<R: Read>(reader: &mut R, buf: &mut Vec<u8>, end: usize) -> Result<bool, Io>
     requires { end ≤ vec_capacity buf.old }
-    ensures bytes { OnOk result ((piece : List ℕ) × (buf.new.items ≡ buf.old.items ++ piece) × Consumes (R.remaining reader.old) (R.remaining reader.new) piece) }
+    ensures bytes { OnOk result
+        ((piece : List ℕ) × (buf.new.items ≡ buf.old.items ++ piece)
+        × Consumes (R.remaining reader.old) (R.remaining reader.new) piece) }
     ensures whole { IfOk result (λ whole. IsTrue whole → end ≤ length buf.new.items) }
-    ensures cut { IfOk result (λ whole. IsFalse whole → (length buf.new.items < end) × IsAtEnd (R.remaining reader.new)) }
+    ensures cut { IfOk result
+        (λ whole. IsFalse whole → (length buf.new.items < end) × IsAtEnd (R.remaining reader.new)) }
 {
     while buf.len() < end {
         if read_piece(reader, buf, end)? == 0 {
@@ -40,8 +43,8 @@ fn read_rest<R: Read>(
 }
 
 /// Reads the rest of a body, which is to lie from `start` to `end` in the buffer. Whether it is
-/// whole: `false` where the connection ends before it does. Room for all of it is asked for first, so
-/// that `Memory` comes before a byte is read.
+/// whole: `false` where the connection ends before it does. Room for all of it is asked for first,
+/// so that `Memory` comes before a byte is read.
 pub fn read_body<R: Read>(
     reader: &mut R,
     buf: &mut Vec<u8>,

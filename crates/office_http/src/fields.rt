@@ -26,7 +26,8 @@ fn is_same(name: &[u8], other: &[u8]) -> bool
 /// The values of the field lines of that name, in a head of these.
 pub(crate) fn find_named(buf: &[u8], headers: &[HeaderSpan], name: &[u8]) -> Found
     requires { All (IsHeaderWithin (length buf.now)) headers.now }
-    ensures found { found_bytes buf.now result ≡ found_named name.now (map (header_bytes buf.now) headers.now) }
+    ensures found { found_bytes buf.now result
+        ≡ found_named name.now (map (header_bytes buf.now) headers.now) }
     ensures within { IsFoundWithin (length buf.now) result }
 {
     match headers.split_first() {
@@ -44,7 +45,8 @@ pub(crate) fn find_named(buf: &[u8], headers: &[HeaderSpan], name: &[u8]) -> Fou
 
 /// The same with one value more.
 fn with_value(value: Span, found: Found) -> Found
-    ensures found { (buf : List ℕ) → found_bytes buf result ≡ and_value (span_bytes buf value) (found_bytes buf found) }
+    ensures found { (buf : List ℕ)
+        → found_bytes buf result ≡ and_value (span_bytes buf value) (found_bytes buf found) }
     ensures within { (n : ℕ) → IsWithin n value → IsFoundWithin n result }
 {
     match found {

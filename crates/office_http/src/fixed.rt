@@ -10,7 +10,8 @@ use crate::status::Status;
 
 /// An answer of fixed bytes.
 fn fixed(status: Status, allow: Allow, text: &'static [u8]) -> Reply
-    ensures { response result ≡ record { status = status; kind = Json; allow = allow; body = text.entry.now } }
+    ensures { response result
+        ≡ record { status = status; kind = Json; allow = allow; body = text.entry.now } }
 {
     Reply {
         status,

@@ -2,11 +2,11 @@
 //! more.
 //!
 //! [`read_head`] reads until the head of a request is whole or there will be none, and [`plan_in`]
-//! reports what is done for it: the first check that fails, as a [`Check`], or what is asked for, as
-//! a [`Want`]. It looks the path up in [`Routes`], which are made once. [`read_body`] reads the body
-//! that a head announces. The answer is a [`Reply`], and [`write_reply`] writes it; [`check_reply`]
-//! and [`failure_reply`] give the answers whose bytes are fixed. What is asked for is done by others,
-//! who know the office: here are heads, fields, paths and lengths alone.
+//! reports what is done for it: the first check that fails, as a [`Check`], or what is asked for,
+//! as a [`Want`]. It looks the path up in [`Routes`], which are made once. [`read_body`] reads the
+//! body that a head announces. The answer is a [`Reply`], and [`write_reply`] writes it;
+//! [`check_reply`] and [`failure_reply`] give the answers whose bytes are fixed. What is asked for
+//! is done by others, who know the office: here are heads, fields, paths and lengths alone.
 #![tactic(auto)]
 
 mod body;

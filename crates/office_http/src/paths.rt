@@ -55,8 +55,8 @@ fn office_router(alloc: Global) -> Result<Router<Resource>, AllocError>
     with_route(router, "/certificates/{n}", Resource::Certificate)
 }
 
-/// The paths that the office answers, and what each names. They are made once; to look a path up takes
-/// no memory.
+/// The paths that the office answers, and what each names. They are made once; to look a path up
+/// takes no memory.
 #[derive(Drop)]
 pub struct Routes {
     router: Router<Resource>,
@@ -99,7 +99,8 @@ fn has_query(target: &[u8]) -> bool
 
 /// The target as a path; `None` where it has a query or is not UTF-8.
 pub(crate) fn path_of(target: &[u8]) -> Option<&str>
-    ensures { MatchOption result (is_path target.now ≡ false) (λ path. (is_path target.now ≡ true) × (path.now ≡ target.now)) }
+    ensures { MatchOption result (is_path target.now ≡ false)
+        (λ path. (is_path target.now ≡ true) × (path.now ≡ target.now)) }
 {
     if has_query(target) {
         None
@@ -108,8 +109,8 @@ pub(crate) fn path_of(target: &[u8]) -> Option<&str>
     }
 }
 
-/// The segment of a path at that place: the second reports which record, day or certificate is meant,
-/// and the third of `/overdue/{day}/{count}` how many days.
+/// The segment of a path at that place: the second reports which record, day or certificate is
+/// meant, and the third of `/overdue/{day}/{count}` how many days.
 pub(crate) fn path_segment(path: &str, place: usize) -> &str
     ensures { result.now ≡ path_segment place path.now }
 {

@@ -67,7 +67,8 @@ fn see_any(buf: &[u8], headers: &mut [HeaderSpan]) -> HeadParse
     }
 }
 
-/// Reads some bytes onto the end of a buffer, which then has at most that many and has room for them.
+/// Reads some bytes onto the end of a buffer, which then has at most that many and has room for
+/// them.
 pub(crate) fn read_piece<R: Read>(
     reader: &mut R,
     buf: &mut Vec<u8>,
@@ -77,7 +78,9 @@ pub(crate) fn read_piece<R: Read>(
     requires room { most ≤ vec_capacity buf.old }
     ensures fits { OnOk result (length buf.new.items ≤ most) }
     ensures count { IfOk result (λ n. length buf.new.items ≡ length buf.old.items + n) }
-    ensures bytes { OnOk result ((piece : List ℕ) × (buf.new.items ≡ buf.old.items ++ piece) × Consumes (R.remaining reader.old) (R.remaining reader.new) piece) }
+    ensures bytes { OnOk result
+        ((piece : List ℕ) × (buf.new.items ≡ buf.old.items ++ piece)
+        × Consumes (R.remaining reader.old) (R.remaining reader.new) piece) }
     ensures end { IfOk result (λ n. n ≡ 0 → IsAtEnd (R.remaining reader.new)) }
     ensures room { OnOk result (most ≤ vec_capacity buf.new) }
 {
@@ -94,9 +97,9 @@ pub(crate) fn read_piece<R: Read>(
     }
 }
 
-/// Reads into an empty buffer, which has room for the longest head, until a head is whole, or there will be
-/// none. The buffer may then have bytes that follow the head. No memory is asked for. `Io` comes where
-/// the reader answered an error.
+/// Reads into an empty buffer, which has room for the longest head, until a head is whole, or there
+/// will be none. The buffer may then have bytes that follow the head. No memory is asked for. `Io`
+/// comes where the reader answered an error.
 pub fn read_head<R: Read>(
     reader: &mut R,
     buf: &mut Vec<u8>,

@@ -38,7 +38,9 @@ fn sized_plan(size: Option<u64>) -> RequestPlan
 /// What is done for acts, by the line that says their length.
 fn length_plan(buf: &[u8], headers: &[HeaderSpan]) -> RequestPlan
     requires { All (IsHeaderWithin (length buf.now)) headers.now }
-    ensures plan { result ≡ length_plan (found_named (codes "content-length") (map (header_bytes buf.now) headers.now)) }
+    ensures plan { result
+        ≡ length_plan
+        (found_named (codes "content-length") (map (header_bytes buf.now) headers.now)) }
     ensures sized { IsSized result }
 {
     match find_named(buf, headers, b"content-length") {
@@ -80,7 +82,8 @@ fn resource_plan(
     method: &[u8],
 ) -> RequestPlan
     requires { All (IsHeaderWithin (length buf.now)) headers.now }
-    ensures plan { result ≡ resource_plan resource path.now method.now (map (header_bytes buf.now) headers.now) }
+    ensures plan { result
+        ≡ resource_plan resource path.now method.now (map (header_bytes buf.now) headers.now) }
     ensures sized { IsSized result }
 {
     let segment = path_segment(path, 2);
@@ -108,7 +111,8 @@ fn target_plan(
     method: &[u8],
 ) -> RequestPlan
     requires { All (IsHeaderWithin (length buf.now)) headers.now }
-    ensures plan { result ≡ target_plan target.now method.now (map (header_bytes buf.now) headers.now) }
+    ensures plan { result
+        ≡ target_plan target.now method.now (map (header_bytes buf.now) headers.now) }
     ensures sized { IsSized result }
 {
     let Some(path) = path_of(target) else {
@@ -123,7 +127,8 @@ fn target_plan(
 /// Whether a head has the Host line that its version wants.
 fn has_host(buf: &[u8], headers: &[HeaderSpan], minor: u8) -> bool
     requires { All (IsHeaderWithin (length buf.now)) headers.now }
-    ensures { result ≡ has_host minor (found_named (codes "host") (map (header_bytes buf.now) headers.now)) }
+    ensures { result
+        ≡ has_host minor (found_named (codes "host") (map (header_bytes buf.now) headers.now)) }
 {
     if minor == 1 {
         matches!(find_named(buf, headers, b"host"), Found::One(_))
@@ -132,8 +137,8 @@ fn has_host(buf: &[u8], headers: &[HeaderSpan], minor: u8) -> bool
     }
 }
 
-/// What is done for a head that [`read_head`](crate::read_head) found in the buffer. No memory is asked
-/// for.
+/// What is done for a head that [`read_head`](crate::read_head) found in the buffer. No memory is
+/// asked for.
 pub fn plan_in(
     routes: &Routes,
     buf: &[u8],

@@ -36,7 +36,8 @@ fn allow_text(allow: Allow) -> &'static str
 
 /// Writes the first lines of a head: the status, and the kind of the body.
 fn put_start<W: Write>(writer: &mut W, status: Status, kind: Kind) -> Result<(), Io>
-    ensures { OnOk result (Appends (W.contents writer.old) (W.contents writer.new) (head_start status kind)) }
+    ensures { OnOk result
+        (Appends (W.contents writer.old) (W.contents writer.new) (head_start status kind)) }
 {
     let (code, kind) = (status.code(), kind_text(kind));
     write!(writer, "HTTP/1.1 {code}\r\n{kind}").or(Err(Io))
@@ -44,7 +45,8 @@ fn put_start<W: Write>(writer: &mut W, status: Status, kind: Kind) -> Result<(),
 
 /// Writes the other lines of a head: the length of the body, the method that is taken, and the end.
 fn put_end<W: Write>(writer: &mut W, size: usize, allow: Allow) -> Result<(), Io>
-    ensures { OnOk result (Appends (W.contents writer.old) (W.contents writer.new) (head_end size allow)) }
+    ensures { OnOk result
+        (Appends (W.contents writer.old) (W.contents writer.new) (head_end size allow)) }
 {
     let allow = allow_text(allow);
     write!(
@@ -69,7 +71,9 @@ fn put_head<W: Write>(writer: &mut W, reply: &Reply, size: usize) -> Result<(), 
 /// give it a buffered writer where a write is dear.
 #[tactic(auto, using(crate::proofs::Appending::appends_then))]
 pub fn write_reply<W: Write>(reply: &Reply, is_head: bool, writer: &mut W) -> Result<u16, Io>
-    ensures bytes { OnOk result (Appends (W.contents writer.old) (W.contents writer.new) (response_text is_head (response reply.now))) }
+    ensures bytes { OnOk result
+        (Appends (W.contents writer.old) (W.contents writer.new)
+        (response_text is_head (response reply.now))) }
     ensures status { IfOk result (λ status. status ≡ status_number reply.now.status) }
 {
     put_reply(reply, is_head, writer)?;
@@ -80,7 +84,9 @@ pub fn write_reply<W: Write>(reply: &Reply, is_head: bool, writer: &mut W) -> Re
 /// Writes an answer, to HEAD its head alone.
 #[tactic(auto, using(crate::proofs::Appending::appends_then))]
 fn put_reply<W: Write>(reply: &Reply, is_head: bool, writer: &mut W) -> Result<(), Io>
-    ensures { OnOk result (Appends (W.contents writer.old) (W.contents writer.new) (response_text is_head (response reply.now))) }
+    ensures { OnOk result
+        (Appends (W.contents writer.old) (W.contents writer.new)
+        (response_text is_head (response reply.now))) }
 {
     let body = reply.body.as_bytes();
     put_head(writer, reply, body.len())?;
@@ -94,6 +100,8 @@ fn put_reply<W: Write>(reply: &Reply, is_head: bool, writer: &mut W) -> Result<(
 /// The law that an answer is a message of HTTP, with these field lines and no others, and that to
 /// HEAD it is the same message without its body.
 pub fn law_of_replies()
-    ensures message { (r : Response) → length r.body < 2 ^ 64 → ReadsResponse (response_text false r) (message_head r) r.body }
-    ensures head { (r : Response) → length r.body < 2 ^ 64 → ReadsResponse (response_text true r) (message_head r) [] }
+    ensures message { (r : Response) → length r.body < 2 ^ 64
+        → ReadsResponse (response_text false r) (message_head r) r.body }
+    ensures head { (r : Response) → length r.body < 2 ^ 64
+        → ReadsResponse (response_text true r) (message_head r) [] }
 {}

@@ -29,12 +29,13 @@ use std::alloc::Global;
 ///
 /// It is refused as `BadText` where it is anything else or a text is not of its form, else as
 /// `BadNumber` where a number is negative, no whole one or out of its range, or a content has more
-/// than 262,144 bytes. Lack of memory is reported only of an act that is not refused, or where a content
-/// could not be looked at.
+/// than 262,144 bytes. Lack of memory is reported only of an act that is not refused, or where a
+/// content could not be looked at.
 #[tactic(auto, unfolding(crate::specs::Acts::asked_by))]
 pub fn read_act(alloc: Global, value: &Value) -> Result<Act, ReadFault>
     ensures ok { IfOk result (λ act. asked_by (view value.now) ≡ Ok (asked act)) }
-    ensures err { IfErr result (λ fault. IsReadFault (view value.now) (asked_by (view value.now)) fault) }
+    ensures err { IfErr result
+        (λ fault. IsReadFault (view value.now) (asked_by (view value.now)) fault) }
 {
     match text_at(value, "act") {
         Some("add-record") => add_record(alloc, value),

@@ -41,7 +41,8 @@ impl Content {
         Ok(Content { bytes })
     }
 
-    /// What [`read_content`] gives once there was memory for it, as the other parts of an act are given.
+    /// What [`read_content`] gives once there was memory for it, as the other parts of an act are
+    /// given.
     pub fn as_part(content: Result<Content, Refusal>) -> Result<Content, ReadFault>
         ensures { IsReadAs content result }
     {
@@ -72,8 +73,9 @@ fn decoded(alloc: Global, text: &str) -> Result<Option<Vec<u8>>, Memory>
     }
 }
 
-/// The content that a text encodes in base64; `BadText` where it is not what encoding writes, `BadNumber`
-/// where it encodes more than 262,144 bytes. `Memory` comes where it could not be decoded.
+/// The content that a text encodes in base64; `BadText` where it is not what encoding writes,
+/// `BadNumber` where it encodes more than 262,144 bytes. `Memory` comes where it could not be
+/// decoded.
 pub fn read_content(alloc: Global, text: &str) -> Result<Result<Content, Refusal>, Memory>
     ensures { IfOk result (λ content. content ≡ content_of (content_named text.now)) }
 {
@@ -100,8 +102,8 @@ pub(crate) fn content_at(
     read_content(alloc, text)
 }
 
-/// Gives proofs the fact that a text is taken as a content's bytes exactly where it is what encoding them
-/// writes; a call does nothing.
+/// Gives proofs the fact that a text is taken as a content's bytes exactly where it is what
+/// encoding them writes; a call does nothing.
 pub fn law_of_contents()
     ensures { TakesEncodings }
 {}

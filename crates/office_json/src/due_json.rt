@@ -18,7 +18,9 @@ fn put_plan(
     alloc: Global,
     reported: &DueRow<'_>,
 ) -> Result<(), AllocError>
-    ensures { OnOk result (members_view map.new.entries ≡ put_plan (due_reported reported.now) (members_view map.old.entries)) }
+    ensures { OnOk result
+        (members_view map.new.entries
+        ≡ put_plan (due_reported reported.now) (members_view map.old.entries)) }
 {
     put_all(
         map,
@@ -39,7 +41,9 @@ pub(crate) fn put_rest(
     alloc: Global,
     reported: &DueRow<'_>,
 ) -> Result<(), AllocError>
-    ensures { OnOk result (members_view map.new.entries ≡ put_rest (due_reported reported.now) (members_view map.old.entries)) }
+    ensures { OnOk result
+        (members_view map.new.entries
+        ≡ put_rest (due_reported reported.now) (members_view map.old.entries)) }
 {
     put_all(
         map,
@@ -67,8 +71,10 @@ pub fn due_row_value(alloc: Global, reported: &DueRow<'_>) -> Result<Value, Memo
 /// The array of rows that were reported in JSON.
 #[tactic(auto, using(crate::proofs::Floatless::due_has_none))]
 pub fn due_value(rows: Vec<Value>) -> Value
-    ensures value { (reported : List DueRowView) → map view rows.items ≡ map due_row_data reported → view result ≡ due_data reported }
-    ensures no_float { (reported : List DueRowView) → map view rows.items ≡ map due_row_data reported → has_float (view result) ≡ false }
+    ensures value { (reported : List DueRowView) → map view rows.items ≡ map due_row_data reported
+        → view result ≡ due_data reported }
+    ensures no_float { (reported : List DueRowView)
+        → map view rows.items ≡ map due_row_data reported → has_float (view result) ≡ false }
 {
     Value::Array(rows)
 }

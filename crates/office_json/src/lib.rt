@@ -2,13 +2,15 @@
 //!
 //! Acts come in as values of JSON. [`read_act`] says which act a value asks for, or why it asks for
 //! none, and takes each act exactly as it is written down: no member too many, each text and each
-//! number of its form. What is refused here never reaches the office. Of several faults the least is
-//! answered: first a text or a shape that is not of its form, then a number out of its range. [`read_acts`]
-//! reads an array of them. Answers go out by [`answer_value`], and one a line by [`write_answers`].
+//! number of its form. What is refused here never reaches the office. Of several faults the least
+//! is answered: first a text or a shape that is not of its form, then a number out of its range.
+//! [`read_acts`] reads an array of them. Answers go out by [`answer_value`], and one a line by
+//! [`write_answers`].
 //!
 //! What the office reports of a record goes out by [`record_value`], what is due on a day by
-//! [`due_value`], and what is overdue by [`overdue_value`]. [`answers_value`], [`stopped_value`], [`fault_value`] and [`bad_act_value`] are the
-//! replies to a list of acts. Each is a value of JSON without a float, so [`text_of`] gives its text.
+//! [`due_value`], and what is overdue by [`overdue_value`]. [`answers_value`], [`stopped_value`],
+//! [`fault_value`] and [`bad_act_value`] are the replies to a list of acts. Each is a value of JSON
+//! without a float, so [`text_of`] gives its text.
 #![tactic(auto)]
 
 mod acts;

@@ -36,7 +36,9 @@ fn json_in(alloc: Global, bytes: &[u8]) -> Result<Option<Value>, Memory>
 /// The acts of values, or the first value that asks for none.
 #[tactic(auto, using(crate::proofs::ListSteps::one_more))]
 fn read_all(alloc: Global, values: &[Value]) -> Result<Vec<Act>, ListFault>
-    ensures { MatchResult result (λ acts. acts_from 0 (items_view values.now) ≡ Ok (map asked acts.items)) (λ fault. IsListFault (acts_from 0 (items_view values.now)) fault) }
+    ensures { MatchResult result
+        (λ acts. acts_from 0 (items_view values.now) ≡ Ok (map asked acts.items))
+        (λ fault. IsListFault (acts_from 0 (items_view values.now)) fault) }
 {
     let mut acts = Vec::new(alloc);
     let mut place = 0;
@@ -51,9 +53,9 @@ fn read_all(alloc: Global, values: &[Value]) -> Result<Vec<Act>, ListFault>
     Ok(acts)
 }
 
-/// The acts that the bytes of a JSON array ask for, in their order. `NotJson` comes where the bytes are
-/// no JSON or no array, else `BadAct` for the first value that asks for no act, with its refusal as
-/// [`read_act`] reports it. Lack of memory may be reported of any bytes.
+/// The acts that the bytes of a JSON array ask for, in their order. `NotJson` comes where the bytes
+/// are no JSON or no array, else `BadAct` for the first value that asks for no act, with its
+/// refusal as [`read_act`] reports it. Lack of memory may be reported of any bytes.
 #[tactic(auto, unfolding(crate::specs::Lists::acts_in))]
 pub fn read_acts(alloc: Global, bytes: &[u8]) -> Result<Vec<Act>, ListFault>
     ensures ok { IfOk result (λ acts. acts_in bytes.now ≡ Ok (map asked acts.items)) }

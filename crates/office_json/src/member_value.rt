@@ -77,7 +77,10 @@ fn put_member(
     alloc: Global,
     member: &(&str, MemberValue<'_>),
 ) -> Result<(), AllocError>
-    ensures { OnOk result (members_view map.new.entries ≡ with_member member.now.0.now (member_data member.now.1) (members_view map.old.entries)) }
+    ensures { OnOk result
+        (members_view map.new.entries
+        ≡ with_member member.now.0.now (member_data member.now.1)
+        (members_view map.old.entries)) }
 {
     let (name, reported) = member;
     let value = value_of(alloc, reported)?;
@@ -90,7 +93,8 @@ pub(crate) fn put_all(
     alloc: Global,
     members: &[(&str, MemberValue<'_>)],
 ) -> Result<(), AllocError>
-    ensures { OnOk result (members_view map.new.entries ≡ with_members members.now (members_view map.old.entries)) }
+    ensures { OnOk result
+        (members_view map.new.entries ≡ with_members members.now (members_view map.old.entries)) }
 {
     for member in members {
         put_member(map, alloc, member)?;

@@ -10,7 +10,8 @@ use serde_json::{Map, Value};
 
 /// The member of that name, where it is a text.
 pub(crate) fn text_at<'a>(value: &'a Value, name: &str) -> Option<&'a str>
-    ensures { option_map (λ text. text.now) result ≡ option_and_then as_str (get name.now (view value.now)) }
+    ensures { option_map (λ text. text.now) result
+        ≡ option_and_then as_str (get name.now (view value.now)) }
 {
     value.get(name).and_then(Value::as_str)
 }
@@ -34,7 +35,9 @@ fn is_among(name: &str, names: &[&str]) -> bool
 
 /// Whether each member has one of these names.
 fn are_named(members: &Map<String, Value>, names: &[&str]) -> bool
-    ensures { result ≡ are_named (λ name. list_any (λ other. bytes_eq name other.now) names.now) (members_view members.now.entries) }
+    ensures { result
+        ≡ are_named (λ name. list_any (λ other. bytes_eq name other.now) names.now)
+        (members_view members.now.entries) }
 {
     for (name, _) in members {
         if !is_among(name.as_str(), names) {
@@ -47,7 +50,9 @@ fn are_named(members: &Map<String, Value>, names: &[&str]) -> bool
 /// Whether a value is an object without a member of another name than these.
 #[tactic(auto, unfolding(crate::specs::Members::has_only))]
 pub(crate) fn has_only(value: &Value, names: &[&str]) -> bool
-    ensures { result ≡ has_only (λ name. list_any (λ other. bytes_eq name other.now) names.now) (view value.now) }
+    ensures { result
+        ≡ has_only (λ name. list_any (λ other. bytes_eq name other.now) names.now)
+        (view value.now) }
 {
     match value {
         Value::Object(members) => are_named(members, names),

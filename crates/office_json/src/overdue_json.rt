@@ -21,7 +21,9 @@ fn put_overdue(
     row: &DueRow<'_>,
     days: ConfirmDays,
 ) -> Result<(), AllocError>
-    ensures { OnOk result (members_view map.new.entries ≡ put_overdue days (due_reported row.now) (members_view map.old.entries)) }
+    ensures { OnOk result
+        (members_view map.new.entries
+        ≡ put_overdue days (due_reported row.now) (members_view map.old.entries)) }
 {
     put_all(
         map,
@@ -35,14 +37,15 @@ fn put_overdue(
     )
 }
 
-/// A record that is overdue, so many days after its due day, in JSON. `Memory` comes where an allocation was
-/// refused.
+/// A record that is overdue, so many days after its due day, in JSON. `Memory` comes where an
+/// allocation was refused.
 pub fn overdue_row_value(
     alloc: Global,
     row: &DueRow<'_>,
     days: ConfirmDays,
 ) -> Result<Value, Memory>
-    ensures value { IfOk result (λ value. view value ≡ overdue_row_data days (due_reported row.now)) }
+    ensures value { IfOk result
+        (λ value. view value ≡ overdue_row_data days (due_reported row.now)) }
     ensures no_float { IfOk result (λ value. has_float (view value) ≡ false) }
 {
     let mut map = Map::new(alloc);
@@ -54,8 +57,11 @@ pub fn overdue_row_value(
 /// The array of rows in JSON, all for as many days.
 #[tactic(auto, using(crate::proofs::Floatless::overdue_has_none))]
 pub fn overdue_value(rows: Vec<Value>) -> Value
-    ensures value { (n : ℕ) (given : List DueRowView) → map view rows.items ≡ map (overdue_row_data n) given → view result ≡ overdue_data n given }
-    ensures no_float { (n : ℕ) (given : List DueRowView) → map view rows.items ≡ map (overdue_row_data n) given → has_float (view result) ≡ false }
+    ensures value { (n : ℕ) (given : List DueRowView)
+        → map view rows.items ≡ map (overdue_row_data n) given
+        → view result ≡ overdue_data n given }
+    ensures no_float { (n : ℕ) (given : List DueRowView)
+        → map view rows.items ≡ map (overdue_row_data n) given → has_float (view result) ≡ false }
 {
     Value::Array(rows)
 }

@@ -17,13 +17,14 @@ use office_terms::{Action, AggNo, Code, Text, Trigger};
 use serde_json::Value;
 use std::alloc::Global;
 
-/// Both parts, or the fault that is to be reported of them: a refusal before lack of memory, and of two
-/// refusals that with the least number.
+/// Both parts, or the fault that is to be reported of them: a refusal before lack of memory, and of
+/// two refusals that with the least number.
 pub fn both<A: Drop, B: Drop>(
     first: Result<A, ReadFault>,
     second: Result<B, ReadFault>,
 ) -> Result<(A, B), ReadFault>
-    ensures { (a : Result A Refusal) (b : Result B Refusal) → IsReadAs a first → IsReadAs b second → IsReadAs (both a b) result }
+    ensures { (a : Result A Refusal) (b : Result B Refusal) → IsReadAs a first → IsReadAs b second
+        → IsReadAs (both a b) result }
 {
     match first {
         Ok(a) => match second {
@@ -158,7 +159,9 @@ fn count_at(value: &Value, name: &str) -> Result<u64, Refusal>
 /// The period of the members `unit` and `count`.
 #[tactic(auto, unfolding(crate::specs::Parts::period_part))]
 pub(crate) fn period_at(value: &Value) -> Result<Period, ReadFault>
-    ensures { IsReadAs (period_part (get (codes "unit") (view value.now)) (get (codes "count") (view value.now))) result }
+    ensures { IsReadAs
+        (period_part (get (codes "unit") (view value.now)) (get (codes "count") (view value.now)))
+        result }
 {
     let unit = text_at(value, "unit")
         .and_then(Unit::read)

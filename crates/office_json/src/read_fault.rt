@@ -15,8 +15,8 @@ impl ReadFault {
     ghost use Rattle.std.specs.Prelude.{◌≡◌};
     ghost use Rattle.office_json.specs.Parts.{min_refusal};
 
-    /// Of two faults the one to report: a refusal before lack of memory, and of two refusals that with the
-    /// least number.
+    /// Of two faults the one to report: a refusal before lack of memory, and of two refusals that
+    /// with the least number.
     pub(crate) fn min_refusal(self, other: ReadFault) -> ReadFault
         ensures { result ≡ min_refusal self other }
     {

@@ -72,7 +72,8 @@ fn put_first(
     alloc: Global,
     reported: &RecordView,
 ) -> Result<(), AllocError>
-    ensures { OnOk result (members_view map.new.entries ≡ put_first reported.now (members_view map.old.entries)) }
+    ensures { OnOk result
+        (members_view map.new.entries ≡ put_first reported.now (members_view map.old.entries)) }
 {
     put_all(
         map,
@@ -98,7 +99,9 @@ fn put_second(
     reported: &RecordView,
     ending: Option<&Entry>,
 ) -> Result<(), AllocError>
-    ensures { OnOk result (members_view map.new.entries ≡ put_second reported.now (option_copied ending.entry) (members_view map.old.entries)) }
+    ensures { OnOk result
+        (members_view map.new.entries
+        ≡ put_second reported.now (option_copied ending.entry) (members_view map.old.entries)) }
 {
     let due = reported_due(reported.due);
     put_all(
@@ -128,7 +131,8 @@ fn put_third(
     alloc: Global,
     reported: &RecordView,
 ) -> Result<(), AllocError>
-    ensures { OnOk result (members_view map.new.entries ≡ put_third reported.now (members_view map.old.entries)) }
+    ensures { OnOk result
+        (members_view map.new.entries ≡ put_third reported.now (members_view map.old.entries)) }
 {
     put_all(
         map,
@@ -149,7 +153,8 @@ fn put_last(
     alloc: Global,
     reported: &RecordView,
 ) -> Result<(), AllocError>
-    ensures { OnOk result (members_view map.new.entries ≡ put_last reported.now (members_view map.old.entries)) }
+    ensures { OnOk result
+        (members_view map.new.entries ≡ put_last reported.now (members_view map.old.entries)) }
 {
     put_all(
         map,
@@ -162,14 +167,15 @@ fn put_last(
     )
 }
 
-/// What is reported of a record in JSON, with the entry that ended it, if one did. `Memory` comes where an
-/// allocation was refused.
+/// What is reported of a record in JSON, with the entry that ended it, if one did. `Memory` comes
+/// where an allocation was refused.
 pub fn record_value(
     alloc: Global,
     reported: &RecordView,
     ending: Option<&Entry>,
 ) -> Result<Value, Memory>
-    ensures value { IfOk result (λ value. view value ≡ record_data reported.now (option_copied ending.entry)) }
+    ensures value { IfOk result
+        (λ value. view value ≡ record_data reported.now (option_copied ending.entry)) }
     ensures no_float { IfOk result (λ value. has_float (view value) ≡ false) }
 {
     let mut map = Map::new(alloc);

@@ -12,7 +12,8 @@ use office_rules::Answer;
 use serde_json::{Map, Value};
 use std::alloc::{AllocError, Global};
 
-/// Answers in JSON, an array of them in their order. `Memory` comes where an allocation was refused.
+/// Answers in JSON, an array of them in their order. `Memory` comes where an allocation was
+/// refused.
 pub fn answers_value(alloc: Global, answers: &[Answer]) -> Result<Value, Memory>
     ensures value { IfOk result (λ value. view value ≡ answers_data answers.now) }
     ensures no_float { IfOk result (λ value. has_float (view value) ≡ false) }
@@ -40,7 +41,10 @@ fn put_stopped(
     answers: Value,
     number: u32,
 ) -> Result<(), AllocError>
-    ensures { OnOk result (members_view map.new.entries ≡ with_member (codes "fault") (number_data (unsigned number)) (with_member (codes "answers") (view answers) (members_view map.old.entries))) }
+    ensures { OnOk result
+        (members_view map.new.entries
+        ≡ with_member (codes "fault") (number_data (unsigned number))
+        (with_member (codes "answers") (view answers) (members_view map.old.entries))) }
 {
     serde_json::put(map, alloc, "answers", answers)?;
     put_all(
@@ -50,7 +54,8 @@ fn put_stopped(
     )
 }
 
-/// `{"answers":[..],"fault":N}`: the answers to the acts before a fault, and the number of the fault.
+/// `{"answers":[..],"fault":N}`: the answers to the acts before a fault, and the number of the
+/// fault.
 #[tactic(auto, using(crate::proofs::Floatless::stopped_has_none))]
 pub fn stopped_value(alloc: Global, answers: &[Answer], number: u32) -> Result<Value, Memory>
     ensures value { IfOk result (λ value. view value ≡ stopped_data answers.now number) }
@@ -62,8 +67,8 @@ pub fn stopped_value(alloc: Global, answers: &[Answer], number: u32) -> Result<V
     Ok(Value::Object(map))
 }
 
-/// `{"error":"act","place":P,"refused":N}`: the place, from 0, of a value that asks for no act, and the
-/// number of its refusal.
+/// `{"error":"act","place":P,"refused":N}`: the place, from 0, of a value that asks for no act, and
+/// the number of its refusal.
 pub fn bad_act_value(alloc: Global, place: u64, refusal: Refusal) -> Result<Value, Memory>
     ensures value { IfOk result (λ value. view value ≡ bad_act_data place refusal) }
     ensures no_float { IfOk result (λ value. has_float (view value) ≡ false) }
@@ -80,8 +85,8 @@ pub fn bad_act_value(alloc: Global, place: u64, refusal: Refusal) -> Result<Valu
     Ok(value)
 }
 
-/// The text of a value that has no float, with no space in it. `Memory` comes where an allocation was
-/// refused.
+/// The text of a value that has no float, with no space in it. `Memory` comes where an allocation
+/// was refused.
 pub fn text_of(alloc: Global, value: &Value) -> Result<String, Memory>
     requires { has_float (view value.now) ≡ false }
     ensures { IfOk result (λ text. string_bytes text ≡ compact_text (view value.now)) }

@@ -9,7 +9,8 @@ use office_tree::Tree;
 use std::collections::BTreeMap;
 use std::marker::Model;
 
-/// The parts of an office that was made of its tables, sound together or not. Contracts see an `Office`.
+/// The parts of an office that was made of its tables, sound together or not. Contracts see an
+/// `Office`.
 #[derive(Drop)]
 pub struct Loaded {
     pub tree: Tree,

@@ -19,8 +19,8 @@ use std::alloc::Global;
 use std::collections::BTreeMap;
 use std::marker::Model;
 
-/// An office under construction: it takes the rows of the tables in, each into the maps and lists that the
-/// office keeps. Contracts see the rows that have come.
+/// An office under construction: it takes the rows of the tables in, each into the maps and lists
+/// that the office keeps. Contracts see the rows that have come.
 #[derive(Drop)]
 pub struct Loader {
     pub(crate) day: Option<Day>,
@@ -71,7 +71,8 @@ impl Model for Loader {
       certificates = g.certificates.entries;
     } };
 
-    ghost invariant = { λ g. AreCollected g.heads.items g.statuses.items g.holds g.targets.items g.entries.entries };
+    ghost invariant = { λ g. AreCollected g.heads.items g.statuses.items g.holds g.targets.items
+        g.entries.entries };
 }
 
 impl Loader {

@@ -34,8 +34,13 @@ fn tree_of(
     events: BTreeMap<RecordNo, Event>,
 ) -> Result<Tree, Rebuild>
     requires { length statuses.items ≡ length heads.items }
-    ensures ok { IfOk result (λ tree. AreTreeRows schedules.entries classes.entries (numbered_rows aggregations.items) (numbered_rows (record_rows heads.items statuses.items)) events.entries tree) }
-    ensures damaged { OnDamaged result ((tree : TreeState) → sound_tree.IsSound tree → AreTreeRows schedules.entries classes.entries (numbered_rows aggregations.items) (numbered_rows (record_rows heads.items statuses.items)) events.entries tree → ⊥) }
+    ensures ok { IfOk result
+        (λ tree. AreTreeRows schedules.entries classes.entries (numbered_rows aggregations.items)
+        (numbered_rows (record_rows heads.items statuses.items)) events.entries tree) }
+    ensures damaged { OnDamaged result
+        ((tree : TreeState) → sound_tree.IsSound tree
+        → AreTreeRows schedules.entries classes.entries (numbered_rows aggregations.items)
+        (numbered_rows (record_rows heads.items statuses.items)) events.entries tree → ⊥) }
 {
     ordered(&schedules);
     ordered(&classes);
@@ -56,8 +61,8 @@ fn tree_of(
 }
 
 impl Loader {
-    /// The parts of which the rows are, and the keys of contents; damaged only where there is no sound
-    /// office of such rows.
+    /// The parts of which the rows are, and the keys of contents; damaged only where there is no
+    /// sound office of such rows.
     fn parts(self) -> Result<(Loaded, ContentKeys), Rebuild>
         ensures parts { IfOk result (λ p. AreTablesOf self p.0) }
         ensures keys { IfOk result (λ p. (contents : ByteMap) × HaveKeys contents self.contents) }
@@ -90,12 +95,15 @@ impl Loader {
         Ok((parts, self.contents))
     }
 
-    /// The office that the rows represent that have come; damaged only where there is none. Whatever the
-    /// contents of the keys that have come are, it is sound with them.
+    /// The office that the rows represent that have come; damaged only where there is none.
+    /// Whatever the contents of the keys that have come are, it is sound with them.
     pub fn finish(self) -> Result<Loaded, Rebuild>
         ensures ok { IfOk result (λ office. AreTablesOf self office) }
-        ensures sound { IfOk result (λ office. (contents : ByteMap) → HaveKeys contents self.contents → IsSound (with_contents office contents)) }
-        ensures keys { IfOk result (λ office. (contents : ByteMap) × HaveKeys contents self.contents) }
+        ensures sound { IfOk result
+            (λ office. (contents : ByteMap) → HaveKeys contents self.contents
+            → IsSound (with_contents office contents)) }
+        ensures keys { IfOk result
+            (λ office. (contents : ByteMap) × HaveKeys contents self.contents) }
         ensures damaged { OnDamaged result (RepresentNone self) }
     {
         let alloc = self.alloc;

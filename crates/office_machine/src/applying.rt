@@ -89,8 +89,8 @@ impl Parts {
         }
     }
 
-    /// Makes a change that was decided of this office. Where an allocation is refused, the office is
-    /// as it was.
+    /// Makes a change that was decided of this office. Where an allocation is refused, the office
+    /// is as it was.
     pub(crate) fn apply(&mut self, change: Change) -> Result<(), Memory>
         requires { CanWrite self.old change.writes.items }
         ensures ok { OnOk result (self.new ≡ all_office_writes change.writes.items self.old) }

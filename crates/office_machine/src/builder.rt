@@ -13,8 +13,8 @@ use office_loading::Loader;
 use std::alloc::Global;
 use std::marker::Model;
 
-/// What makes the office of its tables: it takes their rows in, one after another, and keeps each where the
-/// office keeps it. Contracts see the rows that have come.
+/// What makes the office of its tables: it takes their rows in, one after another, and keeps each
+/// where the office keeps it. Contracts see the rows that have come.
 #[derive(Drop)]
 pub struct Builder {
     loader: Loader,
@@ -42,12 +42,16 @@ impl Builder {
         }
     }
 
-    /// The office that the rows represent that have come; damaged only where there is none. Whatever the
-    /// contents of the keys that have come are, it is sound with them. Contents themselves are not asked for.
+    /// The office that the rows represent that have come; damaged only where there is none.
+    /// Whatever the contents of the keys that have come are, it is sound with them. Contents
+    /// themselves are not asked for.
     pub fn finish(self) -> Result<Machine, Rebuild>
         ensures ok { IfOk result (λ machine. AreTablesOf self machine) }
-        ensures sound { IfOk result (λ machine. (contents : ByteMap) → HaveKeys contents self.contents → IsSound (with_contents machine contents)) }
-        ensures keys { IfOk result (λ machine. (contents : ByteMap) × HaveKeys contents self.contents) }
+        ensures sound { IfOk result
+            (λ machine. (contents : ByteMap) → HaveKeys contents self.contents
+            → IsSound (with_contents machine contents)) }
+        ensures keys { IfOk result
+            (λ machine. (contents : ByteMap) × HaveKeys contents self.contents) }
         ensures damaged { OnDamaged result (RepresentNone self) }
     {
         let office = self.loader.finish()?;

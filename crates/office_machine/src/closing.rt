@@ -13,9 +13,11 @@ use office_terms::{AggNo, RecordNo};
 use office_tree::Tree;
 use std::alloc::Global;
 
-/// The aggregations, by number, that are spent and have a record below that one of the entries ended.
+/// The aggregations, by number, that are spent and have a record below that one of the entries
+/// ended.
 fn spent_list(alloc: Global, tree: &Tree, entries: &[&Entry]) -> Result<Vec<AggNo>, Memory>
-    ensures { IfOk result (λ spent. spent.items ≡ spent_list tree.now (map (λ entry. entry.now) entries.now)) }
+    ensures { IfOk result
+        (λ spent. spent.items ≡ spent_list tree.now (map (λ entry. entry.now) entries.now)) }
 {
     let marks = marks_above(alloc, tree, entries)?;
     let mut spent = Vec::new(alloc);
@@ -32,7 +34,8 @@ impl Parts {
     /// The entries of a run, by record number.
     fn entries_of(&self, alloc: Global, run: RunNo) -> Result<Vec<&Entry>, Memory>
         requires { IsSoundOffice self.now }
-        ensures { IfOk result (λ these. map (λ entry. entry.now) these.items ≡ entries_of self.now run) }
+        ensures { IfOk result
+            (λ these. map (λ entry. entry.now) these.items ≡ entries_of self.now run) }
     {
         let mut these = Vec::new(alloc);
         for (_, entry) in self.entries.range((run, 0)..=(run, RecordNo::MAX)) {

@@ -14,7 +14,9 @@ impl Parts {
     /// What is decided of an act.
     pub(crate) fn decide(&self, alloc: Global, act: &Act) -> Result<Decision, Memory>
         requires { IsSoundOffice self.now }
-        ensures { IfOk result (λ d. IsDecidedTo self.now (λ contents. step (with_contents self.now contents) act.now) d) }
+        ensures { IfOk result
+            (λ d. IsDecidedTo self.now (λ contents. step (with_contents self.now contents) act.now)
+            d) }
     {
         match act {
             Act::AddSchedule { .. } | Act::AddClass { .. } | Act::SetClassSchedule { .. } => {
@@ -42,7 +44,9 @@ impl Parts {
     fn decide_on_schedules(&self, alloc: Global, act: &Act) -> Result<Decision, Memory>
         requires sound { IsSoundOffice self.now }
         requires kind { IsOnSchedules act.now }
-        ensures { IfOk result (λ d. IsDecidedTo self.now (λ contents. step (with_contents self.now contents) act.now) d) }
+        ensures { IfOk result
+            (λ d. IsDecidedTo self.now (λ contents. step (with_contents self.now contents) act.now)
+            d) }
     {
         match act {
             Act::AddSchedule {
@@ -81,7 +85,9 @@ impl Parts {
     fn decide_on_aggregations(&self, alloc: Global, act: &Act) -> Result<Decision, Memory>
         requires sound { IsSoundOffice self.now }
         requires kind { IsOnAggregations act.now }
-        ensures { IfOk result (λ d. IsDecidedTo self.now (λ contents. step (with_contents self.now contents) act.now) d) }
+        ensures { IfOk result
+            (λ d. IsDecidedTo self.now (λ contents. step (with_contents self.now contents) act.now)
+            d) }
     {
         match act {
             Act::AddAggregation {
@@ -103,13 +109,15 @@ impl Parts {
         }
     }
 
-    /// What is decided of a new record, or of a record's own schedule, confirmation, review, receipt
-    /// or event.
+    /// What is decided of a new record, or of a record's own schedule, confirmation, review,
+    /// receipt or event.
     #[tactic(auto, unfolding(office_rules::specs::Acts::step))]
     fn decide_on_records(&self, alloc: Global, act: &Act) -> Result<Decision, Memory>
         requires sound { IsSoundOffice self.now }
         requires kind { IsOnRecords act.now }
-        ensures { IfOk result (λ d. IsDecidedTo self.now (λ contents. step (with_contents self.now contents) act.now) d) }
+        ensures { IfOk result
+            (λ d. IsDecidedTo self.now (λ contents. step (with_contents self.now contents) act.now)
+            d) }
     {
         match act {
             Act::AddRecord { day, record } => self.decide_add_record(alloc, *day, record),
@@ -151,7 +159,9 @@ impl Parts {
     fn decide_on_holds(&self, alloc: Global, act: &Act) -> Result<Decision, Memory>
         requires sound { IsSoundOffice self.now }
         requires kind { IsOnHolds act.now }
-        ensures { IfOk result (λ d. IsDecidedTo self.now (λ contents. step (with_contents self.now contents) act.now) d) }
+        ensures { IfOk result
+            (λ d. IsDecidedTo self.now (λ contents. step (with_contents self.now contents) act.now)
+            d) }
     {
         match act {
             Act::PlaceHold {
@@ -172,7 +182,9 @@ impl Parts {
     fn decide_on_runs(&self, alloc: Global, act: &Act) -> Result<Decision, Memory>
         requires sound { IsSoundOffice self.now }
         requires kind { IsOnRuns act.now }
-        ensures { IfOk result (λ d. IsDecidedTo self.now (λ contents. step (with_contents self.now contents) act.now) d) }
+        ensures { IfOk result
+            (λ d. IsDecidedTo self.now (λ contents. step (with_contents self.now contents) act.now)
+            d) }
     {
         match act {
             Act::OpenRun { day, by } => self.decide_open_run(alloc, *day, by),

@@ -41,7 +41,16 @@ fn open_aggregation(
     parent: Option<AggNo>,
     class: Option<&Code>,
 ) -> Result<Aggregation, Memory>
-    ensures { IfOk result (λ it. it ≡ record { ref_text = ref_text.now; title = title.now; parent = parent; class = option_copied class.entry; closed = None }) }
+    ensures { IfOk result
+        (λ it. it
+        ≡ record {
+          ref_text = ref_text.now;
+          title = title.now;
+          parent = parent;
+          class =
+              option_copied class.entry;
+          closed = None;
+        }) }
 {
     let class = copy_code(alloc, class)?;
     let (ref_text, title) = copy_texts(alloc, ref_text, title)?;
@@ -83,9 +92,11 @@ impl Parts {
         Ok(Decision::Go(Change { answer, writes }))
     }
 
-    /// The refusal of an act of that day: the day's, where it is before the office's, else the other.
+    /// The refusal of an act of that day: the day's, where it is before the office's, else the
+    /// other.
     pub(crate) fn dated(&self, day: Day, refusal: Option<Refusal>) -> Option<Refusal>
-        ensures { (conditions : List (Refusal × Bool)) → refusal ≡ first_of conditions → result ≡ first_of (dated self.now day conditions) }
+        ensures { (conditions : List (Refusal × Bool)) → refusal ≡ first_of conditions
+            → result ≡ first_of (dated self.now day conditions) }
     {
         if day < self.day {
             return Some(Refusal::DayBack);
@@ -102,7 +113,10 @@ impl Parts {
         schedule: Schedule,
     ) -> Result<Decision, Memory>
         requires { IsSoundOffice self.now }
-        ensures { IfOk result (λ d. IsDecidedTo self.now (λ contents. step_add_schedule (with_contents self.now contents) day code.now schedule) d) }
+        ensures { IfOk result
+            (λ d. IsDecidedTo self.now
+            (λ contents. step_add_schedule (with_contents self.now contents) day code.now
+            schedule) d) }
     {
         if let Some(refusal) = self.dated(day, self.tree.check_add_schedule(code)) {
             return Ok(Decision::Stay(Answer::Refused(refusal)));
@@ -126,7 +140,10 @@ impl Parts {
         schedule: &Code,
     ) -> Result<Decision, Memory>
         requires { IsSoundOffice self.now }
-        ensures { IfOk result (λ d. IsDecidedTo self.now (λ contents. step_add_class (with_contents self.now contents) day code.now (record { title = title.now; schedule = schedule.now })) d) }
+        ensures { IfOk result
+            (λ d. IsDecidedTo self.now
+            (λ contents. step_add_class (with_contents self.now contents) day code.now
+            (record { title = title.now; schedule = schedule.now })) d) }
     {
         if let Some(refusal) = self.dated(day, self.tree.check_add_class(code, schedule)) {
             return Ok(Decision::Stay(Answer::Refused(refusal)));
@@ -146,7 +163,10 @@ impl Parts {
         schedule: &Code,
     ) -> Result<Decision, Memory>
         requires { IsSoundOffice self.now }
-        ensures { IfOk result (λ d. IsDecidedTo self.now (λ contents. step_set_class_schedule (with_contents self.now contents) day class.now schedule.now) d) }
+        ensures { IfOk result
+            (λ d. IsDecidedTo self.now
+            (λ contents. step_set_class_schedule (with_contents self.now contents) day class.now
+            schedule.now) d) }
     {
         if let Some(refusal) = self.dated(
             day,
@@ -174,7 +194,10 @@ impl Parts {
         class: Option<&Code>,
     ) -> Result<Decision, Memory>
         requires { IsSoundOffice self.now }
-        ensures { IfOk result (λ d. IsDecidedTo self.now (λ contents. step_add_aggregation (with_contents self.now contents) day ref_text.now title.now parent (option_copied class.entry)) d) }
+        ensures { IfOk result
+            (λ d. IsDecidedTo self.now
+            (λ contents. step_add_aggregation (with_contents self.now contents) day ref_text.now
+            title.now parent (option_copied class.entry)) d) }
     {
         if let Some(refusal) = self.dated(
             day,
@@ -199,7 +222,10 @@ impl Parts {
         aggregation: AggNo,
     ) -> Result<Decision, Memory>
         requires { IsSoundOffice self.now }
-        ensures { IfOk result (λ d. IsDecidedTo self.now (λ contents. step_close_aggregation (with_contents self.now contents) day aggregation) d) }
+        ensures { IfOk result
+            (λ d. IsDecidedTo self.now
+            (λ contents. step_close_aggregation (with_contents self.now contents) day
+            aggregation) d) }
     {
         if let Some(refusal) = self.dated(day, self.tree.check_close_aggregation(aggregation)) {
             return Ok(Decision::Stay(Answer::Refused(refusal)));

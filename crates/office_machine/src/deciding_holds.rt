@@ -67,7 +67,10 @@ impl Parts {
         by: &Text,
     ) -> Result<Decision, Memory>
         requires { IsSoundOffice self.now }
-        ensures { IfOk result (λ d. IsDecidedTo self.now (λ contents. step_place_hold (with_contents self.now contents) day code.now reason.now by.now) d) }
+        ensures { IfOk result
+            (λ d. IsDecidedTo self.now
+            (λ contents. step_place_hold (with_contents self.now contents) day code.now
+            reason.now by.now) d) }
     {
         if let Some(refusal) = self.dated(day, self.holds.check_place(code)) {
             return Ok(Decision::Stay(Answer::Refused(refusal)));
@@ -92,7 +95,10 @@ impl Parts {
         target: &Target,
     ) -> Result<Decision, Memory>
         requires { IsSoundOffice self.now }
-        ensures { IfOk result (λ d. IsDecidedTo self.now (λ contents. step_hold_on (with_contents self.now contents) day code.now target.now) d) }
+        ensures { IfOk result
+            (λ d. IsDecidedTo self.now
+            (λ contents. step_hold_on (with_contents self.now contents) day code.now target.now)
+            d) }
     {
         let by_holds = self.holds.check_cover(code, target);
         let by_tree = check_target(&self.tree, target);
@@ -112,7 +118,10 @@ impl Parts {
         code: &Code,
         target: &Target,
     ) -> Result<Decision, Memory>
-        ensures { IfOk result (λ d. IsDecidedTo self.now (λ contents. step_hold_off (with_contents self.now contents) day code.now target.now) d) }
+        ensures { IfOk result
+            (λ d. IsDecidedTo self.now
+            (λ contents. step_hold_off (with_contents self.now contents) day code.now
+            target.now) d) }
     {
         if let Some(refusal) = self.dated(day, self.holds.check_uncover(code, target)) {
             return Ok(Decision::Stay(Answer::Refused(refusal)));
@@ -135,7 +144,9 @@ impl Parts {
         code: &Code,
     ) -> Result<Decision, Memory>
         requires { IsSoundOffice self.now }
-        ensures { IfOk result (λ d. IsDecidedTo self.now (λ contents. step_lift_hold (with_contents self.now contents) day code.now) d) }
+        ensures { IfOk result
+            (λ d. IsDecidedTo self.now
+            (λ contents. step_lift_hold (with_contents self.now contents) day code.now) d) }
     {
         if let Some(refusal) = self.dated(day, self.holds.check_lift(code)) {
             return Ok(Decision::Stay(Answer::Refused(refusal)));

@@ -28,7 +28,8 @@ fn first_code(
     first: Option<&Code>,
     other: Option<&Code>,
 ) -> Result<Option<Code>, Memory>
-    ensures { IfOk result (λ c. c ≡ or_else (option_copied first.entry) (option_copied other.entry)) }
+    ensures { IfOk result
+        (λ c. c ≡ or_else (option_copied first.entry) (option_copied other.entry)) }
 {
     match first {
         Some(code) => Ok(Some(code.copy(alloc)?)),
@@ -44,7 +45,9 @@ fn confirmed(
     day: Day,
     by: &Text,
 ) -> Result<Option<Confirmation>, Memory>
-    ensures { IfOk result (λ c. c ≡ option_map (λ it. record { action = action; due = it; day = day; by = by.now }) due) }
+    ensures { IfOk result
+        (λ c. c
+        ≡ option_map (λ it. record { action = action; due = it; day = day; by = by.now }) due) }
 {
     match due {
         Some(due) => Ok(Some(Confirmation {
@@ -94,7 +97,8 @@ fn new_head(alloc: Global, day: Day, new: &NewRecord, digest: [u8; 32]) -> Resul
 }
 
 impl Parts {
-    /// The record that was added before with all that is asked now, where its content has that digest.
+    /// The record that was added before with all that is asked now, where its content has that
+    /// digest.
     fn same_record(&self, new: &NewRecord, digest: [u8; 32]) -> Option<RecordNo>
         requires sound { IsSoundOffice self.now }
         requires digest { digest ≡ sha256 new.now.content.items }
@@ -120,7 +124,9 @@ impl Parts {
         new: &NewRecord,
     ) -> Result<Decision, Memory>
         requires { IsSoundOffice self.now }
-        ensures { IfOk result (λ d. IsDecidedTo self.now (λ contents. step_add_record (with_contents self.now contents) day new.now) d) }
+        ensures { IfOk result
+            (λ d. IsDecidedTo self.now
+            (λ contents. step_add_record (with_contents self.now contents) day new.now) d) }
     {
         let digest = digest_of(&new.content);
         if let Some(record_no) = self.same_record(new, digest) {
@@ -159,7 +165,10 @@ impl Parts {
         schedule: Option<&Code>,
     ) -> Result<Decision, Memory>
         requires { IsSoundOffice self.now }
-        ensures { IfOk result (λ d. IsDecidedTo self.now (λ contents. step_set_record_schedule (with_contents self.now contents) day record_no (option_copied schedule.entry)) d) }
+        ensures { IfOk result
+            (λ d. IsDecidedTo self.now
+            (λ contents. step_set_record_schedule (with_contents self.now contents) day
+            record_no (option_copied schedule.entry)) d) }
     {
         if let Some(refusal) = self.dated(
             day,
@@ -189,7 +198,10 @@ impl Parts {
         by: &Text,
     ) -> Result<Decision, Memory>
         requires { IsSoundOffice self.now }
-        ensures { IfOk result (λ d. IsDecidedTo self.now (λ contents. step_confirm (with_contents self.now contents) day record_no action by.now) d) }
+        ensures { IfOk result
+            (λ d. IsDecidedTo self.now
+            (λ contents. step_confirm (with_contents self.now contents) day record_no action
+            by.now) d) }
     {
         if let Some(refusal) = self.dated(day, self.tree.check_confirm(day, record_no, action)) {
             return Ok(Decision::Stay(Answer::Refused(refusal)));
@@ -216,7 +228,10 @@ impl Parts {
         by: &Text,
     ) -> Result<Decision, Memory>
         requires { IsSoundOffice self.now }
-        ensures { IfOk result (λ d. IsDecidedTo self.now (λ contents. step_review (with_contents self.now contents) day record_no (option_copied schedule.entry) by.now) d) }
+        ensures { IfOk result
+            (λ d. IsDecidedTo self.now
+            (λ contents. step_review (with_contents self.now contents) day record_no
+            (option_copied schedule.entry) by.now) d) }
     {
         if let Some(refusal) = self.dated(day, self.tree.check_review(day, record_no, schedule)) {
             return Ok(Decision::Stay(Answer::Refused(refusal)));
@@ -246,7 +261,10 @@ impl Parts {
         by: &Text,
     ) -> Result<Decision, Memory>
         requires { IsSoundOffice self.now }
-        ensures { IfOk result (λ d. IsDecidedTo self.now (λ contents. step_receipt (with_contents self.now contents) day record_no digest by.now) d) }
+        ensures { IfOk result
+            (λ d. IsDecidedTo self.now
+            (λ contents. step_receipt (with_contents self.now contents) day record_no digest
+            by.now) d) }
     {
         if let Some(refusal) = self.dated(day, self.tree.check_receipt(record_no, digest)) {
             return Ok(Decision::Stay(Answer::Refused(refusal)));
@@ -271,7 +289,10 @@ impl Parts {
         occurred: Day,
         by: &Text,
     ) -> Result<Decision, Memory>
-        ensures { IfOk result (λ d. IsDecidedTo self.now (λ contents. step_event (with_contents self.now contents) day record_no occurred by.now) d) }
+        ensures { IfOk result
+            (λ d. IsDecidedTo self.now
+            (λ contents. step_event (with_contents self.now contents) day record_no occurred
+            by.now) d) }
     {
         if let Some(refusal) = self.dated(day, self.tree.check_event(day, record_no, occurred)) {
             return Ok(Decision::Stay(Answer::Refused(refusal)));

@@ -40,7 +40,9 @@ impl Parts {
         by: &Text,
     ) -> Result<Decision, Memory>
         requires { IsSoundOffice self.now }
-        ensures { IfOk result (λ d. IsDecidedTo self.now (λ contents. step_open_run (with_contents self.now contents) day by.now) d) }
+        ensures { IfOk result
+            (λ d. IsDecidedTo self.now
+            (λ contents. step_open_run (with_contents self.now contents) day by.now) d) }
     {
         if let Some(refusal) = self.dated(day, self.check_open_run()) {
             return Ok(Decision::Stay(Answer::Refused(refusal)));
@@ -70,7 +72,9 @@ impl Parts {
         requires sound { IsSoundOffice self.now }
         requires opened { open_run self.now ≡ Some run }
         requires next { next_ready self.now run ≡ Some record_no }
-        ensures { IfOk result (λ d. IsDecidedTo self.now (λ contents. step_run_step (with_contents self.now contents)) d) }
+        ensures { IfOk result
+            (λ d. IsDecidedTo self.now (λ contents. step_run_step (with_contents self.now contents))
+            d) }
     {
         let Some(outcome) = self.outcome_of(record_no) else {
             unreachable!();
@@ -87,7 +91,9 @@ impl Parts {
         requires sound { IsSoundOffice self.now }
         requires opened { open_run self.now ≡ Some run }
         requires next { next_ready self.now run ≡ None }
-        ensures { IfOk result (λ d. IsDecidedTo self.now (λ contents. step_run_step (with_contents self.now contents)) d) }
+        ensures { IfOk result
+            (λ d. IsDecidedTo self.now (λ contents. step_run_step (with_contents self.now contents))
+            d) }
     {
         let text = self.certificate_of(alloc, run)?;
         let mut closed = self.run(run).copy(alloc)?;
@@ -109,7 +115,9 @@ impl Parts {
     /// What is decided of a step of the open run.
     pub(crate) fn decide_run_step(&self, alloc: Global) -> Result<Decision, Memory>
         requires { IsSoundOffice self.now }
-        ensures { IfOk result (λ d. IsDecidedTo self.now (λ contents. step_run_step (with_contents self.now contents)) d) }
+        ensures { IfOk result
+            (λ d. IsDecidedTo self.now (λ contents. step_run_step (with_contents self.now contents))
+            d) }
     {
         let Some(run) = self.open_run() else {
             return Ok(Decision::Stay(Answer::Refused(Refusal::NoRun)));

@@ -10,8 +10,8 @@ use office_tree::Tree;
 use std::alloc::Global;
 use std::collections::BTreeSet;
 
-/// The records that are selected, each by its due day and number. A deadline is as many days after each due day,
-/// so the order is that of deadlines too.
+/// The records that are selected, each by its due day and number. A deadline is as many days after
+/// each due day, so the order is that of deadlines too.
 pub(crate) fn due_pairs(
     alloc: Global,
     tree: &Tree,

@@ -19,8 +19,8 @@ use std::alloc::Global;
 use std::collections::btree_set;
 use std::marker::Model;
 
-/// The records that are due by a day, or overdue on it, one row after another, by due day (and so by deadline), then
-/// number. Contracts see the rows that are left.
+/// The records that are due by a day, or overdue on it, one row after another, by due day (and so
+/// by deadline), then number. Contracts see the rows that are left.
 #[derive(Drop)]
 pub struct DueRows<'a> {
     parts: &'a Parts,
@@ -42,7 +42,9 @@ impl<'a> Model for DueRows<'a> {
 
 /// Whether the confirmation is of that action and that due day.
 fn counts(confirmation: Option<&Confirmation>, action: Action, due: DueDay) -> bool
-    ensures { result ≡ holds_of (option_copied confirmation.entry) (λ it. same_action it.action action && int_eq it.due due) }
+    ensures { result
+        ≡ holds_of (option_copied confirmation.entry)
+        (λ it. same_action it.action action && int_eq it.due due) }
 {
     match confirmation {
         Some(confirmation) => confirmation.is_of(action, Some(due)),

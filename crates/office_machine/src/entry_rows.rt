@@ -14,7 +14,8 @@ use office_tree::Tree;
 use std::collections::btree_map;
 use std::marker::Model;
 
-/// The entries of all runs, one row after another, by run, then record. Contracts see the rows that are left.
+/// The entries of all runs, one row after another, by run, then record. Contracts see the rows that
+/// are left.
 #[derive(Drop)]
 pub struct EntryRows<'a> {
     tree: &'a Tree,
@@ -36,7 +37,9 @@ impl<'a> Model for EntryRows<'a> {
 /// What is reported of an entry whose record is there.
 fn entry_row<'a>(tree: &'a Tree, entry: &'a Entry) -> EntryRow<'a>
     requires { IsTrue (has_record tree.now entry.now.record_no) }
-    ensures { (rest : List EntryView) → and_entry (numbered tree.now.records entry.now.record_no) entry.now rest ≡ entry_view result ∷ rest }
+    ensures { (rest : List EntryView)
+        → and_entry (numbered tree.now.records entry.now.record_no) entry.now rest
+        ≡ entry_view result ∷ rest }
 {
     let head = tree.record(entry.record_no);
     EntryRow {

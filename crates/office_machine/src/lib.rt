@@ -1,8 +1,8 @@
 //! The office in memory.
 //!
-//! [`Machine`] decides acts, and makes what it decided, as the rules of the office say. What it decides is a
-//! list of row writes, which the store does to its tables. [`Builder`] makes it of the rows of those tables, which
-//! it takes in one after another as they are read.
+//! [`Machine`] decides acts, and makes what it decided, as the rules of the office say. What it
+//! decides is a list of row writes, which the store does to its tables. [`Builder`] makes it of the
+//! rows of those tables, which it takes in one after another as they are read.
 #![tactic(auto)]
 
 mod applying;

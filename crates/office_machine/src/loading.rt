@@ -11,13 +11,16 @@ use office_base::Rebuild;
 use std::alloc::Global;
 
 impl Machine {
-    /// The office that the tables represent, which stay as they are: their rows are copied one after
-    /// another. Damaged only where there is none. Whatever the contents of the keys that are there are, it
-    /// is sound with them.
+    /// The office that the tables represent, which stay as they are: their rows are copied one
+    /// after another. Damaged only where there is none. Whatever the contents of the keys that are
+    /// there are, it is sound with them.
     pub fn from_tables(alloc: Global, tables: &Tables) -> Result<Machine, Rebuild>
         ensures ok { IfOk result (λ machine. AreTablesOf (lists_of tables.now) machine) }
-        ensures sound { IfOk result (λ machine. (contents : ByteMap) → HaveKeys contents tables.now.contents.items → IsSound (with_contents machine contents)) }
-        ensures keys { IfOk result (λ machine. (contents : ByteMap) × HaveKeys contents tables.now.contents.items) }
+        ensures sound { IfOk result
+            (λ machine. (contents : ByteMap) → HaveKeys contents tables.now.contents.items
+            → IsSound (with_contents machine contents)) }
+        ensures keys { IfOk result
+            (λ machine. (contents : ByteMap) × HaveKeys contents tables.now.contents.items) }
         ensures damaged { OnDamaged result (RepresentNone (lists_of tables.now)) }
     {
         let mut builder = Builder::new(alloc);

@@ -69,8 +69,8 @@ impl Machine {
         self.parts.decide(alloc, act)
     }
 
-    /// Makes a change that was decided of this office. Where an allocation is refused, the office is
-    /// as it was.
+    /// Makes a change that was decided of this office. Where an allocation is refused, the office
+    /// is as it was.
     pub fn apply(&mut self, change: Change) -> Result<(), Memory>
         requires { CanBeMade self.old change }
         ensures ok { OnOk result (self.new ≡ all_office_writes change.writes.items self.old) }
@@ -79,8 +79,8 @@ impl Machine {
         self.parts.apply(change)
     }
 
-    /// The record that the next step of the open run would take; none where no run is open, or where
-    /// the step would close it.
+    /// The record that the next step of the open run would take; none where no run is open, or
+    /// where the step would close it.
     pub fn next_in_run(&self) -> Option<RecordNo>
         ensures { result ≡ next_in_run self.now }
     {
@@ -120,28 +120,30 @@ impl Machine {
 
     /// The text of the certificate of that run; `None` where it is not closed or not there.
     pub fn certificate(&self, alloc: Global, run: RunNo) -> Result<Option<String>, Memory>
-        ensures { IfOk result (λ text. option_map (λ it. string_bytes it) text ≡ get self.now.certificates run) }
+        ensures { IfOk result
+            (λ text. option_map (λ it. string_bytes it) text ≡ get self.now.certificates run) }
     {
         self.parts.certificate(alloc, run)
     }
 
-    /// The due list of the day: the records that are here and due on it or before it, by due day, then
-    /// number.
+    /// The due list of the day: the records that are here and due on it or before it, by due day,
+    /// then number.
     pub fn due_list(&self, alloc: Global, day: Day) -> Result<Vec<RecordNo>, Memory>
         ensures { IfOk result (λ list. IsDueList self.now.tree day list.items) }
     {
         due_list(alloc, &self.parts.tree, &Selection::Due(day))
     }
 
-    /// What is reported of the records that are due on the day, row by row, in the order of the due list.
+    /// What is reported of the records that are due on the day, row by row, in the order of the due
+    /// list.
     pub fn due_rows(&self, alloc: Global, day: Day) -> Result<DueRows<'_>, Memory>
         ensures { IfOk result (λ rows. AreDueRows self.now day rows) }
     {
         self.parts.due_rows(alloc, &Selection::Due(day))
     }
 
-    /// What is overdue on the day: the records that are here whose deadline, so many days after the due day, is
-    /// before it, and of which no confirmation counts; by deadline, then number.
+    /// What is overdue on the day: the records that are here whose deadline, so many days after the
+    /// due day, is before it, and of which no confirmation counts; by deadline, then number.
     pub fn overdue_list(
         &self,
         alloc: Global,

@@ -14,7 +14,9 @@ use std::alloc::Global;
 fn mark(marks: &mut [bool], aggregations: &[AggNo])
     requires { All (λ a. (0 < a) × (a ≤ length marks.old)) aggregations.now }
     ensures count { length marks.new ≡ length marks.old }
-    ensures each { (i : ℕ) → i < length marks.old → slice_index_or marks.new i false ≡ (slice_index_or marks.old i false || list_any (λ a. a == i + 1) aggregations.now) }
+    ensures each { (i : ℕ) → i < length marks.old
+        → slice_index_or marks.new i false
+        ≡ (slice_index_or marks.old i false || list_any (λ a. a == i + 1) aggregations.now) }
 {
     for aggregation in aggregations {
         marks[*aggregation as usize - 1] = true;
@@ -25,7 +27,9 @@ fn mark(marks: &mut [bool], aggregations: &[AggNo])
 fn mark_above(tree: &Tree, entry: &Entry, marks: &mut [bool])
     requires { length marks.old ≡ length tree.now.aggregations }
     ensures count { length marks.new ≡ length marks.old }
-    ensures each { (i : ℕ) → i < length marks.old → slice_index_or marks.new i false ≡ (slice_index_or marks.old i false || ended_below tree.now (i + 1) entry.now) }
+    ensures each { (i : ℕ) → i < length marks.old
+        → slice_index_or marks.new i false
+        ≡ (slice_index_or marks.old i false || ended_below tree.now (i + 1) entry.now) }
 {
     if !entry.outcome.is_ending() {
         return;
@@ -43,7 +47,8 @@ pub(crate) fn marks_above(
     tree: &Tree,
     entries: &[&Entry],
 ) -> Result<Vec<bool>, Memory>
-    ensures { IfOk result (λ marks. AreMarks tree.now (map (λ entry. entry.now) entries.now) marks.items) }
+    ensures { IfOk result
+        (λ marks. AreMarks tree.now (map (λ entry. entry.now) entries.now) marks.items) }
 {
     let mut marks = vec![in alloc; false; tree.aggregation_count() as usize]?;
     for entry in entries {

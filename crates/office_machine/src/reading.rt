@@ -37,7 +37,8 @@ fn copy_entries(
     alloc: Global,
     entries: &BTreeMap<(RunNo, RecordNo), Entry>,
 ) -> Result<Vec<Entry>, Memory>
-    ensures { IfOk result (λ all. all.items ≡ values (from_entries {R = entry_cmp} entries.now.entries)) }
+    ensures { IfOk result
+        (λ all. all.items ≡ values (from_entries {R = entry_cmp} entries.now.entries)) }
 {
     let mut all = Vec::with_capacity(alloc, entries.len())?;
     for entry in entries.values() {
@@ -97,7 +98,8 @@ impl Parts {
 
     /// The text of the certificate of that run; `None` where it is not closed or not there.
     pub(crate) fn certificate(&self, alloc: Global, run: RunNo) -> Result<Option<String>, Memory>
-        ensures { IfOk result (λ text. option_map (λ it. string_bytes it) text ≡ get self.now.certificates run) }
+        ensures { IfOk result
+            (λ text. option_map (λ it. string_bytes it) text ≡ get self.now.certificates run) }
     {
         match self.certificates.get(&run) {
             Some(certificate) => Ok(Some(String::from_str(alloc, certificate.text())?)),

@@ -28,8 +28,12 @@ impl Parts {
         class: Option<&Code>,
     ) -> Result<Decision, Memory>
         requires sound { IsSoundOffice self.now }
-        requires accepted { first_of (refusals_of_reclassify self.now day (classified.Aggregation number) (option_copied class)) ≡ None }
-        ensures { IfOk result (λ d. IsDecidedTo self.now (λ contents. step_reclassify (with_contents self.now contents) day (classified.Aggregation number) (option_copied class.entry)) d) }
+        requires accepted { first_of (refusals_of_reclassify self.now day
+            (classified.Aggregation number) (option_copied class)) ≡ None }
+        ensures { IfOk result
+            (λ d. IsDecidedTo self.now
+            (λ contents. step_reclassify (with_contents self.now contents) day
+            (classified.Aggregation number) (option_copied class.entry)) d) }
     {
         let class = copy_code(alloc, class)?;
         let mut aggregation = self.tree.aggregation(number).copy(alloc)?;
@@ -50,8 +54,12 @@ impl Parts {
         class: Option<&Code>,
     ) -> Result<Decision, Memory>
         requires sound { IsSoundOffice self.now }
-        requires accepted { first_of (refusals_of_reclassify self.now day (classified.Record number) (option_copied class)) ≡ None }
-        ensures { IfOk result (λ d. IsDecidedTo self.now (λ contents. step_reclassify (with_contents self.now contents) day (classified.Record number) (option_copied class.entry)) d) }
+        requires accepted { first_of (refusals_of_reclassify self.now day (classified.Record number)
+            (option_copied class)) ≡ None }
+        ensures { IfOk result
+            (λ d. IsDecidedTo self.now
+            (λ contents. step_reclassify (with_contents self.now contents) day
+            (classified.Record number) (option_copied class.entry)) d) }
     {
         let status = self.tree.status(number);
         let class = copy_code(alloc, class)?;
@@ -74,7 +82,10 @@ impl Parts {
         class: Option<&Code>,
     ) -> Result<Decision, Memory>
         requires { IsSoundOffice self.now }
-        ensures { IfOk result (λ d. IsDecidedTo self.now (λ contents. step_reclassify (with_contents self.now contents) day target (option_copied class.entry)) d) }
+        ensures { IfOk result
+            (λ d. IsDecidedTo self.now
+            (λ contents. step_reclassify (with_contents self.now contents) day target
+            (option_copied class.entry)) d) }
     {
         let by_tree = self.tree.check_reclassify(target, class);
         let by_holds = self.holds.check_reclassify(&self.tree, target, class);

@@ -42,7 +42,8 @@ impl Parts {
         }
     }
 
-    /// Whether a candidate is ready for a run of that day: it is received, or its due day is reached.
+    /// Whether a candidate is ready for a run of that day: it is received, or its due day is
+    /// reached.
     fn is_ready(&self, day: Day, record_no: RecordNo) -> bool
         requires there { IsTrue (has_record self.now.tree record_no) }
         requires candidate { IsTrue (is_candidate self.now.tree record_no) }
@@ -58,7 +59,8 @@ impl Parts {
         }
     }
 
-    /// The least ready record above the cursor of the run, and how many candidates were looked at; no other record is.
+    /// The least ready record above the cursor of the run, and how many candidates were looked at;
+    /// no other record is.
     fn next_ready_counted(&self, run: RunNo) -> (Option<RecordNo>, u32)
         requires { IsSome (numbered self.now.runs run) }
         ensures next { result.0 ≡ next_ready self.now run }
@@ -85,7 +87,8 @@ impl Parts {
         self.next_ready_counted(run).0
     }
 
-    /// The record that the next step of the open run would take, and how many candidates were looked at.
+    /// The record that the next step of the open run would take, and how many candidates were
+    /// looked at.
     pub(crate) fn next_counted(&self) -> (Option<RecordNo>, u32)
         requires { IsSoundOffice self.now }
         ensures next { result.0 ≡ next_in_run self.now }

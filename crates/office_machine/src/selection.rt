@@ -12,8 +12,8 @@ use office_tree::Tree;
 pub(crate) enum Selection {
     /// The records that are due on that day or before it.
     Due(Day),
-    /// Those whose deadline, so many days after the due day, is before that day, and of which no confirmation
-    /// counts.
+    /// Those whose deadline, so many days after the due day, is before that day, and of which no
+    /// confirmation counts.
     Overdue(Day, ConfirmDays),
 }
 

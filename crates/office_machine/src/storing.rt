@@ -16,7 +16,9 @@ pub(crate) fn put_entry(
     entries: &mut BTreeMap<(RunNo, RecordNo), Entry>,
     entry: Entry,
 ) -> Result<(), Memory>
-    ensures ok { OnOk result (from_entries {R = entry_cmp} entries.new.entries ≡ insert (from_entries entries.old.entries) (entry.run, entry.record_no) entry) }
+    ensures ok { OnOk result
+        (from_entries {R = entry_cmp} entries.new.entries
+        ≡ insert (from_entries entries.old.entries) (entry.run, entry.record_no) entry) }
     ensures err { OnErr result (entries.new.entries ≡ entries.old.entries) }
 {
     entries.insert((entry.run, entry.record_no), entry)?;
@@ -29,7 +31,9 @@ pub(crate) fn put_certificate(
     run: RunNo,
     text: String,
 ) -> Result<(), Memory>
-    ensures ok { OnOk result (from_entries {R = nat_cmp} certificates.new.entries ≡ insert (from_entries certificates.old.entries) run (string_bytes text)) }
+    ensures ok { OnOk result
+        (from_entries {R = nat_cmp} certificates.new.entries
+        ≡ insert (from_entries certificates.old.entries) run (string_bytes text)) }
     ensures err { OnErr result (certificates.new.entries ≡ certificates.old.entries) }
 {
     certificates.insert(run, Certificate::new(text))?;

@@ -30,7 +30,9 @@ fn with_status(
     status: Status,
 ) -> Result<Vec<RowWrite>, Memory>
     requires { IsTrue (has_record tree.now record_no) }
-    ensures { IfOk result (λ all. (head : Record) → numbered tree.now.records record_no ≡ Some head → all.items ≡ writes.items ++ row_write.Record record_no head status ∷ []) }
+    ensures { IfOk result
+        (λ all. (head : Record) → numbered tree.now.records record_no ≡ Some head
+        → all.items ≡ writes.items ++ row_write.Record record_no head status ∷ []) }
 {
     let head = tree.record(record_no).copy(alloc)?;
     let write = RowWrite::Record {
@@ -50,7 +52,9 @@ fn with_outcome(
     outcome: Outcome,
 ) -> Result<Vec<RowWrite>, Memory>
     requires { IsTrue (has_record tree.now record_no) }
-    ensures { IfOk result (λ all. (head : Record) → numbered tree.now.records record_no ≡ Some head → all.items ≡ writes.items ++ outcome_writes outcome record_no head) }
+    ensures { IfOk result
+        (λ all. (head : Record) → numbered tree.now.records record_no ≡ Some head
+        → all.items ≡ writes.items ++ outcome_writes outcome record_no head) }
 {
     match outcome {
         Outcome::Skipped => Ok(writes),
@@ -82,7 +86,9 @@ impl Parts {
         outcome: Outcome,
     ) -> Result<Option<Code>, Memory>
         requires { IsTrue (has_record self.now.tree record_no) }
-        ensures { IfOk result (λ hold. hold ≡ hold_by outcome (least_covering self.now.holds self.now.tree record_no)) }
+        ensures { IfOk result
+            (λ hold. hold
+            ≡ hold_by outcome (least_covering self.now.holds self.now.tree record_no)) }
     {
         match outcome {
             Outcome::Skipped => copy_code(alloc, self.holds.covering(&self.tree, record_no)),
@@ -132,8 +138,12 @@ impl Parts {
         requires there { IsTrue (has_record self.now.tree record_no) }
         requires confirmed { IsSome (confirmation_of self.now.tree record_no) }
         requires run { IsSome (numbered self.now.runs run) }
-        ensures { IfOk result (λ writes. (head : Record) (it : Run) → numbered self.now.tree.records record_no ≡ Some head → numbered self.now.runs run ≡ Some it
-            → writes.items ≡ taking_writes outcome (entry_of self.now run record_no outcome) head it) }
+        ensures { IfOk result
+            (λ writes. (head : Record) (it : Run)
+            → numbered self.now.tree.records record_no ≡ Some head
+            → numbered self.now.runs run ≡ Some it
+            → writes.items
+            ≡ taking_writes outcome (entry_of self.now run record_no outcome) head it) }
     {
         let entry = self.entry_of(alloc, run, record_no, outcome)?;
         let writes = Vec::from_array(alloc, [RowWrite::Entry { entry }])?;

@@ -22,7 +22,8 @@ fn perform_at<W: Write, S: Alter>(
     out: &mut W,
 ) -> Ending
     requires { desk.old.is_poisoned ≡ false }
-    ensures { DoneAt S.Store desk.old desk.new W.contents out.old out.new result (λ Of. Performs Of acts.now) }
+    ensures { DoneAt S.Store desk.old desk.new W.contents out.old out.new result
+        (λ Of. Performs Of acts.now) }
 {
     let mut answers = Vec::new(alloc);
     let done = desk.perform_all(acts, &mut answers);
@@ -40,7 +41,8 @@ fn apply_at<W: Write, S: Alter>(
     out: &mut W,
 ) -> Ending
     requires { desk.old.is_poisoned ≡ false }
-    ensures { DoneAt S.Store desk.old desk.new W.contents out.old out.new result (λ Of. Applies Of text.now) }
+    ensures { DoneAt S.Store desk.old desk.new W.contents out.old out.new result
+        (λ Of. Applies Of text.now) }
 {
     match read_acts(alloc, text) {
         Ok(acts) => perform_at(alloc, desk, acts.as_slice(), out),
@@ -69,8 +71,8 @@ fn apply_text<W: Write, S: Alter>(
     }
 }
 
-/// `apply FILE ACTS` over a connection to the file, outside a transaction; `input` is the text of acts. The answers go
-/// to `out`, a line for each, and the connection is given back.
+/// `apply FILE ACTS` over a connection to the file, outside a transaction; `input` is the text of
+/// acts. The answers go to `out`, a line for each, and the connection is given back.
 pub fn apply_on<R: Read, W: Write, S: Alter>(
     alloc: Global,
     conn: Connection<S>,
@@ -78,7 +80,8 @@ pub fn apply_on<R: Read, W: Write, S: Alter>(
     out: &mut W,
 ) -> (Ending, Connection<S>)
     requires { conn.in_transaction ≡ false }
-    ensures { CarriedOut S.Store conn result W.contents out.old out.new (ApplyEnds S.Store (R.remaining input.old)) }
+    ensures { CarriedOut S.Store conn result W.contents out.old out.new
+        (ApplyEnds S.Store (R.remaining input.old)) }
 {
     match read_whole(alloc, input) {
         Ok(text) => apply_text(alloc, conn, text.as_slice(), out),

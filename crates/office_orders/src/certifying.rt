@@ -15,7 +15,8 @@ use std::io::Write;
 /// Reports a text as it is.
 fn report_text<W: Write>(text: &str, out: &mut W) -> Ending
     ensures endings { (result ≡ Ending.Done) ⊎ (result ≡ Ending.File) }
-    ensures written { result ≡ Ending.Done → Appends (W.contents out.old) (W.contents out.new) text.now }
+    ensures written { result ≡ Ending.Done
+        → Appends (W.contents out.old) (W.contents out.new) text.now }
 {
     match write_out(text.as_bytes(), out) {
         Ok(()) => Ending::Done,
@@ -26,7 +27,8 @@ fn report_text<W: Write>(text: &str, out: &mut W) -> Ending
 /// Reports the certificate of that run at a desk that is open.
 fn certificate_at<W: Write, S: Alter>(desk: &Desk<S>, run: u32, out: &mut W) -> Ending
     requires { desk.now.is_poisoned ≡ false }
-    ensures { Certifies (λ P. (s : State) → s.office ≡ desk.now.office → P s) run (W.contents out.old) (W.contents out.new) result }
+    ensures { Certifies (λ P. (s : State) → s.office ≡ desk.now.office → P s) run
+        (W.contents out.old) (W.contents out.new) result }
 {
     match desk.certificate(run) {
         Ok(Some(text)) => report_text(text.as_str(), out),
@@ -35,7 +37,8 @@ fn certificate_at<W: Write, S: Alter>(desk: &Desk<S>, run: u32, out: &mut W) -> 
     }
 }
 
-/// `certificate FILE N` over a connection to the file, outside a transaction. The connection is given back.
+/// `certificate FILE N` over a connection to the file, outside a transaction. The connection is
+/// given back.
 pub fn certificate_on<W: Write, S: Alter>(
     alloc: Global,
     conn: Connection<S>,

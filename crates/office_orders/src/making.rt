@@ -15,7 +15,8 @@ use std::io::Write;
 /// Reports the version of the office's file.
 fn report_version<W: Write>(out: &mut W) -> Ending
     ensures endings { (result ≡ Ending.Done) ⊎ (result ≡ Ending.File) }
-    ensures written { result ≡ Ending.Done → Appends (W.contents out.old) (W.contents out.new) version_line }
+    ensures written { result ≡ Ending.Done
+        → Appends (W.contents out.old) (W.contents out.new) version_line }
 {
     match write_out(b"version 2\n", out) {
         Ok(()) => Ending::Done,
@@ -23,8 +24,8 @@ fn report_version<W: Write>(out: &mut W) -> Ending
     }
 }
 
-/// `init FILE` over a connection to the file, outside a transaction: an office that is there already is opened, and one
-/// of version 1 is made one of version 2. The connection is given back.
+/// `init FILE` over a connection to the file, outside a transaction: an office that is there
+/// already is opened, and one of version 1 is made one of version 2. The connection is given back.
 pub fn init_on<W: Write, S: Alter>(
     alloc: Global,
     conn: Connection<S>,

@@ -7,7 +7,8 @@ use crate::ending::Ending;
 use office_base::Io;
 use std::io::Write;
 
-/// Reports the line of an ending, with its line feed, or nothing; at an error some of it may have gone out.
+/// Reports the line of an ending, with its line feed, or nothing; at an error some of it may have
+/// gone out.
 pub fn report<E: Write>(ending: Ending, err: &mut E) -> Result<(), Io>
     ensures { OnOk result (Appends (E.contents err.old) (E.contents err.new) (line_said ending)) }
 {

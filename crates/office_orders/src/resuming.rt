@@ -16,7 +16,8 @@ use std::io::Write;
 
 /// Writes the line that reports the run that was closed, and flushes.
 fn write_closed<W: Write>(run: u32, out: &mut W) -> Result<(), Io>
-    ensures { OnOk result (Appends (W.contents out.old) (W.contents out.new) (certificate_line run)) }
+    ensures { OnOk result
+        (Appends (W.contents out.old) (W.contents out.new) (certificate_line run)) }
 {
     writeln!(out, "certificate {run}").or(Err(Io))?;
     out.flush().or(Err(Io))
@@ -35,7 +36,8 @@ fn report_closed<W: Write>(run: u32, out: &mut W) -> Ending
 /// Reports what a resumption answers, which is one of two answers.
 fn report_answer<W: Write>(answer: Answer, out: &mut W) -> Ending
     requires { (was_open : Option ℕ) × (answer ≡ resumed_answer was_open) }
-    ensures { (was_open : Option ℕ) → answer ≡ resumed_answer was_open → IsAnswerReported was_open (W.contents out.old) (W.contents out.new) result }
+    ensures { (was_open : Option ℕ) → answer ≡ resumed_answer was_open
+        → IsAnswerReported was_open (W.contents out.old) (W.contents out.new) result }
 {
     match answer {
         Answer::RunClosed(run) => report_closed(run, out),
@@ -56,7 +58,8 @@ fn resume_at<W: Write, S: Alter>(desk: &mut Desk<S>, out: &mut W) -> Ending
     }
 }
 
-/// `resume FILE` over a connection to the file, outside a transaction. The connection is given back.
+/// `resume FILE` over a connection to the file, outside a transaction. The connection is given
+/// back.
 pub fn resume_on<W: Write, S: Alter>(
     alloc: Global,
     conn: Connection<S>,

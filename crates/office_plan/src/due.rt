@@ -53,11 +53,15 @@ pub fn due_to<W: Write>(
     day: &str,
     out: &mut W,
 ) -> Result<Option<Refusal>, Io>
-    ensures refusal { IfOk result (λ refusal. refusal ≡ refusal_asked (due_asked unit.now count.now offset.now day.now)) }
-    ensures written { OnOk result (Appends (W.contents out.old) (W.contents out.new) (written_line (due_asked unit.now count.now offset.now day.now))) }
+    ensures refusal { IfOk result
+        (λ refusal. refusal ≡ refusal_asked (due_asked unit.now count.now offset.now day.now)) }
+    ensures written { OnOk result
+        (Appends (W.contents out.old) (W.contents out.new)
+        (written_line (due_asked unit.now count.now offset.now day.now))) }
 
     // Where the words are refused, the writer is not touched, and so cannot fail.
-    ensures untouched { IfErr (due_asked unit.now count.now offset.now day.now) (λ _. out.new ≡ out.old) }
+    ensures untouched { IfErr (due_asked unit.now count.now offset.now day.now)
+        (λ _. out.new ≡ out.old) }
     ensures failed { OnErr result (IsOk (due_asked unit.now count.now offset.now day.now)) }
 {
     match due_of(unit, count, offset, day) {

@@ -7,7 +7,8 @@ use std::alloc::{AllocError, Global};
 /// The words of a line, parted by one space each; two spaces in a row have an empty word between
 /// them, and a line of no byte is one empty word.
 pub fn words_of<'a>(alloc: Global, line: &'a str) -> Result<Vec<&'a str>, AllocError>
-    ensures { IfOk result (λ words. map (λ word. word.now) words.items ≡ slice_split (λ byte. byte == 32) line.now) }
+    ensures { IfOk result
+        (λ words. map (λ word. word.now) words.items ≡ slice_split (λ byte. byte == 32) line.now) }
 {
     line.split(' ').collect(alloc)
 }

@@ -20,7 +20,8 @@ fn take_lines(
     tree: &mut Tree,
     bytes: &[u8],
 ) -> Result<Option<(u64, Refusal)>, Memory>
-    ensures { IfOk result (λ refused. plan_from 1 (lines bytes.now) tree.old ≡ plan_result refused tree.new) }
+    ensures { IfOk result
+        (λ refused. plan_from 1 (lines bytes.now) tree.old ≡ plan_result refused tree.new) }
 {
     let mut rest = bytes;
     let mut number: u64 = 0;
@@ -74,8 +75,12 @@ fn lines_of(alloc: Global, tree: &Tree) -> Result<Vec<u8>, AllocError>
 
 /// The lines of all records of a plan file, or the first line that is refused, and why.
 fn lines_asked(alloc: Global, bytes: &[u8]) -> Result<Result<Vec<u8>, (u64, Refusal)>, Memory>
-    ensures lines { IfOk result (λ reported. IfOk reported (λ lines. (plan_refusal (plan_asked bytes.now) ≡ None) × (lines.items ≡ plan_written (plan_asked bytes.now)))) }
-    ensures refused { IfOk result (λ reported. IfErr reported (λ refused. plan_asked bytes.now ≡ Err refused)) }
+    ensures lines { IfOk result
+        (λ reported. IfOk reported
+        (λ lines. (plan_refusal (plan_asked bytes.now) ≡ None)
+        × (lines.items ≡ plan_written (plan_asked bytes.now)))) }
+    ensures refused { IfOk result
+        (λ reported. IfErr reported (λ refused. plan_asked bytes.now ≡ Err refused)) }
 {
     let mut tree = Tree::new(alloc);
     match take_lines(alloc, &mut tree, bytes) {
@@ -98,8 +103,13 @@ pub fn plan_to<R: Read, W: Write>(
     reader: &mut R,
     out: &mut W,
 ) -> Result<Option<(u64, Refusal)>, Stop>
-    ensures refusal { IfOk result (λ refused. IfSome (R.remaining reader.old) (λ bytes. refused ≡ plan_refusal (plan_asked bytes))) }
-    ensures written { OnOk result (IfSome (R.remaining reader.old) (λ bytes. Appends (W.contents out.old) (W.contents out.new) (plan_written (plan_asked bytes)))) }
+    ensures refusal { IfOk result
+        (λ refused. IfSome (R.remaining reader.old)
+        (λ bytes. refused ≡ plan_refusal (plan_asked bytes))) }
+    ensures written { OnOk result
+        (IfSome (R.remaining reader.old)
+        (λ bytes. Appends (W.contents out.old) (W.contents out.new)
+        (plan_written (plan_asked bytes)))) }
 
     // Where a line is refused, or memory, the writer is not touched.
     ensures untouched { IfOk result (λ refused. IsSome refused → out.new ≡ out.old) }

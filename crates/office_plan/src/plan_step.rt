@@ -45,7 +45,9 @@ fn title_of(alloc: Global, code: &Code) -> Result<Text, Memory>
 }
 
 fn add_schedule(tree: &mut Tree, code: Code, schedule: Schedule) -> Result<Option<Refusal>, Memory>
-    ensures { IfOk result (λ refusal. done_or_refused (first_of (conditions_of_add_schedule tree.old code)) (added_schedule tree.old code schedule) ≡ done_or_refused refusal tree.new) }
+    ensures { IfOk result
+        (λ refusal. done_or_refused (first_of (conditions_of_add_schedule tree.old code))
+        (added_schedule tree.old code schedule) ≡ done_or_refused refusal tree.new) }
 {
     match tree.check_add_schedule(&code) {
         Some(refusal) => Ok(Some(refusal)),
@@ -59,7 +61,10 @@ fn add_class(
     code: Code,
     schedule: Code,
 ) -> Result<Option<Refusal>, Memory>
-    ensures { IfOk result (λ refusal. done_or_refused (first_of (conditions_of_add_class tree.old code schedule)) (added_class tree.old code (record { title = code; schedule = schedule })) ≡ done_or_refused refusal tree.new) }
+    ensures { IfOk result
+        (λ refusal. done_or_refused (first_of (conditions_of_add_class tree.old code schedule))
+        (added_class tree.old code (record { title = code; schedule = schedule }))
+        ≡ done_or_refused refusal tree.new) }
 {
     if let Some(refusal) = tree.check_add_class(&code, &schedule) {
         return Ok(Some(refusal));
@@ -75,7 +80,12 @@ fn add_aggregation(
     class: Option<Code>,
     parent: Option<AggNo>,
 ) -> Result<Option<Refusal>, Memory>
-    ensures { IfOk result (λ refusal. done_or_refused (first_of (conditions_of_add_aggregation tree.old (next_aggregation tree.old) parent class)) (added_aggregation tree.old (next_aggregation tree.old) (next_aggregation tree.old) parent class) ≡ done_or_refused refusal tree.new) }
+    ensures { IfOk result
+        (λ refusal. done_or_refused
+        (first_of (conditions_of_add_aggregation tree.old (next_aggregation tree.old) parent
+        class))
+        (added_aggregation tree.old (next_aggregation tree.old) (next_aggregation tree.old)
+        parent class) ≡ done_or_refused refusal tree.new) }
 {
     let (ref_text, title) = names_of(alloc, tree.aggregation_count() + 1)?;
     match tree.check_add_aggregation(&ref_text, parent, class.as_ref()) {
@@ -91,7 +101,10 @@ fn close_aggregation(
     aggregation: AggNo,
     day: Day,
 ) -> Result<Option<Refusal>, Memory>
-    ensures { IfOk result (λ refusal. done_or_refused (first_of (conditions_of_close_aggregation tree.old aggregation)) (closed_aggregation tree.old aggregation day) ≡ done_or_refused refusal tree.new) }
+    ensures { IfOk result
+        (λ refusal. done_or_refused
+        (first_of (conditions_of_close_aggregation tree.old aggregation))
+        (closed_aggregation tree.old aggregation day) ≡ done_or_refused refusal tree.new) }
 {
     match tree.check_close_aggregation(aggregation) {
         Some(refusal) => Ok(Some(refusal)),
@@ -111,7 +124,9 @@ struct Planned {
 
 /// The head of a record of a plan file, with no content.
 fn head_of(names: (Text, Text), planned: Planned) -> Record
-    ensures { result ≡ record (planned_head names.0 planned.aggregation planned.class planned.schedule planned.originated planned.added) { title = names.1 } }
+    ensures { result
+        ≡ record (planned_head names.0 planned.aggregation planned.class planned.schedule
+        planned.originated planned.added) { title = names.1 } }
 {
     let (ref_text, title) = names;
     let Planned {
@@ -139,7 +154,9 @@ fn head_of(names: (Text, Text), planned: Planned) -> Record
 
 /// Why the tree refuses a record.
 fn refusal_of(tree: &Tree, head: &Record) -> Option<Refusal>
-    ensures { result ≡ first_of (conditions_of_add_record tree.now head.now.ref_text head.now.aggregation head.now.class head.now.schedule) }
+    ensures { result
+        ≡ first_of (conditions_of_add_record tree.now head.now.ref_text head.now.aggregation
+        head.now.class head.now.schedule) }
 {
     tree.check_add_record(
         &head.ref_text,
@@ -150,7 +167,14 @@ fn refusal_of(tree: &Tree, head: &Record) -> Option<Refusal>
 }
 
 fn add_record(alloc: Global, tree: &mut Tree, planned: Planned) -> Result<Option<Refusal>, Memory>
-    ensures { IfOk result (λ refusal. done_or_refused (first_of (conditions_of_add_record tree.old (next_record tree.old) planned.aggregation planned.class planned.schedule)) (added_record tree.old (planned_head (next_record tree.old) planned.aggregation planned.class planned.schedule planned.originated planned.added)) ≡ done_or_refused refusal tree.new) }
+    ensures { IfOk result
+        (λ refusal. done_or_refused
+        (first_of (conditions_of_add_record tree.old (next_record tree.old)
+        planned.aggregation planned.class planned.schedule))
+        (added_record tree.old
+        (planned_head (next_record tree.old) planned.aggregation planned.class
+        planned.schedule planned.originated planned.added))
+        ≡ done_or_refused refusal tree.new) }
 {
     let head = head_of(names_of(alloc, tree.record_count() + 1)?, planned);
     match refusal_of(tree, &head) {
@@ -159,14 +183,18 @@ fn add_record(alloc: Global, tree: &mut Tree, planned: Planned) -> Result<Option
     }
 }
 
-/// Records an event of a record on the day on which it occurred, by the digits of the record's number.
+/// Records an event of a record on the day on which it occurred, by the digits of the record's
+/// number.
 fn record_event(
     alloc: Global,
     tree: &mut Tree,
     record_no: RecordNo,
     day: Day,
 ) -> Result<Option<Refusal>, Memory>
-    ensures { IfOk result (λ refusal. done_or_refused (first_of (conditions_of_event tree.old day record_no day)) (with_event tree.old day record_no day (decimal record_no)) ≡ done_or_refused refusal tree.new) }
+    ensures { IfOk result
+        (λ refusal. done_or_refused (first_of (conditions_of_event tree.old day record_no day))
+        (with_event tree.old day record_no day (decimal record_no))
+        ≡ done_or_refused refusal tree.new) }
 {
     if let Some(refusal) = tree.check_event(day, record_no, day) {
         return Ok(Some(refusal));
@@ -201,7 +229,9 @@ fn do_line(alloc: Global, tree: &mut Tree, line: PlanLine) -> Result<Option<Refu
 
 /// Does what a line that is text asks for, or gives why it is refused.
 fn do_text(alloc: Global, tree: &mut Tree, line: &str) -> Result<Option<Refusal>, Memory>
-    ensures { IfOk result (λ refusal. read_and_done tree.old (line_asked line.now) ≡ done_or_refused refusal tree.new) }
+    ensures { IfOk result
+        (λ refusal. read_and_done tree.old (line_asked line.now)
+        ≡ done_or_refused refusal tree.new) }
 {
     match read_line(alloc, line)? {
         Ok(line) => do_line(alloc, tree, line),
@@ -212,7 +242,8 @@ fn do_text(alloc: Global, tree: &mut Tree, line: &str) -> Result<Option<Refusal>
 /// Takes a line of a plan file: does what it asks for, or gives why it is refused.
 #[tactic(auto, unfolding(crate::specs::PlanFile::line_taken))]
 pub fn take_line(alloc: Global, tree: &mut Tree, line: &[u8]) -> Result<Option<Refusal>, Memory>
-    ensures { IfOk result (λ refusal. line_taken tree.old line.now ≡ done_or_refused refusal tree.new) }
+    ensures { IfOk result
+        (λ refusal. line_taken tree.old line.now ≡ done_or_refused refusal tree.new) }
 {
     if line.is_empty() {
         return Ok(None);

@@ -24,9 +24,12 @@ fn line_reported<'a>(
     length: &'a str,
     digest: &'a str,
 ) -> Result<String, Memory>
-    ensures { IfOk result (λ line. string_bytes line ≡ tabbed (
-        codes "ENTRY" ∷ number.now ∷ outcome_word entry.now.outcome ∷ head.now.ref_text ∷ entry.now.class ∷ entry.now.schedule ∷ due.now
-        ∷ unwrap_or entry.now.hold (codes "-") ∷ entry.now.confirmed_by ∷ length.now ∷ digest.now ∷ []) ++ 10 ∷ []) }
+    ensures { IfOk result
+        (λ line. string_bytes line
+        ≡ tabbed (codes "ENTRY" ∷ number.now ∷ outcome_word entry.now.outcome
+        ∷ head.now.ref_text ∷ entry.now.class ∷ entry.now.schedule ∷ due.now
+        ∷ unwrap_or entry.now.hold (codes "-") ∷ entry.now.confirmed_by ∷ length.now
+        ∷ digest.now ∷ []) ++ 10 ∷ []) }
 {
     line_of(
         alloc,
@@ -46,8 +49,8 @@ fn line_reported<'a>(
     )
 }
 
-/// The line of an entry in a certificate, ended by a line feed: the word ENTRY and ten columns, parted
-/// by tabs, of which ref, length and digest are those of its record's head.
+/// The line of an entry in a certificate, ended by a line feed: the word ENTRY and ten columns,
+/// parted by tabs, of which ref, length and digest are those of its record's head.
 pub fn entry_line(alloc: Global, entry: &Entry, head: &Record) -> Result<String, Memory>
     ensures { IfOk result (λ line. string_bytes line ≡ entry_line entry.now head.now) }
 {
@@ -76,9 +79,9 @@ fn seal(alloc: Global, text: &mut String) -> Result<(), Memory>
 }
 
 /// The text of a run's certificate: its number, day and opener, how many entries have each kind of
-/// outcome, the line of each entry in the order given, the lines of the spent aggregations, and last the
-/// SHA-256 digest of all bytes before that line. An entry or a number of which the tree has no record or
-/// aggregation gets no line.
+/// outcome, the line of each entry in the order given, the lines of the spent aggregations, and
+/// last the SHA-256 digest of all bytes before that line. An entry or a number of which the tree
+/// has no record or aggregation gets no line.
 pub fn certificate_text(
     alloc: Global,
     tree: &Tree,
@@ -88,7 +91,10 @@ pub fn certificate_text(
     entries: &[&Entry],
     spent: &[AggNo],
 ) -> Result<String, Memory>
-    ensures { IfOk result (λ text. string_bytes text ≡ certificate_text tree.now run day by.now (map (λ entry. entry.now) entries.now) spent.now) }
+    ensures { IfOk result
+        (λ text. string_bytes text
+        ≡ certificate_text tree.now run day by.now (map (λ entry. entry.now) entries.now)
+        spent.now) }
 {
     let mut text = String::new(alloc);
     push_run(alloc, &mut text, run, day, by)?;

@@ -76,7 +76,8 @@ fn digest_in(text: &[u8]) -> Option<[u8; 32]>
     requires { length text.now ≡ 64 }
     ensures formed { IfSome result IsDigest }
     ensures exact { IfSome result (λ digest. text.now ≡ encode_lower digest) }
-    ensures none { result ≡ None → (digest : List ℕ) → IsDigest digest → text.now ≢ encode_lower digest }
+    ensures none { result ≡ None → (digest : List ℕ) → IsDigest digest
+        → text.now ≢ encode_lower digest }
 {
     if !are_digits(text) {
         return None;
@@ -84,12 +85,13 @@ fn digest_in(text: &[u8]) -> Option<[u8; 32]>
     Some(digest_of_digits(text))
 }
 
-/// The digest that a text writes in 64 lower-case hexadecimal digits; `None` where it writes none, as
-/// with upper-case digits. It takes no memory.
+/// The digest that a text writes in 64 lower-case hexadecimal digits; `None` where it writes none,
+/// as with upper-case digits. It takes no memory.
 pub fn read_digest(text: &str) -> Option<[u8; 32]>
     ensures named { result ≡ digest_named text.now }
     ensures exact { IfSome result (λ digest. text.now ≡ encode_lower digest) }
-    ensures every { (digest : List ℕ) → IsDigest digest → text.now ≡ encode_lower digest → result ≡ Some digest }
+    ensures every { (digest : List ℕ) → IsDigest digest → text.now ≡ encode_lower digest
+        → result ≡ Some digest }
 {
     if text.len() != 64 {
         return None;

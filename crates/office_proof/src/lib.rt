@@ -2,11 +2,13 @@
 //!
 //! A run writes one **entry** for each record that it takes: what came of the record, under which
 //! class and schedule, for which confirmed due day and by whom it was confirmed, and for a skipped
-//! record the hold that covered it. When the run closes, its **certificate** lists the entries by record
-//! number, and the aggregations that are spent, and ends with the SHA-256 of all bytes above.
+//! record the hold that covered it. When the run closes, its **certificate** lists the entries by
+//! record number, and the aggregations that are spent, and ends with the SHA-256 of all bytes
+//! above.
 //!
 //! The crate has the types, the definitions (`specs`) and laws of what these mean, the words of
-//! outcomes, the digest of a content and the digits that write one, the line of an entry and the text of a certificate.
+//! outcomes, the digest of a content and the digits that write one, the line of an entry and the
+//! text of a certificate.
 #![tactic(auto)]
 
 mod certificate;

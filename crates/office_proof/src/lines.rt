@@ -18,7 +18,9 @@ use std::alloc::Global;
 
 /// Appends a line of its kind and what it reports.
 pub(crate) fn push_line(text: &mut String, kind: &str, reported: &str) -> Result<(), Memory>
-    ensures { OnOk result (string_bytes text.new ≡ string_bytes text.old ++ lines_text ((kind.now ++ reported.now) ∷ [])) }
+    ensures { OnOk result
+        (string_bytes text.new
+        ≡ string_bytes text.old ++ lines_text ((kind.now ++ reported.now) ∷ [])) }
 {
     text.push_str(kind)?;
     text.push_str(reported)?;
@@ -28,7 +30,9 @@ pub(crate) fn push_line(text: &mut String, kind: &str, reported: &str) -> Result
 
 /// Appends a line of its kind and a number.
 fn push_number(alloc: Global, text: &mut String, kind: &str, number: u64) -> Result<(), Memory>
-    ensures { OnOk result (string_bytes text.new ≡ string_bytes text.old ++ lines_text ((kind.now ++ decimal number) ∷ [])) }
+    ensures { OnOk result
+        (string_bytes text.new
+        ≡ string_bytes text.old ++ lines_text ((kind.now ++ decimal number) ∷ [])) }
 {
     let word = number_word(alloc, number)?;
     push_line(text, kind, word.as_str())
@@ -36,7 +40,9 @@ fn push_number(alloc: Global, text: &mut String, kind: &str, number: u64) -> Res
 
 /// Appends the line of a day.
 fn push_day(alloc: Global, text: &mut String, day: Day) -> Result<(), Memory>
-    ensures { OnOk result (string_bytes text.new ≡ string_bytes text.old ++ lines_text ((codes "DAY " ++ date_text day) ∷ [])) }
+    ensures { OnOk result
+        (string_bytes text.new
+        ≡ string_bytes text.old ++ lines_text ((codes "DAY " ++ date_text day) ∷ [])) }
 {
     let word = day_word(alloc, day)?;
     push_line(text, "DAY ", word.as_str())
@@ -50,8 +56,11 @@ pub(crate) fn push_run(
     day: Day,
     by: &Text,
 ) -> Result<(), Memory>
-    ensures { OnOk result (string_bytes text.new ≡ string_bytes text.old ++ lines_text (
-        (codes "CERTIFICATE " ++ decimal run) ∷ (codes "DAY " ++ date_text day) ∷ (codes "BY " ++ by.now) ∷ [])) }
+    ensures { OnOk result
+        (string_bytes text.new
+        ≡ string_bytes text.old
+        ++ lines_text ((codes "CERTIFICATE " ++ decimal run)
+        ∷ (codes "DAY " ++ date_text day) ∷ (codes "BY " ++ by.now) ∷ [])) }
 {
     push_number(alloc, text, "CERTIFICATE ", run as u64)?;
     push_day(alloc, text, day)?;
@@ -95,8 +104,12 @@ pub(crate) fn push_counts(
     text: &mut String,
     entries: &[&Entry],
 ) -> Result<(), Memory>
-    ensures { OnOk result (let each = map (λ entry. entry.now) entries.now in string_bytes text.new ≡ string_bytes text.old ++ lines_text (
-        (codes "ENDED " ++ counted is_ending each) ∷ (codes "SENT " ++ counted is_sending each) ∷ (codes "SKIPPED " ++ counted is_skipping each) ∷ [])) }
+    ensures { OnOk result
+        (let each = map (λ entry. entry.now) entries.now in string_bytes text.new
+        ≡ string_bytes text.old
+        ++ lines_text ((codes "ENDED " ++ counted is_ending each)
+        ∷ (codes "SENT " ++ counted is_sending each)
+        ∷ (codes "SKIPPED " ++ counted is_skipping each) ∷ [])) }
 {
     push_number(alloc, text, "ENDED ", ended(entries) as u64)?;
     push_number(alloc, text, "SENT ", sent(entries) as u64)?;
@@ -106,7 +119,11 @@ pub(crate) fn push_counts(
 
 /// Appends the line of an entry, if its record is there.
 fn push_entry(alloc: Global, text: &mut String, tree: &Tree, entry: &Entry) -> Result<(), Memory>
-    ensures { OnOk result (string_bytes text.new ≡ string_bytes text.old ++ lines_text (made_of (entry_words entry.now) (numbered tree.now.records entry.now.record_no))) }
+    ensures { OnOk result
+        (string_bytes text.new
+        ≡ string_bytes text.old
+        ++ lines_text (made_of (entry_words entry.now)
+        (numbered tree.now.records entry.now.record_no))) }
 {
     if !tree.has_record(entry.record_no) {
         return Ok(());
@@ -123,8 +140,12 @@ pub(crate) fn push_entries(
     tree: &Tree,
     entries: &[&Entry],
 ) -> Result<(), Memory>
-    ensures { OnOk result (string_bytes text.new ≡ string_bytes text.old
-        ++ lines_text (flat_map (λ e. made_of (entry_words e) (numbered tree.now.records e.record_no)) (map (λ entry. entry.now) entries.now))) }
+    ensures { OnOk result
+        (string_bytes text.new
+        ≡ string_bytes text.old
+        ++ lines_text (flat_map
+        (λ e. made_of (entry_words e) (numbered tree.now.records e.record_no))
+        (map (λ entry. entry.now) entries.now))) }
 {
     for entry in entries {
         push_entry(alloc, text, tree, entry)?;
@@ -147,7 +168,11 @@ fn push_aggregation(
     tree: &Tree,
     number: AggNo,
 ) -> Result<(), Memory>
-    ensures { OnOk result (string_bytes text.new ≡ string_bytes text.old ++ lines_text (made_of (aggregation_words number) (numbered tree.now.aggregations number))) }
+    ensures { OnOk result
+        (string_bytes text.new
+        ≡ string_bytes text.old
+        ++ lines_text
+        (made_of (aggregation_words number) (numbered tree.now.aggregations number))) }
 {
     if !tree.has_aggregation(number) {
         return Ok(());
@@ -164,8 +189,12 @@ fn push_aggregations(
     tree: &Tree,
     spent: &[AggNo],
 ) -> Result<(), Memory>
-    ensures { OnOk result (string_bytes text.new ≡ string_bytes text.old
-        ++ lines_text (flat_map (λ (a : ℕ). made_of (aggregation_words a) (numbered tree.now.aggregations a)) spent.now)) }
+    ensures { OnOk result
+        (string_bytes text.new
+        ≡ string_bytes text.old
+        ++ lines_text (flat_map
+        (λ (a : ℕ). made_of (aggregation_words a)
+        (numbered tree.now.aggregations a)) spent.now)) }
 {
     for number in spent {
         push_aggregation(alloc, text, tree, *number)?;
@@ -180,8 +209,13 @@ pub(crate) fn push_spent(
     tree: &Tree,
     spent: &[AggNo],
 ) -> Result<(), Memory>
-    ensures { OnOk result (string_bytes text.new ≡ string_bytes text.old
-        ++ lines_text ((codes "SPENT " ++ decimal (length spent.now)) ∷ flat_map (λ (a : ℕ). made_of (aggregation_words a) (numbered tree.now.aggregations a)) spent.now)) }
+    ensures { OnOk result
+        (string_bytes text.new
+        ≡ string_bytes text.old
+        ++ lines_text ((codes "SPENT " ++ decimal (length spent.now))
+        ∷ flat_map
+        (λ (a : ℕ). made_of (aggregation_words a)
+        (numbered tree.now.aggregations a)) spent.now)) }
 {
     push_number(alloc, text, "SPENT ", spent.len() as u64)?;
     push_aggregations(alloc, text, tree, spent)?;

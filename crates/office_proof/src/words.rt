@@ -66,7 +66,8 @@ pub(crate) fn hold_word(entry: &Entry) -> &str
 /// The line of these words, with a tab between each two.
 #[tactic(auto, using(crate::proofs::Texts::joined_is))]
 pub(crate) fn line_of(alloc: Global, words: &[&str]) -> Result<String, Memory>
-    ensures { IfOk result (λ line. string_bytes line ≡ tabbed (map (λ word. word.now) words.now) ++ 10 ∷ []) }
+    ensures { IfOk result
+        (λ line. string_bytes line ≡ tabbed (map (λ word. word.now) words.now) ++ 10 ∷ []) }
 {
     let mut line = words.join(alloc, "\t")?;
     line.push_str("\n")?;

@@ -22,7 +22,8 @@ impl Model for ActsBody {
 impl ActsBody {
     ghost use Rattle.std.specs.Prelude.{◌≡◌, ◌≤◌, length, slice_range};
 
-    /// The bytes of a buffer from `start` to `end`, which are counted from 0; the byte at `end` is none of them.
+    /// The bytes of a buffer from `start` to `end`, which are counted from 0; the byte at `end` is
+    /// none of them.
     pub fn new(buf: Vec<u8>, start: usize, end: usize) -> ActsBody
         requires ordered { start ≤ end }
         requires within { end ≤ length buf.items }

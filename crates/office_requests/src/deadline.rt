@@ -14,20 +14,24 @@ use std::time::{Clock, Duration};
 /// How many seconds a whole request may take, and how many its whole answer. Source: own.
 pub const LONGEST: u64 = 60;
 
-/// How often one read or write is asked again after a signal: more often than signals come in that time.
+/// How often one read or write is asked again after a signal: more often than signals come in that
+/// time.
 const INTERRUPTIONS: u32 = 1_000_000;
 
-/// What is left of the time for what began then; none where it is over. Both are readings of one clock.
+/// What is left of the time for what began then; none where it is over. Both are readings of one
+/// clock.
 fn left(began: Duration, now: Duration) -> Option<Duration>
     ensures over { IsNone result ↔ (LONGEST * 1_000_000_000 ≤ as_nanos now - as_nanos began) }
-    ensures left { IfSome result (λ it. as_nanos it ≡ LONGEST * 1_000_000_000 - (as_nanos now - as_nanos began)) }
+    ensures left { IfSome result
+        (λ it. as_nanos it ≡ LONGEST * 1_000_000_000 - (as_nanos now - as_nanos began)) }
 {
     let left = Duration::from_secs(LONGEST).checked_sub(now.saturating_sub(began))?;
     if left.is_zero() { None } else { Some(left) }
 }
 
-/// A side of a connection, whose time begins as it is first read or written. It reports no bytes beforehand, as
-/// a socket does not. Contracts see a `Side`: the connection, and when its time began, once it has.
+/// A side of a connection, whose time begins as it is first read or written. It reports no bytes
+/// beforehand, as a socket does not. Contracts see a `Side`: the connection, and when its time
+/// began, once it has.
 #[derive(Drop)]
 pub struct Timed<'a, C, K> {
     stream: C,

@@ -141,9 +141,13 @@ fn receive_rest<R: Read>(
     headers: &[HeaderSpan],
 ) -> Result<Asked, ReceiveStop>
     requires at { IsHeadAt head.now buf.items headers.now }
-    ensures ok { IfOk result (λ it. IfSome (R.remaining reader.old) (λ left.
-        (h : RequestHead) → IsRequestAt buf.items headers.now head.now h → IsAskedBy h (drop head.now.len buf.items ++ left) it)) }
-    ensures err { IfErr result (λ stop. (h : RequestHead) → IsRequestAt buf.items headers.now head.now h → IsOutOfMemoryFor h stop) }
+    ensures ok { IfOk result
+        (λ it. IfSome (R.remaining reader.old)
+        (λ left. (h : RequestHead) → IsRequestAt buf.items headers.now head.now h
+        → IsAskedBy h (drop head.now.len buf.items ++ left) it)) }
+    ensures err { IfErr result
+        (λ stop. (h : RequestHead) → IsRequestAt buf.items headers.now head.now h
+        → IsOutOfMemoryFor h stop) }
 {
     let is_head = is_head_in(buf.as_slice(), head);
     let plan = plan_in(routes, buf.as_slice(), head, headers);
@@ -154,9 +158,9 @@ fn receive_rest<R: Read>(
     }
 }
 
-/// Reads all of a request: its head, and a body where it asks for acts. It is known then whether a check
-/// of the head fails; no act is looked at yet. Nothing is known of the office here, so nothing is done
-/// where it stops.
+/// Reads all of a request: its head, and a body where it asks for acts. It is known then whether a
+/// check of the head fails; no act is looked at yet. Nothing is known of the office here, so
+/// nothing is done where it stops.
 pub fn receive<R: Read>(
     alloc: Global,
     routes: &Routes,

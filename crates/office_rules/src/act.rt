@@ -97,14 +97,16 @@ pub enum Act {
         schedule: Option<Code>,
         by: Text,
     },
-    /// Reports a receiver's receipt for a record that was sent; `digest` is that of what was received.
+    /// Reports a receiver's receipt for a record that was sent; `digest` is that of what was
+    /// received.
     Receipt {
         day: Day,
         record_no: RecordNo,
         digest: [u8; 32],
         by: Text,
     },
-    /// Records an event of a record, with which its retention period may begin; a later one takes the place of the earlier.
+    /// Records an event of a record, with which its retention period may begin; a later one takes
+    /// the place of the earlier.
     Event {
         day: Day,
         record_no: RecordNo,
@@ -116,6 +118,7 @@ pub enum Act {
         day: Day,
         by: Text,
     },
-    /// Lets the open run take its next record, or close where there is none. It has no day of its own.
+    /// Lets the open run take its next record, or close where there is none. It has no day of its
+    /// own.
     RunStep,
 }

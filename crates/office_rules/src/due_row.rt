@@ -2,7 +2,8 @@
 use office_days::DueDay;
 use office_terms::{Action, Code, RecordNo, Text};
 
-/// A record that is due, as the list and the register of what is due report it: its parts in the office, borrowed.
+/// A record that is due, as the list and the register of what is due report it: its parts in the
+/// office, borrowed.
 #[derive(Clone, Copy)]
 pub struct DueRow<'a> {
     pub number: RecordNo,

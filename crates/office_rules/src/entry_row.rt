@@ -2,8 +2,8 @@
 use office_proof::Entry;
 use office_terms::Text;
 
-/// An entry of a run, as the register of entries reports it: the entry and, of its record, what its head says of ref
-/// and content, borrowed from the office.
+/// An entry of a run, as the register of entries reports it: the entry and, of its record, what its
+/// head says of ref and content, borrowed from the office.
 #[derive(Clone, Copy)]
 pub struct EntryRow<'a> {
     pub entry: &'a Entry,

@@ -143,8 +143,11 @@ impl Kept for (RunNo, String) {
 
 /// Gives a copy of one row.
 fn give<T: Kept, I: Intake>(alloc: Global, row: &T, intake: &mut I) -> Result<(), Rebuild>
-    ensures ok { OnOk result (I.content intake.new ≡ with_row (I.content intake.old) (T.row_of row.now)) }
-    ensures damaged { OnDamaged result ((t : TableLists) → Begins (with_row (I.content intake.old) (T.row_of row.now)) t → RepresentNone t) }
+    ensures ok { OnOk result
+        (I.content intake.new ≡ with_row (I.content intake.old) (T.row_of row.now)) }
+    ensures damaged { OnDamaged result
+        ((t : TableLists) → Begins (with_row (I.content intake.old) (T.row_of row.now)) t
+        → RepresentNone t) }
 {
     match row.copied(alloc) {
         Ok(copy) => intake.row(copy),
@@ -154,8 +157,10 @@ fn give<T: Kept, I: Intake>(alloc: Global, row: &T, intake: &mut I) -> Result<()
 
 /// Gives copies of all the rows of a table, in their order.
 fn give_all<T: Kept, I: Intake>(alloc: Global, rows: &[T], intake: &mut I) -> Result<(), Rebuild>
-    ensures ok { OnOk result (I.content intake.new ≡ with_rows (I.content intake.old) (map T.row_of rows.now)) }
-    ensures damaged { OnDamaged result (RepresentNoneFrom (I.content intake.old) T.row_of rows.now) }
+    ensures ok { OnOk result
+        (I.content intake.new ≡ with_rows (I.content intake.old) (map T.row_of rows.now)) }
+    ensures damaged { OnDamaged result
+        (RepresentNoneFrom (I.content intake.old) T.row_of rows.now) }
 {
     for row in rows {
         give(alloc, row, intake)?;
@@ -208,8 +213,8 @@ impl Tables {
         give_all(alloc, &self.certificates, intake)
     }
 
-    /// Gives copies of all the rows, in the order in which an intake takes them; damaged only where the
-    /// tables represent no state.
+    /// Gives copies of all the rows, in the order in which an intake takes them; damaged only where
+    /// the tables represent no state.
     pub fn give<I: Intake>(&self, alloc: Global, intake: &mut I) -> Result<(), Rebuild>
         requires { I.content intake.old ≡ no_rows }
         ensures ok { OnOk result (I.content intake.new ≡ lists_of self.now) }

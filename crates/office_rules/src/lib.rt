@@ -2,9 +2,10 @@
 //!
 //! The office has the tree with its records, the holds, the runs, the entries, the certificates and
 //! its day; the contents of records are beside it. Each of the eighteen **acts** has a table of the
-//! conditions for which it is refused, of which the least is answered, and an effect. A **disposal run**
-//! goes through the ready records by number, one a step, and closes with its certificate. A run that
-//! is stopped and resumed ends as one that never stopped: that is a law of the definitions here.
+//! conditions for which it is refused, of which the least is answered, and an effect. A **disposal
+//! run** goes through the ready records by number, one a step, and closes with its certificate. A
+//! run that is stopped and resumed ends as one that never stopped: that is a law of the definitions
+//! here.
 //!
 //! The definitions are in `specs/`, what they promise in [`laws`]. The types are those that acts,
 //! answers and rows have; nothing here decides or stores anything.

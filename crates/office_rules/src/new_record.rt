@@ -28,9 +28,11 @@ impl NewRecord {
         schedule: Option<Code>,
         content: Vec<u8>,
     ) -> Option<NewRecord>
-        ensures few { MatchOption result (262_144 < length content.items) (λ it. length content.items ≤ 262_144) }
+        ensures few { MatchOption result (262_144 < length content.items)
+            (λ it. length content.items ≤ 262_144) }
         ensures named { IfSome result (λ it. (it.ref_text ≡ ref_text) × (it.title ≡ title)) }
-        ensures filed { IfSome result (λ it. (it.originated ≡ originated) × (it.aggregation ≡ aggregation)) }
+        ensures filed { IfSome result
+            (λ it. (it.originated ≡ originated) × (it.aggregation ≡ aggregation)) }
         ensures planned { IfSome result (λ it. (it.class ≡ class) × (it.schedule ≡ schedule)) }
         ensures content { IfSome result (λ it. it.content ≡ content) }
     {

@@ -2,9 +2,9 @@
 use office_days::{Day, DueDay};
 use office_terms::{Action, AggNo, Code, Confirmation, RecordNo, Status, Text};
 
-/// What is reported of a record: its head and status; the class, the schedule and the action in effect,
-/// the due day, the day of its event and the least hold as the office says now, whatever the status; and its confirmation,
-/// also where it does not count any more.
+/// What is reported of a record: its head and status; the class, the schedule and the action in
+/// effect, the due day, the day of its event and the least hold as the office says now, whatever
+/// the status; and its confirmation, also where it does not count any more.
 #[derive(Drop)]
 pub struct RecordView {
     pub number: RecordNo,

@@ -42,7 +42,8 @@ impl RecordRow {
         &self,
         alloc: Global,
     ) -> Result<(Option<Text>, Option<Text>, Option<Text>), Memory>
-        ensures { IfOk result (λ p. p ≡ (self.now.reviewed_by, self.now.conf_by, self.now.receipt_by)) }
+        ensures { IfOk result
+            (λ p. p ≡ (self.now.reviewed_by, self.now.conf_by, self.now.receipt_by)) }
     {
         let reviewed_by = copy_text(alloc, self.reviewed_by.as_ref())?;
         let conf_by = copy_text(alloc, self.conf_by.as_ref())?;

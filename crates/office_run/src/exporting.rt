@@ -31,7 +31,8 @@ fn write_register<W: Write, S: Alter>(
     register: Register,
     out: &mut W,
 ) -> Result<(), ExportStop>
-    ensures { WritesText (IsRegisterText register) W.contents out.old out.new result desk.old desk.new }
+    ensures { WritesText (IsRegisterText register) W.contents out.old out.new result desk.old
+        desk.new }
 {
     match register {
         Register::Entries => export_entries(alloc, desk, out),
@@ -49,13 +50,15 @@ fn export_at<W: Write, S: Alter>(
     out: &mut W,
 ) -> Ending
     requires { desk.old.is_poisoned ≡ false }
-    ensures exports { Exports (λ P. (s : State) → s.office ≡ desk.old.office → P s) register (W.contents out.old) (W.contents out.new) result }
+    ensures exports { Exports (λ P. (s : State) → s.office ≡ desk.old.office → P s) register
+        (W.contents out.old) (W.contents out.new) result }
     ensures kept { desk.new ≡ desk.old }
 {
     ending_of_export(write_register(alloc, desk, register, out))
 }
 
-/// `export FILE entries`, `export FILE DAY` or `overdue FILE DAY COUNT` over a connection to the file.
+/// `export FILE entries`, `export FILE DAY` or `overdue FILE DAY COUNT` over a connection to the
+/// file.
 pub fn export_on<W: Write, S: Alter>(
     alloc: Global,
     conn: Connection<S>,

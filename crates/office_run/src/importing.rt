@@ -34,7 +34,8 @@ fn import_at<R: Read, W: Write, S: Alter>(
     input: &mut R,
     out: &mut W,
 ) -> Ending
-    ensures { DoneAt S.Store desk.old desk.new W.contents out.old out.new result (λ Of. ImportsAt Of day (option_map strip_bom (R.remaining input.old))) }
+    ensures { DoneAt S.Store desk.old desk.new W.contents out.old out.new result
+        (λ Of. ImportsAt Of day (option_map strip_bom (R.remaining input.old))) }
 {
     ending_of_import(import_records(alloc, desk, day, input, out))
 }
@@ -48,7 +49,8 @@ pub fn import_on<R: Read, W: Write, S: Alter>(
     out: &mut W,
 ) -> (Ending, Connection<S>)
     requires { conn.in_transaction ≡ false }
-    ensures { EndsShown S.Store conn result W.contents out.old out.new (ImportEnds day (R.remaining input.old)) }
+    ensures { EndsShown S.Store conn result W.contents out.old out.new
+        (ImportEnds day (R.remaining input.old)) }
 {
     match Desk::open(alloc, conn) {
         Ok(mut desk) => {

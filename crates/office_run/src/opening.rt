@@ -38,8 +38,10 @@ impl<D: Disk + Drop> Drop for FilesLeft<D> {
 
 /// A connection that is open has its last commit, and a crash leaves just that.
 pub(crate) fn law_of_the_last_commit<S: Alter>(conn: &Connection<S>)
-    ensures only { IsTrue (state S.Store conn.now).is_open → (db : Trees) → (state S.Store conn.now).may_leave db → db ≡ (state S.Store conn.now).committed.trees }
-    ensures stays { IsTrue (state S.Store conn.now).is_open → (state S.Store conn.now).may_leave (state S.Store conn.now).committed.trees }
+    ensures only { IsTrue (state S.Store conn.now).is_open → (db : Trees)
+        → (state S.Store conn.now).may_leave db → db ≡ (state S.Store conn.now).committed.trees }
+    ensures stays { IsTrue (state S.Store conn.now).is_open
+        → (state S.Store conn.now).may_leave (state S.Store conn.now).committed.trees }
 {
     conn.schema();
 }
@@ -54,12 +56,13 @@ pub(crate) fn close<D: Disk + Drop>(conn: Connection<FileStore<D>>) -> FilesLeft
     }
 }
 
-/// Opens the office's file, which is made where there is none, carries out an order on the office in it, as
-/// [`run_on`] does, and closes the file. It gives the exit status, and what is left of the file, which is shut
-/// when that is dropped. A file that is no database's stays as it is: fault 31.
+/// Opens the office's file, which is made where there is none, carries out an order on the office
+/// in it, as [`run_on`] does, and closes the file. It gives the exit status, and what is left of
+/// the file, which is shut when that is dropped. A file that is no database's stays as it is: fault
+/// 31.
 ///
-/// `start` names what the two files held, and how a crash is read; the promise holds whatever that was, where
-/// nothing else writes them. Which file is opened no clause says.
+/// `start` names what the two files held, and how a crash is read; the promise holds whatever that
+/// was, where nothing else writes them. Which file is opened no clause says.
 pub fn open_and_run<S: Start, R: Read, W: Write, E: Write>(
     rt: &HostRuntime,
     file: &str,
@@ -69,7 +72,9 @@ pub fn open_and_run<S: Start, R: Read, W: Write, E: Write>(
     out: &mut W,
     err: &mut E,
 ) -> (u8, FilesLeft<FileFrom<S>>)
-    ensures runs { Exits result.0 (RunsInFiles result.1 (image_at S.Start) (ordered order.now) (R.remaining input.old) (W.contents out.old) (W.contents out.new)) }
+    ensures runs { Exits result.0
+        (RunsInFiles result.1 (image_at S.Start) (ordered order.now) (R.remaining input.old)
+        (W.contents out.old) (W.contents out.new)) }
 {
     match Connection::open_from(rt, file, false, start) {
         Ok(conn) => {

@@ -16,7 +16,8 @@ use std::io::{Read, Write};
 
 /// Reports the port of this machine at which a service listens, and sends the line out.
 pub fn report_listening<W: Write>(port: u16, out: &mut W) -> Result<(), Io>
-    ensures { OnOk result (Appends (W.contents out.old) (W.contents out.new) (listening_line port)) }
+    ensures { OnOk result
+        (Appends (W.contents out.old) (W.contents out.new) (listening_line port)) }
 {
     writeln!(out, "listening 127.0.0.1:{port}").or(Err(Io))?;
     out.flush().or(Err(Io))
@@ -31,7 +32,8 @@ fn carry_out<R: Read, W: Write, S: Alter>(
     out: &mut W,
 ) -> (Ending, Connection<S>)
     requires { conn.in_transaction ≡ false }
-    ensures { CarriedOut S.Store conn result W.contents out.old out.new (RunEnds S.Store (ordered order.now) (R.remaining input.old)) }
+    ensures { CarriedOut S.Store conn result W.contents out.old out.new
+        (RunEnds S.Store (ordered order.now) (R.remaining input.old)) }
 {
     match order {
         Order::Init { .. } => init_on(alloc, conn, out),
@@ -49,10 +51,10 @@ fn carry_out<R: Read, W: Write, S: Alter>(
     }
 }
 
-/// Carries out an order over a connection to the office's file, outside a transaction: what it reads
-/// comes from `input`, what it answers goes to `out`, and the line of its ending to `err`. It gives the
-/// exit status, and the connection back. An order that is not carried out over a connection is no order
-/// here: status 2, with nothing done.
+/// Carries out an order over a connection to the office's file, outside a transaction: what it
+/// reads comes from `input`, what it answers goes to `out`, and the line of its ending to `err`. It
+/// gives the exit status, and the connection back. An order that is not carried out over a
+/// connection is no order here: status 2, with nothing done.
 pub fn run_on<R: Read, W: Write, E: Write, S: Alter>(
     alloc: Global,
     conn: Connection<S>,
@@ -62,7 +64,8 @@ pub fn run_on<R: Read, W: Write, E: Write, S: Alter>(
     err: &mut E,
 ) -> (u8, Connection<S>)
     requires { conn.in_transaction ≡ false }
-    ensures runs { Runs S.Store (ordered order.now) (R.remaining input.old) conn result W.contents out.old out.new }
+    ensures runs { Runs S.Store (ordered order.now) (R.remaining input.old) conn result W.contents
+        out.old out.new }
 {
     let (ending, conn) = carry_out(alloc, conn, order, input, out);
     let _ = report(ending, err);

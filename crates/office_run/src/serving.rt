@@ -28,7 +28,8 @@ fn serve_at<L: OpenListener, W: Write, E: Write, S: Alter>(
 ) -> Ending
 where
     L::Stream: Read + Write + OpenStream,
-    ensures { ServesAt S.Store port count desk.old desk.new (W.contents out.old) (W.contents out.new) result }
+    ensures { ServesAt S.Store port count desk.old desk.new (W.contents out.old)
+        (W.contents out.new) result }
 {
     match report_listening(port, out) {
         Ok(()) => {
@@ -53,7 +54,8 @@ fn serve_on<L: OpenListener, W: Write, E: Write, S: Alter>(
 where
     L::Stream: Read + Write + OpenStream,
     requires { conn.in_transaction ≡ false }
-    ensures { CarriedOut S.Store conn result W.contents out.old out.new (ServiceEnds S.Store port count) }
+    ensures { CarriedOut S.Store conn result W.contents out.old out.new
+        (ServiceEnds S.Store port count) }
 {
     match Desk::open(rt.alloc(), conn) {
         Ok(mut desk) => {
@@ -64,9 +66,10 @@ where
     }
 }
 
-/// Opens the office's file, which is made where there is none, reports on `out` where it is served, serves so many
-/// connections of a listener, and closes the file. It gives how that ends, which is not reported yet, and what is left
-/// of the file, as [`crate::open_and_run`] does. The listener is bound to that port of this machine.
+/// Opens the office's file, which is made where there is none, reports on `out` where it is served,
+/// serves so many connections of a listener, and closes the file. It gives how that ends, which is
+/// not reported yet, and what is left of the file, as [`crate::open_and_run`] does. The listener is
+/// bound to that port of this machine.
 pub fn open_and_serve<L: OpenListener, S: Start, W: Write, E: Write>(
     rt: &HostRuntime,
     routes: &Routes,
@@ -80,7 +83,8 @@ pub fn open_and_serve<L: OpenListener, S: Start, W: Write, E: Write>(
 ) -> (Ending, FilesLeft<FileFrom<S>>)
 where
     L::Stream: Read + Write + OpenStream,
-    ensures { ServesInFiles result.1 (image_at S.Start) port count (W.contents out.old) (W.contents out.new) result.0 }
+    ensures { ServesInFiles result.1 (image_at S.Start) port count (W.contents out.old)
+        (W.contents out.new) result.0 }
 {
     match Connection::open_from(rt, file, false, start) {
         Ok(conn) => {

@@ -7,8 +7,8 @@ ghost use Rattle.office_sql.specs.Names.{layout_of};
 use crate::tables::OfficeTable;
 use sqlite::{Alter, Connection};
 
-/// The version of an office's tables. Version 2 has `schedules2` and `events` beside the tables of version 1,
-/// and no row in `schedules`.
+/// The version of an office's tables. Version 2 has `schedules2` and `events` beside the tables of
+/// version 1, and no row in `schedules`.
 #[derive(Clone, Copy)]
 pub enum Edition {
     One,
@@ -37,8 +37,8 @@ impl Edition {
     }
 }
 
-/// The version whose tables these are, by their names: `None` where only one of `schedules2` and `events` is
-/// there. It reads nothing and changes nothing.
+/// The version whose tables these are, by their names: `None` where only one of `schedules2` and
+/// `events` is there. It reads nothing and changes nothing.
 pub fn layout<S: Alter>(conn: &Connection<S>) -> Option<Edition>
     ensures { result ≡ layout_of (state S.Store conn.now).now.schema }
 {

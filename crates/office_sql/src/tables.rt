@@ -1,10 +1,10 @@
-//! The tables of an office, each with its three statements: that which makes it, that which puts a row in
-//! by its key, and that which reads it in the order of its key.
+//! The tables of an office, each with its three statements: that which makes it, that which puts a
+//! row in by its key, and that which reads it in the order of its key.
 ghost use Rattle.std.specs.Prelude.{◌≡◌};
 ghost use Rattle.office_sql.specs.Tables.{create_of, insert_of, text_of};
 
-/// The tables, in the order in which they are made. The columns of each, and their order, are those of the
-/// statement that makes it.
+/// The tables, in the order in which they are made. The columns of each, and their order, are those
+/// of the statement that makes it.
 #[derive(Clone, Copy)]
 pub enum OfficeTable {
     /// One row: the number 1, the version and the day.

@@ -25,7 +25,8 @@ fn ending_of(it: &Exchange) -> Result<u16, Io> {
     Ok(status_of(it.answer.as_str()))
 }
 
-/// Whether a client is answered so, as far as it takes the answer; its bytes come in pieces of at most so many.
+/// Whether a client is answered so, as far as it takes the answer; its bytes come in pieces of at
+/// most so many.
 fn is_answered<S: Alter>(
     alloc: Global,
     routes: &Routes,

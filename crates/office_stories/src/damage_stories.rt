@@ -1,8 +1,9 @@
 //! Tables that other programs changed by a statement or two: do they still represent an office?
 //!
-//! Four things no statement can do: a trigger that is none of the six words (a CHECK), a value of another type
-//! than its column's (STRICT), two aggregations or records of one ref (UNIQUE), and null in a column that must not
-//! be null, which those of the keys of `targets` and `entries` are too.
+//! Four things no statement can do: a trigger that is none of the six words (a CHECK), a value of
+//! another type than its column's (STRICT), two aggregations or records of one ref (UNIQUE), and
+//! null in a column that must not be null, which those of the keys of `targets` and `entries` are
+//! too.
 
 /// Of the base office. Its day, 2024-01-02, is 19724.
 pub(crate) const BASE_DAMAGE: &str = r#"

@@ -184,8 +184,8 @@ fn crash<D: Crash>(files: &mut Files<D>) {
     files.db.crash();
 }
 
-/// An errand at an office whose disks stop so, of which a crash leaves what it may. Gives what is reported, which is
-/// a fault where the office is not opened.
+/// An errand at an office whose disks stop so, of which a crash leaves what it may. Gives what is
+/// reported, which is a fault where the office is not opened.
 pub(crate) fn done(
     alloc: Global,
     image: &mut Image,

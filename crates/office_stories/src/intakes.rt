@@ -32,7 +32,8 @@ impl Intake for Refusing {
     }
 }
 
-/// The office behind a connection is taken over with memory for so many rows; the fault where they do not do.
+/// The office behind a connection is taken over with memory for so many rows; the fault where they
+/// do not do.
 pub(crate) fn taken_over<S: Alter>(
     alloc: Global,
     conn: Connection<S>,
@@ -51,8 +52,8 @@ pub(crate) fn taken_over<S: Alter>(
     }
 }
 
-/// With memory for each number of rows below the one that is reported the office is not taken over for want of
-/// memory, with memory for that one it is, and its tables stay as they are.
+/// With memory for each number of rows below the one that is reported the office is not taken over
+/// for want of memory, with memory for that one it is, and its tables stay as they are.
 pub(crate) fn report_taken_over(alloc: Global, image: &mut Image, row: &str) -> Result<(), Fail> {
     let before = rows_in(alloc, image)?;
     for rows in 0..1_000usize {

@@ -1,8 +1,9 @@
 //! Stories of an office, worked out by hand and written in rows that a records manager can read.
 //!
-//! A **story** begins with its title, `# A held class is not left`, and each begins with no office at all.
-//! Its **parts** begin with the place where they happen, and their rows follow, one a line. After each
-//! part the machine crashes, and the next part opens the office anew from what is left of its two files.
+//! A **story** begins with its title, `# A held class is not left`, and each begins with no office
+//! at all. Its **parts** begin with the place where they happen, and their rows follow, one a line.
+//! After each part the machine crashes, and the next part opens the office anew from what is left
+//! of its two files.
 //!
 //! | Place | A row of it |
 //! |---|---|
@@ -26,29 +27,33 @@
 //! | `## resumed while a disk stops` | `by 11 steps = closed 1, at least 25`; `steps again` where each resumption is stopped once more |
 //! | `## opened while a disk stops` | `at least 8`: a file of version 1 is opened, and how often a disk stops it at least; each stop leaves all of version 1, or all of version 2 |
 //!
-//! What else than its thirteen tables a file has, each row of another table and each text of an index or a view, is after each
-//! part what it was before it, but for rows in the tables and bytes of a file (`rests`). What a stop leaves is compared with all
-//! of it too, and with what the views answer.
+//! What else than its thirteen tables a file has, each row of another table and each text of an
+//! index or a view, is after each part what it was before it, but for rows in the tables and bytes
+//! of a file (`rests`). What a stop leaves is compared with all of it too, and with what the views
+//! answer.
 //!
-//! An act is a day, its word, its words, ` = ` and the answer, as `2025-01-02 confirm 1 destroy = refused 15`;
-//! `phrases` has them all; acts that are asked at once are joined by ` & `, and so do their answers. A title is the ref or the code, a reason is `court`, it is always the registrar
-//! who acts, a record is originated on 2024-01-02, and a class, a schedule or a content written `-` is none.
-//! An act may be written in JSON too. `resume` takes up the open run.
+//! An act is a day, its word, its words, ` = ` and the answer, as `2025-01-02 confirm 1 destroy =
+//! refused 15`; `phrases` has them all; acts that are asked at once are joined by ` & `, and so do
+//! their answers. A title is the ref or the code, a reason is `court`, it is always the registrar
+//! who acts, a record is originated on 2024-01-02, and a class, a schedule or a content written `-`
+//! is none. An act may be written in JSON too. `resume` takes up the open run.
 //!
-//! What is read is given by `is` (the whole text), `has` (a part of it) or `bytes` (its length): `record 1 has
-//! "held":"H-2"`, `content 1 is "abc"`, `content 1 is none`, `certificate 1 bytes 501`, `due-list 2025-01-02
-//! is [3, 1, 2]`, `overdue-list 2025-02-02 30 is [2, 3]`, `entries is run 1 record 1 destroyed;`.
+//! What is read is given by `is` (the whole text), `has` (a part of it) or `bytes` (its length):
+//! `record 1 has "held":"H-2"`, `content 1 is "abc"`, `content 1 is none`, `certificate 1 bytes
+//! 501`, `due-list 2025-01-02 is [3, 1, 2]`, `overdue-list 2025-02-02 30 is [2, 3]`, `entries is
+//! run 1 record 1 destroyed;`.
 //!
-//! A request is `GET /records/1`, or with its length and body `POST /acts 20 [{"act":"run-step"}]`; one that
-//! begins with `bytes` is sent as it is, and of `first 12 of` another its first bytes alone. An answer is its
-//! status, type, length and body, `404 Not Found, application/json, 16: {"error":"path"}`, or begins with `bytes`
-//! too, of `in all` so many bytes. `nothing` is no byte. A client that is `lost` has no answer, and one that is
-//! `lost after` so many bytes gets only these. `\n`, `\r`, `\t`, `\x00`, `\x7f` and in a request `\xff` are
-//! written for the bytes that they name. What is sent as it is, and a body that is awaited, may be pieces between
-//! ` + `, each of them so often as it says: `GET / + a x 8000 +  HTTP/1.1`.
+//! A request is `GET /records/1`, or with its length and body `POST /acts 20 [{"act":"run-step"}]`;
+//! one that begins with `bytes` is sent as it is, and of `first 12 of` another its first bytes
+//! alone. An answer is its status, type, length and body, `404 Not Found, application/json, 16:
+//! {"error":"path"}`, or begins with `bytes` too, of `in all` so many bytes. `nothing` is no byte.
+//! A client that is `lost` has no answer, and one that is `lost after` so many bytes gets only
+//! these. `\n`, `\r`, `\t`, `\x00`, `\x7f` and in a request `\xff` are written for the bytes that
+//! they name. What is sent as it is, and a body that is awaited, may be pieces between ` + `, each
+//! of them so often as it says: `GET / + a x 8000 + HTTP/1.1`.
 //!
-//! ` for each <n> of 1 2 7` or ` for each <n> of 1 to 1000` after a row or a title repeats it. A row that is
-//! not so is named by the failure.
+//! ` for each <n> of 1 2 7` or ` for each <n> of 1 to 1000` after a row or a title repeats it. A
+//! row that is not so is named by the failure.
 #![tactic(auto)]
 
 #[cfg(test)]

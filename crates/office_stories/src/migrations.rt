@@ -66,7 +66,8 @@ fn is_opened_before(
     Ok(reported.is_empty())
 }
 
-/// How often the disk stops the opening, after each number of its calls in turn, until nothing stops.
+/// How often the disk stops the opening, after each number of its calls in turn, until nothing
+/// stops.
 fn count_of_stops(
     alloc: Global,
     image: &Image,
@@ -81,7 +82,8 @@ fn count_of_stops(
     Err(failure("never opened", disk))
 }
 
-/// A file of version 1 is opened while each disk stops in turn, so often at least, and then without a stop.
+/// A file of version 1 is opened while each disk stops in turn, so often at least, and then without
+/// a stop.
 pub(crate) fn report_opened(alloc: Global, image: &mut Image, row: &str) -> Result<(), Fail> {
     let Some(least) = row.strip_prefix("at least ") else {
         return Err(failure("no such row", row));

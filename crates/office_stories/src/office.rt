@@ -12,9 +12,9 @@ pub(crate) const BASE: &str = "
 2024-01-02 add-record r3 1 abc = number 3
 ";
 
-/// What comes of it in a year, so that there is something of each kind: record 1 is destroyed, 2 here, confirmed
-/// and held, 3 here and nothing more, 4 sent, 5 received and held, 6 transferred, 7 reviewed. Two runs are closed,
-/// the third is open and is at record 2.
+/// What comes of it in a year, so that there is something of each kind: record 1 is destroyed, 2
+/// here, confirmed and held, 3 here and nothing more, 4 sent, 5 received and held, 6 transferred, 7
+/// reviewed. Two runs are closed, the third is open and is at record 2.
 pub(crate) const BUSY: &str = "
 2024-01-03 add-schedule T added days 1 transfer = done
 2024-01-03 add-schedule V added days 1 review = done

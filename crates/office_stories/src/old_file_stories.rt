@@ -1,10 +1,11 @@
 //! A file of version 1, as its bytes.
 //!
-//! The program of commit 5ca607b made it: `office apply old.db acts.json` with the acts below, on a file that was not there.
-//! Its run is open after three steps: record 1 is destroyed, 2 skipped, 3 sent; 4 and 5 are before it, 6 is under review.
-//! The certificate is what that program wrote of a copy, by `office resume` and `office certificate COPY 1`.
-//! The rows give what is not zero in the nineteen pages, or where a page differs from an earlier one that it is like: a page's
-//! free bytes are older copies of others.
+//! The program of commit 5ca607b made it: `office apply old.db acts.json` with the acts below, on a
+//! file that was not there. Its run is open after three steps: record 1 is destroyed, 2 skipped, 3
+//! sent; 4 and 5 are before it, 6 is under review. The certificate is what that program wrote of a
+//! copy, by `office resume` and `office certificate COPY 1`. The rows give what is not zero in the
+//! nineteen pages, or where a page differs from an earlier one that it is like: a page's free bytes
+//! are older copies of others.
 //!
 //! | Acts | |
 //! |---|---|

@@ -144,8 +144,9 @@ resume = closed 1
 content 1 is none
 "#;
 
-/// A file that C SQLite made (3.40.1, of Python 3.11), with `ANALYZE`. Of its tables `loans` has a trigger and `words` has no
-/// rowid: the engine reads neither, and keeps both. Their pages are 7 and 6.
+/// A file that C SQLite made (3.40.1, of Python 3.11), with `ANALYZE`. Of its tables `loans` has a
+/// trigger and `words` has no rowid: the engine reads neither, and keeps both. Their pages are 7
+/// and 6.
 pub(crate) const OTHER_FILE: &str = r#"
 # A file that C SQLite made gets an office, and its own tables stay as they are
 ## the bytes of a file

@@ -1,7 +1,8 @@
 //! Tables of other programs in an office's file, made before the office's own or after them.
 
-/// Before the office: a table with a key that is counted on, a reference to itself and two indexes, one of them UNIQUE; one without
-/// a key; two whose names only begin as those of the office's tables; and a view whose rows an index finds.
+/// Before the office: a table with a key that is counted on, a reference to itself and two indexes,
+/// one of them UNIQUE; one without a key; two whose names only begin as those of the office's
+/// tables; and a view whose rows an index finds.
 pub(crate) const EARLIER: &str = "
 CREATE TABLE notes(id INTEGER PRIMARY KEY AUTOINCREMENT, subject TEXT NOT NULL, above INTEGER REFERENCES notes(id), weight REAL, body BLOB);
 INSERT INTO notes(subject, above, weight, body) VALUES ('tax', NULL, 1.5, x'00ff'), ('law', 1, -2.25, NULL), ('tax', 2, NULL, x''), ('gone', 3, 0.0, NULL);
@@ -17,8 +18,8 @@ INSERT INTO schedules22 VALUES ('D1');
 CREATE VIEW taxes AS SELECT id, weight FROM notes WHERE subject = 'tax'
 ";
 
-/// After the office: a table with a reference to itself, a UNIQUE and two indexes, one of them UNIQUE; a view whose rows an index
-/// finds, one over `records`, and one over both.
+/// After the office: a table with a reference to itself, a UNIQUE and two indexes, one of them
+/// UNIQUE; a view whose rows an index finds, one over `records`, and one over both.
 pub(crate) const LATER: &str = "
 CREATE TABLE visits(num INTEGER PRIMARY KEY, visitor TEXT NOT NULL UNIQUE, room TEXT, guide INTEGER REFERENCES visits(num));
 INSERT INTO visits VALUES (-3, 'Ann', 'hall', NULL), (6, 'Bo', 'hall', -3), (7, 'Cy', NULL, 6);

@@ -59,8 +59,8 @@ fn report_page(alloc: Global, image: &Image, page: &str, digest: &str) -> Result
     must(reported.as_str() == digest, page, reported.as_str())
 }
 
-/// Does what a row says: `2 14 0a0b` puts two bytes at place 14 of page 2, `3 like 2` makes page 3 what page 2 is,
-/// `3 digest` reports the digest of page 3, and `digest` that of the whole.
+/// Does what a row says: `2 14 0a0b` puts two bytes at place 14 of page 2, `3 like 2` makes page 3
+/// what page 2 is, `3 digest` reports the digest of page 3, and `digest` that of the whole.
 pub(crate) fn put_row(alloc: Global, image: &mut Image, row: &str) -> Result<(), Fail> {
     match row.split_once(' ') {
         Some(("digest", digest)) => report_digest(alloc, image, digest),

@@ -5,8 +5,8 @@ use office_proof::digest_of;
 use std::alloc::{AllocError, Global};
 use std::test::Fail;
 
-/// A line for each kind of act and then of answer. A word in angle brackets represents any word, `<content>`
-/// for the content of that text in base64, and `<received>` for its digest.
+/// A line for each kind of act and then of answer. A word in angle brackets represents any word,
+/// `<content>` for the content of that text in base64, and `<received>` for its digest.
 const PHRASES: &str = r#"
 <day> add-schedule <code> <trigger> <unit> <count> <action> | {"act":"add-schedule","day":"<day>","code":"<code>","trigger":"<trigger>","unit":"<unit>","count":<count>,"offset":"none","action":"<action>"}
 <day> add-class <code> <schedule> | {"act":"add-class","day":"<day>","code":"<code>","title":"<code>","schedule":"<schedule>"}

@@ -66,7 +66,8 @@ fn push_piece(alloc: Global, text: &mut String, piece: &str) -> Result<(), Alloc
     text.push_str(copies.as_str())
 }
 
-/// The text whose pieces are between ` + `, each of them as often as it says after ` x `, and whose escapes name bytes.
+/// The text whose pieces are between ` + `, each of them as often as it says after ` x `, and whose
+/// escapes name bytes.
 pub(crate) fn written(alloc: Global, text: &str) -> Result<String, AllocError> {
     let mut whole = String::new(alloc);
     for piece in text.split(" + ") {

@@ -54,7 +54,8 @@ fn way_of(place: &str) -> Result<Option<Way>, Fail> {
     Ok(None)
 }
 
-/// The tables of version 1, where the place is in them, and the rows of the old base office, where it is in its tables.
+/// The tables of version 1, where the place is in them, and the rows of the old base office, where
+/// it is in its tables.
 fn make_old(alloc: Global, image: &mut Image, place: &str) -> Result<(), Fail> {
     let is_base = place.ends_with(" of the old base office");
     if is_base || place.ends_with(" of version 1") {
@@ -66,7 +67,8 @@ fn make_old(alloc: Global, image: &mut Image, place: &str) -> Result<(), Fail> {
     Ok(())
 }
 
-/// The other tables of the file, where the place is in those of an earlier program or of a later one.
+/// The other tables of the file, where the place is in those of an earlier program or of a later
+/// one.
 fn make_others(alloc: Global, image: &mut Image, place: &str) -> Result<(), Fail> {
     if place.ends_with(" of an earlier program") {
         do_all(alloc, image, Errand::Statements(EARLIER))?;
@@ -103,7 +105,8 @@ fn report_rows_at(alloc: Global, image: &mut Image, place: &str, rows: &str) -> 
     }
 }
 
-/// A part of a story: its place and its rows. What else the file has stays as it is, unless they change it.
+/// A part of a story: its place and its rows. What else the file has stays as it is, unless they
+/// change it.
 fn report_part(
     alloc: Global,
     image: &mut Image,

@@ -7,7 +7,8 @@ use sqlite::{Alter, Connection};
 use std::alloc::Global;
 use std::test::Fail;
 
-/// Which objects of a file are not the office's own: all but its thirteen tables, and the indexes that their keys make.
+/// Which objects of a file are not the office's own: all but its thirteen tables, and the indexes
+/// that their keys make.
 const IS_OTHER: &str =
     "NOT (tbl_name IN ('office', 'schedules', 'classes', 'aggregations', 'records', 'contents', 'holds', 'targets', 'runs', 'entries', 'certificates', 'schedules2', 'events') AND (type = 'table' OR sql IS NULL))";
 
@@ -40,8 +41,8 @@ fn rows_of<S: Alter>(
     Ok(text)
 }
 
-/// The list of the other objects, with their texts, and each row of each other table, with its rowid; nothing where
-/// there is no other object. A table that is not read reports so.
+/// The list of the other objects, with their texts, and each row of each other table, with its
+/// rowid; nothing where there is no other object. A table that is not read reports so.
 pub(crate) fn rest_text<S: Alter>(alloc: Global, conn: &mut Connection<S>) -> Result<String, Fail> {
     let select = format!(in alloc;
         "SELECT type, name, tbl_name, sql FROM sqlite_schema WHERE {IS_OTHER}"
@@ -77,7 +78,8 @@ fn is_free(place: &str) -> bool {
     place.starts_with("in the tables") || place == "the bytes of a file"
 }
 
-/// After a part of a story: what else the file has must be as it was, unless the rows of that place change it.
+/// After a part of a story: what else the file has must be as it was, unless the rows of that place
+/// change it.
 pub(crate) fn report_rest(
     alloc: Global,
     image: &mut Image,

@@ -57,7 +57,8 @@ fn rows_text(alloc: Global, rows: &[Row]) -> Result<String, AllocError> {
     Ok(text)
 }
 
-/// What a statement reads: the values of its rows, `none`, or `refused`, as where there is no such table.
+/// What a statement reads: the values of its rows, `none`, or `refused`, as where there is no such
+/// table.
 pub(crate) fn selected<S: Alter>(
     alloc: Global,
     conn: &mut Connection<S>,

@@ -17,7 +17,8 @@ use std::test::Fail;
 pub(crate) struct Meeting<'a> {
     /// The parts of a story that make the office.
     pub(crate) office: &'a str,
-    /// A row for each client: `sends` or, of one that might send more, `waits`, and its request and answer.
+    /// A row for each client: `sends` or, of one that might send more, `waits`, and its request and
+    /// answer.
     pub(crate) clients: &'a str,
     /// Whether serving waits for clients that have not come.
     pub(crate) is_patient: bool,

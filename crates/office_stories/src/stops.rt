@@ -94,8 +94,9 @@ fn report_poisoned(reported: &str) -> Result<(), Fail> {
     Ok(())
 }
 
-/// The first and the last place among the states at which the tables may be: that after all answered acts or the
-/// next one, that before the acts where the office was not opened, and of a run any.
+/// The first and the last place among the states at which the tables may be: that after all
+/// answered acts or the next one, that before the acts where the office was not opened, and of a
+/// run any.
 fn places_after(trial: &Trial<'_>, reported: &str) -> (usize, usize) {
     let all = trial.states.len().saturating_sub(1);
     let answered = answers_before(reported).lines().count();
@@ -127,7 +128,8 @@ fn place_of(
     Err(Fail::new(format_args!("{}: another state", trial.words)))
 }
 
-/// The run is resumed once more while the disk stops, from that place among its states on. Gives the place to which it comes.
+/// The run is resumed once more while the disk stops, from that place among its states on. Gives
+/// the place to which it comes.
 fn stop_again(
     alloc: Global,
     image: &mut Image,
@@ -143,7 +145,8 @@ fn stop_again(
     place_of(alloc, image, trial, (place, trial.states.len()))
 }
 
-/// The acts from that place on must be answered as they are where no disk stops; a run is resumed to its end.
+/// The acts from that place on must be answered as they are where no disk stops; a run is resumed
+/// to its end.
 fn do_rest(alloc: Global, image: &mut Image, trial: &Trial<'_>, place: usize) -> Result<(), Fail> {
     if trial.words == "resume" {
         done(alloc, image, Stop::never(), Errand::Asks(&["resume"]))?;
@@ -172,7 +175,8 @@ fn report_end(alloc: Global, image: &mut Image, trial: &Trial<'_>) -> Result<(),
     Ok(())
 }
 
-/// All is asked while a disk stops so, and the office is then brought to its end: whether nothing stopped.
+/// All is asked while a disk stops so, and the office is then brought to its end: whether nothing
+/// stopped.
 fn is_done_before(
     alloc: Global,
     image: &Image,
@@ -191,7 +195,8 @@ fn is_done_before(
     Ok(!reported.contains("fault"))
 }
 
-/// How often the disk stops all that is asked, after each number of its calls in turn, until nothing stops.
+/// How often the disk stops all that is asked, after each number of its calls in turn, until
+/// nothing stops.
 fn count_of_stops(
     alloc: Global,
     image: &Image,
@@ -236,7 +241,8 @@ fn steps_of(alloc: Global, words: &str) -> Result<Vec<String>, Fail> {
     Ok(steps)
 }
 
-/// Acts, or something that is read, are asked while each disk stops in turn, and then without a stop.
+/// Acts, or something that is read, are asked while each disk stops in turn, and then without a
+/// stop.
 pub(crate) fn report_asked(alloc: Global, image: &mut Image, row: &str) -> Result<(), Fail> {
     let (words, answers, least) = parts(row)?;
     let steps = steps_of(alloc, words)?;
@@ -258,8 +264,8 @@ pub(crate) fn report_asked(alloc: Global, image: &mut Image, row: &str) -> Resul
     Ok(())
 }
 
-/// The open run is resumed while each disk stops in turn, as a row says: `by 11 steps = closed 1, at least 25`,
-/// or `by 11 steps again = ..` where each resumption is stopped again.
+/// The open run is resumed while each disk stops in turn, as a row says: `by 11 steps = closed 1,
+/// at least 25`, or `by 11 steps again = ..` where each resumption is stopped again.
 pub(crate) fn report_resumed(alloc: Global, image: &Image, row: &str) -> Result<(), Fail> {
     let (words, answers, least) = parts(row)?;
     let Some((count, rest)) = words.split_once(" steps") else {

@@ -87,7 +87,8 @@ pub(crate) fn rows_in(alloc: Global, image: &mut Image) -> Result<String, Fail> 
     done(alloc, image, Stop::never(), Errand::AllRows)
 }
 
-/// What a statement reads from the tables, where no office is opened before, must be as the row says.
+/// What a statement reads from the tables, where no office is opened before, must be as the row
+/// says.
 pub(crate) fn report_selection(alloc: Global, image: &mut Image, row: &str) -> Result<(), Fail> {
     let Some((select, wanted)) = row.split_once(" is ") else {
         return Err(failure("no such row", row));
@@ -96,7 +97,8 @@ pub(crate) fn report_selection(alloc: Global, image: &mut Image, row: &str) -> R
     must(reported.as_str() == wanted, row, reported.as_str())
 }
 
-/// How an office is opened after statements on a copy of it: nothing, or the fault. One that is refused keeps its rows.
+/// How an office is opened after statements on a copy of it: nothing, or the fault. One that is
+/// refused keeps its rows.
 fn opening_after(alloc: Global, image: &Image, statements: &str) -> Result<String, Fail> {
     let mut copy = image.copy(alloc)?;
     do_all(alloc, &mut copy, Errand::Statements(statements))?;

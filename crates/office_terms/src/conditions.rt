@@ -4,8 +4,8 @@ ghost use Rattle.office_terms.specs.Conditions.{first_of};
 
 use office_base::Refusal;
 
-/// The refusal of the first condition that holds, if one does. A table names its conditions in the order of the
-/// refusals' numbers, so the answer is the one with the least number.
+/// The refusal of the first condition that holds, if one does. A table names its conditions in the
+/// order of the refusals' numbers, so the answer is the one with the least number.
 pub fn first_of(conditions: &[(Refusal, bool)]) -> Option<Refusal>
     ensures { result ≡ first_of conditions.now }
 {

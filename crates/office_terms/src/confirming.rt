@@ -27,7 +27,8 @@ fn is_same_due(confirmed: DueDay, due: Option<DueDay>) -> bool
 impl Confirmation {
     /// Whether it is of that action and that due day; it counts only where these are the record's.
     pub fn is_of(&self, action: Action, due: Option<DueDay>) -> bool
-        ensures { result ≡ same_action self.now.action action && holds_of due (int_eq self.now.due) }
+        ensures { result ≡ same_action self.now.action action
+            && holds_of due (int_eq self.now.due) }
     {
         if !same_action(self.action, action) {
             return false;

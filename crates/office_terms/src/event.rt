@@ -6,8 +6,9 @@ use office_base::Memory;
 use office_days::Day;
 use std::alloc::Global;
 
-/// An event of a record, as that a contract ended: the day on which it occurred, the day of the act that recorded it,
-/// and who reported it. A later act records another event in place of the earlier one.
+/// An event of a record, as that a contract ended: the day on which it occurred, the day of the act
+/// that recorded it, and who reported it. A later act records another event in place of the earlier
+/// one.
 #[derive(Drop)]
 pub struct Event {
     pub occurred: Day,

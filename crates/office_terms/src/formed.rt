@@ -1,5 +1,5 @@
-//! What is in a tree is well-formed, stated as functions for proofs. A call changes nothing: the types see
-//! to it.
+//! What is in a tree is well-formed, stated as functions for proofs. A call changes nothing: the
+//! types see to it.
 ghost use Rattle.std.specs.Prelude.{◌≤◌, ◌<◌, IfSome};
 ghost use Rattle.std.specs.List.{All};
 ghost use Rattle.office_days.specs.Limits.{IsDayNumber};

@@ -126,7 +126,8 @@ fn copy_receipt(alloc: Global, receipt: &Option<Receipt>) -> Result<Option<Recei
 
 /// Gives the copy a class and a schedule that are equal to the head's.
 fn copy_plan(alloc: Global, head: &Record, copy: &mut Record) -> Result<(), Memory>
-    ensures { OnOk result (copy.new ≡ record copy.old { class = head.now.class; schedule = head.now.schedule }) }
+    ensures { OnOk result
+        (copy.new ≡ record copy.old { class = head.now.class; schedule = head.now.schedule }) }
 {
     copy.class = copy_code(alloc, &head.class)?;
     copy.schedule = copy_code(alloc, &head.schedule)?;
@@ -135,7 +136,13 @@ fn copy_plan(alloc: Global, head: &Record, copy: &mut Record) -> Result<(), Memo
 
 /// Gives the copy a review, a confirmation and a receipt that are equal to the head's.
 fn copy_documents(alloc: Global, head: &Record, copy: &mut Record) -> Result<(), Memory>
-    ensures { OnOk result (copy.new ≡ record copy.old { review = head.now.review; confirmation = head.now.confirmation; receipt = head.now.receipt }) }
+    ensures { OnOk result
+        (copy.new
+        ≡ record copy.old {
+          review = head.now.review;
+          confirmation = head.now.confirmation;
+          receipt = head.now.receipt;
+        }) }
 {
     copy.review = copy_review(alloc, &head.review)?;
     copy.confirmation = copy_confirmation(alloc, &head.confirmation)?;
@@ -145,7 +152,17 @@ fn copy_documents(alloc: Global, head: &Record, copy: &mut Record) -> Result<(),
 
 /// Gives the copy all that the head may lack, equal to the head's.
 fn copy_optional(alloc: Global, head: &Record, copy: &mut Record) -> Result<(), Memory>
-    ensures { OnOk result (copy.new ≡ record copy.old { class = head.now.class; schedule = head.now.schedule; review = head.now.review; confirmation = head.now.confirmation; receipt = head.now.receipt }) }
+    ensures { OnOk result
+        (copy.new
+        ≡ record copy.old {
+          class = head.now.class;
+          schedule = head.now.schedule;
+          review =
+              head.now.review;
+          confirmation = head.now.confirmation;
+          receipt =
+              head.now.receipt;
+        }) }
 {
     copy_plan(alloc, head, copy)?;
     copy_documents(alloc, head, copy)
@@ -160,10 +177,19 @@ impl Record {
         copy_optional(alloc, self, &mut copy).and(Ok(copy))
     }
 
-    /// A second head that is equal to this one but for its class, its schedule and its required documents, of
-    /// which it has none.
+    /// A second head that is equal to this one but for its class, its schedule and its required
+    /// documents, of which it has none.
     fn copy_bare(&self, alloc: Global) -> Result<Record, Memory>
-        ensures { IfOk result (λ r. r ≡ record self.now { class = None; schedule = None; review = None; confirmation = None; receipt = None }) }
+        ensures { IfOk result
+            (λ r. r
+            ≡ record self.now {
+              class = None;
+              schedule = None;
+              review = None;
+              confirmation =
+                  None;
+              receipt = None;
+            }) }
     {
         let (ref_text, title) = copy_both(alloc, &self.ref_text, &self.title)?;
         Ok(Record {

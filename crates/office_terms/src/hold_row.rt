@@ -6,8 +6,8 @@ use office_base::Memory;
 use office_days::Day;
 use std::alloc::Global;
 
-/// The columns of a hold beside its code: why, when and by whom it was placed, and the day on which it
-/// was lifted. Its targets are rows of their own.
+/// The columns of a hold beside its code: why, when and by whom it was placed, and the day on which
+/// it was lifted. Its targets are rows of their own.
 #[derive(Drop)]
 pub struct HoldRow {
     pub reason: Text,

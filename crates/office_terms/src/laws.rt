@@ -8,23 +8,32 @@ ghost use Rattle.office_terms.specs.Tree.{TreeState, has_aggregation, class_of, 
 ghost use Rattle.office_terms.specs.declared.head.Record.{Record};
 
 /// In a sound tree the aggregations above a record are those that contain it, and its class is its
-/// own or that of the nearest of them that has one. The class of an aggregation is that of the nearest
-/// that has one, from itself on.
+/// own or that of the nearest of them that has one. The class of an aggregation is that of the
+/// nearest that has one, from itself on.
 pub fn law_of_classification()
-    ensures above { (tree : TreeState) (a r : ℕ) → IsSound tree → (IsTrue (is_below tree a r) ↔ Contains tree a r) }
-    ensures class { (tree : TreeState) (r : ℕ) (class : List ℕ) → IsSound tree → ((class_of tree r ≡ Some class) ↔ IsClassOf tree r class) }
-    ensures aggregation { (tree : TreeState) (a : ℕ) (class : List ℕ) → IsSound tree → IsTrue (has_aggregation tree a) → ((aggregation_class_of tree a ≡ Some class) ↔ IsNearestFrom tree.aggregations (Some a) class) }
+    ensures above { (tree : TreeState) (a r : ℕ) → IsSound tree
+        → (IsTrue (is_below tree a r) ↔ Contains tree a r) }
+    ensures class { (tree : TreeState) (r : ℕ) (class : List ℕ) → IsSound tree
+        → ((class_of tree r ≡ Some class) ↔ IsClassOf tree r class) }
+    ensures aggregation { (tree : TreeState) (a : ℕ) (class : List ℕ) → IsSound tree
+        → IsTrue (has_aggregation tree a)
+        → ((aggregation_class_of tree a ≡ Some class)
+        ↔ IsNearestFrom tree.aggregations (Some a) class) }
 {}
 
 /// The last addition to an aggregation is the greatest added day of its records, and there is none
 /// exactly where it has no record.
 pub fn law_of_last_addition()
-    ensures greatest { (records : List Record) (a : ℕ) (day : ℤ) → ((last_addition records a ≡ Some day) ↔ IsLastAddition records a day) }
-    ensures none { (records : List Record) (a : ℕ) → ((last_addition records a ≡ None) ↔ ((r : ℕ) (head : Record) → numbered records r ≡ Some head → head.aggregation ≢ a)) }
+    ensures greatest { (records : List Record) (a : ℕ) (day : ℤ)
+        → ((last_addition records a ≡ Some day) ↔ IsLastAddition records a day) }
+    ensures none { (records : List Record) (a : ℕ)
+        → ((last_addition records a ≡ None)
+        ↔ ((r : ℕ) (head : Record) → numbered records r ≡ Some head → head.aggregation ≢ a)) }
 {}
 
 /// In a sound tree an aggregation is spent exactly where it is closed, a record lies below it at
 /// some depth, and all records below it are ended.
 pub fn law_of_spent_aggregations()
-    ensures spent { (tree : TreeState) (a : ℕ) → IsSound tree → (IsTrue (is_spent tree a) ↔ IsSpent tree a) }
+    ensures spent { (tree : TreeState) (a : ℕ) → IsSound tree
+        → (IsTrue (is_spent tree a) ↔ IsSpent tree a) }
 {}

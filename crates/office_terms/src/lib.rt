@@ -1,17 +1,19 @@
-//! The terms of records: what a schedule, a class, an aggregation, a record's head and an event are, and the tree of
-//! them as definitions.
+//! The terms of records: what a schedule, a class, an aggregation, a record's head and an event
+//! are, and the tree of them as definitions.
 //!
 //! An aggregation holds records and other aggregations, at most eight deep. Each record has a
 //! **class**: its own, else that of the nearest aggregation above it that has one. Its **plan**
 //! is its own disposal schedule, else the schedule of its class. The plan's trigger gives the
 //! **start day**, and its retention period and calendar offset give the **due day**, on which the
-//! record may be disposed of. A trigger may wait for the record's **event**, as the end of a contract:
-//! there is no due day before one is recorded.
+//! record may be disposed of. A trigger may wait for the record's **event**, as the end of a
+//! contract: there is no due day before one is recorded.
 //!
-//! What a hold can be put on, and its columns, are here too: holds themselves are in `office_holds`.
+//! What a hold can be put on, and its columns, are here too: holds themselves are in
+//! `office_holds`.
 //!
-//! Texts, codes and words are read into types that have their form at any time. What the definitions
-//! mean is stated as [`laws`]. The tree in memory, which computes all this, is in `office_tree`.
+//! Texts, codes and words are read into types that have their form at any time. What the
+//! definitions mean is stated as [`laws`]. The tree in memory, which computes all this, is in
+//! `office_tree`.
 #![tactic(auto)]
 
 mod action;

@@ -38,7 +38,8 @@ fn are_printable(text: &str) -> bool
     text.bytes().all(|byte| byte >= b' ' && byte <= b'~')
 }
 
-/// Whether no character is a control character. Most texts are printable ASCII, and are not spelled out.
+/// Whether no character is a control character. Most texts are printable ASCII, and are not spelled
+/// out.
 fn are_text_characters(text: &str) -> bool
     ensures characters { result ≡ list_all is_text_character (chars text.now) }
     ensures utf8 { is_utf8 text.now ≡ true }

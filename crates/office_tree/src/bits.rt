@@ -6,7 +6,8 @@ use office_base::Memory;
 use std::alloc::Global;
 use std::marker::Model;
 
-/// Flags, one bit each, in words of 64. Contracts see the flag of each index that there is room for.
+/// Flags, one bit each, in words of 64. Contracts see the flag of each index that there is room
+/// for.
 #[derive(Drop)]
 pub(crate) struct Bits {
     words: Vec<u64>,

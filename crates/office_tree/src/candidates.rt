@@ -9,9 +9,9 @@ use office_terms::RecordNo;
 use std::alloc::Global;
 use std::marker::Model;
 
-/// The records that a disposal run takes once they are due, by number. A record comes and goes without memory, and the
-/// next one is found in at most five words. Contracts see flags, the first for number 1, one for each number that there is
-/// room for.
+/// The records that a disposal run takes once they are due, by number. A record comes and goes
+/// without memory, and the next one is found in at most five words. Contracts see flags, the first
+/// for number 1, one for each number that there is room for.
 #[derive(Drop)]
 pub(crate) struct CandidateSet {
     flags: Bits,
@@ -28,7 +28,8 @@ impl Model for CandidateSet {
 
     ghost view = { λ s. take s.count s.flags };
 
-    ghost invariant = { λ s. HaveGroups s.flags s.groups × (s.count ≤ length s.flags) × (s.count ≤ 262_144) × HasNoneFrom s.flags s.count };
+    ghost invariant = { λ s. HaveGroups s.flags s.groups × (s.count ≤ length s.flags)
+        × (s.count ≤ 262_144) × HasNoneFrom s.flags s.count };
 }
 
 impl CandidateSet {
@@ -63,8 +64,8 @@ impl CandidateSet {
         Ok(())
     }
 
-    /// Makes room for the number, which is the next one or has room already. Room that is not used stays, and may be asked
-    /// for again.
+    /// Makes room for the number, which is the next one or has room already. Room that is not used
+    /// stays, and may be asked for again.
     pub(crate) fn make_room_for(&mut self, record_no: RecordNo) -> Result<(), Memory>
         requires next { record_no ≤ length self.old + 1 }
         requires few { record_no ≤ 262_144 }

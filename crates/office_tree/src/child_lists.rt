@@ -14,9 +14,9 @@ use std::alloc::Global;
 /// The number of a record, or of an aggregation in another.
 type ThingNo = u32;
 
-/// What is in each aggregation, linked, so that it is gone through without the others, records and aggregations alike:
-/// for each aggregation the number of the last thing in it, for each thing that of the one before it in the same
-/// aggregation, 0 for none.
+/// What is in each aggregation, linked, so that it is gone through without the others, records and
+/// aggregations alike: for each aggregation the number of the last thing in it, for each thing that
+/// of the one before it in the same aggregation, 0 for none.
 #[derive(Drop)]
 pub(crate) struct ChildLists {
     pub(crate) last: Vec<ThingNo>,
@@ -88,7 +88,9 @@ impl ChildLists {
     /// Adds the next aggregation, for which there is room.
     pub(crate) fn add_container(&mut self)
         requires { vec_len self.old.last < vec_capacity self.old.last }
-        ensures linked { (child_lists : List ℕ) (count : ℕ) → AreLinked child_lists count self.old.last.items self.old.before.items → AreLinked child_lists (count + 1) self.new.last.items self.new.before.items }
+        ensures linked { (child_lists : List ℕ) (count : ℕ)
+            → AreLinked child_lists count self.old.last.items self.old.before.items
+            → AreLinked child_lists (count + 1) self.new.last.items self.new.before.items }
         ensures before { self.new.before ≡ self.old.before }
     {
         push_row(&mut self.last, 0);
@@ -100,7 +102,10 @@ impl ChildLists {
         requires few { length self.old.before.items ≤ 200_000 }
         requires low { 0 < container }
         requires high { container ≤ length self.old.last.items }
-        ensures { (child_lists : List ℕ) (count : ℕ) → AreLinked child_lists count self.old.last.items self.old.before.items → AreLinked (child_lists ++ container ∷ []) count self.new.last.items self.new.before.items }
+        ensures { (child_lists : List ℕ) (count : ℕ)
+            → AreLinked child_lists count self.old.last.items self.old.before.items
+            → AreLinked (child_lists ++ container ∷ []) count self.new.last.items
+            self.new.before.items }
     {
         let before = self.last(container);
         push_row(&mut self.before, before);
@@ -110,17 +115,23 @@ impl ChildLists {
     /// Adds the next thing, for which there is room, which is in no aggregation.
     pub(crate) fn add_outside(&mut self)
         requires { vec_len self.old.before < vec_capacity self.old.before }
-        ensures { (child_lists : List ℕ) (count : ℕ) → AreLinked child_lists count self.old.last.items self.old.before.items → AreLinked (child_lists ++ 0 ∷ []) count self.new.last.items self.new.before.items }
+        ensures { (child_lists : List ℕ) (count : ℕ)
+            → AreLinked child_lists count self.old.last.items self.old.before.items
+            → AreLinked (child_lists ++ 0 ∷ []) count self.new.last.items self.new.before.items }
     {
         push_row(&mut self.before, 0);
     }
 
-    /// Adds the next thing, for which there is room, to the aggregation that is its parent, if it has one.
+    /// Adds the next thing, for which there is room, to the aggregation that is its parent, if it
+    /// has one.
     pub(crate) fn add_child(&mut self, parent: Option<AggNo>)
         requires room { vec_len self.old.before < vec_capacity self.old.before }
         requires few { length self.old.before.items ≤ 200_000 }
         requires within { IfSome parent (λ p. (0 < p) × (p ≤ length self.old.last.items)) }
-        ensures { (child_lists : List ℕ) (count : ℕ) → AreLinked child_lists count self.old.last.items self.old.before.items → AreLinked (child_lists ++ unwrap_or parent 0 ∷ []) count self.new.last.items self.new.before.items }
+        ensures { (child_lists : List ℕ) (count : ℕ)
+            → AreLinked child_lists count self.old.last.items self.old.before.items
+            → AreLinked (child_lists ++ unwrap_or parent 0 ∷ []) count self.new.last.items
+            self.new.before.items }
     {
         match parent {
             Some(container) => self.add_thing(container),
@@ -131,7 +142,8 @@ impl ChildLists {
 
 /// So many aggregations with nothing in them.
 fn empty_child_lists(alloc: Global, count: usize) -> Result<ChildLists, Memory>
-    ensures { IfOk result (λ child_lists. AreLinked [] count child_lists.last.items child_lists.before.items) }
+    ensures { IfOk result
+        (λ child_lists. AreLinked [] count child_lists.last.items child_lists.before.items) }
 {
     let mut child_lists = ChildLists::new(alloc);
     for _i in 0..count {
@@ -147,9 +159,12 @@ pub(crate) fn child_lists_of(
     count: usize,
     records: &[Record],
 ) -> Result<ChildLists, Memory>
-    requires within { (r : ℕ) (head : Record) → numbered records.now r ≡ Some head → (0 < head.aggregation) × (head.aggregation ≤ count) }
+    requires within { (r : ℕ) (head : Record) → numbered records.now r ≡ Some head
+        → (0 < head.aggregation) × (head.aggregation ≤ count) }
     requires few { length records.now ≤ 200_000 }
-    ensures { IfOk result (λ child_lists. AreLinked (child_lists_of records.now) count child_lists.last.items child_lists.before.items) }
+    ensures { IfOk result
+        (λ child_lists. AreLinked (child_lists_of records.now) count child_lists.last.items
+        child_lists.before.items) }
 {
     let mut child_lists = empty_child_lists(alloc, count)?;
     for i in 0..records.len() {
@@ -161,9 +176,12 @@ pub(crate) fn child_lists_of(
 
 /// These aggregations, each in its parent.
 pub(crate) fn children_of(alloc: Global, aggregations: &[Aggregation]) -> Result<ChildLists, Memory>
-    requires within { (a : ℕ) (it : Aggregation) → numbered aggregations.now a ≡ Some it → IfSome it.parent (λ p. (0 < p) × (p ≤ length aggregations.now)) }
+    requires within { (a : ℕ) (it : Aggregation) → numbered aggregations.now a ≡ Some it
+        → IfSome it.parent (λ p. (0 < p) × (p ≤ length aggregations.now)) }
     requires few { length aggregations.now ≤ 50_000 }
-    ensures { IfOk result (λ child_lists. HasChildren aggregations.now child_lists.last.items child_lists.before.items) }
+    ensures { IfOk result
+        (λ child_lists. HasChildren aggregations.now child_lists.last.items
+        child_lists.before.items) }
 {
     let mut child_lists = empty_child_lists(alloc, aggregations.len())?;
     for i in 0..aggregations.len() {

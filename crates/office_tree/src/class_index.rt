@@ -19,7 +19,8 @@ use office_terms::{AggNo, Class, Code, RecordNo};
 use std::alloc::Global;
 use std::collections::BTreeMap;
 
-/// The records of each class, which has a number. Numbers are given 1, 2, .. and stay their class's for good.
+/// The records of each class, which has a number. Numbers are given 1, 2, .. and stay their class's
+/// for good.
 #[derive(Drop)]
 pub(crate) struct ClassIndex {
     pub(crate) numbers: BTreeMap<Code, ClassNo>,
@@ -32,7 +33,9 @@ impl ClassIndex {
         ensures numbers { from_entries {R = code_cmp} result.numbers.entries ≡ empty }
         ensures first { result.class_lists.first.items ≡ [] }
         ensures class { result.class_lists.class.items ≡ [] }
-        ensures class_lists { AreClassLists result.class_lists.first.items result.class_lists.next.items result.class_lists.previous.items result.class_lists.class.items }
+        ensures class_lists { AreClassLists result.class_lists.first.items
+            result.class_lists.next.items result.class_lists.previous.items
+            result.class_lists.class.items }
     {
         ClassIndex {
             numbers: BTreeMap::new(alloc),
@@ -43,7 +46,8 @@ impl ClassIndex {
     /// The number of a class that has one.
     pub(crate) fn number_of(&self, code: &Code) -> ClassNo
         requires { IsSome (get (from_entries {R = code_cmp} self.now.numbers.entries) code.now) }
-        ensures { get (from_entries {R = code_cmp} self.now.numbers.entries) code.now ≡ Some result }
+        ensures { get (from_entries {R = code_cmp} self.now.numbers.entries) code.now
+            ≡ Some result }
     {
         match self.numbers.get(code) {
             Some(number) => *number,
@@ -53,12 +57,23 @@ impl ClassIndex {
 
     /// Gives a class the next number and a list without records, if it has none.
     pub(crate) fn add_class(&mut self, alloc: Global, code: &Code) -> Result<(), Memory>
-        requires class_lists { AreClassLists self.old.class_lists.first.items self.old.class_lists.next.items self.old.class_lists.previous.items self.old.class_lists.class.items }
-        ensures class_lists { AreClassLists self.new.class_lists.first.items self.new.class_lists.next.items self.new.class_lists.previous.items self.new.class_lists.class.items }
+        requires class_lists { AreClassLists self.old.class_lists.first.items
+            self.old.class_lists.next.items self.old.class_lists.previous.items
+            self.old.class_lists.class.items }
+        ensures class_lists { AreClassLists self.new.class_lists.first.items
+            self.new.class_lists.next.items self.new.class_lists.previous.items
+            self.new.class_lists.class.items }
         ensures class { self.new.class_lists.class.items ≡ self.old.class_lists.class.items }
-        ensures named { OnOk result (IsSome (get (from_entries {R = code_cmp} self.new.numbers.entries) code.now)) }
-        ensures kept { (q : List ℕ) (n : ℕ) → get (from_entries {R = code_cmp} self.old.numbers.entries) q ≡ Some n → get (from_entries {R = code_cmp} self.new.numbers.entries) q ≡ Some n }
-        ensures numbers { (classes : FinMap code_cmp Class) → HaveNumbers classes (from_entries self.old.numbers.entries) (length self.old.class_lists.first.items) → HaveNumbers classes (from_entries self.new.numbers.entries) (length self.new.class_lists.first.items) }
+        ensures named { OnOk result
+            (IsSome (get (from_entries {R = code_cmp} self.new.numbers.entries) code.now)) }
+        ensures kept { (q : List ℕ) (n : ℕ)
+            → get (from_entries {R = code_cmp} self.old.numbers.entries) q ≡ Some n
+            → get (from_entries {R = code_cmp} self.new.numbers.entries) q ≡ Some n }
+        ensures numbers { (classes : FinMap code_cmp Class)
+            → HaveNumbers classes (from_entries self.old.numbers.entries)
+            (length self.old.class_lists.first.items)
+            → HaveNumbers classes (from_entries self.new.numbers.entries)
+            (length self.new.class_lists.first.items) }
     {
         if self.numbers.contains_key(code) {
             return Ok(());
@@ -74,15 +89,26 @@ impl ClassIndex {
     pub(crate) fn reindex(&mut self, rows: &Rows<'_>, record_no: RecordNo)
         requires sound { IsSound rows.now }
         requires there { IsTrue (has_record rows.now record_no) }
-        requires numbers { HaveNumbers rows.now.classes (from_entries self.old.numbers.entries) (length self.old.class_lists.first.items) }
-        requires class_lists { AreClassLists self.old.class_lists.first.items self.old.class_lists.next.items self.old.class_lists.previous.items self.old.class_lists.class.items }
+        requires numbers { HaveNumbers rows.now.classes (from_entries self.old.numbers.entries)
+            (length self.old.class_lists.first.items) }
+        requires class_lists { AreClassLists self.old.class_lists.first.items
+            self.old.class_lists.next.items self.old.class_lists.previous.items
+            self.old.class_lists.class.items }
         requires on_list { record_no ≤ length self.old.class_lists.class.items }
         ensures same { self.new.numbers ≡ self.old.numbers }
-        ensures first { length self.new.class_lists.first.items ≡ length self.old.class_lists.first.items }
-        ensures class_lists { AreClassLists self.new.class_lists.first.items self.new.class_lists.next.items self.new.class_lists.previous.items self.new.class_lists.class.items }
-        ensures count { length self.new.class_lists.class.items ≡ length self.old.class_lists.class.items }
-        ensures here { (c : ℕ) → numbered self.new.class_lists.class.items record_no ≡ Some c → IsOfClass (from_entries self.old.numbers.entries) rows.now.aggregations rows.now.records record_no c }
-        ensures others { (r : ℕ) → r ≢ record_no → numbered self.new.class_lists.class.items r ≡ numbered self.old.class_lists.class.items r }
+        ensures first { length self.new.class_lists.first.items
+            ≡ length self.old.class_lists.first.items }
+        ensures class_lists { AreClassLists self.new.class_lists.first.items
+            self.new.class_lists.next.items self.new.class_lists.previous.items
+            self.new.class_lists.class.items }
+        ensures count { length self.new.class_lists.class.items
+            ≡ length self.old.class_lists.class.items }
+        ensures here { (c : ℕ) → numbered self.new.class_lists.class.items record_no ≡ Some c
+            → IsOfClass (from_entries self.old.numbers.entries) rows.now.aggregations
+            rows.now.records record_no c }
+        ensures others { (r : ℕ) → r ≢ record_no
+            → numbered self.new.class_lists.class.items r
+            ≡ numbered self.old.class_lists.class.items r }
     {
         let class = class_in(rows.aggregations, rows.records, record_no);
         let number = self.number_of(class);
@@ -97,16 +123,27 @@ impl ClassIndex {
         container: AggNo,
     )
         requires sound { IsSound rows.now }
-        requires linked { HasLinks rows.now child_lists.now.last.items child_lists.now.before.items }
+        requires linked { HasLinks rows.now child_lists.now.last.items
+            child_lists.now.before.items }
         requires there { IsTrue (has_aggregation rows.now container) }
-        requires numbers { HaveNumbers rows.now.classes (from_entries self.old.numbers.entries) (length self.old.class_lists.first.items) }
-        requires class_lists { AreClassLists self.old.class_lists.first.items self.old.class_lists.next.items self.old.class_lists.previous.items self.old.class_lists.class.items }
+        requires numbers { HaveNumbers rows.now.classes (from_entries self.old.numbers.entries)
+            (length self.old.class_lists.first.items) }
+        requires class_lists { AreClassLists self.old.class_lists.first.items
+            self.old.class_lists.next.items self.old.class_lists.previous.items
+            self.old.class_lists.class.items }
         requires count { length self.old.class_lists.class.items ≡ length rows.now.records }
         ensures same { self.new.numbers ≡ self.old.numbers }
-        ensures first { length self.new.class_lists.first.items ≡ length self.old.class_lists.first.items }
-        ensures class_lists { AreClassLists self.new.class_lists.first.items self.new.class_lists.next.items self.new.class_lists.previous.items self.new.class_lists.class.items }
-        ensures count { length self.new.class_lists.class.items ≡ length self.old.class_lists.class.items }
-        ensures listed { AreDone (IsOfClass (from_entries self.old.numbers.entries) rows.now.aggregations rows.now.records) rows.now.records (is_in container) self.old.class_lists.class.items self.new.class_lists.class.items }
+        ensures first { length self.new.class_lists.first.items
+            ≡ length self.old.class_lists.first.items }
+        ensures class_lists { AreClassLists self.new.class_lists.first.items
+            self.new.class_lists.next.items self.new.class_lists.previous.items
+            self.new.class_lists.class.items }
+        ensures count { length self.new.class_lists.class.items
+            ≡ length self.old.class_lists.class.items }
+        ensures listed { AreDone
+            (IsOfClass (from_entries self.old.numbers.entries) rows.now.aggregations
+            rows.now.records) rows.now.records (is_in container)
+            self.old.class_lists.class.items self.new.class_lists.class.items }
     {
         let mut at = child_lists.last(container);
         while at != 0 {
@@ -118,8 +155,12 @@ impl ClassIndex {
 
 /// The classes, each with a number, and no records.
 fn numbered_classes(alloc: Global, classes: &BTreeMap<Code, Class>) -> Result<ClassIndex, Memory>
-    ensures numbers { IfOk result (λ it. HaveNumbers (from_entries classes.now.entries) (from_entries it.numbers.entries) (length it.class_lists.first.items)) }
-    ensures class_lists { IfOk result (λ it. AreClassLists it.class_lists.first.items it.class_lists.next.items it.class_lists.previous.items it.class_lists.class.items) }
+    ensures numbers { IfOk result
+        (λ it. HaveNumbers (from_entries classes.now.entries) (from_entries it.numbers.entries)
+        (length it.class_lists.first.items)) }
+    ensures class_lists { IfOk result
+        (λ it. AreClassLists it.class_lists.first.items it.class_lists.next.items
+        it.class_lists.previous.items it.class_lists.class.items) }
     ensures class { IfOk result (λ it. it.class_lists.class.items ≡ []) }
 {
     let mut class_index = ClassIndex::new(alloc);
@@ -132,7 +173,10 @@ fn numbered_classes(alloc: Global, classes: &BTreeMap<Code, Class>) -> Result<Cl
 /// The records, each on the list of its class.
 pub(crate) fn class_index_of(alloc: Global, rows: &Rows<'_>) -> Result<ClassIndex, Memory>
     requires { IsSound rows.now }
-    ensures { IfOk result (λ it. AreListed rows.now.classes rows.now.aggregations rows.now.records (from_entries it.numbers.entries) it.class_lists.first.items it.class_lists.next.items it.class_lists.previous.items it.class_lists.class.items) }
+    ensures { IfOk result
+        (λ it. AreListed rows.now.classes rows.now.aggregations rows.now.records
+        (from_entries it.numbers.entries) it.class_lists.first.items it.class_lists.next.items
+        it.class_lists.previous.items it.class_lists.class.items) }
 {
     let mut class_index = numbered_classes(alloc, rows.classes)?;
     for i in 0..rows.records.len() {

@@ -11,9 +11,10 @@ use std::alloc::Global;
 /// The number of a class of records: 1, 2, .. in the order of addition; 0 for none.
 pub(crate) type ClassNo = usize;
 
-/// The records of each class, doubly linked, so that they are gone through without the others and each is moved without
-/// them: for each class the number of the first record on its list, for each record those of the next and of the previous
-/// on its list, 0 for none, and the number of the class on whose list it is, 0 for none.
+/// The records of each class, doubly linked, so that they are gone through without the others and
+/// each is moved without them: for each class the number of the first record on its list, for each
+/// record those of the next and of the previous on its list, 0 for none, and the number of the
+/// class on whose list it is, 0 for none.
 #[derive(Drop)]
 pub(crate) struct ClassLists {
     pub(crate) first: Vec<RecordNo>,
@@ -32,7 +33,8 @@ fn write(numbers: &mut Vec<RecordNo>, n: usize, x: RecordNo)
     }
 }
 
-/// The next record now follows the one before, or is the first of the class where there is none before.
+/// The next record now follows the one before, or is the first of the class where there is none
+/// before.
 fn link_over(
     first: &mut Vec<RecordNo>,
     nexts: &mut Vec<RecordNo>,
@@ -56,7 +58,8 @@ fn link_over(
 impl ClassLists {
     /// No classes and no records.
     pub(crate) fn new(alloc: Global) -> ClassLists
-        ensures class_lists { AreClassLists result.first.items result.next.items result.previous.items result.class.items }
+        ensures class_lists { AreClassLists result.first.items result.next.items
+            result.previous.items result.class.items }
         ensures first { result.first.items ≡ [] }
         ensures class { result.class.items ≡ [] }
     {
@@ -123,7 +126,8 @@ impl ClassLists {
         ensures previous { self.new.previous.items ≡ self.old.previous.items }
         ensures class { self.new.class.items ≡ self.old.class.items }
         ensures next_room { OnOk result (vec_len self.new.next < vec_capacity self.new.next) }
-        ensures previous_room { OnOk result (vec_len self.new.previous < vec_capacity self.new.previous) }
+        ensures previous_room { OnOk result
+            (vec_len self.new.previous < vec_capacity self.new.previous) }
         ensures class_room { OnOk result (vec_len self.new.class < vec_capacity self.new.class) }
     {
         self.next.try_reserve(1)?;
@@ -134,9 +138,11 @@ impl ClassLists {
 
     /// Adds the next class, for which there is room, with no records.
     pub(crate) fn add_class(&mut self)
-        requires class_lists { AreClassLists self.old.first.items self.old.next.items self.old.previous.items self.old.class.items }
+        requires class_lists { AreClassLists self.old.first.items self.old.next.items
+            self.old.previous.items self.old.class.items }
         requires room { vec_len self.old.first < vec_capacity self.old.first }
-        ensures class_lists { AreClassLists self.new.first.items self.new.next.items self.new.previous.items self.new.class.items }
+        ensures class_lists { AreClassLists self.new.first.items self.new.next.items
+            self.new.previous.items self.new.class.items }
         ensures classes { length self.new.first.items ≡ length self.old.first.items + 1 }
         ensures class { self.new.class.items ≡ self.old.class.items }
     {
@@ -145,10 +151,12 @@ impl ClassLists {
 
     /// Takes the record off its list, if it is on one.
     fn take_off(&mut self, record_no: RecordNo)
-        requires class_lists { AreClassLists self.old.first.items self.old.next.items self.old.previous.items self.old.class.items }
+        requires class_lists { AreClassLists self.old.first.items self.old.next.items
+            self.old.previous.items self.old.class.items }
         requires low { 0 < record_no }
         requires high { record_no ≤ length self.old.class.items }
-        ensures class_lists { AreClassLists self.new.first.items self.new.next.items self.new.previous.items self.new.class.items }
+        ensures class_lists { AreClassLists self.new.first.items self.new.next.items
+            self.new.previous.items self.new.class.items }
         ensures classes { length self.new.first.items ≡ length self.old.first.items }
         ensures class { self.new.class.items ≡ put self.old.class.items record_no 0 }
     {
@@ -164,11 +172,13 @@ impl ClassLists {
 
     /// Puts the record, which is on no list, at the head of the class's list.
     fn put_on(&mut self, record_no: RecordNo, class: ClassNo)
-        requires class_lists { AreClassLists self.old.first.items self.old.next.items self.old.previous.items self.old.class.items }
+        requires class_lists { AreClassLists self.old.first.items self.old.next.items
+            self.old.previous.items self.old.class.items }
         requires off { numbered self.old.class.items record_no ≡ Some 0 }
         requires low { 0 < class }
         requires high { class ≤ length self.old.first.items }
-        ensures class_lists { AreClassLists self.new.first.items self.new.next.items self.new.previous.items self.new.class.items }
+        ensures class_lists { AreClassLists self.new.first.items self.new.next.items
+            self.new.previous.items self.new.class.items }
         ensures classes { length self.new.first.items ≡ length self.old.first.items }
         ensures class { self.new.class.items ≡ put self.old.class.items record_no class }
     {
@@ -179,14 +189,16 @@ impl ClassLists {
         self.class[record_no as usize - 1] = class;
     }
 
-    /// The record is on the list of that class now, or on none where the class is 0. Nothing is written where it is there
-    /// already.
+    /// The record is on the list of that class now, or on none where the class is 0. Nothing is
+    /// written where it is there already.
     pub(crate) fn put(&mut self, record_no: RecordNo, class: ClassNo)
-        requires class_lists { AreClassLists self.old.first.items self.old.next.items self.old.previous.items self.old.class.items }
+        requires class_lists { AreClassLists self.old.first.items self.old.next.items
+            self.old.previous.items self.old.class.items }
         requires low { 0 < record_no }
         requires high { record_no ≤ length self.old.class.items }
         requires there { class ≤ length self.old.first.items }
-        ensures class_lists { AreClassLists self.new.first.items self.new.next.items self.new.previous.items self.new.class.items }
+        ensures class_lists { AreClassLists self.new.first.items self.new.next.items
+            self.new.previous.items self.new.class.items }
         ensures classes { length self.new.first.items ≡ length self.old.first.items }
         ensures class { self.new.class.items ≡ put self.old.class.items record_no class }
         ensures same { numbered self.old.class.items record_no ≡ Some class → self.new ≡ self.old }
@@ -202,11 +214,13 @@ impl ClassLists {
 
     /// Adds the next record, for which there is room, on no list.
     pub(crate) fn add(&mut self)
-        requires class_lists { AreClassLists self.old.first.items self.old.next.items self.old.previous.items self.old.class.items }
+        requires class_lists { AreClassLists self.old.first.items self.old.next.items
+            self.old.previous.items self.old.class.items }
         requires next_room { vec_len self.old.next < vec_capacity self.old.next }
         requires previous_room { vec_len self.old.previous < vec_capacity self.old.previous }
         requires class_room { vec_len self.old.class < vec_capacity self.old.class }
-        ensures class_lists { AreClassLists self.new.first.items self.new.next.items self.new.previous.items self.new.class.items }
+        ensures class_lists { AreClassLists self.new.first.items self.new.next.items
+            self.new.previous.items self.new.class.items }
         ensures classes { length self.new.first.items ≡ length self.old.first.items }
         ensures class { self.new.class.items ≡ self.old.class.items ++ 0 ∷ [] }
     {

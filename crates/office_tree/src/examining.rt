@@ -104,8 +104,8 @@ fn is_record_by(last: Day, head: &Record) -> bool
         && is_receipted_by(last, &head.receipt)
 }
 
-/// Whether the event is of one of so many records, did not occur after the day of its act, and that day is not after
-/// the last.
+/// Whether the event is of one of so many records, did not occur after the day of its act, and that
+/// day is not after the last.
 fn is_sound_event(count: RecordNo, last: Day, record_no: RecordNo, event: &Event) -> bool
     ensures { result ≡ is_sound_event count last record_no event.now }
 {
@@ -114,7 +114,8 @@ fn is_sound_event(count: RecordNo, last: Day, record_no: RecordNo, event: &Event
 
 /// Whether so it is with each event.
 fn are_sound_events(count: RecordNo, last: Day, events: &BTreeMap<RecordNo, Event>) -> bool
-    ensures { IsTrue result ↔ All (λ e. is_sound_event count last e.0 e.1 ≡ true) events.now.entries }
+    ensures { IsTrue result
+        ↔ All (λ e. is_sound_event count last e.0 e.1 ≡ true) events.now.entries }
 {
     for (record_no, event) in events {
         if !is_sound_event(count, last, *record_no, event) {
@@ -133,7 +134,8 @@ fn ascending(events: &BTreeMap<RecordNo, Event>)
 
 /// Whether no two aggregations have one ref: the index has as many refs as there are aggregations.
 fn do_aggregation_refs_differ(index: &BTreeMap<Text, AggNo>, aggregations: &[Aggregation]) -> bool
-    requires { Indexes (from_entries {R = code_cmp} index.now.entries) (aggregation_refs aggregations.now) }
+    requires { Indexes (from_entries {R = code_cmp} index.now.entries)
+        (aggregation_refs aggregations.now) }
     ensures yes { IsTrue result → Differ (λ it. it.ref_text) aggregations.now }
     ensures no { result ≡ false → Differ (λ it. it.ref_text) aggregations.now → ⊥ }
 {
@@ -175,11 +177,13 @@ impl Tree {
         self.records.iter().all(|head| is_record_by(last, head))
     }
 
-    /// Whether each event is of a record that is there and did not occur after the day of its act, and no such day is
-    /// after that day.
+    /// Whether each event is of a record that is there and did not occur after the day of its act,
+    /// and no such day is after that day.
     pub fn are_events_sound(&self, last: Day) -> bool
-        ensures yes { IsTrue result → AreEventsSound self.now.events (length self.now.records) last }
-        ensures no { result ≡ false → AreEventsSound self.now.events (length self.now.records) last → ⊥ }
+        ensures yes { IsTrue result
+            → AreEventsSound self.now.events (length self.now.records) last }
+        ensures no { result ≡ false → AreEventsSound self.now.events (length self.now.records) last
+            → ⊥ }
     {
         ascending(&self.events);
         are_sound_events(self.record_count(), last, &self.events)

@@ -1,12 +1,14 @@
-//! The tree of the office in memory: disposal schedules, classes, aggregations, record heads and their events.
+//! The tree of the office in memory: disposal schedules, classes, aggregations, record heads and
+//! their events.
 //!
-//! It is a tree of the terms in `office_terms`, and a reading is what the definitions there say. What the
-//! readings ask for is derived and stored beside the rows.
+//! It is a tree of the terms in `office_terms`, and a reading is what the definitions there say.
+//! What the readings ask for is derived and stored beside the rows.
 //!
 //! Each act on the tree comes as a pair: `check_..` says why it is refused, with the least number,
 //! or `None`; `apply_..` asks that its check gives `None` and makes the change, or answers
 //! [`Memory`] and leaves the tree as it was. Readings take no memory. Rows that were stored come
-//! back by `put_..`, which asks that the tree stays sound, and that what never changes in a row stays.
+//! back by `put_..`, which asks that the tree stays sound, and that what never changes in a row
+//! stays.
 #![tactic(auto)]
 
 mod applying;

@@ -60,7 +60,9 @@ fn is_within_limits(
     aggregations: &[Aggregation],
     records: &[Record],
 ) -> bool
-    ensures { result ≡ is_within_limits (from_entries {R = code_cmp} schedules.now.entries) (from_entries {R = code_cmp} classes.now.entries) aggregations.now records.now }
+    ensures { result
+        ≡ is_within_limits (from_entries {R = code_cmp} schedules.now.entries)
+        (from_entries {R = code_cmp} classes.now.entries) aggregations.now records.now }
 {
     count(schedules) <= 1_000
         && count(classes) <= 1_000
@@ -70,7 +72,10 @@ fn is_within_limits(
 
 /// Whether the schedules of the classes are there.
 fn are_classes_named(schedules: &BTreeMap<Code, Schedule>, classes: &BTreeMap<Code, Class>) -> bool
-    ensures all { IsTrue result ↔ All (λ it. contains_key (from_entries {R = code_cmp} schedules.now.entries) it.schedule ≡ true) (map.values classes.now) }
+    ensures all { IsTrue result
+        ↔ All
+        (λ it. contains_key (from_entries {R = code_cmp} schedules.now.entries) it.schedule
+        ≡ true) (map.values classes.now) }
     ensures ordered { map.IsOrdered code_cmp classes.now }
 {
     classes.values().all(|it| has(schedules, &it.schedule))
@@ -78,14 +83,18 @@ fn are_classes_named(schedules: &BTreeMap<Code, Schedule>, classes: &BTreeMap<Co
 
 /// Whether the aggregation's class is there; a root has one.
 fn is_aggregation_named(classes: &BTreeMap<Code, Class>, it: &Aggregation) -> bool
-    ensures { result ≡ is_aggregation_named (from_entries {R = code_cmp} classes.now.entries) it.now }
+    ensures { result
+        ≡ is_aggregation_named (from_entries {R = code_cmp} classes.now.entries) it.now }
 {
     is_there(classes, &it.class) && (it.parent.is_some() || it.class.is_some())
 }
 
 /// Whether the classes of the aggregations are there.
 fn are_aggregations_named(classes: &BTreeMap<Code, Class>, aggregations: &[Aggregation]) -> bool
-    ensures { IsTrue result ↔ All (λ it. is_aggregation_named (from_entries {R = code_cmp} classes.now.entries) it ≡ true) aggregations.now }
+    ensures { IsTrue result
+        ↔ All
+        (λ it. is_aggregation_named (from_entries {R = code_cmp} classes.now.entries) it ≡ true)
+        aggregations.now }
 {
     aggregations
         .iter()
@@ -99,7 +108,9 @@ fn is_record_named(
     count: usize,
     head: &Record,
 ) -> bool
-    ensures { result ≡ is_record_named (from_entries {R = code_cmp} schedules.now.entries) (from_entries {R = code_cmp} classes.now.entries) count head.now }
+    ensures { result
+        ≡ is_record_named (from_entries {R = code_cmp} schedules.now.entries)
+        (from_entries {R = code_cmp} classes.now.entries) count head.now }
 {
     1 <= head.aggregation
         && head.aggregation as usize <= count
@@ -114,7 +125,11 @@ fn are_records_named(
     count: usize,
     records: &[Record],
 ) -> bool
-    ensures { IsTrue result ↔ All (λ head. is_record_named (from_entries {R = code_cmp} schedules.now.entries) (from_entries {R = code_cmp} classes.now.entries) count head ≡ true) records.now }
+    ensures { IsTrue result
+        ↔ All
+        (λ head. is_record_named (from_entries {R = code_cmp} schedules.now.entries)
+        (from_entries {R = code_cmp} classes.now.entries) count head ≡ true)
+        records.now }
 {
     records
         .iter()
@@ -128,8 +143,12 @@ fn do_names_exist(
     aggregations: &[Aggregation],
     records: &[Record],
 ) -> bool
-    ensures yes { IsTrue result → NamesExist (from_entries {R = code_cmp} schedules.now.entries) (from_entries {R = code_cmp} classes.now.entries) aggregations.now records.now }
-    ensures no { result ≡ false → NamesExist (from_entries {R = code_cmp} schedules.now.entries) (from_entries {R = code_cmp} classes.now.entries) aggregations.now records.now → ⊥ }
+    ensures yes { IsTrue result
+        → NamesExist (from_entries {R = code_cmp} schedules.now.entries)
+        (from_entries {R = code_cmp} classes.now.entries) aggregations.now records.now }
+    ensures no { result ≡ false
+        → NamesExist (from_entries {R = code_cmp} schedules.now.entries)
+        (from_entries {R = code_cmp} classes.now.entries) aggregations.now records.now → ⊥ }
 {
     if !are_classes_named(schedules, classes) {
         return false;
@@ -144,7 +163,8 @@ fn do_names_exist(
 fn is_placed(aggregations: &[Aggregation], number: usize) -> bool
     requires low { 0 < number }
     requires high { number ≤ length aggregations.now }
-    ensures { (it : Aggregation) → numbered aggregations.now number ≡ Some it → result ≡ is_placed aggregations.now number it it.parent }
+    ensures { (it : Aggregation) → numbered aggregations.now number ≡ Some it
+        → result ≡ is_placed aggregations.now number it it.parent }
 {
     let it = &aggregations[number - 1];
     match it.parent {
@@ -160,8 +180,11 @@ fn is_placed(aggregations: &[Aggregation], number: usize) -> bool
 
 /// Whether parents have smaller numbers, and no open aggregation has a closed one.
 fn are_placed(aggregations: &[Aggregation]) -> bool
-    ensures yes { IsTrue result → (a : ℕ) (it : Aggregation) → numbered aggregations.now a ≡ Some it → is_placed aggregations.now a it it.parent ≡ true }
-    ensures no { result ≡ false → ((a : ℕ) (it : Aggregation) → numbered aggregations.now a ≡ Some it → is_placed aggregations.now a it it.parent ≡ true) → ⊥ }
+    ensures yes { IsTrue result → (a : ℕ) (it : Aggregation) → numbered aggregations.now a ≡ Some it
+        → is_placed aggregations.now a it it.parent ≡ true }
+    ensures no { result ≡ false
+        → ((a : ℕ) (it : Aggregation) → numbered aggregations.now a ≡ Some it
+        → is_placed aggregations.now a it it.parent ≡ true) → ⊥ }
 {
     for i in 0..aggregations.len() {
         if !is_placed(aggregations, i + 1) {
@@ -173,7 +196,8 @@ fn are_placed(aggregations: &[Aggregation]) -> bool
 
 /// Whether no more than so many contain each other from this one on.
 fn is_low(aggregations: &[Aggregation], next: Option<AggNo>, steps: u32) -> bool
-    requires below { (a p : ℕ) (it : Aggregation) → numbered aggregations.now a ≡ Some it → it.parent ≡ Some p → (0 < p) × (p < a) }
+    requires below { (a p : ℕ) (it : Aggregation) → numbered aggregations.now a ≡ Some it
+        → it.parent ≡ Some p → (0 < p) × (p < a) }
     requires roots { RootsHaveClasses aggregations.now }
     requires within { IfSome next (λ a. (0 < a) × (a ≤ length aggregations.now)) }
     ensures { result ≡ nat_le (length (chain aggregations.now (unwrap_or next 0) next)) steps }
@@ -192,7 +216,8 @@ fn is_low(aggregations: &[Aggregation], next: Option<AggNo>, steps: u32) -> bool
 
 /// Whether the depths are at most eight.
 fn are_low(aggregations: &[Aggregation]) -> bool
-    requires below { (a p : ℕ) (it : Aggregation) → numbered aggregations.now a ≡ Some it → it.parent ≡ Some p → (0 < p) × (p < a) }
+    requires below { (a p : ℕ) (it : Aggregation) → numbered aggregations.now a ≡ Some it
+        → it.parent ≡ Some p → (0 < p) × (p < a) }
     requires roots { RootsHaveClasses aggregations.now }
     requires few { length aggregations.now ≤ 50_000 }
     ensures yes { IsTrue result → (a : ℕ) → length (chain_of aggregations.now a) ≤ 8 }
@@ -215,8 +240,12 @@ fn are_sound(
     statuses: &[Status],
     events: &BTreeMap<RecordNo, Event>,
 ) -> bool
-    ensures yes { IsTrue result → IsSound (tree_of schedules.now.entries classes.now.entries aggregations.now records.now statuses.now events.now.entries) }
-    ensures no { result ≡ false → IsSound (tree_of schedules.now.entries classes.now.entries aggregations.now records.now statuses.now events.now.entries) → ⊥ }
+    ensures yes { IsTrue result
+        → IsSound (tree_of schedules.now.entries classes.now.entries aggregations.now records.now
+        statuses.now events.now.entries) }
+    ensures no { result ≡ false
+        → IsSound (tree_of schedules.now.entries classes.now.entries aggregations.now records.now
+        statuses.now events.now.entries) → ⊥ }
 {
     if !is_within_limits(schedules, classes, aggregations, records) {
         return false;
@@ -249,9 +278,19 @@ struct Kept {
 /// What is to be derived beside the rows.
 fn kept_of(alloc: Global, rows: &Rows<'_>) -> Result<Kept, Memory>
     requires { IsSound rows.now }
-    ensures stored { IfOk result (λ kept. IsStored rows.now (from_entries kept.by_aggregation_ref.entries) (from_entries kept.by_record_ref.entries) kept.schedule_numbers kept.record_caches.rows.items kept.summaries.items kept.child_lists.last.items kept.child_lists.before.items) }
-    ensures class_index { IfOk result (λ kept. AreListed rows.now.classes rows.now.aggregations rows.now.records (from_entries kept.class_index.numbers.entries) kept.class_index.class_lists.first.items kept.class_index.class_lists.next.items kept.class_index.class_lists.previous.items kept.class_index.class_lists.class.items) }
-    ensures children { IfOk result (λ kept. HasChildren rows.now.aggregations kept.children.last.items kept.children.before.items) }
+    ensures stored { IfOk result
+        (λ kept. IsStored rows.now (from_entries kept.by_aggregation_ref.entries)
+        (from_entries kept.by_record_ref.entries) kept.schedule_numbers
+        kept.record_caches.rows.items kept.summaries.items kept.child_lists.last.items
+        kept.child_lists.before.items) }
+    ensures class_index { IfOk result
+        (λ kept. AreListed rows.now.classes rows.now.aggregations rows.now.records
+        (from_entries kept.class_index.numbers.entries) kept.class_index.class_lists.first.items
+        kept.class_index.class_lists.next.items kept.class_index.class_lists.previous.items
+        kept.class_index.class_lists.class.items) }
+    ensures children { IfOk result
+        (λ kept. HasChildren rows.now.aggregations kept.children.last.items
+        kept.children.before.items) }
 {
     let schedule_numbers = schedule_numbers_of(alloc, rows.schedules)?;
     let summaries = summaries_of(alloc, rows.aggregations, rows.records, rows.statuses)?;
@@ -274,7 +313,8 @@ fn kept_of(alloc: Global, rows: &Rows<'_>) -> Result<Kept, Memory>
 }
 
 impl Tree {
-    /// The tree of these parts, with indexes of their refs; `None` exactly where they hang not together.
+    /// The tree of these parts, with indexes of their refs; `None` exactly where they hang not
+    /// together.
     pub fn of_parts(
         alloc: Global,
         schedules: BTreeMap<Code, Schedule>,
@@ -284,7 +324,13 @@ impl Tree {
         statuses: Vec<Status>,
         events: BTreeMap<RecordNo, Event>,
     ) -> Result<Option<Tree>, Memory>
-        ensures { IfOk result (λ found. MatchOption found (IsSound (tree_of schedules.entries classes.entries aggregations.items records.items statuses.items events.entries) → ⊥) (λ tree. tree ≡ tree_of schedules.entries classes.entries aggregations.items records.items statuses.items events.entries)) }
+        ensures { IfOk result
+            (λ found. MatchOption found
+            (IsSound (tree_of schedules.entries classes.entries aggregations.items records.items
+            statuses.items events.entries) → ⊥)
+            (λ tree. tree
+            ≡ tree_of schedules.entries classes.entries aggregations.items records.items
+            statuses.items events.entries)) }
     {
         if !are_sound(
             &schedules,

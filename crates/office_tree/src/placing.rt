@@ -79,8 +79,8 @@ impl Tree {
         self.push_class(code, class)
     }
 
-    /// Puts an aggregation in place of the one with that number, which has the same ref and the same parent and needs
-    /// no memory, or as the next.
+    /// Puts an aggregation in place of the one with that number, which has the same ref and the
+    /// same parent and needs no memory, or as the next.
     pub fn put_aggregation(&mut self, aggregation: AggNo, it: Aggregation) -> Result<(), Memory>
         requires sound { IsSound (put_aggregation self.old aggregation it) }
         requires number { (0 < aggregation) × (aggregation ≤ length self.old.aggregations + 1) }
@@ -98,8 +98,8 @@ impl Tree {
         Ok(())
     }
 
-    /// Puts a record's head with its status in place of the one with that number, which has the same ref, aggregation
-    /// and added day and needs no memory, or as the next.
+    /// Puts a record's head with its status in place of the one with that number, which has the
+    /// same ref, aggregation and added day and needs no memory, or as the next.
     pub fn put_record(
         &mut self,
         record_no: RecordNo,

@@ -22,7 +22,8 @@ pub(crate) struct RecordCaches {
 /// Puts one more in, for which there is room, and which is yet to be computed.
 fn push_record_cache(rows: &mut Vec<RecordCache>)
     requires { vec_len rows.old < vec_capacity rows.old }
-    ensures { (it : RecordCache) × (rows.new.items ≡ rows.old.items ++ it ∷ []) × (it.is_candidate ≡ false) }
+    ensures { (it : RecordCache) × (rows.new.items ≡ rows.old.items ++ it ∷ [])
+        × (it.is_candidate ≡ false) }
 {
     let due: Option<DueDay> = None;
     let record_cache = RecordCache {
@@ -57,7 +58,8 @@ impl RecordCaches {
         Ok(())
     }
 
-    /// Adds what is cached of the next record, for which there is room, and which is yet to be computed.
+    /// Adds what is cached of the next record, for which there is room, and which is yet to be
+    /// computed.
     pub(crate) fn push(&mut self)
         requires row_room { vec_len self.old.rows < vec_capacity self.old.rows }
         requires mark_room { vec_len self.old.rows < length self.old.candidates }
@@ -98,8 +100,10 @@ impl RecordCaches {
         ensures higher { IfSome result (λ r. above < r) }
         ensures there { IfSome result (λ r. r ≤ length self.now.rows.items) }
         ensures candidate { IfSome result (λ r. mark_at self.now.rows.items (r - 1) ≡ true) }
-        ensures between { IfSome result (λ r. (k : ℕ) → above < k → k < r → mark_at self.now.rows.items (k - 1) ≡ false) }
-        ensures none { IfNone result ((k : ℕ) → above < k → mark_at self.now.rows.items (k - 1) ≡ false) }
+        ensures between { IfSome result
+            (λ r. (k : ℕ) → above < k → k < r → mark_at self.now.rows.items (k - 1) ≡ false) }
+        ensures none { IfNone result
+            ((k : ℕ) → above < k → mark_at self.now.rows.items (k - 1) ≡ false) }
     {
         self.candidates.next_above(above)
     }

@@ -40,8 +40,10 @@ impl RecordCaches {
         requires last { AreLastAdditions summaries.now rows.now.aggregations rows.now.records }
         requires many { length self.old.rows.items ≡ length rows.now.records }
         ensures count { length self.new.rows.items ≡ length self.old.rows.items }
-        ensures here { (it : RecordCache) → numbered self.new.rows.items record_no ≡ Some it → IsRecordCache schedule_numbers.now rows.now record_no it }
-        ensures others { (r : ℕ) → r ≢ record_no → numbered self.new.rows.items r ≡ numbered self.old.rows.items r }
+        ensures here { (it : RecordCache) → numbered self.new.rows.items record_no ≡ Some it
+            → IsRecordCache schedule_numbers.now rows.now record_no it }
+        ensures others { (r : ℕ) → r ≢ record_no
+            → numbered self.new.rows.items r ≡ numbered self.old.rows.items r }
     {
         let record_cache = rows.record_cache(schedule_numbers, summaries, record_no);
         self.put(record_no, record_cache);
@@ -60,13 +62,17 @@ impl RecordCaches {
         requires planned { AreNumbered rows.now.schedules schedule_numbers.now }
         requires last { AreLastAdditions summaries.now rows.now.aggregations rows.now.records }
         requires many { length self.old.rows.items ≡ length rows.now.records }
-        requires class_lists { AreClassLists class_lists.now.first.items class_lists.now.next.items class_lists.now.previous.items class_lists.now.class.items }
+        requires class_lists { AreClassLists class_lists.now.first.items class_lists.now.next.items
+            class_lists.now.previous.items class_lists.now.class.items }
         requires all { length class_lists.now.class.items ≡ length rows.now.records }
         requires low { 0 < class }
         requires high { class ≤ length class_lists.now.first.items }
         ensures count { length self.new.rows.items ≡ length self.old.rows.items }
-        ensures here { (r : ℕ) → numbered class_lists.now.class.items r ≡ Some class → (it : RecordCache) → numbered self.new.rows.items r ≡ Some it → IsRecordCache schedule_numbers.now rows.now r it }
-        ensures others { (r : ℕ) → numbered class_lists.now.class.items r ≢ Some class → numbered self.new.rows.items r ≡ numbered self.old.rows.items r }
+        ensures here { (r : ℕ) → numbered class_lists.now.class.items r ≡ Some class
+            → (it : RecordCache) → numbered self.new.rows.items r ≡ Some it
+            → IsRecordCache schedule_numbers.now rows.now r it }
+        ensures others { (r : ℕ) → numbered class_lists.now.class.items r ≢ Some class
+            → numbered self.new.rows.items r ≡ numbered self.old.rows.items r }
     {
         let mut at = class_lists.first(class);
         while at != 0 {
@@ -75,7 +81,8 @@ impl RecordCaches {
         }
     }
 
-    /// Computes anew what is cached of the records of one aggregation, and goes through these alone.
+    /// Computes anew what is cached of the records of one aggregation, and goes through these
+    /// alone.
     pub(crate) fn refresh_container(
         &mut self,
         rows: &Rows<'_>,
@@ -88,10 +95,12 @@ impl RecordCaches {
         requires planned { AreNumbered rows.now.schedules schedule_numbers.now }
         requires last { AreLastAdditions summaries.now rows.now.aggregations rows.now.records }
         requires many { length self.old.rows.items ≡ length rows.now.records }
-        requires linked { HasLinks rows.now child_lists.now.last.items child_lists.now.before.items }
+        requires linked { HasLinks rows.now child_lists.now.last.items
+            child_lists.now.before.items }
         requires there { IsTrue (has_aggregation rows.now container) }
         ensures count { length self.new.rows.items ≡ length self.old.rows.items }
-        ensures refreshed { AreRefreshed schedule_numbers.now rows.now (is_in container) self.old.rows.items self.new.rows.items }
+        ensures refreshed { AreRefreshed schedule_numbers.now rows.now (is_in container)
+            self.old.rows.items self.new.rows.items }
     {
         let mut at = child_lists.last(container);
         while at != 0 {
@@ -101,8 +110,9 @@ impl RecordCaches {
     }
 }
 
-/// Computes anew what is cached of the records that are in the aggregation or inherit from it, puts them on the lists
-/// of their classes, and goes through these alone: what has a class of its own is passed with all below it.
+/// Computes anew what is cached of the records that are in the aggregation or inherit from it, puts
+/// them on the lists of their classes, and goes through these alone: what has a class of its own is
+/// passed with all below it.
 pub(crate) fn refresh_inheriting(
     record_caches: &mut RecordCaches,
     class_index: &mut ClassIndex,
@@ -118,18 +128,31 @@ pub(crate) fn refresh_inheriting(
     requires last { AreLastAdditions summaries.now rows.now.aggregations rows.now.records }
     requires many { length record_caches.old.rows.items ≡ length rows.now.records }
     requires linked { HasLinks rows.now child_lists.now.last.items child_lists.now.before.items }
-    requires children { HasChildren rows.now.aggregations children.now.last.items children.now.before.items }
+    requires children { HasChildren rows.now.aggregations children.now.last.items
+        children.now.before.items }
     requires there { IsTrue (has_aggregation rows.now from) }
-    requires numbers { HaveNumbers rows.now.classes (from_entries class_index.old.numbers.entries) (length class_index.old.class_lists.first.items) }
-    requires class_lists { AreClassLists class_index.old.class_lists.first.items class_index.old.class_lists.next.items class_index.old.class_lists.previous.items class_index.old.class_lists.class.items }
+    requires numbers { HaveNumbers rows.now.classes (from_entries class_index.old.numbers.entries)
+        (length class_index.old.class_lists.first.items) }
+    requires class_lists { AreClassLists class_index.old.class_lists.first.items
+        class_index.old.class_lists.next.items class_index.old.class_lists.previous.items
+        class_index.old.class_lists.class.items }
     requires classed { length class_index.old.class_lists.class.items ≡ length rows.now.records }
     ensures count { length record_caches.new.rows.items ≡ length record_caches.old.rows.items }
-    ensures refreshed { AreRefreshed schedule_numbers.now rows.now (is_heir rows.now.aggregations from) record_caches.old.rows.items record_caches.new.rows.items }
+    ensures refreshed { AreRefreshed schedule_numbers.now rows.now
+        (is_heir rows.now.aggregations from) record_caches.old.rows.items
+        record_caches.new.rows.items }
     ensures same { class_index.new.numbers ≡ class_index.old.numbers }
-    ensures first { length class_index.new.class_lists.first.items ≡ length class_index.old.class_lists.first.items }
-    ensures class_lists { AreClassLists class_index.new.class_lists.first.items class_index.new.class_lists.next.items class_index.new.class_lists.previous.items class_index.new.class_lists.class.items }
-    ensures classed { length class_index.new.class_lists.class.items ≡ length class_index.old.class_lists.class.items }
-    ensures listed { AreDone (IsOfClass (from_entries class_index.old.numbers.entries) rows.now.aggregations rows.now.records) rows.now.records (is_heir rows.now.aggregations from) class_index.old.class_lists.class.items class_index.new.class_lists.class.items }
+    ensures first { length class_index.new.class_lists.first.items
+        ≡ length class_index.old.class_lists.first.items }
+    ensures class_lists { AreClassLists class_index.new.class_lists.first.items
+        class_index.new.class_lists.next.items class_index.new.class_lists.previous.items
+        class_index.new.class_lists.class.items }
+    ensures classed { length class_index.new.class_lists.class.items
+        ≡ length class_index.old.class_lists.class.items }
+    ensures listed { AreDone
+        (IsOfClass (from_entries class_index.old.numbers.entries) rows.now.aggregations
+        rows.now.records) rows.now.records (is_heir rows.now.aggregations from)
+        class_index.old.class_lists.class.items class_index.new.class_lists.class.items }
 {
     record_caches.refresh_container(rows, schedule_numbers, summaries, child_lists, from);
     class_index.reindex_container(rows, child_lists, from);
@@ -151,8 +174,8 @@ pub(crate) fn refresh_inheriting(
     }
 }
 
-/// Computes anew what is cached of the records that an edited aggregation reaches: those in it, and, where its own
-/// class may be another, those that inherit from it.
+/// Computes anew what is cached of the records that an edited aggregation reaches: those in it,
+/// and, where its own class may be another, those that inherit from it.
 pub(crate) fn refresh_reached(
     record_caches: &mut RecordCaches,
     class_index: &mut ClassIndex,
@@ -169,18 +192,32 @@ pub(crate) fn refresh_reached(
     requires last { AreLastAdditions summaries.now rows.now.aggregations rows.now.records }
     requires many { length record_caches.old.rows.items ≡ length rows.now.records }
     requires linked { HasLinks rows.now child_lists.now.last.items child_lists.now.before.items }
-    requires children { HasChildren rows.now.aggregations children.now.last.items children.now.before.items }
+    requires children { HasChildren rows.now.aggregations children.now.last.items
+        children.now.before.items }
     requires there { IsTrue (has_aggregation rows.now aggregation) }
-    requires numbers { HaveNumbers rows.now.classes (from_entries class_index.old.numbers.entries) (length class_index.old.class_lists.first.items) }
-    requires class_lists { AreClassLists class_index.old.class_lists.first.items class_index.old.class_lists.next.items class_index.old.class_lists.previous.items class_index.old.class_lists.class.items }
+    requires numbers { HaveNumbers rows.now.classes (from_entries class_index.old.numbers.entries)
+        (length class_index.old.class_lists.first.items) }
+    requires class_lists { AreClassLists class_index.old.class_lists.first.items
+        class_index.old.class_lists.next.items class_index.old.class_lists.previous.items
+        class_index.old.class_lists.class.items }
     requires classed { length class_index.old.class_lists.class.items ≡ length rows.now.records }
     ensures count { length record_caches.new.rows.items ≡ length record_caches.old.rows.items }
-    ensures refreshed { AreRefreshed schedule_numbers.now rows.now (is_reached rows.now.aggregations aggregation reclassifies) record_caches.old.rows.items record_caches.new.rows.items }
+    ensures refreshed { AreRefreshed schedule_numbers.now rows.now
+        (is_reached rows.now.aggregations aggregation reclassifies) record_caches.old.rows.items
+        record_caches.new.rows.items }
     ensures same { class_index.new.numbers ≡ class_index.old.numbers }
-    ensures first { length class_index.new.class_lists.first.items ≡ length class_index.old.class_lists.first.items }
-    ensures class_lists { AreClassLists class_index.new.class_lists.first.items class_index.new.class_lists.next.items class_index.new.class_lists.previous.items class_index.new.class_lists.class.items }
-    ensures classed { length class_index.new.class_lists.class.items ≡ length class_index.old.class_lists.class.items }
-    ensures listed { AreDone (IsOfClass (from_entries class_index.old.numbers.entries) rows.now.aggregations rows.now.records) rows.now.records (λ head. reclassifies && is_heir rows.now.aggregations aggregation head) class_index.old.class_lists.class.items class_index.new.class_lists.class.items }
+    ensures first { length class_index.new.class_lists.first.items
+        ≡ length class_index.old.class_lists.first.items }
+    ensures class_lists { AreClassLists class_index.new.class_lists.first.items
+        class_index.new.class_lists.next.items class_index.new.class_lists.previous.items
+        class_index.new.class_lists.class.items }
+    ensures classed { length class_index.new.class_lists.class.items
+        ≡ length class_index.old.class_lists.class.items }
+    ensures listed { AreDone
+        (IsOfClass (from_entries class_index.old.numbers.entries) rows.now.aggregations
+        rows.now.records) rows.now.records
+        (λ head. reclassifies && is_heir rows.now.aggregations aggregation head)
+        class_index.old.class_lists.class.items class_index.new.class_lists.class.items }
 {
     if reclassifies {
         refresh_inheriting(
@@ -214,7 +251,8 @@ pub(crate) fn record_caches_of(
     requires sound { IsSound rows.now }
     requires planned { AreNumbered rows.now.schedules schedule_numbers.now }
     requires last { AreLastAdditions summaries.now rows.now.aggregations rows.now.records }
-    ensures { IfOk result (λ record_caches. AreRecordCaches schedule_numbers.now rows.now record_caches.rows.items) }
+    ensures { IfOk result
+        (λ record_caches. AreRecordCaches schedule_numbers.now rows.now record_caches.rows.items) }
 {
     let mut record_caches = RecordCaches::new(alloc);
     for i in 0..rows.records.len() {

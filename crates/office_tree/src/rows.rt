@@ -56,7 +56,8 @@ impl<'a> Model for Rows<'a> {
     } };
 }
 
-/// The rows of a tree, each borrowed by itself, so that what is derived from them can be written meanwhile.
+/// The rows of a tree, each borrowed by itself, so that what is derived from them can be written
+/// meanwhile.
 macro_rules! rows_of {
     ($tree:expr) => {
         $crate::rows::Rows {
@@ -81,7 +82,9 @@ fn is_disposal(action: Action) -> bool
 
 /// Whether the confirmation, if there is one, is of that action and that due day.
 fn is_confirmed(confirmation: &Option<Confirmation>, action: Action, due: Option<DueDay>) -> bool
-    ensures { result ≡ holds_of confirmation.now (λ it. same_action it.action action && holds_of due (int_eq it.due)) }
+    ensures { result
+        ≡ holds_of confirmation.now
+        (λ it. same_action it.action action && holds_of due (int_eq it.due)) }
 {
     match confirmation {
         Some(confirmation) => confirmation.is_of(action, due),
@@ -91,7 +94,11 @@ fn is_confirmed(confirmation: &Option<Confirmation>, action: Action, due: Option
 
 /// Whether a run takes a record of that status once it is due.
 fn is_candidate(head: &Record, status: Status, action: Action, due: Option<DueDay>) -> bool
-    ensures { result ≡ candidate_by (Some status) (is_disposal action && holds_of head.now.confirmation (λ it. same_action it.action action && holds_of due (int_eq it.due))) }
+    ensures { result
+        ≡ candidate_by (Some status)
+        (is_disposal action
+        && holds_of head.now.confirmation
+        (λ it. same_action it.action action && holds_of due (int_eq it.due))) }
 {
     match status {
         Status::Here => is_disposal(action) && is_confirmed(&head.confirmation, action, due),

@@ -13,7 +13,8 @@ use std::marker::Model;
 /// The number of a schedule's code: 1, 2, .. in the order of addition.
 pub(crate) type ScheduleNo = usize;
 
-/// The codes of schedules by their numbers, and the numbers by the codes. Contracts see the list of codes.
+/// The codes of schedules by their numbers, and the numbers by the codes. Contracts see the list of
+/// codes.
 #[derive(Drop)]
 pub(crate) struct ScheduleNumbers {
     codes: Vec<Code>,
@@ -30,7 +31,8 @@ impl Model for ScheduleNumbers {
 
     ghost view = { λ p. p.codes.items };
 
-    ghost invariant = { λ p. Indexes (from_entries {R = code_cmp} p.numbers.entries) p.codes.items };
+    ghost invariant = { λ p. Indexes (from_entries {R = code_cmp} p.numbers.entries)
+        p.codes.items };
 }
 
 impl ScheduleNumbers {
@@ -93,7 +95,8 @@ pub(crate) fn schedule_numbers_of(
     alloc: Global,
     schedules: &BTreeMap<Code, Schedule>,
 ) -> Result<ScheduleNumbers, Memory>
-    ensures { IfOk result (λ schedule_numbers. AreNumbered (from_entries schedules.now.entries) schedule_numbers) }
+    ensures { IfOk result
+        (λ schedule_numbers. AreNumbered (from_entries schedules.now.entries) schedule_numbers) }
 {
     let mut schedule_numbers = ScheduleNumbers::new(alloc);
     for code in schedules.keys() {

@@ -28,7 +28,8 @@ pub(crate) fn later(best: Option<Day>, day: Day) -> Day
 fn last_addition_of(summaries: &[AggregationSummary], aggregation: AggNo) -> Option<Day>
     requires low { 0 < aggregation }
     requires high { aggregation ≤ length summaries.now }
-    ensures { option_map (λ it. it.last_addition) (numbered summaries.now aggregation) ≡ Some result }
+    ensures { option_map (λ it. it.last_addition) (numbered summaries.now aggregation)
+        ≡ Some result }
 {
     let summary = summaries[aggregation as usize - 1];
     summary.last_addition
@@ -53,11 +54,14 @@ pub(crate) fn start_in(
     schedule: Schedule,
     record_no: RecordNo,
 ) -> Option<Day>
-    requires container { (head : Record) → numbered records.now record_no ≡ Some head → (0 < head.aggregation) × (head.aggregation ≤ length aggregations.now) }
+    requires container { (head : Record) → numbered records.now record_no ≡ Some head
+        → (0 < head.aggregation) × (head.aggregation ≤ length aggregations.now) }
     requires low { 0 < record_no }
     requires high { record_no ≤ length records.now }
     requires last { AreLastAdditions summaries.now aggregations.now records.now }
-    ensures { result ≡ start_in aggregations.now records.now (from_entries events.now.entries) schedule record_no }
+    ensures { result
+        ≡ start_in aggregations.now records.now (from_entries events.now.entries) schedule
+        record_no }
 {
     let head = &records[record_no as usize - 1];
     match schedule.trigger {
@@ -147,8 +151,8 @@ impl Tree {
         self.record_cache(record_no).due
     }
 
-    /// Whether a disposal run takes the record once it is due: it is here, its action is to transfer or to destroy and its
-    /// confirmation counts; or it is received.
+    /// Whether a disposal run takes the record once it is due: it is here, its action is to
+    /// transfer or to destroy and its confirmation counts; or it is received.
     pub fn is_candidate(&self, record_no: RecordNo) -> bool
         requires { IsTrue (has_record self.now record_no) }
         ensures { result ≡ is_candidate self.now record_no }
@@ -156,7 +160,8 @@ impl Tree {
         self.record_cache(record_no).is_candidate
     }
 
-    /// The least candidate for a disposal run above the number, found without the records that are none.
+    /// The least candidate for a disposal run above the number, found without the records that are
+    /// none.
     pub fn next_candidate(&self, above: RecordNo) -> Option<RecordNo>
         ensures there { IfSome result (λ r. IsTrue (has_record self.now r)) }
         ensures found { IfSome result (IsNextCandidate self.now above) }

@@ -14,8 +14,8 @@ use office_days::Day;
 use office_terms::{AggNo, Aggregation, Record, Status};
 use std::alloc::Global;
 
-/// What is cached of an aggregation: the greatest added day of the records in it, how many records are below it at any
-/// depth, and how many of these are not ended.
+/// What is cached of an aggregation: the greatest added day of the records in it, how many records
+/// are below it at any depth, and how many of these are not ended.
 #[derive(Clone, Copy, PartialEq, Eq, Debug)]
 pub(crate) struct AggregationSummary {
     pub(crate) last_addition: Option<Day>,
@@ -27,8 +27,11 @@ pub(crate) struct AggregationSummary {
 fn add_records(summaries: &mut [AggregationSummary], numbers: &[AggNo])
     requires within { All (λ b. (0 < b) × (b ≤ length summaries.old)) numbers.now }
     requires short { length numbers.now ≤ 8 }
-    requires few { (a : ℕ) (it : AggregationSummary) → numbered summaries.old a ≡ Some it → it.records ≤ 200_000 }
-    ensures { (a : ℕ) (it : AggregationSummary) → numbered summaries.old a ≡ Some it → numbered summaries.new a ≡ Some (record it { records = it.records + count_by (λ b. b == a) numbers.now }) }
+    requires few { (a : ℕ) (it : AggregationSummary) → numbered summaries.old a ≡ Some it
+        → it.records ≤ 200_000 }
+    ensures { (a : ℕ) (it : AggregationSummary) → numbered summaries.old a ≡ Some it
+        → numbered summaries.new a
+        ≡ Some (record it { records = it.records + count_by (λ b. b == a) numbers.now }) }
 {
     for number in numbers {
         let summary = &mut summaries[*number as usize - 1];
@@ -40,8 +43,11 @@ fn add_records(summaries: &mut [AggregationSummary], numbers: &[AggNo])
 fn add_live(summaries: &mut [AggregationSummary], numbers: &[AggNo])
     requires within { All (λ b. (0 < b) × (b ≤ length summaries.old)) numbers.now }
     requires short { length numbers.now ≤ 8 }
-    requires few { (a : ℕ) (it : AggregationSummary) → numbered summaries.old a ≡ Some it → it.live ≤ 200_000 }
-    ensures { (a : ℕ) (it : AggregationSummary) → numbered summaries.old a ≡ Some it → numbered summaries.new a ≡ Some (record it { live = it.live + count_by (λ b. b == a) numbers.now }) }
+    requires few { (a : ℕ) (it : AggregationSummary) → numbered summaries.old a ≡ Some it
+        → it.live ≤ 200_000 }
+    ensures { (a : ℕ) (it : AggregationSummary) → numbered summaries.old a ≡ Some it
+        → numbered summaries.new a
+        ≡ Some (record it { live = it.live + count_by (λ b. b == a) numbers.now }) }
 {
     for number in numbers {
         let summary = &mut summaries[*number as usize - 1];
@@ -52,8 +58,11 @@ fn add_live(summaries: &mut [AggregationSummary], numbers: &[AggNo])
 /// Takes one from the records that are not ended below each aggregation of these numbers.
 fn take_live(summaries: &mut [AggregationSummary], numbers: &[AggNo])
     requires within { All (λ b. (0 < b) × (b ≤ length summaries.old)) numbers.now }
-    requires some { (a : ℕ) (it : AggregationSummary) → numbered summaries.old a ≡ Some it → count_by (λ b. b == a) numbers.now ≤ it.live }
-    ensures { (a : ℕ) (it : AggregationSummary) → numbered summaries.old a ≡ Some it → numbered summaries.new a ≡ Some (record it { live = it.live - count_by (λ b. b == a) numbers.now }) }
+    requires some { (a : ℕ) (it : AggregationSummary) → numbered summaries.old a ≡ Some it
+        → count_by (λ b. b == a) numbers.now ≤ it.live }
+    ensures { (a : ℕ) (it : AggregationSummary) → numbered summaries.old a ≡ Some it
+        → numbered summaries.new a
+        ≡ Some (record it { live = it.live - count_by (λ b. b == a) numbers.now }) }
 {
     for number in numbers {
         let summary = &mut summaries[*number as usize - 1];
@@ -74,7 +83,8 @@ pub(crate) fn note_addition(
     requires low { 0 < container }
     requires high { container ≤ length aggregations.now }
     requires count { length summaries.old ≡ length aggregations.now }
-    requires few { (a : ℕ) (it : AggregationSummary) → numbered summaries.old a ≡ Some it → (it.records ≤ 200_000) × (it.live ≤ 200_000) }
+    requires few { (a : ℕ) (it : AggregationSummary) → numbered summaries.old a ≡ Some it
+        → (it.records ≤ 200_000) × (it.live ≤ 200_000) }
     ensures { AreAdded aggregations.now container day is_live summaries.old summaries.new }
 {
     let numbers = chain_of(aggregations, container);
@@ -99,8 +109,10 @@ pub(crate) fn note_turn(
     requires low { 0 < container }
     requires high { container ≤ length aggregations.now }
     requires count { length summaries.old ≡ length aggregations.now }
-    requires few { (a : ℕ) (it : AggregationSummary) → numbered summaries.old a ≡ Some it → it.live ≤ 200_000 }
-    requires some { (a : ℕ) (it : AggregationSummary) → numbered summaries.old a ≡ Some it → (is_in_chain aggregations.now container a && was_live) ≡ true → 0 < it.live }
+    requires few { (a : ℕ) (it : AggregationSummary) → numbered summaries.old a ≡ Some it
+        → it.live ≤ 200_000 }
+    requires some { (a : ℕ) (it : AggregationSummary) → numbered summaries.old a ≡ Some it
+        → (is_in_chain aggregations.now container a && was_live) ≡ true → 0 < it.live }
     ensures { AreTurned aggregations.now container was_live is_live summaries.old summaries.new }
 {
     if was_live == is_live {
@@ -119,7 +131,9 @@ fn fresh_summaries(
     alloc: Global,
     aggregations: &[Aggregation],
 ) -> Result<Vec<AggregationSummary>, Memory>
-    ensures { IfOk result (λ summaries. summaries.items ≡ map (λ _. record { last_addition = None; records = 0; live = 0 }) aggregations.now) }
+    ensures { IfOk result
+        (λ summaries. summaries.items
+        ≡ map (λ _. record { last_addition = None; records = 0; live = 0 }) aggregations.now) }
 {
     let summaries = aggregations
         .iter()
@@ -141,11 +155,14 @@ fn note_additions(
 )
     requires forest { IsForest aggregations.now }
     requires roots { RootsHaveClasses aggregations.now }
-    requires child_lists { (r : ℕ) (head : Record) → numbered records.now r ≡ Some head → (0 < head.aggregation) × (head.aggregation ≤ length aggregations.now) }
+    requires child_lists { (r : ℕ) (head : Record) → numbered records.now r ≡ Some head
+        → (0 < head.aggregation) × (head.aggregation ≤ length aggregations.now) }
     requires few { length records.now ≤ 200_000 }
     requires statuses { length statuses.now ≡ length records.now }
-    requires fresh { summaries.old ≡ map (λ _. record { last_addition = None; records = 0; live = 0 }) aggregations.now }
-    ensures { (tree : TreeState) → tree.aggregations ≡ aggregations.now → tree.records ≡ records.now → tree.statuses ≡ statuses.now → AreSummaries tree summaries.new }
+    requires fresh { summaries.old
+        ≡ map (λ _. record { last_addition = None; records = 0; live = 0 }) aggregations.now }
+    ensures { (tree : TreeState) → tree.aggregations ≡ aggregations.now → tree.records ≡ records.now
+        → tree.statuses ≡ statuses.now → AreSummaries tree summaries.new }
 {
     for (i, head) in records.iter().enumerate() {
         let is_live = !is_ended(Some(statuses[i]));
@@ -168,10 +185,14 @@ pub(crate) fn summaries_of(
 ) -> Result<Vec<AggregationSummary>, Memory>
     requires forest { IsForest aggregations.now }
     requires roots { RootsHaveClasses aggregations.now }
-    requires child_lists { (r : ℕ) (head : Record) → numbered records.now r ≡ Some head → (0 < head.aggregation) × (head.aggregation ≤ length aggregations.now) }
+    requires child_lists { (r : ℕ) (head : Record) → numbered records.now r ≡ Some head
+        → (0 < head.aggregation) × (head.aggregation ≤ length aggregations.now) }
     requires few { length records.now ≤ 200_000 }
     requires statuses { length statuses.now ≡ length records.now }
-    ensures { IfOk result (λ summaries. (tree : TreeState) → IsSound tree → tree.aggregations ≡ aggregations.now → tree.records ≡ records.now → tree.statuses ≡ statuses.now → AreSummaries tree summaries.items) }
+    ensures { IfOk result
+        (λ summaries. (tree : TreeState) → IsSound tree → tree.aggregations ≡ aggregations.now
+        → tree.records ≡ records.now → tree.statuses ≡ statuses.now
+        → AreSummaries tree summaries.items) }
 {
     let mut summaries = fresh_summaries(alloc, aggregations)?;
     note_additions(summaries.as_mut_slice(), aggregations, records, statuses);

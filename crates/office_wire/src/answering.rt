@@ -127,7 +127,8 @@ fn report_due<S: Alter>(alloc: Global, desk: &Desk<S>, day: Option<Day>) -> Resu
     }
 }
 
-/// Reports what is overdue on a day, so many days after the due day. Of a bad day and a bad count the day is reported.
+/// Reports what is overdue on a day, so many days after the due day. Of a bad day and a bad count
+/// the day is reported.
 fn report_overdue<S: Alter>(
     alloc: Global,
     desk: &Desk<S>,
@@ -165,8 +166,8 @@ fn report_certificate<S: Alter>(
     }
 }
 
-/// Does at the desk what is asked, and gives the answer. `Memory` comes where memory was refused for the
-/// answer; what was done is kept then.
+/// Does at the desk what is asked, and gives the answer. `Memory` comes where memory was refused
+/// for the answer; what was done is kept then.
 pub fn answer<S: Alter>(
     alloc: Global,
     desk: &mut Desk<S>,

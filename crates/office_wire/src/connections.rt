@@ -31,8 +31,8 @@ pub struct Service {
     pub is_poisoned: bool,
 }
 
-/// Reads what the peer still sends, for a while: to close a socket with bytes that were not read resets
-/// the connection, and the peer may lose the answer.
+/// Reads what the peer still sends, for a while: to close a socket with bytes that were not read
+/// resets the connection, and the peer may lose the answer.
 fn drain<C: Read + OpenStream>(stream: &mut C) {
     if stream
         .set_read_timeout(Some(Duration::from_millis(100)))
@@ -57,8 +57,8 @@ fn finish<C: Read + OpenStream>(stream: &mut C) {
     }
 }
 
-/// The side of a connection to which its answer is written, through a buffer, so that a short one goes out in
-/// one write; without a buffer where memory is refused for it.
+/// The side of a connection to which its answer is written, through a buffer, so that a short one
+/// goes out in one write; without a buffer where memory is refused for it.
 fn writer_of<'a, C: Write + OpenStream + Drop, K: Clock>(
     alloc: Global,
     stream: &C,
@@ -92,8 +92,8 @@ fn serve_stream<C: Read + Write + OpenStream + Drop, K: Clock, S: Alter>(
     Ok(status)
 }
 
-/// Waits for a connection and serves it. Where none can be accepted it waits a little, so that a lasting want, as
-/// of file descriptors, does not use up the count at once.
+/// Waits for a connection and serves it. Where none can be accepted it waits a little, so that a
+/// lasting want, as of file descriptors, does not use up the count at once.
 fn serve_next<L: OpenListener, K: Clock, S: Alter>(
     alloc: Global,
     routes: &Routes,
@@ -138,11 +138,12 @@ fn report_failure<E: Write>(served: Result<u16, Io>, err: &mut E) {
     }
 }
 
-/// Serves so many connections, one after another, and fewer only where the desk was poisoned. One that
-/// fails counts too, and is reported on `err`. By the clock a whole request may take `LONGEST` seconds from its first
-/// read on, and its whole answer as many from its first write on; a connection that takes longer fails. What a client
-/// asks is not known here, since a socket does not report its bytes beforehand: of each connection it is known that
-/// the desk is where serving something leaves it.
+/// Serves so many connections, one after another, and fewer only where the desk was poisoned. One
+/// that fails counts too, and is reported on `err`. By the clock a whole request may take `LONGEST`
+/// seconds from its first read on, and its whole answer as many from its first write on; a
+/// connection that takes longer fails. What a client asks is not known here, since a socket does
+/// not report its bytes beforehand: of each connection it is known that the desk is where serving
+/// something leaves it.
 pub fn serve_all<L: OpenListener, K: Clock, E: Write, S: Alter>(
     alloc: Global,
     routes: &Routes,

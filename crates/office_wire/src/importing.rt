@@ -43,7 +43,8 @@ fn answer_row<S: Alter>(
     day: Day,
     row: &ImportRow<'_>,
 ) -> Result<Answer, Fault>
-    ensures { CalledAt S.Store desk.old desk.new (λ s. EndsRow S.Store day s (named row.now) result desk.new) }
+    ensures { CalledAt S.Store desk.old desk.new
+        (λ s. EndsRow S.Store day s (named row.now) result desk.new) }
 {
     match read_import_row(alloc, row) {
         Ok(record) => desk.perform(&Act::AddRecord { day, record }),
@@ -55,7 +56,8 @@ fn answer_row<S: Alter>(
 /// Writes the line of a row: its number, and what was answered to it.
 #[tactic(auto, unfolding(crate::specs::Importing::line_of))]
 fn write_line<W: Write>(number: u64, answer: Answer, out: &mut W) -> Result<(), Io>
-    ensures { OnOk result (Appends (W.contents out.old) (W.contents out.new) (line_of number answer)) }
+    ensures { OnOk result
+        (Appends (W.contents out.old) (W.contents out.new) (line_of number answer)) }
 {
     let written = match answer {
         Answer::Number(n) => writeln!(out, "{number} number {n}"),
@@ -75,7 +77,9 @@ fn do_row<S: Alter, W: Write>(
     row: &ImportRow<'_>,
     out: &mut W,
 ) -> Result<bool, ImportStop>
-    ensures { CalledAt S.Store desk.old desk.new (λ s. EndsLine S.Store day s number (named row.now) result desk.new (W.contents out.old) (W.contents out.new)) }
+    ensures { CalledAt S.Store desk.old desk.new
+        (λ s. EndsLine S.Store day s number (named row.now) result desk.new (W.contents out.old)
+        (W.contents out.new)) }
 {
     match answer_row(alloc, desk, day, row) {
         Ok(answer) => match write_line(number, answer, out) {
@@ -95,7 +99,9 @@ fn take_row<S: Alter, W: Write>(
     row: &StringRecord,
     out: &mut W,
 ) -> Result<bool, ImportStop>
-    ensures { CalledAt S.Store desk.old desk.new (λ s. EndsTaking S.Store day s number (fields_of row.now) result desk.new (W.contents out.old) (W.contents out.new)) }
+    ensures { CalledAt S.Store desk.old desk.new
+        (λ s. EndsTaking S.Store day s number (fields_of row.now) result desk.new
+        (W.contents out.old) (W.contents out.new)) }
 {
     match row_in(row) {
         Some(it) => do_row(alloc, desk, day, number, &it, out),
@@ -122,7 +128,8 @@ fn counted(refused: u64, is_refused: bool) -> u64
     if is_refused { refused + 1 } else { refused }
 }
 
-/// Does what all rows after the header ask for, each before the next is read. How many were refused.
+/// Does what all rows after the header ask for, each before the next is read. How many were
+/// refused.
 fn import_rows<S: Alter, R: Read, W: Write>(
     alloc: Global,
     desk: &mut Desk<S>,
@@ -131,7 +138,9 @@ fn import_rows<S: Alter, R: Read, W: Write>(
     out: &mut W,
 ) -> Result<u64, ImportStop>
     requires { IsPlain rdr.old }
-    ensures { CalledAt S.Store desk.old desk.new (λ s. EndsRows S.Store day s (reader_state rdr.old) (source_of R.remaining rdr.old) result desk.new (W.contents out.old) (W.contents out.new)) }
+    ensures { CalledAt S.Store desk.old desk.new
+        (λ s. EndsRows S.Store day s (reader_state rdr.old) (source_of R.remaining rdr.old) result
+        desk.new (W.contents out.old) (W.contents out.new)) }
 {
     let mut row = StringRecord::new(alloc);
     let mut refused = 0;
@@ -159,7 +168,9 @@ fn import_text<S: Alter, R: Read, W: Write>(
 ) -> Result<u64, ImportStop>
     requires plain { IsPlain rdr.old }
     requires start { reader_state rdr.old ≡ StartRecord }
-    ensures { CalledAt S.Store desk.old desk.new (λ s. EndsImport S.Store day s (source_of R.remaining rdr.old) result desk.new (W.contents out.old) (W.contents out.new)) }
+    ensures { CalledAt S.Store desk.old desk.new
+        (λ s. EndsImport S.Store day s (source_of R.remaining rdr.old) result desk.new
+        (W.contents out.old) (W.contents out.new)) }
 {
     let mut row = StringRecord::new(alloc);
     match read_header(rdr, &mut row) {
@@ -171,14 +182,16 @@ fn import_text<S: Alter, R: Read, W: Write>(
     }
 }
 
-/// Adds, on that day, the records that the rows of a text of CSV ask for, one after another, each before the next
-/// row is read, and writes a line for each: its number, from 1, and `number N`, `same N` or `refused N`. Gives how
-/// many were refused. The first row names the columns `ref,title,originated,aggregation,class,schedule,content`.
+/// Adds, on that day, the records that the rows of a text of CSV ask for, one after another, each
+/// before the next row is read, and writes a line for each: its number, from 1, and `number N`,
+/// `same N` or `refused N`. Gives how many were refused. The first row names the columns
+/// `ref,title,originated,aggregation,class,schedule,content`.
 ///
-/// Where it stops, what the rows before asked for is done: at `Header` that is nothing; at `Row(N)` the Nth row
-/// has another number of fields or is not UTF-8; at `Fault` the desk was stopped at the next row, or memory was
-/// wanting to read it; at `Io` the reader or the writer answered an error, and the last row that was done may have
-/// no line. The same text may be given again: a record that is there is reported as the same.
+/// Where it stops, what the rows before asked for is done: at `Header` that is nothing; at `Row(N)`
+/// the Nth row has another number of fields or is not UTF-8; at `Fault` the desk was stopped at the
+/// next row, or memory was wanting to read it; at `Io` the reader or the writer answered an error,
+/// and the last row that was done may have no line. The same text may be given again: a record that
+/// is there is reported as the same.
 pub fn import_records<S: Alter, R: Read, W: Write>(
     alloc: Global,
     desk: &mut Desk<S>,
@@ -186,7 +199,8 @@ pub fn import_records<S: Alter, R: Read, W: Write>(
     reader: &mut R,
     out: &mut W,
 ) -> Result<u64, ImportStop>
-    ensures { ImportsText S.Store day (R.remaining reader.old) W.contents out.old out.new result desk.old desk.new }
+    ensures { ImportsText S.Store day (R.remaining reader.old) W.contents out.old out.new result
+        desk.old desk.new }
 {
     if desk.is_poisoned() {
         return Err(ImportStop::Fault(Fault::Reopen));

@@ -1,11 +1,12 @@
-//! The office on the wire: one request of HTTP is read, what it asks for is done at the desk, and the
-//! answer is written.
+//! The office on the wire: one request of HTTP is read, what it asks for is done at the desk, and
+//! the answer is written.
 //!
-//! [`receive`] of `office_requests` reads all of a request and touches no desk; [`answer`] does what it asks for and
-//! reads nothing; [`answer_next`] joins them and writes nothing, [`send`] writes the answer and touches no desk, and
-//! [`serve_one`] is these two. Acts and answers in JSON are those of
-//! `office_json`, heads and the bytes of an answer those of `office_http`. [`serve_all`] serves connections
-//! over TCP, one after another, each within its time ([`LONGEST`]).
+//! [`receive`] of `office_requests` reads all of a request and touches no desk; [`answer`] does
+//! what it asks for and reads nothing; [`answer_next`] joins them and writes nothing, [`send`]
+//! writes the answer and touches no desk, and [`serve_one`] is these two. Acts and answers in JSON
+//! are those of `office_json`, heads and the bytes of an answer those of `office_http`.
+//! [`serve_all`] serves connections over TCP, one after another, each within its time
+//! ([`LONGEST`]).
 #![tactic(auto)]
 
 mod answering;

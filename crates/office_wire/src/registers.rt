@@ -49,7 +49,8 @@ fn write_due_register<W: Write>(
     mut rows: DueRows<'_>,
     out: &mut W,
 ) -> Result<(), Stop>
-    ensures { OnOk result (Appends (W.contents out.old) (W.contents out.new) (due_register rows.entry)) }
+    ensures { OnOk result
+        (Appends (W.contents out.old) (W.contents out.new) (due_register rows.entry)) }
 {
     write_due_header(alloc, out)?;
     while let Some(row) = rows.next_row() {
@@ -66,7 +67,8 @@ fn write_overdue_register<W: Write>(
     days: ConfirmDays,
     out: &mut W,
 ) -> Result<(), Stop>
-    ensures { OnOk result (Appends (W.contents out.old) (W.contents out.new) (overdue_register days rows.entry)) }
+    ensures { OnOk result
+        (Appends (W.contents out.old) (W.contents out.new) (overdue_register days rows.entry)) }
 {
     write_overdue_header(alloc, out)?;
     while let Some(row) = rows.next_row() {
@@ -82,7 +84,8 @@ fn write_entry_register<W: Write>(
     mut rows: EntryRows<'_>,
     out: &mut W,
 ) -> Result<(), Stop>
-    ensures { OnOk result (Appends (W.contents out.old) (W.contents out.new) (entry_register rows.entry)) }
+    ensures { OnOk result
+        (Appends (W.contents out.old) (W.contents out.new) (entry_register rows.entry)) }
 {
     write_entry_header(alloc, out)?;
     while let Some(row) = rows.next_row() {
@@ -91,11 +94,13 @@ fn write_entry_register<W: Write>(
     flush(out)
 }
 
-/// Writes the due register of a day as CSV: its columns `record,ref,class,schedule,action,due,held,confirmed`, and a
-/// line for each record that is here and due on that day or before it, by due day, then number. Each line goes out
-/// before the next is made, and at `Ok` all of them were sent out. It changes nothing. `Fault(Memory)` comes where
-/// memory was refused, `Fault(Reopen)` where the desk was poisoned, and then nothing is written; `Io` where the
-/// writer answered an error. At `Fault(Memory)` and `Io` some of the register may have gone out.
+/// Writes the due register of a day as CSV: its columns
+/// `record,ref,class,schedule,action,due,held,confirmed`, and a line for each record that is here
+/// and due on that day or before it, by due day, then number. Each line goes out before the next is
+/// made, and at `Ok` all of them were sent out. It changes nothing. `Fault(Memory)` comes where
+/// memory was refused, `Fault(Reopen)` where the desk was poisoned, and then nothing is written;
+/// `Io` where the writer answered an error. At `Fault(Memory)` and `Io` some of the register may
+/// have gone out.
 pub fn export_due<S: Alter, W: Write>(
     alloc: Global,
     desk: &mut Desk<S>,
@@ -110,9 +115,10 @@ pub fn export_due<S: Alter, W: Write>(
     }
 }
 
-/// Writes the overdue register of a day as CSV: its columns `record,ref,class,schedule,action,due,deadline,held`, and a
-/// line for each record that is here, whose deadline, so many days after its due day, is before that day, and of which
-/// no confirmation counts; by deadline, then number. Otherwise as `export_due`.
+/// Writes the overdue register of a day as CSV: its columns
+/// `record,ref,class,schedule,action,due,deadline,held`, and a line for each record that is here,
+/// whose deadline, so many days after its due day, is before that day, and of which no confirmation
+/// counts; by deadline, then number. Otherwise as `export_due`.
 pub fn export_overdue<S: Alter, W: Write>(
     alloc: Global,
     desk: &mut Desk<S>,
@@ -120,7 +126,8 @@ pub fn export_overdue<S: Alter, W: Write>(
     days: ConfirmDays,
     out: &mut W,
 ) -> Result<(), ExportStop>
-    ensures { Exports (IsOverdueRegister day days) W.contents out.old out.new result desk.old desk.new }
+    ensures { Exports (IsOverdueRegister day days) W.contents out.old out.new result desk.old
+        desk.new }
 {
     match desk.overdue_rows(day, days) {
         Ok(rows) => write_overdue_register(alloc, rows, days, out).map_err(stopped),
@@ -129,8 +136,9 @@ pub fn export_overdue<S: Alter, W: Write>(
 }
 
 /// Writes the register of the entries of all runs as CSV: its columns
-/// `run,record,ref,outcome,class,schedule,due,hold,confirmed_by,length,digest`, and a line for each entry, by run,
-/// then record. Ref, length and digest are those of the record's head. Otherwise as `export_due`.
+/// `run,record,ref,outcome,class,schedule,due,hold,confirmed_by,length,digest`, and a line for each
+/// entry, by run, then record. Ref, length and digest are those of the record's head. Otherwise as
+/// `export_due`.
 pub fn export_entries<S: Alter, W: Write>(
     alloc: Global,
     desk: &mut Desk<S>,

@@ -98,7 +98,9 @@ pub(crate) fn record_reply(
     reported: &RecordView,
     ending: Option<&Entry>,
 ) -> Result<Reply, Memory>
-    ensures { IfOk result (λ reply. response reply ≡ record_response (Some reported.now) (option_copied ending.entry)) }
+    ensures { IfOk result
+        (λ reply. response reply
+        ≡ record_response (Some reported.now) (option_copied ending.entry)) }
 {
     let value = record_value(alloc, reported, ending)?;
     json_reply(alloc, Status::Ok, &value)
@@ -130,7 +132,8 @@ fn overdue_values(
     mut rows: DueRows<'_>,
     days: ConfirmDays,
 ) -> Result<Vec<Value>, Memory>
-    ensures { IfOk result (λ values. map view values.items ≡ map (overdue_row_data days) rows.entry) }
+    ensures { IfOk result
+        (λ values. map view values.items ≡ map (overdue_row_data days) rows.entry) }
 {
     let mut values = Vec::new(alloc);
     while let Some(row) = rows.next_row() {
@@ -169,7 +172,8 @@ pub(crate) fn content_reply(content: Option<Vec<u8>>) -> Reply
 
 /// A certificate, or that there is none.
 pub(crate) fn certificate_reply(certificate: Option<String>) -> Reply
-    ensures { response result ≡ certificate_response (option_map (λ it. string_bytes it) certificate) }
+    ensures { response result
+        ≡ certificate_response (option_map (λ it. string_bytes it) certificate) }
 {
     match certificate {
         None => failure_reply(Failure::Certificate),

@@ -1,5 +1,5 @@
-//! One request is received, answered at the desk, and its answer written: in two halves, of which one has no
-//! writer and the other no desk.
+//! One request is received, answered at the desk, and its answer written: in two halves, of which
+//! one has no writer and the other no desk.
 ghost use Rattle.std.specs.Prelude.{◌≡◌, OnErr};
 ghost use Rattle.office_http.specs.Replies.{response};
 ghost use Rattle.office_requests.specs.Receiving.{asked_for};
@@ -14,8 +14,8 @@ use sqlite::Alter;
 use std::alloc::Global;
 use std::io::{Read, Write};
 
-/// Does what is asked, and gives an answer in any case: where memory is refused for it, that is reported from
-/// fixed bytes.
+/// Does what is asked, and gives an answer in any case: where memory is refused for it, that is
+/// reported from fixed bytes.
 fn served<S: Alter>(alloc: Global, desk: &mut Desk<S>, operation: &Operation) -> Reply
     ensures { HasReply S.Store (asked_for operation.now) (response result) desk.old desk.new }
 {
@@ -45,7 +45,8 @@ fn failed(failure: Failure, is_head: bool) -> Option<OutgoingReply>
 /// Does what a request asks for, and gives its answer.
 fn answered<S: Alter>(alloc: Global, desk: &mut Desk<S>, asked: Asked) -> OutgoingReply
     ensures is_head { result.is_head ≡ asked.is_head }
-    ensures has { HasReply S.Store (asked_for asked.operation) (response result.reply) desk.old desk.new }
+    ensures has { HasReply S.Store (asked_for asked.operation) (response result.reply) desk.old
+        desk.new }
 {
     let reply = served(alloc, desk, &asked.operation);
     OutgoingReply {
@@ -54,9 +55,9 @@ fn answered<S: Alter>(alloc: Global, desk: &mut Desk<S>, asked: Asked) -> Outgoi
     }
 }
 
-/// The half of serving before a byte is written: reads a request, does what it asks for, and gives its answer;
-/// none where the connection had no byte. `Io` comes where the reader answered an error, of no writer, since none is
-/// here; and then nothing was done.
+/// The half of serving before a byte is written: reads a request, does what it asks for, and gives
+/// its answer; none where the connection had no byte. `Io` comes where the reader answered an
+/// error, of no writer, since none is here; and then nothing was done.
 pub fn answer_next<R: Read, S: Alter>(
     alloc: Global,
     routes: &Routes,
@@ -76,8 +77,9 @@ pub fn answer_next<R: Read, S: Alter>(
     }
 }
 
-/// The half of serving after it: writes an answer, if there is one, and gives its status, or 0. `Io` comes where the
-/// writer answered an error; no desk is here, so it is as if the answer had been written.
+/// The half of serving after it: writes an answer, if there is one, and gives its status, or 0.
+/// `Io` comes where the writer answered an error; no desk is here, so it is as if the answer had
+/// been written.
 pub fn send<W: Write>(sending: Option<OutgoingReply>, writer: &mut W) -> Result<u16, Io>
     ensures { Sends sending result (W.contents writer.old) (W.contents writer.new) }
 {
@@ -88,16 +90,16 @@ pub fn send<W: Write>(sending: Option<OutgoingReply>, writer: &mut W) -> Result<
 }
 
 /// Answers one request: its bytes are read, what it asks for is done at the desk, and the answer is
-/// written. It gives the status of the answer, or 0 where the connection had no byte. The answer does not
-/// depend on how the bytes were cut.
+/// written. It gives the status of the answer, or 0 where the connection had no byte. The answer
+/// does not depend on how the bytes were cut.
 ///
-/// It is [`answer_next`] and then [`send`]. `Io` comes where the reader answered an error, and then nothing was
-/// done and nothing written; or where the writer did, and then the desk is as if the answer had been
-/// written. Where the reader does not report its bytes, as a socket's does not, the desk still is where serving
-/// something leaves it.
+/// It is [`answer_next`] and then [`send`]. `Io` comes where the reader answered an error, and then
+/// nothing was done and nothing written; or where the writer did, and then the desk is as if the
+/// answer had been written. Where the reader does not report its bytes, as a socket's does not, the
+/// desk still is where serving something leaves it.
 ///
-/// A poisoned desk stays as it is, and fault 32 is reported in place of all that it would do or report. Where
-/// it is poisoned here, the status is 503.
+/// A poisoned desk stays as it is, and fault 32 is reported in place of all that it would do or
+/// report. Where it is poisoned here, the status is 503.
 pub fn serve_one<R: Read, W: Write, S: Alter>(
     alloc: Global,
     routes: &Routes,
@@ -105,8 +107,10 @@ pub fn serve_one<R: Read, W: Write, S: Alter>(
     reader: &mut R,
     writer: &mut W,
 ) -> Result<u16, Io>
-    ensures one { ServesOne S.Store R.remaining reader.old reader.new W.contents writer.old writer.new result desk.old desk.new }
-    ensures halves { InHalves S.Store R.remaining reader.old reader.new W.contents writer.old writer.new result desk.old desk.new }
+    ensures one { ServesOne S.Store R.remaining reader.old reader.new W.contents writer.old
+        writer.new result desk.old desk.new }
+    ensures halves { InHalves S.Store R.remaining reader.old reader.new W.contents writer.old
+        writer.new result desk.old desk.new }
 {
     let sending = answer_next(alloc, routes, desk, reader)?;
     send(sending, writer)

@@ -35,7 +35,8 @@ fn command_of<'a>(
     about: &'a str,
     operands: &[Operand<'a>],
 ) -> Result<Command<'a>, AllocError>
-    ensures app { IfOk result (λ c. app_of c ≡ with_operands (new_app name.entry.now) operands.now) }
+    ensures app { IfOk result
+        (λ c. app_of c ≡ with_operands (new_app name.entry.now) operands.now) }
     ensures globals { IfOk result (λ c. (fields_of c).has_globals ≡ false) }
 {
     let mut command = Command::new(alloc, name).about(about);

@@ -9,8 +9,8 @@ use std::fmt;
 pub enum Disk {
     /// Nothing is supposed: any bytes. Each commit syncs twice.
     Any,
-    /// The device finishes each sector that it begins, as SQLite supposes: each byte is the old or the new one. Most
-    /// commits sync once.
+    /// The device finishes each sector that it begins, as SQLite supposes: each byte is the old or
+    /// the new one. Most commits sync once.
     PowerSafe,
 }
 
@@ -20,7 +20,8 @@ pub struct UnknownDisk;
 
 /// The disk that the variable OFFICE_DISK names, `any` or `powersafe`; where it is not set, any.
 pub fn disk_of(value: Option<&str>) -> Result<Disk, UnknownDisk>
-    ensures ok { IfOk result (λ disk. disk_named (option_map (λ v. v.now) value.entry) ≡ Some disk) }
+    ensures ok { IfOk result
+        (λ disk. disk_named (option_map (λ v. v.now) value.entry) ≡ Some disk) }
     ensures err { OnErr result (disk_named (option_map (λ v. v.now) value.entry) ≡ None) }
 {
     match value {

@@ -9,8 +9,8 @@ use crate::words::Words;
 use office_base::{Refusal, read_thing_number};
 use office_days::{ConfirmDays, Day, read_confirm_days};
 
-/// What the program is to do: its words, with the operands of those that name an office's file read.
-/// `due` and `plan`, which open no office, read theirs where they are done.
+/// What the program is to do: its words, with the operands of those that name an office's file
+/// read. `due` and `plan`, which open no office, read theirs where they are done.
 #[derive(Drop)]
 pub enum Order<'a> {
     Due {
@@ -51,14 +51,15 @@ pub enum Order<'a> {
         file: &'a str,
         register: Register,
     },
-    /// Writes the register of what is overdue on that day at the office in the file, where a record is to be
-    /// confirmed within so many days after its due day.
+    /// Writes the register of what is overdue on that day at the office in the file, where a record
+    /// is to be confirmed within so many days after its due day.
     Overdue {
         file: &'a str,
         day: Day,
         days: ConfirmDays,
     },
-    /// Answers requests to the office in the file, at that port, until so many connections were served.
+    /// Answers requests to the office in the file, at that port, until so many connections were
+    /// served.
     Serve {
         file: &'a str,
         port: u16,
@@ -68,12 +69,12 @@ pub enum Order<'a> {
     Nothing,
 }
 
-/// What the words order, or why an operand is refused; no file is looked at. The number of a run is one or
-/// more ASCII digits, from 1 to 4,294,967,295, leading zeros allowed; so are the port of a service, from 1
-/// to 65,535, and its count of connections, from 1 to 1,000,000. The day of an import is written as 2017-06-30;
-/// the register of an export is `entries`, or such a day. The day of what is overdue is written so too, and its
-/// count of days, 3,650 at most, as the numbers above; what is no day or no digits is reported before a count that is
-/// over.
+/// What the words order, or why an operand is refused; no file is looked at. The number of a run is
+/// one or more ASCII digits, from 1 to 4,294,967,295, leading zeros allowed; so are the port of a
+/// service, from 1 to 65,535, and its count of connections, from 1 to 1,000,000. The day of an
+/// import is written as 2017-06-30; the register of an export is `entries`, or such a day. The day
+/// of what is overdue is written so too, and its count of days, 3,650 at most, as the numbers
+/// above; what is no day or no digits is reported before a count that is over.
 pub fn order_of<'a>(words: Words<'a>) -> Result<Order<'a>, Refusal>
     ensures ok { IfOk result (λ order. order_asked (asked words.entry) ≡ Ok (ordered order)) }
     ensures err { IfErr result (λ refusal. order_asked (asked words.entry) ≡ Err refusal) }

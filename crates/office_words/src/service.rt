@@ -34,9 +34,9 @@ fn service_of(port: u64, count: u64) -> Result<(u16, u32), Refusal>
     }
 }
 
-/// The port of a service, from 1 to 65,535, and how many connections it serves, from 1 to 1,000,000;
-/// each is one or more ASCII digits, leading zeros allowed. What is no digits is reported before a number
-/// out of its range.
+/// The port of a service, from 1 to 65,535, and how many connections it serves, from 1 to
+/// 1,000,000; each is one or more ASCII digits, leading zeros allowed. What is no digits is
+/// reported before a number out of its range.
 #[tactic(auto, unfolding(crate::specs::Services::service_numbers))]
 pub(crate) fn read_service(port: &str, count: &str) -> Result<(u16, u32), Refusal>
     ensures { result ≡ service_numbers port.now count.now }

@@ -177,10 +177,12 @@ fn words_of<'a>(matches: &ArgMatches<'a>) -> Words<'a>
 /// What the words of the command line ask for; the first word is the program's name. Where the
 /// words are none of the program's commands, or ask for help, the error has the text of `clap`.
 pub fn read_words<'a>(alloc: Global, words: &'a [&'a str]) -> Result<Words<'a>, Error>
-    ensures asked { IfOk result (λ w. asked w ≡ asked_in (subcommand_of office_app (map (λ s. s.now) words.entry.now))) }
+    ensures asked { IfOk result
+        (λ w. asked w ≡ asked_in (subcommand_of office_app (map (λ s. s.now) words.entry.now))) }
 
     // Where the words are a command of the program, only lack of memory can fail.
-    ensures taken { takes office_app (map (λ s. s.now) words.entry.now) ≡ true → IfErr result (λ e. kind_of e ≡ ErrorKind.OutOfMemory) }
+    ensures taken { takes office_app (map (λ s. s.now) words.entry.now) ≡ true
+        → IfErr result (λ e. kind_of e ≡ ErrorKind.OutOfMemory) }
 {
     let command = office_command(alloc)?;
     match command.try_get_matches_from(words) {

@@ -85,7 +85,8 @@ fn act_of(heading: Heading, content: Content) -> Act
 #[tactic(auto, unfolding(crate::specs::Acts::add_record_asked))]
 pub(crate) fn add_record(alloc: Global, value: &Value) -> Result<Act, ReadFault>
     ensures ok { IfOk result (λ act. add_record_asked (view value.now) ≡ Ok (asked act)) }
-    ensures err { IfErr result (λ fault. IsReadFault (view value.now) (add_record_asked (view value.now)) fault) }
+    ensures err { IfErr result
+        (λ fault. IsReadFault (view value.now) (add_record_asked (view value.now)) fault) }
 {
     let names = [
         "act",

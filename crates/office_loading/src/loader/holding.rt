@@ -14,7 +14,9 @@ impl Loader {
     /// Takes a hold in.
     pub(super) fn put_hold(&mut self, code: Code, hold: HoldRow) -> Result<(), Rebuild>
         ensures ok { OnOk result (self.new ≡ with_row self.old (of_table.Hold code hold)) }
-        ensures damaged { OnDamaged result ((t : TableLists) → Begins (with_row self.old (of_table.Hold code hold)) t → RepresentNone t) }
+        ensures damaged { OnDamaged result
+            ((t : TableLists) → Begins (with_row self.old (of_table.Hold code hold)) t
+            → RepresentNone t) }
     {
         self.holds.push_row(code, hold)
     }
@@ -22,7 +24,9 @@ impl Loader {
     /// Takes a target of a hold in.
     pub(super) fn put_target(&mut self, hold: Code, target: Target) -> Result<(), Rebuild>
         ensures ok { OnOk result (self.new ≡ with_row self.old (of_table.Target hold target)) }
-        ensures damaged { OnDamaged result ((t : TableLists) → Begins (with_row self.old (of_table.Target hold target)) t → RepresentNone t) }
+        ensures damaged { OnDamaged result
+            ((t : TableLists) → Begins (with_row self.old (of_table.Target hold target)) t
+            → RepresentNone t) }
     {
         let targets = self.targets.and(&hold, &target);
         self.holds.push_target(&hold, target)?;
@@ -33,7 +37,9 @@ impl Loader {
     /// Takes a run in.
     pub(super) fn put_run(&mut self, number: RunNo, run: Run) -> Result<(), Rebuild>
         ensures ok { OnOk result (self.new ≡ with_row self.old (of_table.Run number run)) }
-        ensures damaged { OnDamaged result ((t : TableLists) → Begins (with_row self.old (of_table.Run number run)) t → RepresentNone t) }
+        ensures damaged { OnDamaged result
+            ((t : TableLists) → Begins (with_row self.old (of_table.Run number run)) t
+            → RepresentNone t) }
     {
         push_numbered(&mut self.runs, number, run)
     }
@@ -41,7 +47,9 @@ impl Loader {
     /// Takes an entry in.
     pub(super) fn put_entry(&mut self, entry: Entry) -> Result<(), Rebuild>
         ensures ok { OnOk result (self.new ≡ with_row self.old (of_table.Entry entry)) }
-        ensures damaged { OnDamaged result ((t : TableLists) → Begins (with_row self.old (of_table.Entry entry)) t → RepresentNone t) }
+        ensures damaged { OnDamaged result
+            ((t : TableLists) → Begins (with_row self.old (of_table.Entry entry)) t
+            → RepresentNone t) }
     {
         push_keyed(&mut self.entries, (entry.run, entry.record_no), entry)
     }
@@ -49,7 +57,9 @@ impl Loader {
     /// Takes a certificate in.
     pub(super) fn put_certificate(&mut self, run: RunNo, text: String) -> Result<(), Rebuild>
         ensures ok { OnOk result (self.new ≡ with_row self.old (of_table.Certificate run text)) }
-        ensures damaged { OnDamaged result ((t : TableLists) → Begins (with_row self.old (of_table.Certificate run text)) t → RepresentNone t) }
+        ensures damaged { OnDamaged result
+            ((t : TableLists) → Begins (with_row self.old (of_table.Certificate run text)) t
+            → RepresentNone t) }
     {
         push_keyed(&mut self.certificates, run, Certificate::new(text))
     }

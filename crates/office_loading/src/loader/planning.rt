@@ -13,7 +13,9 @@ impl Loader {
     /// Takes the row of office in; damaged where one has come.
     pub(super) fn put_day(&mut self, day: Day) -> Result<(), Rebuild>
         ensures ok { OnOk result (self.new ≡ with_row self.old (of_table.Office day)) }
-        ensures damaged { OnDamaged result ((t : TableLists) → Begins (with_row self.old (of_table.Office day)) t → RepresentNone t) }
+        ensures damaged { OnDamaged result
+            ((t : TableLists) → Begins (with_row self.old (of_table.Office day)) t
+            → RepresentNone t) }
     {
         if self.day.is_some() {
             return Err(Rebuild::Damaged);
@@ -25,7 +27,9 @@ impl Loader {
     /// Takes a schedule in.
     pub(super) fn put_schedule(&mut self, code: Code, schedule: Schedule) -> Result<(), Rebuild>
         ensures ok { OnOk result (self.new ≡ with_row self.old (of_table.Schedule code schedule)) }
-        ensures damaged { OnDamaged result ((t : TableLists) → Begins (with_row self.old (of_table.Schedule code schedule)) t → RepresentNone t) }
+        ensures damaged { OnDamaged result
+            ((t : TableLists) → Begins (with_row self.old (of_table.Schedule code schedule)) t
+            → RepresentNone t) }
     {
         push_keyed(&mut self.schedules, code, schedule)
     }
@@ -33,7 +37,9 @@ impl Loader {
     /// Takes a class in.
     pub(super) fn put_class(&mut self, code: Code, class: Class) -> Result<(), Rebuild>
         ensures ok { OnOk result (self.new ≡ with_row self.old (of_table.Class code class)) }
-        ensures damaged { OnDamaged result ((t : TableLists) → Begins (with_row self.old (of_table.Class code class)) t → RepresentNone t) }
+        ensures damaged { OnDamaged result
+            ((t : TableLists) → Begins (with_row self.old (of_table.Class code class)) t
+            → RepresentNone t) }
     {
         push_keyed(&mut self.classes, code, class)
     }
@@ -44,8 +50,12 @@ impl Loader {
         number: AggNo,
         aggregation: Aggregation,
     ) -> Result<(), Rebuild>
-        ensures ok { OnOk result (self.new ≡ with_row self.old (of_table.Aggregation number aggregation)) }
-        ensures damaged { OnDamaged result ((t : TableLists) → Begins (with_row self.old (of_table.Aggregation number aggregation)) t → RepresentNone t) }
+        ensures ok { OnOk result
+            (self.new ≡ with_row self.old (of_table.Aggregation number aggregation)) }
+        ensures damaged { OnDamaged result
+            ((t : TableLists)
+            → Begins (with_row self.old (of_table.Aggregation number aggregation)) t
+            → RepresentNone t) }
     {
         push_numbered(&mut self.aggregations, number, aggregation)
     }

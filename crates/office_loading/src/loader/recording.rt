@@ -14,7 +14,9 @@ impl Loader {
     /// Takes a record in.
     pub(super) fn put_record(&mut self, number: RecordNo, columns: RecordRow) -> Result<(), Rebuild>
         ensures ok { OnOk result (self.new ≡ with_row self.old (of_table.Record number columns)) }
-        ensures damaged { OnDamaged result ((t : TableLists) → Begins (with_row self.old (of_table.Record number columns)) t → RepresentNone t) }
+        ensures damaged { OnDamaged result
+            ((t : TableLists) → Begins (with_row self.old (of_table.Record number columns)) t
+            → RepresentNone t) }
     {
         push_record(&mut self.heads, &mut self.statuses, number, columns)
     }
@@ -22,7 +24,9 @@ impl Loader {
     /// Takes the event of a record in.
     pub(super) fn put_event(&mut self, number: RecordNo, event: Event) -> Result<(), Rebuild>
         ensures ok { OnOk result (self.new ≡ with_row self.old (of_table.Event number event)) }
-        ensures damaged { OnDamaged result ((t : TableLists) → Begins (with_row self.old (of_table.Event number event)) t → RepresentNone t) }
+        ensures damaged { OnDamaged result
+            ((t : TableLists) → Begins (with_row self.old (of_table.Event number event)) t
+            → RepresentNone t) }
     {
         push_keyed(&mut self.events, number, event)
     }
@@ -30,7 +34,9 @@ impl Loader {
     /// Takes the key of a content in.
     pub(super) fn put_content(&mut self, number: RecordNo) -> Result<(), Rebuild>
         ensures ok { OnOk result (self.new ≡ with_row self.old (of_table.Content number)) }
-        ensures damaged { OnDamaged result ((t : TableLists) → Begins (with_row self.old (of_table.Content number)) t → RepresentNone t) }
+        ensures damaged { OnDamaged result
+            ((t : TableLists) → Begins (with_row self.old (of_table.Content number)) t
+            → RepresentNone t) }
     {
         self.contents.push(number)
     }

@@ -53,8 +53,8 @@ impl Loaded {
         self.are_entries_right()
     }
 
-    /// Whether no day of an act is after the office's, and each event is of a record that is there and not ahead of its
-    /// act.
+    /// Whether no day of an act is after the office's, and each event is of a record that is there
+    /// and not ahead of its act.
     fn is_by(&self) -> bool
         ensures yes { IsTrue result → IsOfficeBy self.now }
         ensures no { result ≡ false → IsOfficeBy self.now → ⊥ }
@@ -87,8 +87,10 @@ impl Loaded {
     pub(crate) fn is_sound(&self, alloc: Global, keys: &[RecordNo]) -> Result<bool, Memory>
         requires keyed { AreEntriesKeyed self.now.entries }
         requires ordered { IsStrictlySortedBy nat_cmp keys.now }
-        ensures yes { result ≡ Ok true → (contents : ByteMap) → HaveKeys contents keys.now → IsSound (with_contents self.now contents) }
-        ensures no { result ≡ Ok false → (contents : ByteMap) → HaveKeys contents keys.now → IsSound (with_contents self.now contents) → ⊥ }
+        ensures yes { result ≡ Ok true → (contents : ByteMap) → HaveKeys contents keys.now
+            → IsSound (with_contents self.now contents) }
+        ensures no { result ≡ Ok false → (contents : ByteMap) → HaveKeys contents keys.now
+            → IsSound (with_contents self.now contents) → ⊥ }
     {
         if !self.do_agree(keys) {
             return Ok(false);

@@ -23,10 +23,20 @@ use std::collections::BTreeMap;
 /// Notes the run of an entry that ended its record under that record; false where another run was
 /// there.
 fn note_ending(ends: &mut BTreeMap<RecordNo, RunNo>, entry: &Entry) -> Result<bool, Memory>
-    ensures other { is_ending entry.now.outcome ≡ false → IfOk result (λ is_one. (is_one ≡ true) × (ends.new.entries ≡ ends.old.entries)) }
-    ensures ending { is_ending entry.now.outcome ≡ true → IfOk result (λ is_one. from_entries {R = nat_cmp} ends.new.entries ≡ insert (from_entries ends.old.entries) entry.now.record_no entry.now.run) }
-    ensures one { is_ending entry.now.outcome ≡ true → result ≡ Ok true → (run : ℕ) → get (from_entries {R = nat_cmp} ends.old.entries) entry.now.record_no ≡ Some run → run ≡ entry.now.run }
-    ensures two { result ≡ Ok false → IsTrue (is_ending entry.now.outcome) × ((run : ℕ) × (get (from_entries {R = nat_cmp} ends.old.entries) entry.now.record_no ≡ Some run) × (run ≢ entry.now.run)) }
+    ensures other { is_ending entry.now.outcome ≡ false
+        → IfOk result (λ is_one. (is_one ≡ true) × (ends.new.entries ≡ ends.old.entries)) }
+    ensures ending { is_ending entry.now.outcome ≡ true
+        → IfOk result
+        (λ is_one. from_entries {R = nat_cmp} ends.new.entries
+        ≡ insert (from_entries ends.old.entries) entry.now.record_no entry.now.run) }
+    ensures one { is_ending entry.now.outcome ≡ true → result ≡ Ok true → (run : ℕ)
+        → get (from_entries {R = nat_cmp} ends.old.entries) entry.now.record_no ≡ Some run
+        → run ≡ entry.now.run }
+    ensures two { result ≡ Ok false
+        → IsTrue (is_ending entry.now.outcome)
+        × ((run : ℕ)
+        × (get (from_entries {R = nat_cmp} ends.old.entries) entry.now.record_no ≡ Some run)
+        × (run ≢ entry.now.run)) }
 {
     if !entry.outcome.is_ending() {
         return Ok(true);
@@ -49,7 +59,11 @@ fn endings(
     alloc: Global,
     entries: &BTreeMap<(RunNo, RecordNo), Entry>,
 ) -> Result<Option<BTreeMap<RecordNo, RunNo>>, Memory>
-    ensures { IfOk result (λ found. MatchOption found (TwoRunsEndOne (values (from_entries {R = entry_cmp} entries.now.entries))) (λ ends. AreEndings (from_entries {R = nat_cmp} ends.entries) (values (from_entries {R = entry_cmp} entries.now.entries)))) }
+    ensures { IfOk result
+        (λ found. MatchOption found
+        (TwoRunsEndOne (values (from_entries {R = entry_cmp} entries.now.entries)))
+        (λ ends. AreEndings (from_entries {R = nat_cmp} ends.entries)
+        (values (from_entries {R = entry_cmp} entries.now.entries)))) }
 {
     let mut ends = BTreeMap::new(alloc);
     for entry in entries.values() {
@@ -62,7 +76,9 @@ fn endings(
 
 /// Whether a hold is reported exactly of a skipped record.
 fn is_hold_reported(entry: &Entry) -> bool
-    ensures { result ≡ (if is_skipping entry.now.outcome then is_some entry.now.hold else is_none entry.now.hold) }
+    ensures { result
+        ≡ (if is_skipping entry.now.outcome then is_some entry.now.hold
+        else is_none entry.now.hold) }
 {
     match entry.outcome {
         Outcome::Skipped => entry.hold.is_some(),
@@ -83,7 +99,10 @@ impl Loaded {
 
     /// Whether the class, the schedule and the hold that the entry names are there.
     fn is_entry_named(&self, entry: &Entry) -> bool
-        ensures { result ≡ (is_there self.now.tree.classes (Some entry.now.class) && is_there self.now.tree.schedules (Some entry.now.schedule) && is_there self.now.holds entry.now.hold) }
+        ensures { result
+            ≡ (is_there self.now.tree.classes (Some entry.now.class)
+            && is_there self.now.tree.schedules (Some entry.now.schedule)
+            && is_there self.now.holds entry.now.hold) }
     {
         self.tree.class(&entry.class).is_some()
             && self.tree.schedule(&entry.schedule).is_some()
@@ -92,7 +111,9 @@ impl Loaded {
 
     /// Whether the run of the entry is there, and the record not above its cursor.
     fn is_entry_passed(&self, entry: &Entry) -> bool
-        ensures { result ≡ holds_of (numbered self.now.runs entry.now.run) (λ it. nat_le entry.now.record_no it.cursor) }
+        ensures { result
+            ≡ holds_of (numbered self.now.runs entry.now.run)
+            (λ it. nat_le entry.now.record_no it.cursor) }
     {
         if entry.run == 0 {
             return false;
@@ -107,7 +128,11 @@ impl Loaded {
     /// transferred, and is ended where it was ended.
     fn is_outcome_right(&self, entry: &Entry) -> bool
         requires { IsTrue (has_record self.now.tree entry.now.record_no) }
-        ensures { result ≡ (holds_of (numbered self.now.tree.records entry.now.record_no) (λ head. not (is_transferring entry.now.outcome) || is_some head.receipt) && holds_of (status_of self.now.tree entry.now.record_no) (λ status. not (is_ending entry.now.outcome) || is_ended status)) }
+        ensures { result
+            ≡ (holds_of (numbered self.now.tree.records entry.now.record_no)
+            (λ head. not (is_transferring entry.now.outcome) || is_some head.receipt)
+            && holds_of (status_of self.now.tree entry.now.record_no)
+            (λ status. not (is_ending entry.now.outcome) || is_ended status)) }
     {
         let ended = self.tree.status(entry.record_no) == Status::Ended;
         match entry.outcome {
@@ -135,7 +160,8 @@ impl Loaded {
 
     /// Whether each entry fits what it names.
     pub(crate) fn are_entries_right(&self) -> bool
-        ensures { IsTrue result ↔ All (λ e. is_entry_right self.now e ≡ true) (values self.now.entries) }
+        ensures { IsTrue result
+            ↔ All (λ e. is_entry_right self.now e ≡ true) (values self.now.entries) }
     {
         for entry in self.entries.values() {
             if !self.is_entry_right(entry) {
@@ -148,15 +174,20 @@ impl Loaded {
     /// Whether the record is ended and has no run under it.
     fn lacks_ending(&self, ends: &BTreeMap<RecordNo, RunNo>, record_no: RecordNo) -> bool
         requires { IsTrue (has_record self.now.tree record_no) }
-        ensures { result ≡ (holds_of (status_of self.now.tree record_no) is_ended && is_none (get (from_entries {R = nat_cmp} ends.now.entries) record_no)) }
+        ensures { result
+            ≡ (holds_of (status_of self.now.tree record_no) is_ended
+            && is_none (get (from_entries {R = nat_cmp} ends.now.entries) record_no)) }
     {
         self.tree.status(record_no) == Status::Ended && !is_noted(ends, record_no)
     }
 
     /// Whether each ended record has a run under it.
     fn has_each_ended(&self, ends: &BTreeMap<RecordNo, RunNo>) -> bool
-        ensures yes { IsTrue result → (r : ℕ) → numbered self.now.tree.statuses r ≡ Some Ended → IsSome (get (from_entries {R = nat_cmp} ends.now.entries) r) }
-        ensures no { result ≡ false → (r : ℕ) × (numbered self.now.tree.statuses r ≡ Some Ended) × IsNone (get (from_entries {R = nat_cmp} ends.now.entries) r) }
+        ensures yes { IsTrue result → (r : ℕ) → numbered self.now.tree.statuses r ≡ Some Ended
+            → IsSome (get (from_entries {R = nat_cmp} ends.now.entries) r) }
+        ensures no { result ≡ false
+            → (r : ℕ) × (numbered self.now.tree.statuses r ≡ Some Ended)
+            × IsNone (get (from_entries {R = nat_cmp} ends.now.entries) r) }
     {
         self.tree.sound();
         for before in 0..self.tree.record_count() {
@@ -169,8 +200,10 @@ impl Loaded {
 
     /// Whether each ended record has exactly one entry that ended it.
     pub(crate) fn have_all_one_ending(&self, alloc: Global) -> Result<bool, Memory>
-        ensures yes { result ≡ Ok true → EachHasOneEnding self.now.tree.statuses (values self.now.entries) }
-        ensures no { result ≡ Ok false → EachHasOneEnding self.now.tree.statuses (values self.now.entries) → ⊥ }
+        ensures yes { result ≡ Ok true
+            → EachHasOneEnding self.now.tree.statuses (values self.now.entries) }
+        ensures no { result ≡ Ok false
+            → EachHasOneEnding self.now.tree.statuses (values self.now.entries) → ⊥ }
     {
         match endings(alloc, &self.entries)? {
             Some(ends) => Ok(self.has_each_ended(&ends)),

@@ -15,11 +15,14 @@ use office_days::{Day, DueDay};
 use office_rules::RecordRow;
 use office_terms::{Action, Confirmation, Receipt, Record, RecordNo, Review, Status, Text};
 
-/// The review, if there is one, of which these are the columns; `None` where one of them is there alone.
+/// The review, if there is one, of which these are the columns; `None` where one of them is there
+/// alone.
 fn review_of(day: Option<Day>, by: Option<Text>) -> Option<Option<Review>>
     ensures { MatchOption result
-        ((it : Option Review) → option_map (λ review. review.day) it ≡ day → option_map (λ review. review.by) it ≢ by)
-        (λ it. (option_map (λ review. review.day) it ≡ day) × (option_map (λ review. review.by) it ≡ by)) }
+        ((it : Option Review) → option_map (λ review. review.day) it ≡ day
+        → option_map (λ review. review.by) it ≢ by)
+        (λ it. (option_map (λ review. review.day) it ≡ day)
+        × (option_map (λ review. review.by) it ≡ by)) }
 {
     match (day, by) {
         (Some(day), Some(by)) => Some(Some(Review { day, by })),
@@ -28,8 +31,8 @@ fn review_of(day: Option<Day>, by: Option<Text>) -> Option<Option<Review>>
     }
 }
 
-/// The confirmation, if there is one, of which these are the columns; `None` where some of them are there
-/// and some are not.
+/// The confirmation, if there is one, of which these are the columns; `None` where some of them are
+/// there and some are not.
 fn confirmation_of(
     action: Option<Action>,
     due: Option<DueDay>,
@@ -37,10 +40,14 @@ fn confirmation_of(
     by: Option<Text>,
 ) -> Option<Option<Confirmation>>
     ensures { MatchOption result
-        ((it : Option Confirmation) → option_map (λ confirmation. confirmation.action) it ≡ action → option_map (λ confirmation. confirmation.due) it ≡ due
-        → option_map (λ confirmation. confirmation.day) it ≡ day → option_map (λ confirmation. confirmation.by) it ≢ by)
-        (λ it. (option_map (λ confirmation. confirmation.action) it ≡ action) × (option_map (λ confirmation. confirmation.due) it ≡ due)
-        × (option_map (λ confirmation. confirmation.day) it ≡ day) × (option_map (λ confirmation. confirmation.by) it ≡ by)) }
+        ((it : Option Confirmation) → option_map (λ confirmation. confirmation.action) it ≡ action
+        → option_map (λ confirmation. confirmation.due) it ≡ due
+        → option_map (λ confirmation. confirmation.day) it ≡ day
+        → option_map (λ confirmation. confirmation.by) it ≢ by)
+        (λ it. (option_map (λ confirmation. confirmation.action) it ≡ action)
+        × (option_map (λ confirmation. confirmation.due) it ≡ due)
+        × (option_map (λ confirmation. confirmation.day) it ≡ day)
+        × (option_map (λ confirmation. confirmation.by) it ≡ by)) }
 {
     match (action, due, day, by) {
         (Some(action), Some(due), Some(day), Some(by)) => Some(Some(Confirmation {
@@ -54,11 +61,14 @@ fn confirmation_of(
     }
 }
 
-/// The receipt, if there is one, of which these are the columns; `None` where one of them is there alone.
+/// The receipt, if there is one, of which these are the columns; `None` where one of them is there
+/// alone.
 fn receipt_of(day: Option<Day>, by: Option<Text>) -> Option<Option<Receipt>>
     ensures { MatchOption result
-        ((it : Option Receipt) → option_map (λ receipt. receipt.day) it ≡ day → option_map (λ receipt. receipt.by) it ≢ by)
-        (λ it. (option_map (λ receipt. receipt.day) it ≡ day) × (option_map (λ receipt. receipt.by) it ≡ by)) }
+        ((it : Option Receipt) → option_map (λ receipt. receipt.day) it ≡ day
+        → option_map (λ receipt. receipt.by) it ≢ by)
+        (λ it. (option_map (λ receipt. receipt.day) it ≡ day)
+        × (option_map (λ receipt. receipt.by) it ≡ by)) }
 {
     match (day, by) {
         (Some(day), Some(by)) => Some(Some(Receipt { day, by })),
@@ -69,7 +79,8 @@ fn receipt_of(day: Option<Day>, by: Option<Text>) -> Option<Option<Receipt>>
 
 /// The head and the status of which these are the columns; `None` where there are none.
 fn record_of(row: RecordRow) -> Option<(Record, Status)>
-    ensures { MatchOption result ((head : Record) (status : Status) → record_row head status ≢ row) (λ p. record_row p.0 p.1 ≡ row) }
+    ensures { MatchOption result ((head : Record) (status : Status) → record_row head status ≢ row)
+        (λ p. record_row p.0 p.1 ≡ row) }
 {
     let review = review_of(row.reviewed, row.reviewed_by);
     let confirmation = confirmation_of(row.conf_action, row.conf_due, row.conf_day, row.conf_by);
@@ -95,8 +106,8 @@ fn record_of(row: RecordRow) -> Option<(Record, Status)>
     Some((head, row.status))
 }
 
-/// Puts the head and the status of which these are the columns after the others, under that number; damaged
-/// where there are none, or where it is not the next number.
+/// Puts the head and the status of which these are the columns after the others, under that number;
+/// damaged where there are none, or where it is not the next number.
 pub(crate) fn push_record(
     heads: &mut Vec<Record>,
     statuses: &mut Vec<Status>,
@@ -104,9 +115,16 @@ pub(crate) fn push_record(
     columns: RecordRow,
 ) -> Result<(), Rebuild>
     requires { length statuses.old.items ≡ length heads.old.items }
-    ensures ok { OnOk result (numbered_rows (record_rows heads.new.items statuses.new.items) ≡ numbered_rows (record_rows heads.old.items statuses.old.items) ++ (number, columns) ∷ []) }
+    ensures ok { OnOk result
+        (numbered_rows (record_rows heads.new.items statuses.new.items)
+        ≡ numbered_rows (record_rows heads.old.items statuses.old.items) ++ (number, columns)
+        ∷ []) }
     ensures long { length statuses.new.items ≡ length heads.new.items }
-    ensures damaged { OnDamaged result ((all : List Record) (ends : List Status) (rest : List (ℕ × RecordRow)) → numbered_rows (record_rows all ends) ≢ (numbered_rows (record_rows heads.old.items statuses.old.items) ++ (number, columns) ∷ []) ++ rest) }
+    ensures damaged { OnDamaged result
+        ((all : List Record) (ends : List Status) (rest : List (ℕ × RecordRow))
+        → numbered_rows (record_rows all ends)
+        ≢ (numbered_rows (record_rows heads.old.items statuses.old.items)
+        ++ (number, columns) ∷ []) ++ rest) }
 {
     if statuses.try_reserve(1).is_err() {
         return Err(Rebuild::Memory);

@@ -33,8 +33,11 @@ fn are_closed(runs: &[Run]) -> bool
 
 /// Whether each run but the last is closed.
 fn are_earlier_closed(runs: &[Run]) -> bool
-    ensures yes { IsTrue result → (run : ℕ) (it : Run) → numbered runs.now run ≡ Some it → it.is_closed ≡ false → run ≡ length runs.now }
-    ensures no { result ≡ false → ((run : ℕ) (it : Run) → numbered runs.now run ≡ Some it → it.is_closed ≡ false → run ≡ length runs.now) → ⊥ }
+    ensures yes { IsTrue result → (run : ℕ) (it : Run) → numbered runs.now run ≡ Some it
+        → it.is_closed ≡ false → run ≡ length runs.now }
+    ensures no { result ≡ false
+        → ((run : ℕ) (it : Run) → numbered runs.now run ≡ Some it → it.is_closed ≡ false
+        → run ≡ length runs.now) → ⊥ }
 {
     match runs.split_last() {
         Some((_, earlier)) => are_closed(earlier),
@@ -51,7 +54,9 @@ fn is_closed(runs: &[Run], run: RunNo) -> bool
 
 /// Whether each certificate is of a closed run.
 fn are_of_closed_runs(runs: &[Run], certificates: &BTreeMap<RunNo, Certificate>) -> bool
-    ensures { IsTrue result ↔ All (λ run. holds_of (numbered runs.now run) (λ it. it.is_closed) ≡ true) (map.keys certificates.now) }
+    ensures { IsTrue result
+        ↔ All (λ run. holds_of (numbered runs.now run) (λ it. it.is_closed) ≡ true)
+        (map.keys certificates.now) }
 {
     certificates.keys().all(|run| is_closed(runs, *run))
 }
@@ -87,8 +92,12 @@ fn is_certified(certificates: &BTreeMap<RunNo, Certificate>, run: usize) -> bool
 
 /// Whether each closed run has a certificate.
 fn are_closed_certified(runs: &[Run], certificates: &BTreeMap<RunNo, Certificate>) -> bool
-    ensures yes { IsTrue result → (run : ℕ) (it : Run) → numbered runs.now run ≡ Some it → it.is_closed ≡ true → contains_key (from_entries {R = nat_cmp} certificates.now.entries) run ≡ true }
-    ensures no { result ≡ false → ((run : ℕ) (it : Run) → numbered runs.now run ≡ Some it → it.is_closed ≡ true → contains_key (from_entries {R = nat_cmp} certificates.now.entries) run ≡ true) → ⊥ }
+    ensures yes { IsTrue result → (run : ℕ) (it : Run) → numbered runs.now run ≡ Some it
+        → it.is_closed ≡ true
+        → contains_key (from_entries {R = nat_cmp} certificates.now.entries) run ≡ true }
+    ensures no { result ≡ false
+        → ((run : ℕ) (it : Run) → numbered runs.now run ≡ Some it → it.is_closed ≡ true
+        → contains_key (from_entries {R = nat_cmp} certificates.now.entries) run ≡ true) → ⊥ }
 {
     for i in 0..runs.len() {
         if runs[i].is_closed && !is_certified(certificates, i + 1) {
@@ -107,7 +116,8 @@ fn are_by(runs: &[Run], last: Day) -> bool
 
 /// Whether the record is there and not ended.
 fn is_live(tree: &Tree, record_no: RecordNo) -> bool
-    ensures { result ≡ holds_of (numbered tree.now.statuses record_no) (λ status. not (is_ended status)) }
+    ensures { result
+        ≡ holds_of (numbered tree.now.statuses record_no) (λ status. not (is_ended status)) }
 {
     tree.sound();
     tree.has_record(record_no) && tree.status(record_no) != Status::Ended
@@ -115,7 +125,10 @@ fn is_live(tree: &Tree, record_no: RecordNo) -> bool
 
 /// Whether each key is the number of a record that is not ended.
 fn are_live(tree: &Tree, keys: &[RecordNo]) -> bool
-    ensures { IsTrue result ↔ All (λ r. holds_of (numbered tree.now.statuses r) (λ status. not (is_ended status)) ≡ true) keys.now }
+    ensures { IsTrue result
+        ↔ All
+        (λ r. holds_of (numbered tree.now.statuses r) (λ status. not (is_ended status)) ≡ true)
+        keys.now }
 {
     keys.iter().all(|record_no| is_live(tree, *record_no))
 }
@@ -131,9 +144,15 @@ fn is_key_at(keys: &[RecordNo], at: usize, record_no: RecordNo) -> bool
 /// Whether the number of each record that is not ended is a key: both ascend, so each goes once by.
 fn are_live_keyed(tree: &Tree, keys: &[RecordNo]) -> bool
     requires ascend { IsStrictlySortedBy nat_cmp keys.now }
-    requires live { All (λ r. holds_of (numbered tree.now.statuses r) (λ status. not (is_ended status)) ≡ true) keys.now }
-    ensures yes { IsTrue result → (r : ℕ) (status : Status) → numbered tree.now.statuses r ≡ Some status → not (is_ended status) ≡ true → contains_key (bare_contents keys.now) r ≡ true }
-    ensures no { result ≡ false → ((r : ℕ) (status : Status) → numbered tree.now.statuses r ≡ Some status → not (is_ended status) ≡ true → contains_key (bare_contents keys.now) r ≡ true) → ⊥ }
+    requires live { All
+        (λ r. holds_of (numbered tree.now.statuses r) (λ status. not (is_ended status)) ≡ true)
+        keys.now }
+    ensures yes { IsTrue result → (r : ℕ) (status : Status)
+        → numbered tree.now.statuses r ≡ Some status → not (is_ended status) ≡ true
+        → contains_key (bare_contents keys.now) r ≡ true }
+    ensures no { result ≡ false
+        → ((r : ℕ) (status : Status) → numbered tree.now.statuses r ≡ Some status
+        → not (is_ended status) ≡ true → contains_key (bare_contents keys.now) r ≡ true) → ⊥ }
 {
     tree.sound();
     let mut at = 0;
@@ -164,8 +183,10 @@ fn are_keys_of_live(tree: &Tree, keys: &[RecordNo]) -> bool
 
 /// Whether only the last run is open, and the certificates are those of exactly the closed runs.
 fn do_runs_agree(runs: &[Run], certificates: &BTreeMap<RunNo, Certificate>) -> bool
-    ensures yes { IsTrue result → RunsAgree runs.now (from_entries {R = nat_cmp} certificates.now.entries) }
-    ensures no { result ≡ false → RunsAgree runs.now (from_entries {R = nat_cmp} certificates.now.entries) → ⊥ }
+    ensures yes { IsTrue result
+        → RunsAgree runs.now (from_entries {R = nat_cmp} certificates.now.entries) }
+    ensures no { result ≡ false
+        → RunsAgree runs.now (from_entries {R = nat_cmp} certificates.now.entries) → ⊥ }
 {
     if !are_earlier_closed(runs) {
         return false;
@@ -236,16 +257,21 @@ impl Loaded {
     /// Whether these are the numbers of exactly the records that are not ended.
     pub(crate) fn are_keys_of_live(&self, keys: &[RecordNo]) -> bool
         requires { IsStrictlySortedBy nat_cmp keys.now }
-        ensures yes { IsTrue result → AreKeysOfLive self.now.tree.statuses (bare_contents keys.now) }
-        ensures no { result ≡ false → AreKeysOfLive self.now.tree.statuses (bare_contents keys.now) → ⊥ }
+        ensures yes { IsTrue result
+            → AreKeysOfLive self.now.tree.statuses (bare_contents keys.now) }
+        ensures no { result ≡ false → AreKeysOfLive self.now.tree.statuses (bare_contents keys.now)
+            → ⊥ }
     {
         are_keys_of_live(&self.tree, keys)
     }
 
-    /// Gives proofs the fact that runs, entries and the day are of their forms; a call changes nothing.
+    /// Gives proofs the fact that runs, entries and the day are of their forms; a call changes
+    /// nothing.
     pub(crate) fn formed(&self)
-        ensures runs { (n : ℕ) (it : Run) → numbered self.now.runs n ≡ Some it → IsWellFormedRun it }
-        ensures entries { (run r : ℕ) (e : Entry) → get self.now.entries (run, r) ≡ Some e → IsWellFormedEntry e }
+        ensures runs { (n : ℕ) (it : Run) → numbered self.now.runs n ≡ Some it
+            → IsWellFormedRun it }
+        ensures entries { (run r : ℕ) (e : Entry) → get self.now.entries (run, r) ≡ Some e
+            → IsWellFormedEntry e }
         ensures day { IsDayNumber self.now.day }
     {
         well_formed_runs(&self.runs);

@@ -20,48 +20,72 @@ ghost use Rattle.office_rules.specs.declared.run.Run.{Run};
 /// What comes of records in a run changes no record's class, plan, start, due day, hold or
 /// confirmation, whichever records are taken, and no other record's status and content.
 pub fn law_of_other_records()
-    ensures class { (s : State) (run r : ℕ) (taken : List ℕ) → class_of (with_outcomes s run taken).office.tree r ≡ class_of s.office.tree r }
-    ensures plan { (s : State) (run r : ℕ) (taken : List ℕ) → plan_of (with_outcomes s run taken).office.tree r ≡ plan_of s.office.tree r }
-    ensures start { (s : State) (run r : ℕ) (taken : List ℕ) → start_of (with_outcomes s run taken).office.tree r ≡ start_of s.office.tree r }
-    ensures due { (s : State) (run r : ℕ) (taken : List ℕ) → due_of (with_outcomes s run taken).office.tree r ≡ due_of s.office.tree r }
-    ensures held { (s : State) (run r : ℕ) (taken : List ℕ) → is_held (with_outcomes s run taken).office.holds (with_outcomes s run taken).office.tree r ≡ is_held s.office.holds s.office.tree r }
-    ensures covering { (s : State) (run r : ℕ) (taken : List ℕ) → least_covering (with_outcomes s run taken).office.holds (with_outcomes s run taken).office.tree r ≡ least_covering s.office.holds s.office.tree r }
-    ensures confirmation { (s : State) (run r : ℕ) (taken : List ℕ) → counts (with_outcomes s run taken).office.tree r ≡ counts s.office.tree r }
-    ensures status { (s : State) (run taken r : ℕ) → taken ≢ r → status_of (with_outcomes s run (taken ∷ [])).office.tree r ≡ status_of s.office.tree r }
-    ensures content { (s : State) (run taken r : ℕ) → taken ≢ r → get (with_outcomes s run (taken ∷ [])).contents r ≡ get s.contents r }
+    ensures class { (s : State) (run r : ℕ) (taken : List ℕ)
+        → class_of (with_outcomes s run taken).office.tree r ≡ class_of s.office.tree r }
+    ensures plan { (s : State) (run r : ℕ) (taken : List ℕ)
+        → plan_of (with_outcomes s run taken).office.tree r ≡ plan_of s.office.tree r }
+    ensures start { (s : State) (run r : ℕ) (taken : List ℕ)
+        → start_of (with_outcomes s run taken).office.tree r ≡ start_of s.office.tree r }
+    ensures due { (s : State) (run r : ℕ) (taken : List ℕ)
+        → due_of (with_outcomes s run taken).office.tree r ≡ due_of s.office.tree r }
+    ensures held { (s : State) (run r : ℕ) (taken : List ℕ)
+        → is_held (with_outcomes s run taken).office.holds (with_outcomes s run taken).office.tree r
+        ≡ is_held s.office.holds s.office.tree r }
+    ensures covering { (s : State) (run r : ℕ) (taken : List ℕ)
+        → least_covering (with_outcomes s run taken).office.holds
+        (with_outcomes s run taken).office.tree r
+        ≡ least_covering s.office.holds s.office.tree r }
+    ensures confirmation { (s : State) (run r : ℕ) (taken : List ℕ)
+        → counts (with_outcomes s run taken).office.tree r ≡ counts s.office.tree r }
+    ensures status { (s : State) (run taken r : ℕ) → taken ≢ r
+        → status_of (with_outcomes s run (taken ∷ [])).office.tree r ≡ status_of s.office.tree r }
+    ensures content { (s : State) (run taken r : ℕ) → taken ≢ r
+        → get (with_outcomes s run (taken ∷ [])).contents r ≡ get s.contents r }
 {}
 
 /// The candidates of a run are the records above its cursor that are ready, by number, and a step
 /// takes the least of them.
 pub fn law_of_candidates()
-    ensures these { (s : Office) (run r : ℕ) → (Contains (candidates s run) r ↔ IsCandidate s run r) }
+    ensures these { (s : Office) (run r : ℕ)
+        → (Contains (candidates s run) r ↔ IsCandidate s run r) }
     ensures by_number { (s : Office) (run : ℕ) → IsStrictlySortedBy nat_cmp (candidates s run) }
     ensures next { (s : Office) (run r : ℕ) → next_ready s run ≡ Some r → IsCandidate s run r }
-    ensures least { (s : Office) (run r other : ℕ) → next_ready s run ≡ Some r → IsCandidate s run other → r ≤ other }
+    ensures least { (s : Office) (run r other : ℕ) → next_ready s run ≡ Some r
+        → IsCandidate s run other → r ≤ other }
     ensures none { (s : Office) (run r : ℕ) → next_ready s run ≡ None → IsCandidate s run r → ⊥ }
 {}
 
 /// In a sound state the entries that a certificate lists are those of the run, each once, by record
 /// number.
 pub fn law_of_listed_entries()
-    ensures these { (s : State) (run : ℕ) (entry : Entry) → IsSound s → (Contains (entries_of s.office run) entry ↔ ((r : ℕ) × (get s.office.entries (run, r) ≡ Some entry))) }
-    ensures by_number { (s : State) (run : ℕ) → IsSound s → IsStrictlySortedBy nat_cmp (map (λ e. e.record_no) (entries_of s.office run)) }
+    ensures these { (s : State) (run : ℕ) (entry : Entry) → IsSound s
+        → (Contains (entries_of s.office run) entry
+        ↔ ((r : ℕ) × (get s.office.entries (run, r) ≡ Some entry))) }
+    ensures by_number { (s : State) (run : ℕ) → IsSound s
+        → IsStrictlySortedBy nat_cmp (map (λ e. e.record_no) (entries_of s.office run)) }
 {}
 
 /// The aggregations that a certificate lists, by number, are those that are spent and have a record
 /// below, at any depth, that one of the entries ended.
 pub fn law_of_listed_aggregations()
-    ensures these { (tree : TreeState) (entries : List Entry) (a : ℕ) → (Contains (spent_list tree entries) a
+    ensures these { (tree : TreeState) (entries : List Entry) (a : ℕ)
+        → (Contains (spent_list tree entries) a
         ↔ (IsTrue (has_aggregation tree a) × IsTrue (is_spent tree a)
         × ((r : ℕ) × IsTrue (has_record tree r) × IsTrue (is_below tree a r)
-        × ((entry : Entry) × Contains entries entry × (entry.record_no ≡ r) × IsTrue (is_ending entry.outcome))))) }
-    ensures by_number { (tree : TreeState) (entries : List Entry) → IsStrictlySortedBy nat_cmp (spent_list tree entries) }
+        × ((entry : Entry) × Contains entries entry × (entry.record_no ≡ r)
+        × IsTrue (is_ending entry.outcome))))) }
+    ensures by_number { (tree : TreeState) (entries : List Entry)
+        → IsStrictlySortedBy nat_cmp (spent_list tree entries) }
 {}
 
-/// When a run closes, its certificate is the text of its number, its day, who opened it, its entries by
-/// record number and the aggregations that are spent by it. No other certificate is changed.
+/// When a run closes, its certificate is the text of its number, its day, who opened it, its
+/// entries by record number and the aggregations that are spent by it. No other certificate is
+/// changed.
 pub fn law_of_the_certificate()
     ensures closed { (s : State) (run : ℕ) (it : Run) → numbered s.office.runs run ≡ Some it
-        → get (closed s run).office.certificates run ≡ Some (certificate_text s.office.tree run it.day it.by (entries_of s.office run) (spent_list s.office.tree (entries_of s.office run))) }
-    ensures others { (s : State) (run other : ℕ) → other ≢ run → get (closed s run).office.certificates other ≡ get s.office.certificates other }
+        → get (closed s run).office.certificates run
+        ≡ Some (certificate_text s.office.tree run it.day it.by (entries_of s.office run)
+        (spent_list s.office.tree (entries_of s.office run))) }
+    ensures others { (s : State) (run other : ℕ) → other ≢ run
+        → get (closed s run).office.certificates other ≡ get s.office.certificates other }
 {}
