@@ -17,6 +17,7 @@ pub mod OneState
 pub mod OneStep
 pub mod OpenRun
 pub mod Places
+pub mod Refused
 pub mod Repeating
 pub mod Resuming
 pub mod Rising
@@ -37,6 +38,7 @@ pub mod SoundTaken
 pub mod SoundTree
 pub mod StepSound
 pub mod StepsMade
+pub mod Untaken
 pub mod WorkedBase
 pub mod WorkedClosing
 pub mod WorkedConfirming

@@ -16,8 +16,10 @@ use Rattle.office_rules.specs.declared.rows.RowWrite.{RowWrite}
 
 -- the answer to an act, and the state after it
 unfoldable pub step : State → Act → Answer × State
-step s (act.AddSchedule day code trigger period offset action) = step_add_schedule s day code (record { trigger = trigger; period = period; offset = offset; action = action })
-step s (act.AddClass day code title schedule) = step_add_class s day code (record { title = title; schedule = schedule })
+step s (act.AddSchedule day code trigger period offset action) =
+    step_add_schedule s day code (record { trigger = trigger; period = period; offset = offset; action = action })
+step s (act.AddClass day code title schedule) =
+    step_add_class s day code (record { title = title; schedule = schedule })
 step s (act.SetClassSchedule day class schedule) = step_set_class_schedule s day class schedule
 step s (act.AddAggregation day ref_text title parent class) = step_add_aggregation s day ref_text title parent class
 step s (act.CloseAggregation day a) = step_close_aggregation s day a
@@ -54,7 +56,8 @@ is_of_change (answer.Step r outcome) = true
 is_of_change (answer.RunClosed run) = true
 is_of_change (answer.Refused refusal) = false
 
--- a change that is right where each contents lead to such an answer and next state: its answer, at most six writes that can be done, and what they lead to
+-- a change that is right where each contents lead to such an answer and next state: its answer, at most six writes that
+-- can be done, and what they lead to
 pub record IsChangeTo (s : Office) (next : ByteMap → Answer × State) (change : Change) : Type 0 where
   pub answered : (contents : ByteMap) → (next contents).0 ≡ change.answer
   pub changes : is_of_change change.answer ≡ true
@@ -67,12 +70,13 @@ abbrev pub LeadsTo : Office → (ByteMap → Answer × State) → Decision → T
 LeadsTo s next (decision.Stay answer) = (contents : ByteMap) → next contents ≡ (answer, with_contents s contents)
 LeadsTo s next (decision.Go change) = IsChangeTo s next change
 
--- a decision reports of a change exactly where it is one: where nothing is to be done the answer is a refusal, or that the record was added before
+-- a decision's answer is that of a change exactly where it is one: where nothing is to be done it is a refusal, or that
+-- the record was added before
 abbrev pub ReportsItsKind : Decision → Type 0
 ReportsItsKind (decision.Stay answer) = is_of_change answer ≡ false
 ReportsItsKind (decision.Go change) = is_of_change change.answer ≡ true
 
--- a decision that is right: it leads there, and reports of a change exactly where it is one
+-- a decision that is right: it leads there, and its answer is that of a change exactly where it is one
 abbrev pub IsDecidedTo : Office → (ByteMap → Answer × State) → Decision → Type 0
 IsDecidedTo s next d = LeadsTo s next d × ReportsItsKind d
 
@@ -108,7 +112,9 @@ KeepsHeld s (decision.Go change) = (r : ℕ) → IsHeldIn s r → IsHeldIn (all_
 -- so many steps of a run, each decided and made, lead from one office to another
 abbrev pub AreStepsMade : ℕ → Office → Office → Type 0
 AreStepsMade zero s t = s ≡ t
-AreStepsMade (suc n) s t = (change : Change) × IsDecidedFor s act.RunStep (decision.Go change) × AreStepsMade n (all_office_writes change.writes.items s) t
+AreStepsMade (suc n) s t =
+    (change : Change) × IsDecidedFor s act.RunStep (decision.Go change)
+    × AreStepsMade n (all_office_writes change.writes.items s) t
 
 -- an act on schedules and classes
 abbrev pub IsOnSchedules : Act → Type 0

@@ -1,5 +1,5 @@
--- Why each act is refused: for each of the eighteen one table of its conditions, in the order of the refusals' numbers, of
--- which the first that holds is answered. A condition about a thing that is not there is false. Source: own.
+-- Why each act is refused: for each of the eighteen one table of its conditions, in the order of the refusals' numbers,
+-- of which the first that holds is answered. A condition about a thing that is not there is false. Source: own.
 use Rattle.std.specs.Prelude.{ℕ, Bool, ◌&&◌, ◌||◌, ◌==◌, suc, not, int_lt, List, [], ◌∷◌, length, nat_le, Option, Some, None, ℤ, if◌then◌else◌}
 use Rattle.std.specs.Option.{is_some, is_none}
 use Rattle.std.specs.Ordering.{int_eq}
@@ -35,21 +35,25 @@ abbrev pub refusals_of_add_class : Office → ℤ → List ℕ → Class → Lis
 refusals_of_add_class s day code class = dated s day (conditions_of_add_class s.tree code class.schedule)
 
 abbrev pub refusals_of_set_class_schedule : Office → ℤ → List ℕ → List ℕ → List (Refusal × Bool)
-refusals_of_set_class_schedule s day class schedule = dated s day (conditions_of_set_class_schedule s.tree class schedule)
+refusals_of_set_class_schedule s day class schedule =
+    dated s day (conditions_of_set_class_schedule s.tree class schedule)
 
 abbrev pub refusals_of_add_aggregation : Office → ℤ → List ℕ → Option ℕ → Option (List ℕ) → List (Refusal × Bool)
-refusals_of_add_aggregation s day ref_text parent class = dated s day (conditions_of_add_aggregation s.tree ref_text parent class)
+refusals_of_add_aggregation s day ref_text parent class =
+    dated s day (conditions_of_add_aggregation s.tree ref_text parent class)
 
 abbrev pub refusals_of_close_aggregation : Office → ℤ → ℕ → List (Refusal × Bool)
 refusals_of_close_aggregation s day a = dated s day (conditions_of_close_aggregation s.tree a)
 
 abbrev pub refusals_of_add_record : Office → ℤ → NewRecord → List (Refusal × Bool)
-refusals_of_add_record s day new = dated s day (conditions_of_add_record s.tree new.ref_text new.aggregation new.class new.schedule)
+refusals_of_add_record s day new =
+    dated s day (conditions_of_add_record s.tree new.ref_text new.aggregation new.class new.schedule)
 
 abbrev pub refusals_of_set_record_schedule : Office → ℤ → ℕ → Option (List ℕ) → List (Refusal × Bool)
 refusals_of_set_record_schedule s day r schedule = dated s day (conditions_of_set_record_schedule s.tree r schedule)
 
--- no such target or class; a root and no class given; a held class would be left; the record is ended; it is sent or received
+-- no such target or class; a root and no class given; a held class would be left; the record is ended; it is sent or
+-- received
 abbrev pub conditions_of_reclassifying : Office → Classified → Option (List ℕ) → List (Refusal × Bool)
 conditions_of_reclassifying s what class =
     (NoSuch, lacks_classified s.tree what || lacks_class s.tree class)
@@ -79,9 +83,11 @@ target_status tree (target.Record r) = status_of tree r
 
 -- what the tree reports of a target: it is not there; it is an ended record
 abbrev pub conditions_of_target : TreeState → Target → List (Refusal × Bool)
-conditions_of_target tree target = (NoSuch, lacks_target tree target) ∷ (Ended, holds_of (target_status tree target) is_ended) ∷ []
+conditions_of_target tree target =
+    (NoSuch, lacks_target tree target) ∷ (Ended, holds_of (target_status tree target) is_ended) ∷ []
 
--- the hold has that target; no such hold or target; the hold has 1,000 targets; it is lifted; the target is an ended record
+-- the hold has that target; no such hold or target; the hold has 1,000 targets; it is lifted; the target is an ended
+-- record
 abbrev pub conditions_of_covering : Office → List ℕ → Target → List (Refusal × Bool)
 conditions_of_covering s code target =
     (Exists, holds_target s.holds code target)
@@ -129,7 +135,8 @@ refusals_of_event s day r occurred = dated s day (conditions_of_event s.tree day
 abbrev pub is_same_record : NewRecord → Record → Bool
 is_same_record new head =
     bytes_eq new.ref_text head.ref_text && bytes_eq new.title head.title && int_eq new.originated head.originated
-    && new.aggregation == head.aggregation && length new.content.items == head.length && bytes_eq (sha256 new.content.items) head.digest
+    && new.aggregation == head.aggregation && length new.content.items == head.length
+    && bytes_eq (sha256 new.content.items) head.digest
 
 -- the number, counted from another, of the first that passes
 abbrev pub number_passing : {A : Type 0} → (A → Bool) → ℕ → List A → Option ℕ

@@ -17,7 +17,8 @@ use Rattle.office_rules.specs.State.{Office}
 
 -- its action is to transfer or to destroy, it is due, and its confirmation counts
 abbrev pub may_begin : TreeState → ℕ → ℤ → Bool
-may_begin tree r day = holds_of (action_of tree r) is_disposal && holds_of (due_of tree r) (λ due. int_le due day) && counts tree r
+may_begin tree r day =
+    holds_of (action_of tree r) is_disposal && holds_of (due_of tree r) (λ due. int_le due day) && counts tree r
 
 abbrev pub ready_by : Option Status → Bool → Bool
 ready_by (Some status.Here) may = may
@@ -30,7 +31,8 @@ ready_by None may = false
 abbrev pub is_ready : Office → ℤ → ℕ → Bool
 is_ready s day r = ready_by (status_of s.tree r) (may_begin s.tree r day)
 
--- what comes of a record, by its status, its plan's action and whether it is held: to transfer sends it, held or not; what is to be ended is skipped while it is held
+-- what comes of a record, by its status, its plan's action and whether it is held: to transfer sends it, held or not;
+-- what is to be ended is skipped while it is held
 abbrev pub outcome_by : Option Status → Option Action → Bool → Option Outcome
 outcome_by (Some status.Here) (Some action.Transfer) held = Some outcome.Sent
 outcome_by (Some status.Here) (Some action.Destroy) held = Some (if held then outcome.Skipped else outcome.Destroyed)

@@ -34,12 +34,14 @@ abbrev pub after_set_class_schedule : Office → ℤ → List ℕ → List ℕ �
 after_set_class_schedule s day class schedule = with_tree s day (with_class_schedule s.tree class schedule)
 
 abbrev pub after_add_aggregation : Office → ℤ → List ℕ → List ℕ → Option ℕ → Option (List ℕ) → Office
-after_add_aggregation s day ref_text title parent class = with_tree s day (added_aggregation s.tree ref_text title parent class)
+after_add_aggregation s day ref_text title parent class =
+    with_tree s day (added_aggregation s.tree ref_text title parent class)
 
 abbrev pub after_close_aggregation : Office → ℤ → ℕ → Office
 after_close_aggregation s day a = with_tree s day (closed_aggregation s.tree a day)
 
--- the head of a new record: added on the act's day, with its content's length and SHA-256, not yet reviewed, confirmed or received
+-- the head of a new record: added on the act's day, with its content's length and SHA-256, not yet reviewed, confirmed
+-- or received
 abbrev pub new_head : ℤ → NewRecord → Record
 new_head day new = record {
   ref_text = new.ref_text;

@@ -9,10 +9,12 @@ use Rattle.office_rules.specs.declared.act.Act.TheVariants as act
 
 -- the days, codes, texts and periods of an act
 abbrev pub IsWellFormedAct : Act → Type 0
-IsWellFormedAct (act.AddSchedule day code trigger period offset action) = IsDayNumber day × IsCode code × (period.count ≤ longest period.unit)
+IsWellFormedAct (act.AddSchedule day code trigger period offset action) =
+    IsDayNumber day × IsCode code × (period.count ≤ longest period.unit)
 IsWellFormedAct (act.AddClass day code title schedule) = IsDayNumber day × IsCode code × IsText title × IsCode schedule
 IsWellFormedAct (act.SetClassSchedule day class schedule) = IsDayNumber day × IsCode class × IsCode schedule
-IsWellFormedAct (act.AddAggregation day ref_text title parent class) = IsDayNumber day × IsText ref_text × IsText title × IfSome class IsCode
+IsWellFormedAct (act.AddAggregation day ref_text title parent class) =
+    IsDayNumber day × IsText ref_text × IsText title × IfSome class IsCode
 IsWellFormedAct (act.CloseAggregation day a) = IsDayNumber day
 IsWellFormedAct (act.AddRecord day new) = IsDayNumber day × IsWellFormedNewRecord new
 IsWellFormedAct (act.SetRecordSchedule day r schedule) = IsDayNumber day × IfSome schedule IsCode
@@ -23,7 +25,7 @@ IsWellFormedAct (act.Receipt day r digest by) = IsDayNumber day × IsText by
 IsWellFormedAct (act.Event day r occurred by) = IsDayNumber day × IsDayNumber occurred × IsText by
 IsWellFormedAct (act.PlaceHold day code reason by) = IsDayNumber day × IsCode code × IsText reason × IsText by
 IsWellFormedAct (act.HoldOn day code target) = IsDayNumber day × IsCode code × IsWellFormedTarget target
-IsWellFormedAct (act.HoldOff day code target) = IsDayNumber day × IsCode code
+IsWellFormedAct (act.HoldOff day code target) = IsDayNumber day × IsCode code × IsWellFormedTarget target
 IsWellFormedAct (act.LiftHold day code) = IsDayNumber day × IsCode code
 IsWellFormedAct (act.OpenRun day by) = IsDayNumber day × IsText by
 IsWellFormedAct act.RunStep = Unit {0}

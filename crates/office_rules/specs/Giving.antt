@@ -10,7 +10,8 @@ IsSameRow r s = (t : TableLists) → with_row t r ≡ with_row t s
 -- no tables that begin with the rows that had come and some first ones of these represent a sound state
 abbrev pub RepresentNoneFrom : {A : Type 0} → TableLists → (A → Row) → List A → Type 0
 RepresentNoneFrom t row_of rows =
-    (done : List _) × (rest : List _) × (rows ≡ done ++ rest) × ((u : TableLists) → Begins (with_rows t (map row_of done)) u → RepresentNone u)
+    (done : List _) × (rest : List _) × (rows ≡ done ++ rest)
+    × ((u : TableLists) → Begins (with_rows t (map row_of done)) u → RepresentNone u)
 
 -- of these tables the rows of office, schedules and classes
 abbrev pub up_to_classes : TableLists → TableLists

@@ -8,6 +8,7 @@ pub mod Loading
 pub mod Giving
 pub mod Meanings
 pub mod Readings
+pub mod Refusals
 pub mod Registers
 pub mod Rows
 pub mod Runs

@@ -35,9 +35,11 @@ HaveKeys contents keys = map (λ e. e.0) (entries contents) ≡ keys
 
 -- with any contents of the keys that were read, the office is the one that the tables represent
 abbrev pub AreTablesOf : TableLists → Office → Type 0
-AreTablesOf tables s = (contents : ByteMap) → HaveKeys contents tables.contents → Represents tables (with_contents s contents)
+AreTablesOf tables s =
+    (contents : ByteMap) → HaveKeys contents tables.contents → Represents tables (with_contents s contents)
 
--- what an entry names is there; a hold is reported exactly of a skipped record; the record is not above its run's cursor; a record that was transferred has a receipt; one that was ended is ended
+-- what an entry names is there; a hold is reported exactly of a skipped record; the record is not above its run's
+-- cursor; a record that was transferred has a receipt; one that was ended is ended
 abbrev pub is_entry_right : Office → Entry → Bool
 is_entry_right s e =
     is_there s.tree.classes (Some e.class)
@@ -50,18 +52,22 @@ is_entry_right s e =
 
 -- under each record the run of the entry that ended it
 pub record AreEndings (ends : FinMap nat_cmp ℕ) (es : List Entry) : Type 0 where
-  pub each : (r run : ℕ) → get ends r ≡ Some run → (e : Entry) × Contains es e × (e.run ≡ run) × (e.record_no ≡ r) × IsTrue (is_ending e.outcome)
+  pub each : (r run : ℕ) → get ends r ≡ Some run
+      → (e : Entry) × Contains es e × (e.run ≡ run) × (e.record_no ≡ r) × IsTrue (is_ending e.outcome)
   pub all : (e : Entry) → Contains es e → IsTrue (is_ending e.outcome) → get ends e.record_no ≡ Some e.run
 
 -- two runs ended one record
 abbrev pub TwoRunsEndOne : List Entry → Type 0
 TwoRunsEndOne es =
-    (e f : Entry) × Contains es e × Contains es f × IsTrue (is_ending e.outcome) × IsTrue (is_ending f.outcome) × (e.record_no ≡ f.record_no) × (e.run ≢ f.run)
+    (e f : Entry) × Contains es e × Contains es f × IsTrue (is_ending e.outcome) × IsTrue (is_ending f.outcome)
+    × (e.record_no ≡ f.record_no) × (e.run ≢ f.run)
 
 -- each ended record has exactly one entry that ended it
 pub record EachHasOneEnding (statuses : List Status) (es : List Entry) : Type 0 where
-  pub one : (r : ℕ) → numbered statuses r ≡ Some Ended → (e : Entry) × Contains es e × (e.record_no ≡ r) × IsTrue (is_ending e.outcome)
-  pub once : (e f : Entry) → Contains es e → Contains es f → IsTrue (is_ending e.outcome) → IsTrue (is_ending f.outcome) → e.record_no ≡ f.record_no → e.run ≡ f.run
+  pub one : (r : ℕ) → numbered statuses r ≡ Some Ended
+      → (e : Entry) × Contains es e × (e.record_no ≡ r) × IsTrue (is_ending e.outcome)
+  pub once : (e f : Entry) → Contains es e → Contains es f → IsTrue (is_ending e.outcome) → IsTrue (is_ending f.outcome)
+      → e.record_no ≡ f.record_no → e.run ≡ f.run
 
 -- no run is of a later day
 abbrev pub AreRunsBy : List Run → ℤ → Type 0
@@ -69,7 +75,8 @@ AreRunsBy runs last = (n : ℕ) (it : Run) → numbered runs n ≡ Some it → i
 
 -- the keys are the numbers of exactly the records that are not ended
 abbrev pub AreKeysOfLive : {V : Type 0} → List Status → FinMap nat_cmp V → Type 0
-AreKeysOfLive statuses keys = (r : ℕ) → IsSome (get keys r) ↔ ((status : Status) × (numbered statuses r ≡ Some status) × (status ≢ Ended))
+AreKeysOfLive statuses keys =
+    (r : ℕ) → IsSome (get keys r) ↔ ((status : Status) × (numbered statuses r ≡ Some status) × (status ≢ Ended))
 
 -- each entry is under its own run and record
 abbrev pub AreEntriesKeyed : EntryMap → Type 0

@@ -1,5 +1,5 @@
--- What is read of the office. Source: own; what is reported of a record is MoReq2010's, its record, disposal scheduling and
--- disposal holding services.
+-- What is read of the office. Source: own; what is reported of a record is MoReq2010's, its record, disposal scheduling
+-- and disposal holding services.
 use Rattle.std.specs.Prelude.{◌≡◌, ◌↔◌, IsTrue, ℕ, ◌==◌, Bool, not, ◌&&◌, List, [], Option, Some, None, ℤ, pos, int_le, int_lt, if◌then◌else◌}
 use Rattle.std.specs.List.{find, Contains}
 use Rattle.std.specs.List.Sorted.{IsStrictlySortedBy}
@@ -28,7 +28,8 @@ ending_entry s r = find (λ e. e.record_no == r && is_ending e.outcome) (values 
 abbrev pub all_entries_of : Office → List Entry
 all_entries_of s = values s.entries
 
--- what is reported of a record: its head and status, and of its class, plan, due day, hold and confirmation what the office says now
+-- what is reported of a record: its head and status, and of its class, plan, due day, hold and confirmation what the
+-- office says now
 abbrev pub view_of : Office → ℕ → Record → Status → RecordView
 view_of s r head status = record {
   number = r;
@@ -66,18 +67,23 @@ is_due_here tree day r = holds_of (status_of tree r) is_here && holds_of (due_of
 
 -- by due day, then number
 abbrev pub due_cmp : TreeState → ℕ → ℕ → Ordering
-due_cmp tree r q = ordering_then (int_cmp (unwrap_or (due_of tree r) (pos 0)) (unwrap_or (due_of tree q) (pos 0))) (nat_cmp r q)
+due_cmp tree r q =
+    ordering_then (int_cmp (unwrap_or (due_of tree r) (pos 0)) (unwrap_or (due_of tree q) (pos 0))) (nat_cmp r q)
 
--- the due list of a day: the records that are here and due then, by due day, then number (MoReq2010, disposal scheduling service)
+-- the due list of a day: the records that are here and due then, by due day, then number (MoReq2010, disposal
+-- scheduling service)
 pub record IsDueList (tree : TreeState) (day : ℤ) (list : List ℕ) : Type 0 where
   pub these : (r : ℕ) → (Contains list r ↔ IsTrue (is_due_here tree day r))
   pub in_order : IsStrictlySortedBy (due_cmp tree) list
 
 -- ---- what is overdue
 
--- the record is here, its deadline, so many days after its due day, is before that day, and no confirmation of it counts
+-- the record is here, its deadline, so many days after its due day, is before that day, and no confirmation of it
+-- counts
 abbrev pub is_overdue : TreeState → ℤ → ℕ → ℕ → Bool
-is_overdue tree day n r = holds_of (status_of tree r) is_here && (holds_of (due_of tree r) (λ due. int_lt (deadline_from due n) day) && not (counts tree r))
+is_overdue tree day n r =
+    holds_of (status_of tree r) is_here
+    && (holds_of (due_of tree r) (λ due. int_lt (deadline_from due n) day) && not (counts tree r))
 
 -- its deadline; of a record without a due day, which is never overdue, any day
 abbrev pub deadline_or : TreeState → ℕ → ℕ → ℤ
@@ -87,7 +93,8 @@ deadline_or tree n r = unwrap_or (option_map (λ due. deadline_from due n) (due_
 abbrev pub deadline_cmp : TreeState → ℕ → ℕ → ℕ → Ordering
 deadline_cmp tree n r q = ordering_then (int_cmp (deadline_or tree n r) (deadline_or tree n q)) (nat_cmp r q)
 
--- what is overdue on a day, so many days after the due day: the records that should have been confirmed by then and were not, by deadline, then number (own)
+-- what is overdue on a day: the records whose deadline, so many days after the due day, is before it, and of which no
+-- confirmation counts, by deadline, then number (own)
 pub record IsOverdueList (tree : TreeState) (day : ℤ) (n : ℕ) (list : List ℕ) : Type 0 where
   pub these : (r : ℕ) → (Contains list r ↔ IsTrue (is_overdue tree day n r))
   pub in_order : IsStrictlySortedBy (deadline_cmp tree n) list

@@ -1,5 +1,6 @@
--- What the registers report, row by row: the records that are due on a day, those that are overdue, and the entries of all runs. Source: own; what is reported
--- of a record is MoReq2010's, its record, disposal scheduling and disposal holding services.
+-- What the registers report, row by row: the records that are due on a day, those that are overdue, and the entries of
+-- all runs. Source: own; what is reported of a record is MoReq2010's, its record, disposal scheduling and disposal
+-- holding services.
 use Rattle.std.specs.Prelude.{◌≡◌, ℕ, ℤ, Bool, List, [], ◌∷◌, Option, Some, None}
 use Rattle.std.specs.Option.{option_copied, unwrap_or}
 use Rattle.office_terms.specs.Disposal.{counts}
@@ -17,7 +18,8 @@ use Rattle.office_rules.specs.declared.entry_row.EntryRow.{EntryRow}
 
 -- ---- what is due
 
--- a record that is due: the class, schedule and action in effect, its due day, the least hold that covers it, and whether a confirmation of it counts
+-- a record that is due: the class, schedule and action in effect, its due day, the least hold that covers it, and
+-- whether a confirmation of it counts
 pub record DueRowView : Type 0 where
   pub number : ℕ
   pub ref_text : List ℕ
@@ -90,12 +92,14 @@ pub record EntryView : Type 0 where
 
 -- what a row reports
 abbrev pub entry_view : EntryRow → EntryView
-entry_view row = record { entry = row.entry.now; ref_text = row.ref_text.now; length = row.length; digest = row.digest.now }
+entry_view row =
+    record { entry = row.entry.now; ref_text = row.ref_text.now; length = row.length; digest = row.digest.now }
 
 -- an entry with its record's head, before those that follow
 abbrev pub and_entry : Option Record → Entry → List EntryView → List EntryView
 and_entry None entry rows = rows
-and_entry (Some head) entry rows = record { entry = entry; ref_text = head.ref_text; length = head.length; digest = head.digest } ∷ rows
+and_entry (Some head) entry rows =
+    record { entry = entry; ref_text = head.ref_text; length = head.length; digest = head.digest } ∷ rows
 
 abbrev pub entry_rows_of : TreeState → List Entry → List EntryView
 entry_rows_of tree [] = []

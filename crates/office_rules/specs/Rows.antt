@@ -26,7 +26,8 @@ use Rattle.office_rules.specs.declared.rows.RowWrite.{RowWrite}
 use Rattle.office_rules.specs.declared.rows.RowWrite.TheVariants as row_write
 use Rattle.office_rules.specs.declared.run.Run.{Run}
 
--- the row of each table by its key, in the order of the keys; of `targets` which hold has which target, of `office` the day, since it has one row and one version
+-- the row of each table by its key, in the order of the keys; of `targets` which hold has which target, of `office` the
+-- day, since it has one row and one version
 pub record TableRows : Type 0 where
   pub day : ℤ
   pub schedules : List (List ℕ × Schedule)
@@ -95,17 +96,24 @@ rows_of s = record {
 abbrev pub write_rows : RowWrite → TableRows → TableRows
 write_rows (row_write.Schedule code schedule) t = record t { schedules = put code_cmp code schedule t.schedules }
 write_rows (row_write.Class code class) t = record t { classes = put code_cmp code class t.classes }
-write_rows (row_write.Aggregation number aggregation) t = record t { aggregations = put nat_cmp number aggregation t.aggregations }
-write_rows (row_write.Record number head status) t = record t { records = put nat_cmp number (record_row head status) t.records }
+write_rows (row_write.Aggregation number aggregation) t =
+    record t { aggregations = put nat_cmp number aggregation t.aggregations }
+write_rows (row_write.Record number head status) t =
+    record t { records = put nat_cmp number (record_row head status) t.records }
 write_rows (row_write.Event number event) t = record t { events = put nat_cmp number event t.events }
 write_rows (row_write.Content number bytes) t = record t { contents = put nat_cmp number bytes.items t.contents }
-write_rows (row_write.ContentGone number) t = record t { contents = where_key nat_cmp (λ n. not (eq_by_cmp nat_cmp number n)) t.contents }
+write_rows (row_write.ContentGone number) t =
+    record t { contents = where_key nat_cmp (λ n. not (eq_by_cmp nat_cmp number n)) t.contents }
 write_rows (row_write.Hold code hold) t = record t { holds = put code_cmp code hold t.holds }
-write_rows (row_write.Target hold target) t = record t { targets = λ code other. is_pair hold target code other || t.targets code other }
-write_rows (row_write.TargetGone hold target) t = record t { targets = λ code other. not (is_pair hold target code other) && t.targets code other }
+write_rows (row_write.Target hold target) t =
+    record t { targets = λ code other. is_pair hold target code other || t.targets code other }
+write_rows (row_write.TargetGone hold target) t =
+    record t { targets = λ code other. not (is_pair hold target code other) && t.targets code other }
 write_rows (row_write.Run number run) t = record t { runs = put nat_cmp number run t.runs }
-write_rows (row_write.Entry entry) t = record t { entries_by = put entry_cmp (entry.run, entry.record_no) entry t.entries_by }
-write_rows (row_write.Certificate run text) t = record t { certificates = put nat_cmp run (string_bytes text) t.certificates }
+write_rows (row_write.Entry entry) t =
+    record t { entries_by = put entry_cmp (entry.run, entry.record_no) entry t.entries_by }
+write_rows (row_write.Certificate run text) t =
+    record t { certificates = put nat_cmp run (string_bytes text) t.certificates }
 write_rows (row_write.Day day) t = record t { day = day }
 
 -- rows with writes, one after another

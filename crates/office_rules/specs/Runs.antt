@@ -71,7 +71,8 @@ all_contents s (r ∷ rs) contents = all_contents s rs (contents_with contents r
 
 abbrev pub all_entries : Office → ℕ → List ℕ → EntryMap → EntryMap
 all_entries s run [] entries = entries
-all_entries s run (r ∷ rs) entries = all_entries s run rs (entries_with entries run r (entry_of s run r) (outcome_of s r))
+all_entries s run (r ∷ rs) entries =
+    all_entries s run rs (entries_with entries run r (entry_of s run r) (outcome_of s r))
 
 abbrev pub with_cursor : List Run → ℕ → ℕ → List Run
 with_cursor runs run r = edited runs run (λ it. record it { cursor = r })
@@ -91,7 +92,8 @@ office_with_outcomes s run rs = record s {
 
 -- the state with the outcomes and entries of these records, all at once, and the cursor at the last of them
 unfoldable pub with_outcomes : State → ℕ → List ℕ → State
-with_outcomes s run rs = record { office = office_with_outcomes s.office run rs; contents = all_contents s.office rs s.contents }
+with_outcomes s run rs =
+    record { office = office_with_outcomes s.office run rs; contents = all_contents s.office rs s.contents }
 
 -- ---- the end of a run
 
@@ -110,12 +112,14 @@ ended_below tree a e = is_ending e.outcome && has_record tree e.record_no && is_
 -- the aggregations, by number, that are spent and have a record below that one of the entries ended
 unfoldable pub spent_list : TreeState → List Entry → List ℕ
 spent_list tree entries =
-    filter (λ a. is_spent tree a && list_any (is_ended_in entries) (records_below tree a)) (numbers_after 0 (length tree.aggregations))
+    filter (λ a. is_spent tree a && list_any (is_ended_in entries) (records_below tree a))
+    (numbers_after 0 (length tree.aggregations))
 
 -- the certificate of a run, as the office is
 abbrev pub certificate_of : Office → ℕ → List ℕ
 certificate_of s run =
-    certificate_text s.tree run (run_day s run) (opened_by s run) (entries_of s run) (spent_list s.tree (entries_of s run))
+    certificate_text s.tree run (run_day s run) (opened_by s run) (entries_of s run)
+    (spent_list s.tree (entries_of s run))
 
 abbrev pub closed_runs : List Run → ℕ → List Run
 closed_runs runs run = edited runs run (λ it. record it { is_closed = true })
@@ -130,9 +134,12 @@ closed s run = record s { office = record (s.office) { runs = closed_runs s.offi
 abbrev pub whole : State → ℕ → State
 whole s run = closed (with_outcomes s run (candidates s.office run)) run
 
--- a state on the way of the run from s: the outcomes and entries of its first n candidates are alone, or the run is whole
+-- a state on the way of the run from s: s with the outcomes and entries of its first n candidates and nothing else, or
+-- the run is whole
 abbrev pub IsMidway : State → ℕ → State → Type 0
-IsMidway s run t = ((n : ℕ) × (n ≤ length (candidates s.office run)) × (t ≡ with_outcomes s run (take n (candidates s.office run)))) ⊎ (t ≡ whole s run)
+IsMidway s run t =
+    ((n : ℕ) × (n ≤ length (candidates s.office run)) × (t ≡ with_outcomes s run (take n (candidates s.office run))))
+    ⊎ (t ≡ whole s run)
 
 -- ---- one step
 

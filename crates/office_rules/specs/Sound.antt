@@ -1,4 +1,5 @@
--- When a state is sound: eleven items, each over the parts that it speaks of. Source: own; the limits are this project's.
+-- When a state is sound: eleven items, each over the parts that it speaks of. Source: own; the limits are this
+-- project's.
 use Rattle.std.specs.Prelude.{◌≡◌, ◌≢◌, ◌≤◌, ◌≤ℤ◌, ◌<◌, ◌↔◌, ℕ, false, true, List, length, Some, ℤ, IsSome, IsTrue, IfSome}
 use Rattle.std.specs.FinMap.{FinMap, get}
 use Rattle.office_days.specs.Limits.{IsDayNumber}
@@ -29,20 +30,23 @@ pub record IsWellFormedRun (it : Run) : Type 0 where
   pub by : IsText it.by
   pub cursor : it.cursor ≤ 4_294_967_295
 
--- every text, code, day and number is of its form and within its limit, and there are no more of each than the office takes
-pub record IsWithinLimits (tree : TreeState) (holds : HoldMap) (runs : List Run) (entries : EntryMap) (day : ℤ) : Type 0 where
-  pub tree_few : FitsLimits tree.schedules tree.classes tree.aggregations tree.records
-  pub tree_forms : IsWellFormedTree tree
-  pub statuses : length tree.statuses ≡ length tree.records
-  pub holds_few : FitsHoldLimits holds
-  pub hold_forms : AreWellFormedHolds holds
-  pub runs_few : length runs ≤ 10_000
-  pub run_forms : (n : ℕ) (it : Run) → numbered runs n ≡ Some it → IsWellFormedRun it
-  pub entry_forms : (run r : ℕ) (e : Entry) → get entries (run, r) ≡ Some e → IsWellFormedEntry e
-  pub day_form : IsDayNumber day
+-- every text, code, day and number is of its form and within its limit, and there are no more of each than the office
+-- takes
+pub record IsWithinLimits (tree : TreeState) (holds : HoldMap) (runs : List Run) (entries : EntryMap) (day : ℤ) : Type 0
+  where
+    pub tree_few : FitsLimits tree.schedules tree.classes tree.aggregations tree.records
+    pub tree_forms : IsWellFormedTree tree
+    pub statuses : length tree.statuses ≡ length tree.records
+    pub holds_few : FitsHoldLimits holds
+    pub hold_forms : AreWellFormedHolds holds
+    pub runs_few : length runs ≤ 10_000
+    pub run_forms : (n : ℕ) (it : Run) → numbered runs n ≡ Some it → IsWellFormedRun it
+    pub entry_forms : (run r : ℕ) (e : Entry) → get entries (run, r) ≡ Some e → IsWellFormedEntry e
+    pub day_form : IsDayNumber day
 
 -- what an entry names is there
-pub record IsNamedEntry (schedules : FinMap code_cmp Schedule) (classes : FinMap code_cmp Class) (holds : HoldMap) (run_count record_count run r : ℕ) (e : Entry) : Type 0 where
+pub record IsNamedEntry (schedules : FinMap code_cmp Schedule) (classes : FinMap code_cmp Class) (holds : HoldMap)
+    (run_count record_count run r : ℕ) (e : Entry) : Type 0 where
   pub run_there : (0 < run) × (run ≤ run_count)
   pub record_there : (0 < r) × (r ≤ record_count)
   pub class : IsSome (get classes e.class)
@@ -53,41 +57,58 @@ pub record IsNamedEntry (schedules : FinMap code_cmp Schedule) (classes : FinMap
 pub record AllNamesExist (tree : TreeState) (holds : HoldMap) (runs : List Run) (entries : EntryMap) : Type 0 where
   pub of_tree : NamesExist tree.schedules tree.classes tree.aggregations tree.records
   pub of_holds : TargetsExist holds tree.classes (length tree.aggregations) (length tree.records)
-  pub of_entries : (run r : ℕ) (e : Entry) → get entries (run, r) ≡ Some e → IsNamedEntry tree.schedules tree.classes holds (length runs) (length tree.records) run r e
+  pub of_entries : (run r : ℕ) (e : Entry) → get entries (run, r) ≡ Some e
+      → IsNamedEntry tree.schedules tree.classes holds (length runs) (length tree.records) run r e
 
 -- contents are there for exactly the records that are not ended
 abbrev pub ContentsAgree : List Status → ByteMap → Type 0
 ContentsAgree statuses contents =
     (r : ℕ) → IsSome (get contents r) ↔ ((status : Status) × (numbered statuses r ≡ Some status) × (status ≢ Ended))
 
--- a record that is not here has a confirmation, and each names transfer or destruction; a received record has a receipt, and so has one whose ending entry says transferred
+-- a record that is not here has a confirmation, and each names transfer or destruction; a received record has a
+-- receipt, and so has one whose ending entry says transferred
 pub record DocumentsAgree (records : List Record) (statuses : List Status) (entries : EntryMap) : Type 0 where
-  pub confirmed : (r : ℕ) (head : Record) (status : Status) → numbered records r ≡ Some head → numbered statuses r ≡ Some status → status ≢ Here → IsSome head.confirmation
-  pub disposal : (r : ℕ) (head : Record) → numbered records r ≡ Some head → IfSome head.confirmation (λ confirmation. IsTrue (is_disposal confirmation.action))
-  pub received : (r : ℕ) (head : Record) → numbered records r ≡ Some head → numbered statuses r ≡ Some Received → IsSome head.receipt
-  pub transferred : (run r : ℕ) (e : Entry) (head : Record) → get entries (run, r) ≡ Some e → e.outcome ≡ Transferred → numbered records r ≡ Some head → IsSome head.receipt
+  pub confirmed : (r : ℕ) (head : Record) (status : Status) → numbered records r ≡ Some head
+      → numbered statuses r ≡ Some status → status ≢ Here → IsSome head.confirmation
+  pub disposal : (r : ℕ) (head : Record) → numbered records r ≡ Some head
+      → IfSome head.confirmation (λ confirmation. IsTrue (is_disposal confirmation.action))
+  pub received : (r : ℕ) (head : Record) → numbered records r ≡ Some head → numbered statuses r ≡ Some Received
+      → IsSome head.receipt
+  pub transferred : (run r : ℕ) (e : Entry) (head : Record) → get entries (run, r) ≡ Some e → e.outcome ≡ Transferred
+      → numbered records r ≡ Some head → IsSome head.receipt
 
--- each entry is under its run and record; an ended record has exactly one entry that ended it, and no other record has one; a hold is reported exactly of skipped records; no entry's record is above its run's cursor
+-- each entry is under its run and record; an ended record has exactly one entry that ended it, and no other record has
+-- one; a hold is reported exactly of skipped records; no entry's record is above its run's cursor
 pub record EntriesAgree (statuses : List Status) (runs : List Run) (entries : EntryMap) : Type 0 where
   pub keyed : (run r : ℕ) (e : Entry) → get entries (run, r) ≡ Some e → (e.run ≡ run) × (e.record_no ≡ r)
-  pub ended : (r : ℕ) → numbered statuses r ≡ Some Ended → (run : ℕ) × (e : Entry) × (get entries (run, r) ≡ Some e) × IsTrue (is_ending e.outcome)
-  pub once : (run other r : ℕ) (e f : Entry) → get entries (run, r) ≡ Some e → get entries (other, r) ≡ Some f → IsTrue (is_ending e.outcome) → IsTrue (is_ending f.outcome) → run ≡ other
-  pub no_other : (run r : ℕ) (e : Entry) → get entries (run, r) ≡ Some e → IsTrue (is_ending e.outcome) → numbered statuses r ≡ Some Ended
+  pub ended : (r : ℕ) → numbered statuses r ≡ Some Ended
+      → (run : ℕ) × (e : Entry) × (get entries (run, r) ≡ Some e) × IsTrue (is_ending e.outcome)
+  pub once : (run other r : ℕ) (e f : Entry) → get entries (run, r) ≡ Some e → get entries (other, r) ≡ Some f
+      → IsTrue (is_ending e.outcome) → IsTrue (is_ending f.outcome) → run ≡ other
+  pub no_other : (run r : ℕ) (e : Entry) → get entries (run, r) ≡ Some e → IsTrue (is_ending e.outcome)
+      → numbered statuses r ≡ Some Ended
   pub holds : (run r : ℕ) (e : Entry) → get entries (run, r) ≡ Some e → IsSome e.hold ↔ (e.outcome ≡ Skipped)
-  pub passed : (run r : ℕ) (e : Entry) (it : Run) → get entries (run, r) ≡ Some e → numbered runs run ≡ Some it → r ≤ it.cursor
+  pub passed : (run r : ℕ) (e : Entry) (it : Run) → get entries (run, r) ≡ Some e → numbered runs run ≡ Some it
+      → r ≤ it.cursor
 
 -- only the last run may be open, and certificates are there for exactly the closed runs
 pub record RunsAgree (runs : List Run) (certificates : ByteMap) : Type 0 where
   pub last : (run : ℕ) (it : Run) → numbered runs run ≡ Some it → it.is_closed ≡ false → run ≡ length runs
-  pub certified : (run : ℕ) → IsSome (get certificates run) ↔ ((it : Run) × (numbered runs run ≡ Some it) × (it.is_closed ≡ true))
+  pub certified : (run : ℕ) → IsSome (get certificates run)
+      ↔ ((it : Run) × (numbered runs run ≡ Some it) × (it.is_closed ≡ true))
 
 -- no day of an act is after the office's day
-pub record NoDayIsAfter (aggregations : List Aggregation) (records : List Record) (holds : HoldMap) (runs : List Run) (day : ℤ) : Type 0 where
-  pub closed : (a : ℕ) (it : Aggregation) → numbered aggregations a ≡ Some it → IfSome it.closed (λ closed. closed ≤ℤ day)
+pub record NoDayIsAfter (aggregations : List Aggregation) (records : List Record) (holds : HoldMap) (runs : List Run)
+    (day : ℤ) : Type 0 where
+  pub closed : (a : ℕ) (it : Aggregation) → numbered aggregations a ≡ Some it
+      → IfSome it.closed (λ closed. closed ≤ℤ day)
   pub added : (r : ℕ) (head : Record) → numbered records r ≡ Some head → head.added ≤ℤ day
-  pub reviewed : (r : ℕ) (head : Record) → numbered records r ≡ Some head → IfSome head.review (λ review. review.day ≤ℤ day)
-  pub confirmed : (r : ℕ) (head : Record) → numbered records r ≡ Some head → IfSome head.confirmation (λ confirmation. confirmation.day ≤ℤ day)
-  pub receipted : (r : ℕ) (head : Record) → numbered records r ≡ Some head → IfSome head.receipt (λ receipt. receipt.day ≤ℤ day)
+  pub reviewed : (r : ℕ) (head : Record) → numbered records r ≡ Some head
+      → IfSome head.review (λ review. review.day ≤ℤ day)
+  pub confirmed : (r : ℕ) (head : Record) → numbered records r ≡ Some head
+      → IfSome head.confirmation (λ confirmation. confirmation.day ≤ℤ day)
+  pub receipted : (r : ℕ) (head : Record) → numbered records r ≡ Some head
+      → IfSome head.receipt (λ receipt. receipt.day ≤ℤ day)
   pub held : NoHoldIsAfter holds day
   pub run_days : (run : ℕ) (it : Run) → numbered runs run ≡ Some it → it.day ≤ℤ day
 

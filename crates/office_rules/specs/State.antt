@@ -1,5 +1,6 @@
--- What the office keeps. Source: MoReq2010, its record, disposal scheduling and disposal holding services; runs, entries
--- and certificates are own. No derived value is in it: class, plan, due day and hold are read from it each time.
+-- What the office keeps. Source: MoReq2010, its record, disposal scheduling and disposal holding services; runs,
+-- entries and certificates are own. No derived value is in it: class, plan, due day and hold are read from it each
+-- time.
 use Rattle.std.specs.Prelude.{ℕ, List, [], ℤ, neg_ℤ, pos}
 use Rattle.std.specs.Ordering.{nat_cmp, ordering_then}
 use Rattle.std.specs.declared.cmp.Ordering.{Ordering}
@@ -41,7 +42,8 @@ first_day = neg_ℤ (pos 719_162)
 
 -- a new office: nothing is there, on the first day
 abbrev pub empty_office : Office
-empty_office = record { tree = empty_tree; holds = empty; runs = []; entries = empty; certificates = empty; day = first_day }
+empty_office =
+    record { tree = empty_tree; holds = empty; runs = []; entries = empty; certificates = empty; day = first_day }
 
 abbrev pub empty_state : State
 empty_state = record { office = empty_office; contents = empty }

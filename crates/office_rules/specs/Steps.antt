@@ -28,29 +28,40 @@ abbrev pub stepped : List (Refusal × Bool) → State → Answer → State → A
 stepped conditions before answer next = by_refusal (first_of conditions) before answer next
 
 abbrev pub step_add_schedule : State → ℤ → List ℕ → Schedule → Answer × State
-step_add_schedule s day code schedule = stepped (refusals_of_add_schedule s.office day code) s Done (with_office s (after_add_schedule s.office day code schedule))
+step_add_schedule s day code schedule =
+    stepped (refusals_of_add_schedule s.office day code) s Done
+    (with_office s (after_add_schedule s.office day code schedule))
 
 abbrev pub step_add_class : State → ℤ → List ℕ → Class → Answer × State
-step_add_class s day code class = stepped (refusals_of_add_class s.office day code class) s Done (with_office s (after_add_class s.office day code class))
+step_add_class s day code class =
+    stepped (refusals_of_add_class s.office day code class) s Done
+    (with_office s (after_add_class s.office day code class))
 
 abbrev pub step_set_class_schedule : State → ℤ → List ℕ → List ℕ → Answer × State
-step_set_class_schedule s day class schedule = stepped (refusals_of_set_class_schedule s.office day class schedule) s Done (with_office s (after_set_class_schedule s.office day class schedule))
+step_set_class_schedule s day class schedule =
+    stepped (refusals_of_set_class_schedule s.office day class schedule) s Done
+    (with_office s (after_set_class_schedule s.office day class schedule))
 
 -- answered by the new aggregation's number
 abbrev pub step_add_aggregation : State → ℤ → List ℕ → List ℕ → Option ℕ → Option (List ℕ) → Answer × State
 step_add_aggregation s day ref_text title parent class =
     stepped (refusals_of_add_aggregation s.office day ref_text parent class) s
-    (Number (suc (length s.office.tree.aggregations))) (with_office s (after_add_aggregation s.office day ref_text title parent class))
+    (Number (suc (length s.office.tree.aggregations)))
+    (with_office s (after_add_aggregation s.office day ref_text title parent class))
 
 abbrev pub step_close_aggregation : State → ℤ → ℕ → Answer × State
-step_close_aggregation s day a = stepped (refusals_of_close_aggregation s.office day a) s Done (with_office s (after_close_aggregation s.office day a))
+step_close_aggregation s day a =
+    stepped (refusals_of_close_aggregation s.office day a) s Done
+    (with_office s (after_close_aggregation s.office day a))
 
 abbrev pub by_same_record : Option ℕ → State → ℤ → NewRecord → Answer × State
 by_same_record (Some r) s day new = (Same r, s)
 by_same_record None s day new =
-    stepped (refusals_of_add_record s.office day new) s (Number (suc (length s.office.tree.records))) (with_new_record s day new)
+    stepped (refusals_of_add_record s.office day new) s (Number (suc (length s.office.tree.records)))
+    (with_new_record s day new)
 
--- the number of the same record, which is reported before all refusals and changes nothing; else the new record's number
+-- the number of the same record, which is reported before all refusals and changes nothing; else the new record's
+-- number
 abbrev pub step_add_record : State → ℤ → NewRecord → Answer × State
 step_add_record s day new = by_same_record (same_record s.office new) s day new
 
@@ -58,29 +69,43 @@ abbrev pub step_set_record_schedule : State → ℤ → ℕ → Option (List ℕ
 step_set_record_schedule s day r schedule = stepped (refusals_of_set_record_schedule s.office day r schedule) s Done (with_office s (after_set_record_schedule s.office day r schedule))
 
 abbrev pub step_reclassify : State → ℤ → Classified → Option (List ℕ) → Answer × State
-step_reclassify s day what class = stepped (refusals_of_reclassify s.office day what class) s Done (with_office s (after_reclassify s.office day what class))
+step_reclassify s day what class =
+    stepped (refusals_of_reclassify s.office day what class) s Done
+    (with_office s (after_reclassify s.office day what class))
 
 abbrev pub step_place_hold : State → ℤ → List ℕ → List ℕ → List ℕ → Answer × State
-step_place_hold s day code reason by = stepped (refusals_of_place_hold s.office day code) s Done (with_office s (after_place_hold s.office day code reason by))
+step_place_hold s day code reason by =
+    stepped (refusals_of_place_hold s.office day code) s Done
+    (with_office s (after_place_hold s.office day code reason by))
 
 abbrev pub step_hold_on : State → ℤ → List ℕ → Target → Answer × State
-step_hold_on s day code target = stepped (refusals_of_hold_on s.office day code target) s Done (with_office s (after_hold_on s.office day code target))
+step_hold_on s day code target =
+    stepped (refusals_of_hold_on s.office day code target) s Done
+    (with_office s (after_hold_on s.office day code target))
 
 abbrev pub step_hold_off : State → ℤ → List ℕ → Target → Answer × State
-step_hold_off s day code target = stepped (refusals_of_hold_off s.office day code target) s Done (with_office s (after_hold_off s.office day code target))
+step_hold_off s day code target =
+    stepped (refusals_of_hold_off s.office day code target) s Done
+    (with_office s (after_hold_off s.office day code target))
 
 abbrev pub step_lift_hold : State → ℤ → List ℕ → Answer × State
-step_lift_hold s day code = stepped (refusals_of_lift_hold s.office day code) s Done (with_office s (after_lift_hold s.office day code))
+step_lift_hold s day code =
+    stepped (refusals_of_lift_hold s.office day code) s Done (with_office s (after_lift_hold s.office day code))
 
 abbrev pub step_confirm : State → ℤ → ℕ → Action → List ℕ → Answer × State
-step_confirm s day r named by = stepped (refusals_of_confirm s.office day r named) s Done (with_office s (after_confirm s.office day r named by))
+step_confirm s day r named by =
+    stepped (refusals_of_confirm s.office day r named) s Done (with_office s (after_confirm s.office day r named by))
 
 abbrev pub step_review : State → ℤ → ℕ → Option (List ℕ) → List ℕ → Answer × State
-step_review s day r schedule by = stepped (refusals_of_review s.office day r schedule) s Done (with_office s (after_review s.office day r schedule by))
+step_review s day r schedule by =
+    stepped (refusals_of_review s.office day r schedule) s Done
+    (with_office s (after_review s.office day r schedule by))
 
 -- answered by the new run's number
 abbrev pub step_open_run : State → ℤ → List ℕ → Answer × State
-step_open_run s day by = stepped (refusals_of_open_run s.office day) s (Number (suc (length s.office.runs))) (with_office s (after_open_run s.office day by))
+step_open_run s day by =
+    stepped (refusals_of_open_run s.office day) s (Number (suc (length s.office.runs)))
+    (with_office s (after_open_run s.office day by))
 
 -- the record that a step takes and what comes of it, or the certificate's number
 abbrev pub answer_at : Office → ℕ → Option ℕ → Answer
@@ -92,10 +117,13 @@ answer_in s None = Refused NoRun
 answer_in s (Some run) = answer_at s run (next_ready s run)
 
 abbrev pub step_run_step : State → Answer × State
-step_run_step s = stepped (refusals_of_run_step s.office) s (answer_in s.office (open_run s.office)) (step_of s (open_run s.office))
+step_run_step s =
+    stepped (refusals_of_run_step s.office) s (answer_in s.office (open_run s.office)) (step_of s (open_run s.office))
 
 abbrev pub step_receipt : State → ℤ → ℕ → List ℕ → List ℕ → Answer × State
-step_receipt s day r digest by = stepped (refusals_of_receipt s.office day r digest) s Done (with_office s (after_receipt s.office day r by))
+step_receipt s day r digest by =
+    stepped (refusals_of_receipt s.office day r digest) s Done (with_office s (after_receipt s.office day r by))
 
 abbrev pub step_event : State → ℤ → ℕ → ℤ → List ℕ → Answer × State
-step_event s day r occurred by = stepped (refusals_of_event s.office day r occurred) s Done (with_office s (after_event s.office day r occurred by))
+step_event s day r occurred by =
+    stepped (refusals_of_event s.office day r occurred) s Done (with_office s (after_event s.office day r occurred by))

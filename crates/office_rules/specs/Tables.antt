@@ -19,7 +19,8 @@ use Rattle.office_rules.specs.declared.table_row.Row.{Row}
 use Rattle.office_rules.specs.declared.table_row.Row.TheVariants as row
 use Rattle.office_rules.specs.declared.tables.Tables.{Tables}
 
--- the rows of each table that have come, each with its key before it, in the order in which they came; of `office` the days, of `contents` the keys; an entry holds its key itself
+-- the rows of each table that have come, each with its key before it, in the order in which they came; of `office` the
+-- days, of `contents` the keys; an entry holds its key itself
 pub record TableLists : Type 0 where
   pub days : List ℤ
   pub schedules : List (List ℕ × Schedule)
@@ -43,7 +44,8 @@ abbrev pub with_row : TableLists → Row → TableLists
 with_row t (row.Office day) = record t { days = t.days ++ day ∷ [] }
 with_row t (row.Schedule code schedule) = record t { schedules = t.schedules ++ (code, schedule) ∷ [] }
 with_row t (row.Class code class) = record t { classes = t.classes ++ (code, class) ∷ [] }
-with_row t (row.Aggregation number aggregation) = record t { aggregations = t.aggregations ++ (number, aggregation) ∷ [] }
+with_row t (row.Aggregation number aggregation) =
+    record t { aggregations = t.aggregations ++ (number, aggregation) ∷ [] }
 with_row t (row.Record number columns) = record t { records = t.records ++ (number, columns) ∷ [] }
 with_row t (row.Event number event) = record t { events = t.events ++ (number, event) ∷ [] }
 with_row t (row.Content number) = record t { contents = t.contents ++ number ∷ [] }
@@ -74,7 +76,8 @@ lists_of t = record {
   certificates = map (λ e. (e.0, string_bytes e.1)) t.certificates.items;
 }
 
--- each table has exactly the rows that represent the state, in the order of their keys, targets in any order; of contents the keys; an entry's key is in it
+-- each table has exactly the rows that represent the state, in the order of their keys, targets in any order; of
+-- contents the keys; an entry's key is in it
 pub record Represents (t : TableLists) (s : State) : Type 0 where
   pub day : t.days ≡ (rows_of s).day ∷ []
   pub schedules : t.schedules ≡ (rows_of s).schedules
@@ -84,7 +87,8 @@ pub record Represents (t : TableLists) (s : State) : Type 0 where
   pub events : t.events ≡ (rows_of s).events
   pub contents : t.contents ≡ map (λ e. e.0) (rows_of s).contents
   pub holds : t.holds ≡ (rows_of s).holds
-  pub targets : (code : List ℕ) (target : Target) → list_any (λ e. is_pair e.0 e.1 code target) t.targets ≡ (rows_of s).targets code target
+  pub targets : (code : List ℕ) (target : Target)
+      → list_any (λ e. is_pair e.0 e.1 code target) t.targets ≡ (rows_of s).targets code target
   pub runs : t.runs ≡ (rows_of s).runs
   pub entries : map (λ e. ((e.run, e.record_no), e)) t.entries ≡ (rows_of s).entries_by
   pub certificates : t.certificates ≡ (rows_of s).certificates
@@ -97,7 +101,8 @@ RepresentNone t = (s : State) → Represents t s → IsSound s → ⊥
 abbrev pub IsPrefix : {A : Type 0} → List A → List A → Type 0
 IsPrefix prefix xs = (rest : List _) × (xs ≡ prefix ++ rest)
 
--- the rows that have come are the first of these tables, each table by itself; where targets came, all holds had come before them
+-- the rows that have come are the first of these tables, each table by itself; where targets came, all holds had come
+-- before them
 pub record Begins (prefix t : TableLists) : Type 0 where
   pub days : IsPrefix prefix.days t.days
   pub schedules : IsPrefix prefix.schedules t.schedules

@@ -70,7 +70,8 @@ head_with ref_text aggregation content = record {
 }
 
 abbrev pub with_record : Office → List ℕ → ℕ → List ℕ → Office
-with_record s ref_text aggregation content = with_tree s filing_day (added_record s.tree (head_with ref_text aggregation content))
+with_record s ref_text aggregation content =
+    with_tree s filing_day (added_record s.tree (head_with ref_text aggregation content))
 
 abbrev pub classed_office : Office
 classed_office = with_class (with_class with_yearly (codes "FIN")) (codes "LEG")
@@ -107,7 +108,8 @@ sent_office = record base_office { tree = record (base_office.tree) { statuses =
 
 -- ---- the base office with a period that begins with an event of the first record
 
--- 2024-02-29 and 2024-03-31, on which the event occurred, and 2024-03-01, the day of the act that recorded the first one
+-- 2024-02-29 and 2024-03-31, on which the event occurred, and 2024-03-01, the day of the act that recorded the first
+-- one
 abbrev pub leap_day : ℤ
 leap_day = pos 19_782
 

@@ -200,17 +200,17 @@ impl Act {
                 day,
                 hold: code,
                 target,
+            }
+            | Act::HoldOff {
+                day,
+                hold: code,
+                target,
             } => {
                 let _ = day.number();
                 let _ = code.text();
                 well_formed_target(target);
             }
-            Act::HoldOff {
-                day,
-                hold: code,
-                ..
-            }
-            | Act::LiftHold { day, hold: code } => {
+            Act::LiftHold { day, hold: code } => {
                 let _ = day.number();
                 let _ = code.text();
             }

@@ -8,7 +8,7 @@ ghost use Rattle.office_rules.specs.declared.act.Act.TheVariants.{AddRecord};
 ghost use Rattle.office_rules.specs.declared.answer.Answer.TheVariants.{Number, Same};
 ghost use Rattle.office_rules.specs.declared.new_record.NewRecord.{NewRecord};
 
-/// A record that an act of a list added is reported by its number wherever it is asked for again,
+/// A record that an act of a list added is answered by its number wherever it is asked for again,
 /// on whatever day: after that list and any further acts, also once the record has ended; and
 /// nothing changes. So it is of each act of another list that asks for it: the same import again
 /// reports of each record that was added that it is there.

@@ -4,10 +4,10 @@ ghost use Rattle.office_rules.specs.Acts.{AreStepsMade};
 ghost use Rattle.office_rules.specs.Runs.{open_run, candidates, after_steps, step_of, whole, IsMidway};
 ghost use Rattle.office_rules.specs.State.{Office, State};
 
-/// A run is open in `s`. Steps until it closes, one for each candidate and one that closes it, make
-/// of `s` what disposing of all candidates at once makes of it. Each state on the way is midway,
-/// and from each state midway the steps that are left end in the same. Steps that the machine
-/// decides and makes until no run is open leave it in that.
+/// From a state with an open run, steps until it closes, one for each candidate and one that closes
+/// it, make of it what disposing of all candidates at once makes of it. Each state on the way is
+/// midway, and from each state midway the steps that are left end in the same. Steps that the
+/// machine decides and makes until no run is open leave it in that.
 pub fn law_of_resumption()
     ensures ends { (s : State) (run : ℕ) → open_run s.office ≡ Some run
         → after_steps s (suc (length (candidates s.office run))) ≡ whole s run }

@@ -18,7 +18,8 @@ ghost use Rattle.office_rules.specs.State.{State, Office};
 ghost use Rattle.office_rules.specs.declared.run.Run.{Run};
 
 /// What comes of records in a run changes no record's class, plan, start, due day, hold or
-/// confirmation, whichever records are taken, and no other record's status and content.
+/// confirmation, whichever records are taken, and of those that are not taken no status and no
+/// content.
 pub fn law_of_other_records()
     ensures class { (s : State) (run r : ℕ) (taken : List ℕ)
         → class_of (with_outcomes s run taken).office.tree r ≡ class_of s.office.tree r }
@@ -37,10 +38,10 @@ pub fn law_of_other_records()
         ≡ least_covering s.office.holds s.office.tree r }
     ensures confirmation { (s : State) (run r : ℕ) (taken : List ℕ)
         → counts (with_outcomes s run taken).office.tree r ≡ counts s.office.tree r }
-    ensures status { (s : State) (run taken r : ℕ) → taken ≢ r
-        → status_of (with_outcomes s run (taken ∷ [])).office.tree r ≡ status_of s.office.tree r }
-    ensures content { (s : State) (run taken r : ℕ) → taken ≢ r
-        → get (with_outcomes s run (taken ∷ [])).contents r ≡ get s.contents r }
+    ensures status { (s : State) (run r : ℕ) (taken : List ℕ) → (Contains taken r → ⊥)
+        → status_of (with_outcomes s run taken).office.tree r ≡ status_of s.office.tree r }
+    ensures content { (s : State) (run r : ℕ) (taken : List ℕ) → (Contains taken r → ⊥)
+        → get (with_outcomes s run taken).contents r ≡ get s.contents r }
 {}
 
 /// The candidates of a run are the records above its cursor that are ready, by number, and a step

@@ -130,8 +130,8 @@ pub fn law_of_the_base_office()
         × (counts confirmed_office.tree 3 ≡ false) }
 {}
 
-/// A record that is asked for again, with all that its first asking reported, is reported by its
-/// number and nothing is done. With another title it is refused, since its ref is there.
+/// A record that is asked for again with the same details is answered by its number, and nothing is
+/// done. With another title it is refused, since its ref is there.
 pub fn law_of_a_repeated_record()
     ensures same { (new : NewRecord) → AsksFor new (codes "r1") (codes "r1") 1 (codes "abc")
         → same_record base_office new ≡ Some 1 }

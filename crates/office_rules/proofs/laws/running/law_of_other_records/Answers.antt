@@ -1,8 +1,6 @@
 use Rattle.std.proofs.Common.{refl}
-use Rattle.office_rules.specs.Disposing.{outcome_of}
 use Rattle.office_rules.specs.Runs.{with_outcomes}
-use Rattle.office_rules.proofs.Contents.{contents_other}
-use Rattle.office_rules.proofs.OneStep.{statuses_other}
+use Rattle.office_rules.proofs.Untaken.{content_untaken, status_untaken}
 use Rattle.office_rules.proofs.laws.running.law_of_other_records.Goals as goal
 
 -- all but the status and the content are read from parts that an outcome does not write
@@ -16,6 +14,6 @@ returns c = record {
   held = λ s run r taken. refl;
   covering = λ s run r taken. refl;
   confirmation = λ s run r taken. refl;
-  status = λ s run taken r h. statuses_other s.office.tree.statuses taken r (outcome_of s.office taken) h;
-  content = λ s run taken r h. contents_other s.contents taken r (outcome_of s.office taken) h;
+  status = λ s run r taken untaken. status_untaken s.office taken r s.office.tree.statuses untaken;
+  content = λ s run r taken untaken. content_untaken s.office taken r s.contents untaken;
 }
