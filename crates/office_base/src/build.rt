@@ -28,7 +28,8 @@ pub fn follows<K: Ord, V>(map: &BTreeMap<K, V>, key: &K) -> bool
     }
 }
 
-/// Puts a row after those of the map; Damaged where its key is not above theirs.
+/// Puts a row after those of the map; Damaged where its key is not above theirs, Memory where there
+/// is none for it. At an error the map is as it was.
 pub fn push_keyed<K: Ord + Drop, V: Drop>(
     map: &mut BTreeMap<K, V>,
     key: K,
@@ -61,7 +62,8 @@ fn push<T: Drop>(things: &mut Vec<T>, thing: T) -> Result<(), Rebuild>
     }
 }
 
-/// Puts a row after those of the list; Damaged where its number is not the next.
+/// Puts a row after those of the list; Damaged where its number is not the next, Memory where there
+/// is none for it. At an error the list is as it was.
 pub fn push_numbered<T: Drop>(things: &mut Vec<T>, number: u32, thing: T) -> Result<(), Rebuild>
     ensures ok { OnOk result (things.new.items ≡ things.old.items ++ thing ∷ []) }
     ensures rows { OnOk result
@@ -76,7 +78,7 @@ pub fn push_numbered<T: Drop>(things: &mut Vec<T>, number: u32, thing: T) -> Res
     push(things, thing)
 }
 
-/// Gives proofs the fact that the keys of the map ascend; a call does nothing.
+/// Makes known to proofs that the keys of the map ascend: a call does nothing.
 pub fn ordered<K: Ord, V>(map: &BTreeMap<K, V>)
     ensures { IsOrdered K.cmp map.now }
 {

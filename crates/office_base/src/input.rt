@@ -6,8 +6,9 @@ use crate::Stop;
 use std::alloc::Global;
 use std::io::Read;
 
-/// All bytes that the reader has left. An error comes where the reader answered one, or where no
-/// memory was left for the bytes; those that were read before it are lost.
+/// All bytes that the reader has left. It stops by `Memory` where there is none for the bytes, or
+/// where the reader itself answered an error of the kind `OutOfMemory`, and by `Io` at any other
+/// error. The bytes that were read before are then lost.
 pub fn read_whole<R: Read>(alloc: Global, reader: &mut R) -> Result<Vec<u8>, Stop>
     ensures all { IfOk result
         (λ all. IfSome (R.remaining reader.old) (λ bytes. all.items ≡ bytes)) }

@@ -8,7 +8,8 @@ use std::io::Write;
 #[derive(Clone, Copy, PartialEq, Eq, Debug)]
 pub struct Io;
 
-/// Writes all of the bytes, and flushes; at an error some of them may have gone out.
+/// Writes all of the bytes; at an error some of them may have gone out. It flushes them too, which
+/// no clause says.
 pub fn write_out<W: Write>(bytes: &[u8], out: &mut W) -> Result<(), Io>
     ensures { OnOk result (Appends (W.contents out.old) (W.contents out.new) bytes.now) }
 {

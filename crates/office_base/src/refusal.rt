@@ -34,7 +34,8 @@ pub enum Refusal {
     InTransfer,
     /// 15: there is no due day, or it is after the act's day.
     NotDue,
-    /// 16: the action is not the plan's.
+    /// 16: what is confirmed is not the plan's action, or is to review; or what is reviewed has a
+    /// plan of another action.
     WrongAction,
     /// 17: a disposal run is open.
     RunOpen,

@@ -10,7 +10,8 @@ use std::io::{self, ErrorKind};
 pub enum Stop {
     /// A reader or a writer answered an error.
     Io,
-    /// An allocation was refused.
+    /// An allocation was refused. An `io::Error` of the kind `OutOfMemory` counts as that, also
+    /// where a reader or a writer itself answered it.
     Memory,
 }
 
@@ -22,6 +23,8 @@ impl From<io::Error> for Stop {
 
     ghost from_gives = { λ error stop. (stop ≡ Memory) ↔ (error_kind error ≡ OutOfMemory) };
 
+    // Each error of the kind `OutOfMemory` is `Memory`, also one that a reader or a writer itself
+    // answered. Each other one is `Io`.
     fn from(error: io::Error) -> Stop {
         if error.kind() == ErrorKind::OutOfMemory {
             Stop::Memory

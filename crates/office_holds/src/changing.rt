@@ -14,7 +14,8 @@ use office_days::Day;
 use office_terms::{Code, HoldRow, Target, Text};
 
 impl Holds {
-    /// Places a hold of a new code on that day, without targets.
+    /// Places a hold of a new code on that day, without targets. At `Memory` the holds are as they
+    /// were.
     pub fn place(&mut self, code: Code, day: Day, reason: Text, by: Text) -> Result<(), Memory>
         requires { first_of (conditions_of_place_hold self.old code) ≡ None }
         ensures ok { OnOk result (self.new ≡ placed_hold self.old day code reason by) }
@@ -30,7 +31,7 @@ impl Holds {
         self.put(code, row)
     }
 
-    /// Puts a target on a hold.
+    /// Puts a target on a hold. At `Memory` the holds are as they were.
     pub fn cover(&mut self, code: &Code, target: Target) -> Result<(), Memory>
         requires { first_of (conditions_of_hold_on self.old code.now target) ≡ None }
         ensures ok { OnOk result (self.new ≡ held_on self.old code.now target) }
@@ -57,7 +58,9 @@ impl Holds {
     }
 
     /// Puts the columns of a hold in under its code, in place of what was there or as a new hold;
-    /// the targets of a hold that is there stay, and then it takes no memory.
+    /// the targets of a hold that is there stay, and then it takes no memory. There must be no more
+    /// than 1,000 holds with it, and over a lifted hold its columns must be those of a lifted one.
+    /// At `Memory` the holds are as they were.
     pub fn put(&mut self, code: Code, row: HoldRow) -> Result<(), Memory>
         requires fits { FitsHoldLimits (put_hold self.old code row) }
         requires stays_lifted { StaysLifted self.old code row }
@@ -72,7 +75,8 @@ impl Holds {
         self.add(code, row)
     }
 
-    /// Puts a target on the hold of that code, if it is there.
+    /// Puts a target on the hold of that code, if it is there. The hold must have no more than
+    /// 1,000 targets with it. At `Memory` the holds are as they were.
     pub fn put_target(&mut self, code: &Code, target: Target) -> Result<(), Memory>
         requires { FitsHoldLimits (held_on self.old code.now target) }
         ensures ok { OnOk result (self.new ≡ held_on self.old code.now target) }

@@ -1,4 +1,5 @@
-//! What is counted beside the holds, so that no reading goes over all of them.
+//! What is counted beside the holds, so that they need not be gone over to see whether a record is
+//! held.
 ghost use Rattle.std.specs.Prelude.{◌≡◌, ◌+◌, ◌<◌, ◌^◌, ◌||◌, OnOk};
 ghost use Rattle.std.specs.List.{list_any};
 ghost use Rattle.office_holds.specs.Loading.{same_target};

@@ -36,7 +36,7 @@ fn are_all_by(holds: &BTreeMap<Code, Hold>, last: Day) -> bool
     holds.values().all(|hold| hold.is_by(last))
 }
 
-/// Gives proofs the fact that each hold and its code are of their forms; a call changes nothing.
+/// Makes known to proofs that each hold and its code are of their forms: a call changes nothing.
 fn well_formed_holds(holds: &BTreeMap<Code, Hold>)
     ensures { All (λ it. IsCode it.0 × IsWellFormedHold it.1) holds.now.entries }
 {
@@ -67,7 +67,7 @@ impl Holds {
         are_all_by(&self.by_code, last)
     }
 
-    /// Gives proofs the fact that all that is in the holds is of its form; a call changes nothing.
+    /// Makes known to proofs that all that is in the holds is of its form: a call changes nothing.
     pub fn formed(&self)
         ensures { AreWellFormedHolds self.now }
     {

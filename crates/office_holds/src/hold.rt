@@ -54,7 +54,7 @@ impl Model for Hold {
     } };
 }
 
-/// Gives proofs the fact that a day, where there is one, may be handed in; a call changes nothing.
+/// Makes known to proofs that a day, where there is one, may be handed in: a call changes nothing.
 fn well_formed_day_or_none(day: Option<Day>)
     ensures { IfSome day IsDayNumber }
 {
@@ -196,8 +196,8 @@ impl Hold {
         self.row.placed <= last && self.row.lifted.is_none_or(|lifted| lifted <= last)
     }
 
-    /// Gives proofs the fact that its texts and days and the codes of its classes are of their
-    /// forms; a call changes nothing.
+    /// Makes known to proofs that its texts and days and the codes of its classes are of their
+    /// forms: a call changes nothing.
     pub(crate) fn formed(&self)
         ensures { IsWellFormedHold self.now }
     {

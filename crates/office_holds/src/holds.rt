@@ -65,7 +65,7 @@ impl Holds {
         self.by_code.get(code)
     }
 
-    /// Whether at least one hold covers the record.
+    /// Whether at least one hold covers the record, which must be there.
     pub fn held(&self, tree: &Tree, record_no: RecordNo) -> bool
         requires { IsTrue (has_record tree.now record_no) }
         ensures { result ≡ is_held self.now tree.now record_no }
@@ -76,7 +76,7 @@ impl Holds {
     }
 
     /// The least code, in byte order, of the holds that cover the record; `None` where it is not
-    /// held.
+    /// held. The record must be there.
     pub fn covering(&self, tree: &Tree, record_no: RecordNo) -> Option<&Code>
         requires { IsTrue (has_record tree.now record_no) }
         ensures { option_copied result ≡ least_covering self.now tree.now record_no }
@@ -91,7 +91,7 @@ impl Holds {
         )
     }
 
-    /// Gives proofs the fact that the holds are within their limits; a call does nothing.
+    /// Makes known to proofs that the holds are within their limits: a call does nothing.
     pub fn sound(&self)
         ensures { FitsHoldLimits self.now }
     {

@@ -6,8 +6,9 @@
 //! or the record's class. A record is **held** while at least one hold covers it. A hold blocks
 //! destruction, and not the sending of a copy.
 //!
-//! While a hold is in force it is counted for each of its targets, so that three counts show
-//! whether a record is held, however many holds there are.
+//! While a hold is in force it is counted for each of its targets. So ten counts at most show
+//! whether a record is held, however many holds there are: that of the record, of each aggregation
+//! above it, of which there are up to eight, and of its class.
 #![tactic(auto)]
 
 mod changing;

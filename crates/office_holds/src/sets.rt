@@ -109,7 +109,7 @@ pub(crate) fn are_records(numbers: &BTreeSet<u32>, tree: &Tree) -> bool
     numbers.iter().all(|&number| tree.has_record(number))
 }
 
-/// Gives proofs the fact that each code of the set is of its form; a call changes nothing.
+/// Makes known to proofs that each code of the set is of its form: a call changes nothing.
 pub(crate) fn well_formed_codes(codes: &BTreeSet<Code>)
     ensures { All IsCode codes.now.keys }
 {

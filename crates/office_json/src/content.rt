@@ -102,8 +102,8 @@ pub(crate) fn content_at(
     read_content(alloc, text)
 }
 
-/// Gives proofs the fact that a text is taken as a content's bytes exactly where it is what
-/// encoding them writes; a call does nothing.
+/// Makes known to proofs that a text is taken as a content's bytes exactly where it is what
+/// encoding them writes: a call does nothing.
 pub fn law_of_contents()
     ensures { TakesEncodings }
 {}

@@ -71,7 +71,8 @@ impl ContentKeys {
     {
         self.numbers.as_slice()
     }
-    /// Gives proofs the fact that the keys ascend; a call does nothing.
+
+    /// Makes known to proofs that the keys ascend: a call does nothing.
     pub(crate) fn ascending(&self)
         ensures { IsStrictlySortedBy nat_cmp self.now }
     {

@@ -95,8 +95,9 @@ impl Loader {
         Ok((parts, self.contents))
     }
 
-    /// The office that the rows represent that have come; damaged only where there is none.
-    /// Whatever the contents of the keys that have come are, it is sound with them.
+    /// The office that the rows taken in so far represent; Damaged only where there is none, Memory
+    /// where there is none for what is derived or examined. Whatever the contents of the keys that
+    /// have come are, it is sound with them. Contents themselves are not asked for.
     pub fn finish(self) -> Result<Loaded, Rebuild>
         ensures ok { IfOk result (λ office. AreTablesOf self office) }
         ensures sound { IfOk result

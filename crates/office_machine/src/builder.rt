@@ -42,9 +42,9 @@ impl Builder {
         }
     }
 
-    /// The office that the rows represent that have come; damaged only where there is none.
-    /// Whatever the contents of the keys that have come are, it is sound with them. Contents
-    /// themselves are not asked for.
+    /// The office that the rows taken in so far represent; Damaged only where there is none, Memory
+    /// where there is none for what is derived or examined. Whatever the contents of the keys that
+    /// have come are, it is sound with them. Contents themselves are not asked for.
     pub fn finish(self) -> Result<Machine, Rebuild>
         ensures ok { IfOk result (λ machine. AreTablesOf self machine) }
         ensures sound { IfOk result

@@ -12,8 +12,9 @@ use std::alloc::Global;
 
 impl Machine {
     /// The office that the tables represent, which stay as they are: their rows are copied one
-    /// after another. Damaged only where there is none. Whatever the contents of the keys that are
-    /// there are, it is sound with them.
+    /// after another. Damaged only where there is none, Memory where there is none for the copies,
+    /// or for what is derived or examined. Whatever the contents of the keys that are there are, it
+    /// is sound with them.
     pub fn from_tables(alloc: Global, tables: &Tables) -> Result<Machine, Rebuild>
         ensures ok { IfOk result (λ machine. AreTablesOf (lists_of tables.now) machine) }
         ensures sound { IfOk result

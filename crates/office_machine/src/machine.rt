@@ -48,7 +48,7 @@ impl Model for Machine {
 }
 
 impl Machine {
-    /// A new office, in which nothing is, on the first day that there is.
+    /// A new office, in which nothing is, on the first day that there is, 0001-01-01.
     pub fn new(alloc: Global) -> Machine
         ensures { result ≡ empty_office }
     {
@@ -57,8 +57,9 @@ impl Machine {
         }
     }
 
-    /// What is decided of an act: its refusal, or the change that is to be made. The office stays
-    /// as it is, and the contents of records are not asked for.
+    /// What is decided of an act: that it is refused, that its record was added before (`Same`), or
+    /// the change that is to be made. The office stays as it is, and the contents of records are
+    /// not asked for. `Memory` where there is none for the change.
     pub fn decide(&self, alloc: Global, act: &Act) -> Result<Decision, Memory>
         ensures step { IfOk result (λ d. IsDecidedFor self.now act.now d) }
         ensures reported { IfOk result ReportsItsKind }
@@ -87,9 +88,10 @@ impl Machine {
         self.parts.next_in_run()
     }
 
-    /// The answer of [`Machine::next_in_run`], and how many candidates were looked at for it: those
-    /// above the cursor of the open run and not above the answer, all above the cursor where it is
-    /// `None`, and none where no run is open.
+    /// The answer of [`Machine::next_in_run`], and how many records were looked at for it, of those
+    /// that a run takes once they are due ([`Tree::is_candidate`]): the ones above the cursor of
+    /// the open run and not above the answer, all above the cursor where it is `None`, and none
+    /// where no run is open.
     pub fn next_counted(&self) -> (Option<RecordNo>, u32)
         ensures answer { result.0 ≡ next_in_run self.now }
         ensures count { result.1 ≡ looked_at self.now }

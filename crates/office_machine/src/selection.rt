@@ -7,7 +7,7 @@ use office_days::{ConfirmDays, Day, DueDay, deadline};
 use office_terms::{RecordNo, Status};
 use office_tree::Tree;
 
-/// What a list of due records is asked for. It has records that are here alone.
+/// Which records a list has. It has only records that are here.
 #[derive(Clone, Copy)]
 pub(crate) enum Selection {
     /// The records that are due on that day or before it.

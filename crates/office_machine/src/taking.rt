@@ -127,7 +127,7 @@ impl Parts {
         })
     }
 
-    /// The writes of a run that takes the record, of which that comes.
+    /// The writes of a run that takes the record, with that outcome.
     pub(crate) fn taking_writes(
         &self,
         alloc: Global,

@@ -3,8 +3,8 @@
 //! A run writes one **entry** for each record that it takes: what came of the record, under which
 //! class and schedule, for which confirmed due day and by whom it was confirmed, and for a skipped
 //! record the hold that covered it. When the run closes, its **certificate** lists the entries by
-//! record number, and the aggregations that are spent, and ends with the SHA-256 of all bytes
-//! above.
+//! record number, and the aggregations that are spent by this run: they are spent as it closes, and
+//! it ended a record below them. It ends with the SHA-256 of all bytes above.
 //!
 //! The crate has the types, the definitions (`specs`) and laws of what these mean, the words of
 //! outcomes, the digest of a content and the digits that write one, the line of an entry and the

@@ -8,7 +8,7 @@ use office_proof::Entry;
 use office_terms::{Code, Text};
 use std::alloc::Global;
 
-/// A second code that is equal to this one, if there is one.
+/// A second code that is equal to this one, if there is one; `Memory` where there is none for it.
 pub fn copy_code(alloc: Global, code: Option<&Code>) -> Result<Option<Code>, Memory>
     ensures { IfOk result (λ c. c ≡ option_copied code.entry) }
 {
@@ -18,7 +18,7 @@ pub fn copy_code(alloc: Global, code: Option<&Code>) -> Result<Option<Code>, Mem
     }
 }
 
-/// A second text that is equal to this one, if there is one.
+/// A second text that is equal to this one, if there is one; `Memory` where there is none for it.
 pub fn copy_text(alloc: Global, text: Option<&Text>) -> Result<Option<Text>, Memory>
     ensures { IfOk result (λ t. t ≡ option_copied text.entry) }
 {
@@ -28,7 +28,7 @@ pub fn copy_text(alloc: Global, text: Option<&Text>) -> Result<Option<Text>, Mem
     }
 }
 
-/// Two texts that are equal to these.
+/// Two texts that are equal to these; `Memory` where there is none for them.
 pub fn copy_texts(alloc: Global, one: &Text, other: &Text) -> Result<(Text, Text), Memory>
     ensures { IfOk result (λ p. p ≡ (one.now, other.now)) }
 {
@@ -36,7 +36,7 @@ pub fn copy_texts(alloc: Global, one: &Text, other: &Text) -> Result<(Text, Text
     Ok((text, other.copy(alloc)?))
 }
 
-/// Two codes that are equal to these.
+/// Two codes that are equal to these; `Memory` where there is none for them.
 pub fn copy_codes(alloc: Global, one: &Code, other: &Code) -> Result<(Code, Code), Memory>
     ensures { IfOk result (λ p. p ≡ (one.now, other.now)) }
 {
@@ -44,7 +44,8 @@ pub fn copy_codes(alloc: Global, one: &Code, other: &Code) -> Result<(Code, Code
     Ok((code, other.copy(alloc)?))
 }
 
-/// A class and a schedule that are equal to these, each if there is one.
+/// A class and a schedule that are equal to these, each if there is one; `Memory` where there is
+/// none for them.
 pub fn copy_plan(
     alloc: Global,
     class: &Option<Code>,
@@ -56,7 +57,7 @@ pub fn copy_plan(
     Ok((class, copy_code(alloc, schedule.as_ref())?))
 }
 
-/// A second entry that is equal to this one.
+/// A second entry that is equal to this one; `Memory` where there is none for it.
 pub fn copy_entry(alloc: Global, entry: &Entry) -> Result<Entry, Memory>
     ensures { IfOk result (λ e. e ≡ entry.now) }
 {

@@ -43,7 +43,7 @@ fn well_formed_new_record(new: &NewRecord)
 }
 
 impl Act {
-    /// Gives proofs the fact that what an act asks for is of its form; a call does nothing.
+    /// Makes known to proofs that what an act asks for is of its form: a call does nothing.
     pub fn formed(&self)
         ensures { IsWellFormedAct self.now }
     {

@@ -12,8 +12,11 @@ pub struct RecordView {
     pub title: Text,
     pub originated: Day,
     pub added: Day,
+    /// The number of its aggregation.
     pub aggregation: AggNo,
+    /// The length of its content, in bytes.
     pub length: u32,
+    /// The SHA-256 of its content.
     pub digest: [u8; 32],
     pub status: Status,
     pub class: Code,

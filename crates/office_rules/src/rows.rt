@@ -12,8 +12,8 @@ use office_terms::{
 };
 use std::alloc::Global;
 
-/// The columns of a record: those of its review, its confirmation and its receipt are each by
-/// itself, as they do in a table, where nothing but a check keeps a group of them together.
+/// The columns of a record. Those of its review, its confirmation and its receipt are each by
+/// themselves, as they are in a table, where nothing but a check keeps a group of them together.
 #[derive(Drop)]
 pub struct RecordRow {
     pub ref_text: Text,
@@ -21,7 +21,9 @@ pub struct RecordRow {
     pub originated: Day,
     pub added: Day,
     pub aggregation: AggNo,
+    /// The length of its content, in bytes.
     pub size: u32,
+    /// The SHA-256 of its content.
     pub digest: [u8; 32],
     pub status: Status,
     pub class: Option<Code>,
@@ -37,7 +39,7 @@ pub struct RecordRow {
 }
 
 impl RecordRow {
-    /// Those who reviewed, who confirmed and who reported the receipt, each once more.
+    /// Copies of the names of those who reviewed, who confirmed and who reported the receipt.
     fn copy_people(
         &self,
         alloc: Global,
@@ -51,7 +53,7 @@ impl RecordRow {
         Ok((reviewed_by, conf_by, receipt_by))
     }
 
-    /// Second columns that are equal to these.
+    /// Second columns that are equal to these; `Memory` where there is none for them.
     pub fn copy(&self, alloc: Global) -> Result<RecordRow, Memory>
         ensures { IfOk result (λ row. row ≡ self.now) }
     {

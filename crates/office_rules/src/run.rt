@@ -13,11 +13,12 @@ pub struct Run {
     pub day: Day,
     pub by: Text,
     pub cursor: RecordNo,
+    /// Whether it is over: it takes no other record, and has its certificate.
     pub is_closed: bool,
 }
 
 impl Run {
-    /// A second run that is equal to this one.
+    /// A second run that is equal to this one; `Memory` where there is none for it.
     pub fn copy(&self, alloc: Global) -> Result<Run, Memory>
         ensures { IfOk result (λ run. run ≡ self.now) }
     {

@@ -1,5 +1,5 @@
--- The words for triggers, actions and statuses. Source: own; the triggers and the actions are those
--- of MoReq2010's disposal scheduling service.
+-- The words for triggers, actions and statuses. Source: own; the four actions are those of
+-- MoReq2010's disposal scheduling service.
 use Rattle.std.specs.Prelude.{List, [], ◌∷◌, ℕ, Option, codes}
 use Rattle.std.specs.List.{find}
 use Rattle.std.specs.Str.{bytes_eq}

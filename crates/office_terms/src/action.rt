@@ -2,7 +2,7 @@
 ghost use Rattle.std.specs.Prelude.{◌≡◌};
 ghost use Rattle.office_terms.specs.Words.{action_named, action_word};
 
-/// What is to be done with a record on its due day.
+/// What is to be done with a record once it is due. What is to be kept has no due day.
 #[derive(Clone, Copy, PartialEq, Eq, Debug)]
 pub enum Action {
     /// It is kept for good.

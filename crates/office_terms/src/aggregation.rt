@@ -23,7 +23,7 @@ pub struct Aggregation {
 }
 
 impl Aggregation {
-    /// A second aggregation that is equal to this one.
+    /// A second aggregation that is equal to this one; `Memory` where there is none for it.
     pub fn copy(&self, alloc: Global) -> Result<Aggregation, Memory>
         ensures { IfOk result (λ a. a ≡ self.now) }
     {

@@ -13,7 +13,7 @@ pub struct Class {
 }
 
 impl Class {
-    /// A second class that is equal to this one.
+    /// A second class that is equal to this one; `Memory` where there is none for it.
     pub fn copy(&self, alloc: Global) -> Result<Class, Memory>
         ensures { IfOk result (λ c. c ≡ self.now) }
     {

@@ -66,7 +66,7 @@ impl Code {
         self.text.as_str()
     }
 
-    /// A second code that is equal to this one.
+    /// A second code that is equal to this one; `Memory` where there is none for it.
     pub fn copy(&self, alloc: Global) -> Result<Code, Memory>
         ensures { IfOk result (λ c. c ≡ self.now) }
     {

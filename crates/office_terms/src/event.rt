@@ -6,9 +6,9 @@ use office_base::Memory;
 use office_days::Day;
 use std::alloc::Global;
 
-/// An event of a record, as that a contract ended: the day on which it occurred, the day of the act
-/// that recorded it, and who reported it. A later act records another event in place of the earlier
-/// one.
+/// An event of a record, such as the end of a contract: the day on which it occurred, the day of
+/// the act that recorded it, and who reported it. A later act records another event in place of the
+/// earlier one.
 #[derive(Drop)]
 pub struct Event {
     pub occurred: Day,
@@ -17,7 +17,7 @@ pub struct Event {
 }
 
 impl Event {
-    /// A second event that is equal to this one.
+    /// A second event that is equal to this one; `Memory` where there is none for it.
     pub fn copy(&self, alloc: Global) -> Result<Event, Memory>
         ensures { IfOk result (λ e. e ≡ self.now) }
     {

@@ -27,7 +27,7 @@ pub struct Confirmation {
     pub by: Text,
 }
 
-/// A receiver's receipt for a transferred record: its day, and who reported it.
+/// A receiver's receipt for a record that was sent: its day, and who reported it.
 #[derive(Drop)]
 pub struct Receipt {
     pub day: Day,
@@ -54,7 +54,7 @@ pub struct Record {
 }
 
 impl Review {
-    /// A second review that is equal to this one.
+    /// A second review that is equal to this one; `Memory` where there is none for it.
     pub fn copy(&self, alloc: Global) -> Result<Review, Memory>
         ensures { IfOk result (λ r. r ≡ self.now) }
     {
@@ -66,7 +66,7 @@ impl Review {
 }
 
 impl Confirmation {
-    /// A second confirmation that is equal to this one.
+    /// A second confirmation that is equal to this one; `Memory` where there is none for it.
     pub fn copy(&self, alloc: Global) -> Result<Confirmation, Memory>
         ensures { IfOk result (λ c. c ≡ self.now) }
     {
@@ -80,7 +80,7 @@ impl Confirmation {
 }
 
 impl Receipt {
-    /// A second receipt that is equal to this one.
+    /// A second receipt that is equal to this one; `Memory` where there is none for it.
     pub fn copy(&self, alloc: Global) -> Result<Receipt, Memory>
         ensures { IfOk result (λ r. r ≡ self.now) }
     {
@@ -169,7 +169,7 @@ fn copy_optional(alloc: Global, head: &Record, copy: &mut Record) -> Result<(), 
 }
 
 impl Record {
-    /// A second head that is equal to this one.
+    /// A second head that is equal to this one; `Memory` where there is none for it.
     pub fn copy(&self, alloc: Global) -> Result<Record, Memory>
         ensures { IfOk result (λ r. r ≡ self.now) }
     {

@@ -17,7 +17,7 @@ pub struct HoldRow {
 }
 
 impl HoldRow {
-    /// Second columns that are equal to these.
+    /// Second columns that are equal to these; `Memory` where there is none for them.
     pub fn copy(&self, alloc: Global) -> Result<HoldRow, Memory>
         ensures { IfOk result (λ row. row ≡ self.now) }
     {

@@ -6,7 +6,8 @@ ghost use Rattle.office_terms.specs.Words.{status_named, status_word};
 /// How far a record's disposal has come.
 #[derive(Clone, Copy, PartialEq, Eq, Debug)]
 pub enum Status {
-    /// The office has the record, and nothing was done to it.
+    /// The office has the record, and no run sent or ended it. It may have been reviewed, confirmed
+    /// or skipped.
     Here,
     /// A copy was sent to an archive, which has not yet said that it has it.
     Sent,

@@ -14,7 +14,7 @@ pub enum Target {
 }
 
 impl Target {
-    /// A second target that is equal to this one.
+    /// A second target that is equal to this one; `Memory` where there is none for it.
     pub fn copy(&self, alloc: Global) -> Result<Target, Memory>
         ensures { IfOk result (λ target. target ≡ self.now) }
     {

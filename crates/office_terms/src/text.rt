@@ -79,7 +79,7 @@ impl Text {
         self.text.as_str()
     }
 
-    /// A second text that is equal to this one.
+    /// A second text that is equal to this one; `Memory` where there is none for it.
     pub fn copy(&self, alloc: Global) -> Result<Text, Memory>
         ensures { IfOk result (λ t. t ≡ self.now) }
     {

@@ -15,7 +15,7 @@ pub enum Trigger {
     LastAddition,
     /// The record's latest review.
     Review,
-    /// The record's own event, as that a contract ended; no start before one is recorded.
+    /// The record's own event, such as the end of a contract; no start before one is recorded.
     Event,
 }
 

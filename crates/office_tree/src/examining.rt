@@ -112,7 +112,7 @@ fn is_sound_event(count: RecordNo, last: Day, record_no: RecordNo, event: &Event
     1 <= record_no && record_no <= count && event.occurred <= event.day && event.day <= last
 }
 
-/// Whether so it is with each event.
+/// Whether that is so of each event.
 fn are_sound_events(count: RecordNo, last: Day, events: &BTreeMap<RecordNo, Event>) -> bool
     ensures { IsTrue result
         ↔ All (λ e. is_sound_event count last e.0 e.1 ≡ true) events.now.entries }
@@ -125,7 +125,7 @@ fn are_sound_events(count: RecordNo, last: Day, events: &BTreeMap<RecordNo, Even
     true
 }
 
-/// Gives proofs the fact that the numbers of the events' records ascend; a call does nothing.
+/// Makes known to proofs that the numbers of the events' records ascend: a call does nothing.
 fn ascending(events: &BTreeMap<RecordNo, Event>)
     ensures { map.IsOrdered nat_cmp events.now }
 {
@@ -207,7 +207,7 @@ impl Tree {
         do_record_refs_differ(&self.by_record_ref, &self.records)
     }
 
-    /// Gives proofs the fact that all that is in the tree is of its form; a call changes nothing.
+    /// Makes known to proofs that all that is in the tree is of its form: a call changes nothing.
     pub fn formed(&self)
         requires { AreContentsShort self.now.records }
         ensures { IsWellFormedTree self.now }

@@ -8,7 +8,7 @@ use std::alloc::Global;
 use std::marker::Model;
 
 /// At most 4096 flags, and above them one for each 64, so that the first that is set is found in
-/// two words. Contracts see the flags.
+/// three words at most. Contracts see the flags.
 #[derive(Drop)]
 pub(crate) struct Groups {
     flags: Bits,

@@ -313,8 +313,12 @@ fn kept_of(alloc: Global, rows: &Rows<'_>) -> Result<Kept, Memory>
 }
 
 impl Tree {
-    /// The tree of these parts, with indexes of their refs; `None` exactly where they hang not
-    /// together.
+    /// The tree of these parts, with what is derived from them; `None` exactly where they do not
+    /// hang together. They do where there are no more of each than the office takes, all that is
+    /// named is there, each root has a class, a parent has a smaller number than its child and is
+    /// not closed over an open one, depths are at most eight, and each record has one status. What
+    /// the events say, and whether refs differ, is not looked at. `Memory` comes where there is
+    /// none for what is derived.
     pub fn of_parts(
         alloc: Global,
         schedules: BTreeMap<Code, Schedule>,

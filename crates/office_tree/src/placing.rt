@@ -13,7 +13,7 @@ use office_base::Memory;
 use office_terms::{AggNo, Aggregation, Class, Code, Event, Record, RecordNo, Schedule, Status};
 
 /// Puts a row in place of the one with that number, which needs no memory, or as the next. Rows are
-/// numbered 1, 2, ..
+/// numbered 1, 2, .. At `Memory` the rows are as they were.
 pub fn put_row<T: Drop>(rows: &mut Vec<T>, number: u32, row: T) -> Result<(), Memory>
     requires { 0 < number }
     ensures ok { OnOk result (rows.new.items ≡ put rows.old.items number row) }
@@ -38,7 +38,8 @@ fn replace<T: Drop>(here: &mut T, it: T)
 }
 
 impl Tree {
-    /// Puts a new schedule in under its code.
+    /// Puts a new schedule in under its code. The tree must be sound with it: there are then no
+    /// more than 1,000. At `Memory` the tree is as it was.
     pub fn put_schedule(&mut self, code: Code, schedule: Schedule) -> Result<(), Memory>
         requires sound { IsSound (put_schedule self.old code schedule) }
         requires fresh { contains_key self.old.schedules code ≡ false }
@@ -51,7 +52,8 @@ impl Tree {
         Ok(())
     }
 
-    /// Puts the event of a record that is there, in place of an earlier one.
+    /// Puts the event of a record that is there, in place of an earlier one. At `Memory` the tree
+    /// is as it was.
     pub fn put_event(&mut self, record_no: RecordNo, event: Event) -> Result<(), Memory>
         requires there { IsTrue (has_record self.old record_no) }
         ensures ok { OnOk result (self.new ≡ put_event self.old record_no event) }
@@ -65,7 +67,8 @@ impl Tree {
     }
 
     /// Puts a class under its code, in place of what was there, which needs no memory, or as a new
-    /// one.
+    /// one. The tree must be sound with it: its schedule is there, and there are then no more than
+    /// 1,000 classes. At `Memory` the tree is as it was.
     pub fn put_class(&mut self, code: Code, class: Class) -> Result<(), Memory>
         requires { IsSound (put_class self.old code class) }
         ensures ok { OnOk result (self.new ≡ put_class self.old code class) }
@@ -80,7 +83,10 @@ impl Tree {
     }
 
     /// Puts an aggregation in place of the one with that number, which has the same ref and the
-    /// same parent and needs no memory, or as the next.
+    /// same parent and needs no memory, or as the next. The tree must be sound with it: what it
+    /// names is there, it has a class if it has no parent, no open aggregation has a closed parent,
+    /// its depth is at most eight, and there are then no more than 50,000. At `Memory` the tree is
+    /// as it was.
     pub fn put_aggregation(&mut self, aggregation: AggNo, it: Aggregation) -> Result<(), Memory>
         requires sound { IsSound (put_aggregation self.old aggregation it) }
         requires number { (0 < aggregation) × (aggregation ≤ length self.old.aggregations + 1) }
@@ -99,7 +105,9 @@ impl Tree {
     }
 
     /// Puts a record's head with its status in place of the one with that number, which has the
-    /// same ref, aggregation and added day and needs no memory, or as the next.
+    /// same ref, aggregation and added day and needs no memory, or as the next. The tree must be
+    /// sound with it: what it names is there, and there are then no more than 200,000 records. At
+    /// `Memory` the tree is as it was.
     pub fn put_record(
         &mut self,
         record_no: RecordNo,

@@ -105,7 +105,7 @@ impl Tree {
     }
 
     /// The code of the record's plan: its own schedule, else the schedule of its class (MoReq2010,
-    /// disposal scheduling service).
+    /// disposal scheduling service). The record must be there.
     pub fn plan_of(&self, record_no: RecordNo) -> &Code
         requires { IsTrue (has_record self.now record_no) }
         ensures { plan_of self.now record_no ≡ Some result.now }
@@ -114,7 +114,7 @@ impl Tree {
             .code(self.record_caches.rows[record_no as usize - 1].plan)
     }
 
-    /// The schedule of the record's plan.
+    /// The schedule of the record's plan. The record must be there.
     pub fn schedule_of(&self, record_no: RecordNo) -> Schedule
         requires { IsTrue (has_record self.now record_no) }
         ensures { schedule_of self.now record_no ≡ Some result }
@@ -126,7 +126,7 @@ impl Tree {
     }
 
     /// The start day of the record by its plan's trigger; none where its aggregation is to be
-    /// closed first, or no event of it is recorded.
+    /// closed first, or no event of it is recorded. The record must be there.
     pub fn start_of(&self, record_no: RecordNo) -> Option<Day>
         requires { IsTrue (has_record self.now record_no) }
         ensures { result ≡ start_of self.now record_no }
@@ -143,7 +143,7 @@ impl Tree {
     }
 
     /// The due day of the record: the start plus the period, then the offset; none where there is
-    /// no start or the plan is to keep.
+    /// no start or the plan is to keep. The record must be there.
     pub fn due_of(&self, record_no: RecordNo) -> Option<DueDay>
         requires { IsTrue (has_record self.now record_no) }
         ensures { result ≡ due_of self.now record_no }
@@ -152,7 +152,8 @@ impl Tree {
     }
 
     /// Whether a disposal run takes the record once it is due: it is here, its action is to
-    /// transfer or to destroy and its confirmation counts; or it is received.
+    /// transfer or to destroy and its confirmation counts; or it is received. The record must be
+    /// there.
     pub fn is_candidate(&self, record_no: RecordNo) -> bool
         requires { IsTrue (has_record self.now record_no) }
         ensures { result ≡ is_candidate self.now record_no }
@@ -160,8 +161,8 @@ impl Tree {
         self.record_cache(record_no).is_candidate
     }
 
-    /// The least candidate for a disposal run above the number, found without the records that are
-    /// none.
+    /// The least record above the number of which [`Tree::is_candidate`] is true. The others are
+    /// not looked at, which no clause counts.
     pub fn next_candidate(&self, above: RecordNo) -> Option<RecordNo>
         ensures there { IfSome result (λ r. IsTrue (has_record self.now r)) }
         ensures found { IfSome result (IsNextCandidate self.now above) }

@@ -71,7 +71,7 @@ impl Loaded {
         self.are_runs_by()
     }
 
-    /// Gives proofs the fact that all that is in the parts is of its form; a call changes nothing.
+    /// Makes known to proofs that all that is in the parts is of its form: a call changes nothing.
     fn all_well_formed(&self)
         requires { AreContentsShort self.now.tree.records }
         ensures { IsWellFormedOffice self.now }

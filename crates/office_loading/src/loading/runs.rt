@@ -68,7 +68,7 @@ fn well_formed_number(run: RunNo)
     let _ = run;
 }
 
-/// And so is each that has a certificate.
+/// So is the number of each run that has a certificate.
 fn well_formed_numbers(certificates: &BTreeMap<RunNo, Certificate>)
     ensures { All (λ run. run < 2 ^ 32) (map.keys certificates.now) }
 {
@@ -141,7 +141,8 @@ fn is_key_at(keys: &[RecordNo], at: usize, record_no: RecordNo) -> bool
     at < keys.len() && keys[at] == record_no
 }
 
-/// Whether the number of each record that is not ended is a key: both ascend, so each goes once by.
+/// Whether the number of each record that is not ended is a key. Numbers and keys both ascend, so
+/// each is passed once.
 fn are_live_keyed(tree: &Tree, keys: &[RecordNo]) -> bool
     requires ascend { IsStrictlySortedBy nat_cmp keys.now }
     requires live { All
@@ -206,7 +207,7 @@ fn well_formed_run(run: &Run)
     let _cursor = run.cursor;
 }
 
-/// And so is each run.
+/// So is each of the runs.
 fn well_formed_runs(runs: &[Run])
     ensures { (n : ℕ) (it : Run) → numbered runs.now n ≡ Some it → IsWellFormedRun it }
 {
@@ -228,7 +229,7 @@ fn well_formed_entry(entry: &Entry)
     }
 }
 
-/// And so is each entry.
+/// So is each of the entries.
 fn well_formed_entries(entries: &BTreeMap<(RunNo, RecordNo), Entry>)
     ensures { All IsWellFormedEntry (map.values entries.now) }
 {
@@ -265,7 +266,7 @@ impl Loaded {
         are_keys_of_live(&self.tree, keys)
     }
 
-    /// Gives proofs the fact that runs, entries and the day are of their forms; a call changes
+    /// Makes known to proofs that runs, entries and the day are of their forms: a call changes
     /// nothing.
     pub(crate) fn formed(&self)
         ensures runs { (n : ℕ) (it : Run) → numbered self.now.runs n ≡ Some it
