@@ -19,6 +19,7 @@ pub enum Disk {
 pub struct UnknownDisk;
 
 /// The disk that the variable OFFICE_DISK names, `any` or `powersafe`; where it is not set, any.
+/// Each other value, as an empty one, is an `UnknownDisk`.
 pub fn disk_of(value: Option<&str>) -> Result<Disk, UnknownDisk>
     ensures ok { IfOk result
         (λ disk. disk_named (option_map (λ v. v.now) value.entry) ≡ Some disk) }

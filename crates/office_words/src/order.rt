@@ -74,7 +74,8 @@ pub enum Order<'a> {
 /// service, from 1 to 65,535, and its count of connections, from 1 to 1,000,000. The day of an
 /// import is written as 2017-06-30; the register of an export is `entries`, or such a day. The day
 /// of what is overdue is written so too, and its count of days, 3,650 at most, as the numbers
-/// above; what is no day or no digits is reported before a count that is over.
+/// above. `BadText` comes where an operand is no day, no digits or no register, and else
+/// `BadNumber` where a number is out of its range.
 pub fn order_of<'a>(words: Words<'a>) -> Result<Order<'a>, Refusal>
     ensures ok { IfOk result (λ order. order_asked (asked words.entry) ≡ Ok (ordered order)) }
     ensures err { IfErr result (λ refusal. order_asked (asked words.entry) ≡ Err refusal) }

@@ -1,7 +1,7 @@
 //! The words of the command line as a command with its operands, before these are read.
-ghost use Rattle.std.specs.Prelude.{◌≡◌, IfOk, IfErr, true, map};
-ghost use Rattle.clap.specs.Words.{found_of, kind_of, rows_of, subcommand_of, subcommand_rows_of, takes};
-ghost use Rattle.office_words.specs.Command.{apply_asked, asked, asked_in, due_asked, export_asked, import_asked, init_asked, number_asked, office_app, overdue_asked, plan_asked, resume_asked, serve_asked, text_of};
+ghost use Rattle.std.specs.Prelude.{◌≡◌, ◌≢◌, IfOk, IfErr, true, map};
+ghost use Rattle.clap.specs.Words.{FailsBy, fault_of, found_of, kind_of, rows_of, subcommand_of, subcommand_rows_of, takes};
+ghost use Rattle.office_words.specs.Command.{apply_asked, asked, asked_in, due_asked, export_asked, import_asked, init_asked, nothing_asked, number_asked, office_app, overdue_asked, plan_asked, resume_asked, serve_asked, text_of};
 
 use crate::command::office_command;
 use clap::error::ErrorKind;
@@ -53,7 +53,7 @@ pub enum Words<'a> {
         port: &'a str,
         count: &'a str,
     },
-    /// No command: `clap` takes no words without one.
+    /// No command: `read_words` never gives it.
     Nothing,
 }
 
@@ -175,10 +175,16 @@ fn words_of<'a>(matches: &ArgMatches<'a>) -> Words<'a>
 }
 
 /// What the words of the command line ask for; the first word is the program's name. Where the
-/// words are none of the program's commands, or ask for help, the error has the text of `clap`.
+/// words are none of the program's commands with its operands, or ask for help, the error has the
+/// text of `clap`, and its kind says which: help, a subcommand that is missing or is none, an
+/// operand that is missing, an argument that is unknown. `OutOfMemory` comes where memory ran out.
 pub fn read_words<'a>(alloc: Global, words: &'a [&'a str]) -> Result<Words<'a>, Error>
+    // Words in which `clap` finds a fault are refused, by the kind of the first fault.
+    ensures refused { FailsBy (fault_of office_app (map (λ s. s.now) words.entry.now)) result }
     ensures asked { IfOk result
         (λ w. asked w ≡ asked_in (subcommand_of office_app (map (λ s. s.now) words.entry.now))) }
+    // A command is named.
+    ensures named { IfOk result (λ w. asked w ≢ nothing_asked) }
 
     // Where the words are a command of the program, only lack of memory can fail.
     ensures taken { takes office_app (map (λ s. s.now) words.entry.now) ≡ true
