@@ -44,7 +44,8 @@ fn read_rest<R: Read>(
 
 /// Reads the rest of a body, which is to lie from `start` to `end` in the buffer. Whether it is
 /// whole: `false` where the connection ends before it does. Room for all of it is asked for first,
-/// so that `Memory` comes before a byte is read.
+/// so that `Memory` comes before a byte is read; `Io` comes where the reader answered an error, and
+/// some bytes may have been read then.
 pub fn read_body<R: Read>(
     reader: &mut R,
     buf: &mut Vec<u8>,
@@ -53,8 +54,9 @@ pub fn read_body<R: Read>(
 ) -> Result<bool, Stop>
     requires ordered { start ≤ end }
     requires start_in { start ≤ length buf.old.items }
-    ensures { IfOk result (λ whole. ReadsBody start end whole buf.old.items buf.new.items
+    ensures body { IfOk result (λ whole. ReadsBody start end whole buf.old.items buf.new.items
         (R.remaining reader.old) (R.remaining reader.new)) }
+    ensures unread { result ≡ Err Stop.Memory → reader.new ≡ reader.old }
 {
     let missing = end.saturating_sub(buf.len());
     if buf.try_reserve(missing).is_err() {
