@@ -22,6 +22,7 @@ not_of_none g conn store back had has is ended none it no_day = record {
         form = λ wrong all. no_day office.0 office.1;
         version = λ wrong. absurd (no_day office.0 office.1);
         this_version = λ wrong other. no_day office.0 office.1;
+        kept = λ other. absurd (no_day office.0 office.1);
         leaves = λ db may. absurd (no_day office.0 office.1);
       };
 }

@@ -1,5 +1,5 @@
 -- The tables are those of the version that `office` names, as it is found out table by table.
-use Rattle.std.proofs.Common.{◌≡◌, ◌≢◌, ◌==◌, Option, Some, false, true, not, ne_eqb, arith, List, [], ◌∷◌, length, Result, Ok, Err, refl, sym, ap, ◌∙◌, IsPermutation}
+use Rattle.std.proofs.Common.{◌≡◌, ◌≢◌, ◌==◌, ℕ, pos, Option, Some, false, true, not, ne_eqb, arith, List, [], ◌∷◌, length, Result, Ok, Err, refl, sym, ap, ◌∙◌, IsPermutation}
 use Rattle.std.proofs.lemmas.List.{nil_from_length}
 use Rattle.std.proofs.lemmas.List.Sorted.{length_permutation}
 use Rattle.std.proofs.lemmas.Result.{IfErr-weaker, IfOk-weaker}
@@ -8,9 +8,11 @@ use Rattle.sqlite_trees.proofs.ListLemmas.{IsPermutation-same}
 use Rattle.sqlite.specs.State.{State}
 use Rattle.office_sql.specs.declared.editions.Edition.{Edition}
 use Rattle.office_sql.specs.declared.editions.Edition.TheVariants as edition
+use Rattle.office_sql.specs.Editions.{version_of}
 use Rattle.office_sql.specs.Office.{IsAtRestOver}
 use Rattle.office_sql.specs.declared.tables.OfficeTable.TheVariants as table
 use Rattle.office_store.specs.Adopted.{ConfirmsEdition, FindsNone}
+use Rattle.office_store.specs.Calling.{layout_number}
 use Rattle.office_store.specs.declared.fault.Fault.{Fault}
 
 pub is_nil : (rows : List Row) → not (length rows == 0) ≡ false → rows ≡ []
@@ -42,19 +44,25 @@ not_one old named rest = let two : Some edition.Two ≡ Some edition.One = named
 pub schedules_looked : (ed : Edition) (old new : State) → NamesTwo ed old → (result : Result (Unit {0}) Fault) → FindsNone {X = Unit {0}} edition.Two table.OldSchedules old new result → ConfirmsEdition ed edition.Two old new result
 schedules_looked edition.One old new named result it =
     let never = not_one old named in
-    record { is = λ clean rest. absurd (never rest); same = λ clean rest. absurd (never rest); damaged = λ clean rest. absurd (never rest); leaves = λ clean rest. absurd (never rest) }
+    record { is = λ clean rest. absurd (never rest); same = λ clean rest. absurd (never rest); damaged = λ clean rest. absurd (never rest); kept = λ clean rest. absurd (never rest); leaves = λ clean rest. absurd (never rest) }
 schedules_looked edition.Two old new named result it = record {
   is = λ clean rest. IfOk-weaker result _ _ (λ x none. (refl, IsPermutation-same _ _ (sym none.0))) (it.none clean rest);
   same = λ clean rest. IfOk-weaker result _ _ (λ x none. (none.1, none.2)) (it.none clean rest);
   damaged = λ clean rest. IfErr-weaker result _ _ (λ f some wrong now emptied. some wrong (none_had emptied)) (it.damaged clean rest);
+  kept = it.kept;
   leaves = it.leaves;
 }
 
 -- the names are those of version 1, of which no table is to have no row
 pub one_confirmed : (ed : Edition) (old : State) → (IsAtRestOver ed old → Some edition.One ≡ Some ed) → ConfirmsEdition ed edition.One old old (Ok tt)
-one_confirmed edition.One old named = record { is = λ clean rest. (refl, tt); same = λ clean rest. (rest, refl); damaged = λ clean rest. tt; leaves = λ clean rest db may. may }
+one_confirmed edition.One old named = record { is = λ clean rest. (refl, tt); same = λ clean rest. (rest, refl); damaged = λ clean rest. tt; kept = λ clean rest. tt; leaves = λ clean rest db may. may }
 one_confirmed edition.Two old named =
-    record { is = λ clean rest. absurd (let one : Some edition.One ≡ Some edition.Two = named rest in cc); same = λ clean rest. (rest, refl); damaged = λ clean rest. tt; leaves = λ clean rest db may. may }
+    record { is = λ clean rest. absurd (let one : Some edition.One ≡ Some edition.Two = named rest in cc); same = λ clean rest. (rest, refl); damaged = λ clean rest. tt; kept = λ clean rest. tt; leaves = λ clean rest db may. may }
+
+-- a version's number is that of its tables
+pub number_named : (ed : Edition) (n : ℕ) → pos n ≡ version_of ed → n ≡ layout_number (Some ed)
+number_named edition.One n is = cc
+number_named edition.Two n is = cc
 
 -- the names are not those of the version
 pub other_names : (ed named : Edition) (found : Option Edition) → found ≢ Some named → (old : State) → (IsAtRestOver ed old → found ≡ Some ed) → (f : Fault) → ConfirmsEdition ed named old old (Err f)
@@ -62,5 +70,6 @@ other_names ed named found differ old reported f = record {
   is = λ clean rest. tt;
   same = λ clean rest. tt;
   damaged = λ clean rest wrong now emptied. differ (reported rest ∙ ap Some (sym now));
+  kept = λ clean rest other. (rest, refl);
   leaves = λ clean rest db may. may;
 }

@@ -1,5 +1,5 @@
 -- What a call of a store does, and what it leaves of the tables. Source: own.
-use Rattle.std.specs.Prelude.{◌≡◌, ◌≢◌, ◌⊎◌, ℕ, Bool, codes, false, is_some, true, Vec, Option, Result, Err, IfErr, IfOk, IsTrue, OnErr, OnOk, option_map}
+use Rattle.std.specs.Prelude.{◌≡◌, ◌≢◌, ◌⊎◌, ℕ, Bool, [], ◌∷◌, codes, false, is_some, true, Vec, Option, Some, None, Result, Err, IfErr, IfOk, IsTrue, OnErr, OnOk, option_map}
 use Rattle.std.specs.FinMap.{get}
 use Rattle.std.specs.Global.{Global}
 use Rattle.sqlite.specs.Held.{Held, state}
@@ -13,10 +13,12 @@ use Rattle.office_rules.specs.State.{State as OfficeState, empty_state}
 use Rattle.office_rules.specs.Tables.{TableLists, no_rows}
 use Rattle.office_rules.specs.Writes.{all_writes}
 use Rattle.office_rules.specs.declared.change.Change.{Change}
-use Rattle.office_sql.specs.Names.{has_other_table}
-use Rattle.office_sql.specs.Office.{IsAtRest, IsAtRestOver, IsBlank, KeepsRest, Leaves, SparesRest}
+use Rattle.office_sql.specs.Names.{has_other_table, layout_of}
+use Rattle.office_sql.specs.Office.{HasTables, IsAtRest, IsAtRestOver, IsBlank, KeepsRest, Leaves, SparesRest}
+use Rattle.office_sql.specs.Schema.{office}
 use Rattle.office_sql.specs.declared.editions.Edition.{Edition}
-use Rattle.office_store.specs.Adopted.{AreNumbersAndBytes, HoldNoOffice, IsOtherVersion, IsRead, LeavesLess}
+use Rattle.office_sql.specs.declared.editions.Edition.TheVariants as edition
+use Rattle.office_store.specs.Adopted.{AreNumbersAndBytes, HoldNoOffice, IsNamed, IsOtherVersion, IsRead, LeavesLess, StaysAtRest}
 use Rattle.office_store.specs.RepresentsRows.{HoldsOldRows, HoldsRows, LeavesFirst, LeavesMoved, LeavesOffices, LeavesWithin}
 use Rattle.office_store.specs.Stored.{AllReadable}
 use Rattle.office_store.specs.declared.fault.Fault.{Fault}
@@ -25,6 +27,12 @@ use Rattle.office_store.specs.declared.fault.Fault.TheVariants as fault
 -- whether there is a table `office`
 abbrev pub has_office_table : State → Bool
 has_office_table s = is_some (table_named s.now.schema (codes "office"))
+
+-- the number of the version whose tables are there by their names; 0 where they are neither's
+abbrev pub layout_number : Option Edition → ℕ
+layout_number (Some edition.One) = 1
+layout_number (Some edition.Two) = 2
+layout_number None = 0
 
 -- ---- a new office
 
@@ -44,9 +52,13 @@ pub record LeavesUnmade (old new : State) : Type 0 where
 pub record IsUnmadeBy {S : Type 0} (g : Ghosts S) (conn : Held S) (f : Fault) (back : Held S) : Type 0 where
   pub faults : (f ≡ fault.Damaged) ⊎ (f ≡ fault.Store)
   pub damaged : f ≡ fault.Damaged → (has_other_table (state g conn).now.schema ≡ true) × (back ≡ conn)
+  -- where another is there it is always so
+  pub other : has_other_table (state g conn).now.schema ≡ true → f ≡ fault.Damaged
 
 -- a store of a new office over the connection
 pub record IsCreated {S : Type 0} (g : Ghosts S) (conn store : Held S) : Type 0 where
+  -- none of the other tables of an office was there
+  pub clear : has_other_table (state g conn).now.schema ≡ false
   pub clean : HasCleanDisk (state g store) → HasCleanDisk (state g conn)
   pub made : HasCleanDisk (state g store) → IsBlank (state g conn) → AreNew (state g conn) (state g store)
 
@@ -75,10 +87,19 @@ pub record AreNotTaken (ed : Edition) (old new : State) (f : Fault) (had : Table
   -- another version is reported as such, and never as damage
   pub version : f ≡ fault.Version → IsOtherVersion old.now.trees
   pub this_version : f ≡ fault.Damaged → IsOtherVersion old.now.trees → ⊥
+  -- where the database did not fail, the tables are as they were
+  pub kept : f ≢ fault.Store → StaysAtRest ed old new
   pub leaves : LeavesLess old new
+
+-- the tables are by their names those of one version, and `office` names that version
+pub record AreOfOneVersion {S : Type 0} (g : Ghosts S) (conn store : Held S) : Type 0 where
+  pub version : Edition
+  pub layout : layout_of (state g conn).now.schema ≡ Some version
+  pub named : HasCleanDisk (state g store) → HasTables (office ∷ []) (state g conn).now → IsNamed version (state g conn).now.trees
 
 -- a store over the connection, whose tables were taken over
 pub record IsAdopted {S : Type 0} (g : Ghosts S) (conn store : Held S) (had has : TableLists) : Type 0 where
+  pub version : AreOfOneVersion g conn store
   pub clean : HasCleanDisk (state g store) → HasCleanDisk (state g conn)
   pub taken : (ed : Edition) → HasCleanDisk (state g store) → IsAtRestOver ed (state g conn) → AreTaken ed (state g conn) (state g store) had has
 
