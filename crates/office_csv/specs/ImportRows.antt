@@ -27,7 +27,8 @@ pub record Fields : Type 0 where
 
 -- and in the order of the columns
 abbrev pub fields_in : Fields → List (List ℕ)
-fields_in row = row.ref_text ∷ row.title ∷ row.originated ∷ row.aggregation ∷ row.class ∷ row.schedule ∷ row.content ∷ []
+fields_in row =
+    row.ref_text ∷ row.title ∷ row.originated ∷ row.aggregation ∷ row.class ∷ row.schedule ∷ row.content ∷ []
 
 -- the first column's name, also behind a byte order mark (U+FEFF in UTF-8)
 abbrev pub is_first_column : List ℕ → Bool
@@ -36,8 +37,10 @@ is_first_column field = bytes_eq field (codes "ref") || bytes_eq field (0xEF ∷
 -- the row of the columns' names
 abbrev pub is_header : Fields → Bool
 is_header row =
-    is_first_column row.ref_text && bytes_eq row.title (codes "title") && bytes_eq row.originated (codes "originated") && bytes_eq row.aggregation (codes "aggregation")
-    && bytes_eq row.class (codes "class") && bytes_eq row.schedule (codes "schedule") && bytes_eq row.content (codes "content")
+    is_first_column row.ref_text && bytes_eq row.title (codes "title") && bytes_eq row.originated (codes "originated")
+    && bytes_eq row.aggregation (codes "aggregation")
+    && bytes_eq row.class (codes "class") && bytes_eq row.schedule (codes "schedule")
+    && bytes_eq row.content (codes "content")
 
 -- the fields that were read, as lists of bytes
 abbrev pub named : ImportRow → Fields

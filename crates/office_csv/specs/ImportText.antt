@@ -26,7 +26,8 @@ HeadsRow row = (fields : Fields) × (row ≡ fields_in fields) × IsTrue (is_hea
 abbrev pub HeadsText : State → Option (List ℕ) → State → Option (List ℕ) → Type 0
 HeadsText s None s2 rest = ⊤
 HeadsText s (Some text) s2 None = ⊥
-HeadsText s (Some text) s2 (Some rest) = (p : Read) × (next_record default_config s [] [] text ≡ Some p) × HeadsRow p.0 × (s2 ≡ p.1) × (rest ≡ p.2)
+HeadsText s (Some text) s2 (Some rest) =
+    (p : Read) × (next_record default_config s [] [] text ≡ Some p) × HeadsRow p.0 × (s2 ≡ p.1) × (rest ≡ p.2)
 
 -- there is no first row, or one that does not name them
 abbrev pub HasNoHeader : Option Read → Type 0
@@ -53,7 +54,8 @@ AreTexts (row ∷ rows) = AllText (fields_in row) × AreTexts rows
 abbrev pub AreAtPrefix : State → Option (List ℕ) → List Fields → State → Option (List ℕ) → Type 0
 AreAtPrefix s None rows s2 rest = ⊤
 AreAtPrefix s (Some text) rows s2 None = ⊥
-AreAtPrefix s (Some text) rows s2 (Some rest) = Reached default_config s text (map fields_in rows) s2 rest × AreTexts rows
+AreAtPrefix s (Some text) rows s2 (Some rest) =
+    Reached default_config s text (map fields_in rows) s2 rest × AreTexts rows
 
 -- no row is left
 abbrev pub IsEnded : State → Option (List ℕ) → Type 0
@@ -63,4 +65,5 @@ IsEnded s (Some rest) = next_record default_config s [] [] rest ≡ None
 -- the next row has another number of fields, or is not UTF-8
 abbrev pub IsBadNext : State → Option (List ℕ) → Type 0
 IsBadNext s None = ⊤
-IsBadNext s (Some rest) = (p : Read) × (next_record default_config s [] [] rest ≡ Some p) × ((length p.0 ≢ 7) ⊎ (AllText p.0 → ⊥))
+IsBadNext s (Some rest) =
+    (p : Read) × (next_record default_config s [] [] rest ≡ Some p) × ((length p.0 ≢ 7) ⊎ (AllText p.0 → ⊥))

@@ -1,5 +1,5 @@
--- The registers as CSV: what is due on a day, what is overdue on it, and the entries of all runs. Source: RFC 4180, its fields and their quoting; that a
--- line ends with a line feed alone, and the columns, are own.
+-- The registers as CSV: what is due on a day, what is overdue on it, and the entries of all runs. Source: RFC 4180, its
+-- fields and their quoting; that a line ends with a line feed alone, and the columns, are own.
 use Rattle.std.specs.Prelude.{ℕ, ℤ, Bool, true, false, List, [], ◌∷◌, ◌++◌, codes}
 use Rattle.std.specs.Fmt.{decimal}
 use Rattle.std.specs.List.{flat_map}
@@ -34,7 +34,8 @@ due_columns = codes "record" ∷ codes "ref" ∷ codes "class" ∷ codes "schedu
 -- a record that is due: the least hold that covers it, or nothing, and whether a confirmation of it counts
 abbrev pub due_fields : DueRowView → List (List ℕ)
 due_fields r =
-    decimal r.number ∷ r.ref_text ∷ r.class ∷ r.schedule ∷ action_word r.action ∷ day_field r.due ∷ unwrap_or r.held [] ∷ yes_or_no r.counts ∷ []
+    decimal r.number ∷ r.ref_text ∷ r.class ∷ r.schedule ∷ action_word r.action ∷ day_field r.due ∷ unwrap_or r.held []
+    ∷ yes_or_no r.counts ∷ []
 
 unfoldable pub due_line : DueRowView → List ℕ
 due_line r = row_of (due_fields r)
@@ -54,7 +55,8 @@ overdue_columns = codes "record" ∷ codes "ref" ∷ codes "class" ∷ codes "sc
 -- a record that is overdue: its deadline, so many days after its due day, and the least hold that covers it, or nothing
 abbrev pub overdue_fields : ℕ → DueRowView → List (List ℕ)
 overdue_fields n r =
-    decimal r.number ∷ r.ref_text ∷ r.class ∷ r.schedule ∷ action_word r.action ∷ day_field r.due ∷ day_field (deadline_from r.due n) ∷ unwrap_or r.held [] ∷ []
+    decimal r.number ∷ r.ref_text ∷ r.class ∷ r.schedule ∷ action_word r.action ∷ day_field r.due
+    ∷ day_field (deadline_from r.due n) ∷ unwrap_or r.held [] ∷ []
 
 unfoldable pub overdue_line : ℕ → DueRowView → List ℕ
 overdue_line n r = row_of (overdue_fields n r)
@@ -70,13 +72,16 @@ overdue_register n rows = row_of overdue_columns ++ overdue_lines n rows
 
 abbrev pub entry_columns : List (List ℕ)
 entry_columns =
-    codes "run" ∷ codes "record" ∷ codes "ref" ∷ codes "outcome" ∷ codes "class" ∷ codes "schedule" ∷ codes "due" ∷ codes "hold" ∷ codes "confirmed_by" ∷ codes "length" ∷ codes "digest" ∷ []
+    codes "run" ∷ codes "record" ∷ codes "ref" ∷ codes "outcome" ∷ codes "class" ∷ codes "schedule" ∷ codes "due"
+    ∷ codes "hold" ∷ codes "confirmed_by" ∷ codes "length" ∷ codes "digest" ∷ []
 
 -- an entry, the ref of its record, and length and SHA-256 of what was its content
 abbrev pub entry_fields : EntryView → List (List ℕ)
 entry_fields it =
-    decimal it.entry.run ∷ decimal it.entry.record_no ∷ it.ref_text ∷ outcome_word it.entry.outcome ∷ it.entry.class ∷ it.entry.schedule
-    ∷ day_field it.entry.due ∷ unwrap_or it.entry.hold [] ∷ it.entry.confirmed_by ∷ decimal it.length ∷ encode_lower it.digest ∷ []
+    decimal it.entry.run ∷ decimal it.entry.record_no ∷ it.ref_text ∷ outcome_word it.entry.outcome ∷ it.entry.class
+    ∷ it.entry.schedule
+    ∷ day_field it.entry.due ∷ unwrap_or it.entry.hold [] ∷ it.entry.confirmed_by ∷ decimal it.length
+    ∷ encode_lower it.digest ∷ []
 
 unfoldable pub entry_line : EntryView → List ℕ
 entry_line it = row_of (entry_fields it)

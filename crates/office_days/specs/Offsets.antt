@@ -1,4 +1,5 @@
--- The days that a calendar offset asks for. Source: MoReq2010, disposal scheduling service, has the offset; these four kinds are own.
+-- The days that a calendar offset asks for. Source: MoReq2010, disposal scheduling service, has the offset; these four
+-- kinds are own.
 use Rattle.std.specs.Prelude.{ℕ, ◌+◌, ◌%◌, Bool, true, ◌&&◌, ◌||◌, ◌==◌, ◌≡◌, Option, unwrap_or, ℤ, ◌≤ℤ◌}
 use Rattle.office_days.specs.declared.month.Month.{Month}
 use Rattle.office_days.specs.declared.month.Month.TheVariants.{January, February, March, April, May, June, July, August, September, October, November, December}

@@ -1,4 +1,5 @@
--- Why an act on holds is refused: the conditions that the holds themselves decide, in tables as those of the tree. Source: own.
+-- Why an act on holds is refused: the conditions that the holds themselves decide, in tables as those of the tree.
+-- Source: own.
 use Rattle.std.specs.Prelude.{ℕ, Bool, ◌&&◌, ◌+◌, not, List, [], ◌∷◌, nat_le, Option}
 use Rattle.std.specs.Option.{is_some, is_none}
 use Rattle.std.specs.Str.{bytes_eq}

@@ -19,7 +19,8 @@ pub record IsWellFormedHold (hold : HoldState) : Type 0 where
 
 -- every code, text and day of the holds is of its form
 abbrev pub AreWellFormedHolds : HoldMap → Type 0
-AreWellFormedHolds holds = (code : List ℕ) (hold : HoldState) → get holds code ≡ Some hold → IsCode code × IsWellFormedHold hold
+AreWellFormedHolds holds =
+    (code : List ℕ) (hold : HoldState) → get holds code ≡ Some hold → IsCode code × IsWellFormedHold hold
 
 -- at most 1,000 holds, each with at most 1,000 targets
 pub record FitsHoldLimits (holds : HoldMap) : Type 0 where

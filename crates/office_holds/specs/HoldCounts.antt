@@ -58,9 +58,12 @@ CountsDown old new these = (target : Target) → cached_count new target ≡ cac
 
 -- each hold in force has its code among these
 abbrev pub HasInForce : HoldMap → FinSet code_cmp → Type 0
-HasInForce holds codes = (code : List ℕ) (hold : HoldState) → get holds code ≡ Some hold → IsTrue (is_in_force hold) → IsTrue (contains codes code)
+HasInForce holds codes =
+    (code : List ℕ) (hold : HoldState) → get holds code ≡ Some hold → IsTrue (is_in_force hold)
+    → IsTrue (contains codes code)
 
--- the cached count of each target is how many holds in force have it, and the cached codes have those of the holds in force among them
+-- the cached count of each target is how many holds in force have it, and the cached codes have those of the holds in
+-- force among them
 pub record AreCached (holds : HoldMap) (counts : HoldCounts) (codes : FinSet code_cmp) : Type 0 where
   pub counted : (target : Target) → cached_count counts target ≡ binding_count holds target
   pub in_force : HasInForce holds codes

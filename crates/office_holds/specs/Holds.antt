@@ -33,11 +33,13 @@ has_target hold (target.Class code) = contains hold.classes code
 has_target hold (target.Aggregation a) = contains hold.aggregations a
 has_target hold (target.Record r) = contains hold.records r
 
--- the hold covers a record that these aggregations contain and that has this class: it is in force, and a target of it is the record, one of the aggregations or the class
+-- the hold covers a record that these aggregations contain and that has this class: it is in force, and a target of it
+-- is the record, one of the aggregations or the class
 abbrev pub hold_covers : HoldState → ℕ → List ℕ → Option (List ℕ) → Bool
 hold_covers hold r containers class =
     is_in_force hold
-    && (contains hold.records r || list_any (contains hold.aggregations) containers || holds_of class (contains hold.classes))
+    && (contains hold.records r || list_any (contains hold.aggregations) containers
+    || holds_of class (contains hold.classes))
 
 unfoldable pub covers_in : HoldMap → ℕ → List ℕ → Option (List ℕ) → List (List ℕ)
 covers_in holds r containers class = map (λ e. e.0) (filter (λ e. hold_covers e.1 r containers class) (entries holds))

@@ -28,13 +28,16 @@ abbrev pub hold_rows : HoldMap → List (List ℕ × HoldRow)
 hold_rows holds = map (λ e. (e.0, hold_row e.1)) (entries holds)
 
 -- the rows are each hold's columns in the order of the codes, and which hold has which target, in any order
-pub record AreRowsOf (rows : List (List ℕ × HoldRow)) (targets : List (List ℕ × Target)) (holds : HoldMap) : Type 0 where
-  pub columns : hold_rows holds ≡ rows
-  pub targets_exist : (code : List ℕ) (target : Target) → list_any (λ e. is_pair e.0 e.1 code target) targets ≡ holds_of (get holds code) (λ hold. has_target hold target)
+pub record AreRowsOf (rows : List (List ℕ × HoldRow)) (targets : List (List ℕ × Target)) (holds : HoldMap) : Type 0
+  where
+    pub columns : hold_rows holds ≡ rows
+    pub targets_exist : (code : List ℕ) (target : Target)
+        → list_any (λ e. is_pair e.0 e.1 code target) targets ≡ holds_of (get holds code) (λ hold. has_target hold target)
 
 -- the hold is there, and it has the target or room for it
 abbrev pub takes_target : HoldMap → List ℕ → Target → Bool
-takes_target holds code target = holds_of (get holds code) (λ hold. has_target hold target || not (nat_le 1_000 (target_count hold)))
+takes_target holds code target =
+    holds_of (get holds code) (λ hold. has_target hold target || not (nat_le 1_000 (target_count hold)))
 
 -- the code is above those of all the holds
 abbrev pub IsAbove : HoldMap → List ℕ → Type 0

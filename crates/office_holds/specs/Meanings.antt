@@ -16,7 +16,8 @@ HasTargetAt hold tree r =
 
 -- the hold of that code is there and in force, and has such a target
 abbrev pub Covers : HoldMap → TreeState → List ℕ → ℕ → Type 0
-Covers holds tree code r = (hold : HoldState) × (get holds code ≡ Some hold) × IsTrue (is_in_force hold) × HasTargetAt hold tree r
+Covers holds tree code r =
+    (hold : HoldState) × (get holds code ≡ Some hold) × IsTrue (is_in_force hold) × HasTargetAt hold tree r
 
 -- at least one hold covers the record
 abbrev pub IsHeld : HoldMap → TreeState → ℕ → Type 0

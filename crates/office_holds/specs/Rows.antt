@@ -12,7 +12,8 @@ hold_row hold = record { reason = hold.reason; placed = hold.placed; placed_by =
 -- a hold's columns with the targets that it has, none at first
 abbrev pub hold_from : HoldRow → Option HoldState → HoldState
 hold_from row None = record { reason = row.reason; placed = row.placed; by = row.placed_by; lifted = row.lifted; classes = set.empty; aggregations = set.empty; records = set.empty }
-hold_from row (Some hold) = record hold { reason = row.reason; placed = row.placed; by = row.placed_by; lifted = row.lifted }
+hold_from row (Some hold) =
+    record hold { reason = row.reason; placed = row.placed; by = row.placed_by; lifted = row.lifted }
 
 -- the columns put in under a code; the targets of a hold that is there stay
 abbrev pub put_hold : HoldMap → List ℕ → HoldRow → HoldMap

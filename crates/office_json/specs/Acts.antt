@@ -1,4 +1,5 @@
--- Which act a value of JSON asks for, by the members of each of the eighteen kinds, or why it asks for none. Source: own.
+-- Which act a value of JSON asks for, by the members of each of the eighteen kinds, or why it asks for none. Source:
+-- own.
 use Rattle.std.specs.Prelude.{◌≡◌, ◌⊎◌, ◌∷◌, [], ℕ, ℤ, List, codes, if◌then◌else◌, Option, Some, None, Result, Ok, Err, IsOk, IsSome, MatchResult, option_and_then}
 use Rattle.std.specs.Str.{bytes_eq}
 use Rattle.serde_json.specs.Data.{Data}
@@ -53,7 +54,9 @@ asked other = asks other
 
 unfoldable pub add_schedule_asked : Data → Result Asked Refusal
 add_schedule_asked d =
-    only (codes "act" ∷ codes "day" ∷ codes "code" ∷ codes "trigger" ∷ codes "unit" ∷ codes "count" ∷ codes "offset" ∷ codes "action" ∷ []) d
+    only
+    (codes "act" ∷ codes "day" ∷ codes "code" ∷ codes "trigger" ∷ codes "unit" ∷ codes "count" ∷ codes "offset"
+    ∷ codes "action" ∷ []) d
     (made (λ p. asks (act.AddSchedule p.0.0 p.0.1 p.1.0.0 p.1.0.1 p.1.1.0 p.1.1.1))
     (both (both (day_part (get (codes "day") d)) (code_part (get (codes "code") d)))
     (both (both (trigger_part (get (codes "trigger") d)) (period_part (get (codes "unit") d) (get (codes "count") d)))
@@ -120,7 +123,9 @@ added p = adds p.0.day (record {
 
 unfoldable pub add_record_asked : Data → Result Asked Refusal
 add_record_asked d =
-    only (codes "act" ∷ codes "day" ∷ codes "ref" ∷ codes "title" ∷ codes "originated" ∷ codes "aggregation" ∷ codes "class" ∷ codes "schedule" ∷ codes "content" ∷ []) d
+    only
+    (codes "act" ∷ codes "day" ∷ codes "ref" ∷ codes "title" ∷ codes "originated" ∷ codes "aggregation"
+    ∷ codes "class" ∷ codes "schedule" ∷ codes "content" ∷ []) d
     (made added (both (heading_part d) (content_part (get (codes "content") d))))
 
 unfoldable pub set_record_schedule_asked : Data → Result Asked Refusal

@@ -18,7 +18,8 @@ same_data n = object (member (codes "number") (number (unsigned n)) (member (cod
 
 -- what came of a record
 abbrev pub step_data : ℕ → List ℕ → Data
-step_data n outcome = object (member (codes "outcome") (string outcome) (member (codes "record") (number (unsigned n)) no_members))
+step_data n outcome =
+    object (member (codes "outcome") (string outcome) (member (codes "record") (number (unsigned n)) no_members))
 
 -- an answer in JSON; the members of each object are in the order of their names
 abbrev pub answer_data : Answer → Data

@@ -1,4 +1,5 @@
--- The content of a record as a text. Source: RFC 4648, section 4 (base64 with padding), taken only as encoding writes it.
+-- The content of a record as a text. Source: RFC 4648, section 4 (base64 with padding), taken only as encoding writes
+-- it.
 use Rattle.std.specs.Prelude.{◌≡◌, ◌↔◌, ℕ, List, length, nat_le, Option, Some, None, Result, Ok, Err, if◌then◌else◌, option_and_then}
 use Rattle.base64.specs.Engines.{standard}
 use Rattle.base64.specs.GeneralPurpose.{IsBytes, decoded_of, encode_of}
@@ -22,4 +23,6 @@ content_part member = content_of (option_and_then content_named (option_and_then
 
 -- a text is taken as these bytes exactly where it is what encoding them writes
 abbrev pub TakesEncodings : Type 0
-TakesEncodings = (text bytes : List ℕ) → IsBytes text → IsBytes bytes → (content_named text ≡ Some bytes) ↔ (text ≡ encode_of standard bytes)
+TakesEncodings =
+    (text bytes : List ℕ) → IsBytes text → IsBytes bytes → (content_named text ≡ Some bytes)
+    ↔ (text ≡ encode_of standard bytes)

@@ -1,5 +1,5 @@
--- The acts that the bytes of a JSON array ask for, or the first value that asks for none. Source: RFC 8259 for JSON and for the
--- encoding of its texts, as `serde_json` reads them; the rest is own.
+-- The acts that the bytes of a JSON array ask for, or the first value that asks for none. Source: RFC 8259 for JSON and
+-- for the encoding of its texts, as `serde_json` reads them; the rest is own.
 use Rattle.std.specs.Prelude.{◌≡◌, ℕ, ◌+◌, List, [], ◌∷◌, if◌then◌else◌, Option, Some, None, Result, Ok, Err}
 use Rattle.std.specs.Str.{is_utf8}
 use Rattle.serde_json.specs.Data.{Data, null, boolean, number, string, array, object, Items, no_items, item}

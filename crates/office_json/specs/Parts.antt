@@ -1,5 +1,5 @@
--- How the members of an act are read, and why they are refused: 2 (BadText) where one is missing, of another type or not of its
--- form, else 3 (BadNumber) where a number is out of its range. Source: own.
+-- How the members of an act are read, and why they are refused: 2 (BadText) where one is missing, of another type or
+-- not of its form, else 3 (BadNumber) where a number is out of its range. Source: own.
 use Rattle.std.specs.Prelude.{◌≡◌, ℕ, ℤ, ◌&&◌, Bool, List, nat_le, Option, Some, None, Result, Ok, Err, MatchResult, ok_or, option_and_then, if◌then◌else◌}
 use Rattle.serde_json.specs.Data.{Data, Num}
 use Rattle.serde_json.specs.Find.{as_number, as_str, as_u64}
@@ -99,7 +99,8 @@ count_part member = count_of (option_and_then as_number member)
 abbrev pub period_of : Option Unit → Result ℕ Refusal → Result RetentionPeriod Refusal
 period_of None count = Err BadText
 period_of (Some unit) (Err e) = Err e
-period_of (Some unit) (Ok count) = if nat_le count (longest unit) then Ok (record { unit = unit; count = count }) else Err BadNumber
+period_of (Some unit) (Ok count) =
+    if nat_le count (longest unit) then Ok (record { unit = unit; count = count }) else Err BadNumber
 
 -- a period, by the members for its unit and its count; a count over the unit's limit is out of range
 unfoldable pub period_part : Option Data → Option Data → Result RetentionPeriod Refusal

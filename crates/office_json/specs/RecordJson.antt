@@ -29,7 +29,9 @@ confirmed_data c = object
 
 -- how and in which run a record was ended
 unfoldable pub ended_data : Entry → Data
-ended_data e = object (member (codes "outcome") (string (outcome_word e.outcome)) (member (codes "run") (number (unsigned e.run)) no_members))
+ended_data e =
+    object (member (codes "outcome") (string (outcome_word e.outcome))
+    (member (codes "run") (number (unsigned e.run)) no_members))
 
 -- a record and the entry that ended it, if one did; the members are in the order of their names
 unfoldable pub record_data : RecordView → Option Entry → Data
@@ -66,4 +68,6 @@ put_third r ms = put (codes "ref") (string r.ref_text) (put (codes "originated")
     (put (codes "number") (number (unsigned r.number)) (put (codes "length") (number (unsigned r.length)) ms)))
 
 unfoldable pub put_last : RecordView → Members → Members
-put_last r ms = put (codes "title") (string r.title) (put (codes "status") (string (status_word r.status)) (put (codes "schedule") (string r.schedule) ms))
+put_last r ms =
+    put (codes "title") (string r.title)
+    (put (codes "status") (string (status_word r.status)) (put (codes "schedule") (string r.schedule) ms))

@@ -17,7 +17,8 @@ fault_data n = numbered_data (codes "fault") n
 
 -- the answers to the acts before a fault, and the fault
 abbrev pub stopped_data : List Answer → ℕ → Data
-stopped_data answers n = object (member (codes "answers") (answers_data answers) (member (codes "fault") (number (unsigned n)) no_members))
+stopped_data answers n =
+    object (member (codes "answers") (answers_data answers) (member (codes "fault") (number (unsigned n)) no_members))
 
 -- the place, from 0, of a value that asks for no act, and its refusal
 abbrev pub bad_act_data : ℕ → Refusal → Data

@@ -17,7 +17,9 @@ days_of None = []
 days_of (Some day) = day ∷ []
 
 -- each record has a status, the holds have exactly those targets, and each entry is under its run and record
-pub record AreCollected (heads : List Record) (statuses : List Status) (holds : HoldMap) (targets : List (List ℕ × Target)) (entries : List ((ℕ × ℕ) × Entry)) : Type 0 where
+pub record AreCollected (heads : List Record) (statuses : List Status) (holds : HoldMap)
+    (targets : List (List ℕ × Target)) (entries : List ((ℕ × ℕ) × Entry)) : Type 0 where
   pub long : length statuses ≡ length heads
-  pub targets_exist : (code : List ℕ) (target : Target) → list_any (λ e. is_pair e.0 e.1 code target) targets ≡ holds_of (get holds code) (λ hold. has_target hold target)
+  pub targets_exist : (code : List ℕ) (target : Target)
+      → list_any (λ e. is_pair e.0 e.1 code target) targets ≡ holds_of (get holds code) (λ hold. has_target hold target)
   pub keyed : entry_rows (map (λ e. e.1) entries) ≡ entries

@@ -10,8 +10,11 @@ use Rattle.office_terms.specs.declared.schedule.Schedule.{Schedule}
 use Rattle.office_rules.specs.Rows.{record_rows}
 use Rattle.office_rules.specs.declared.rows.RecordRow.{RecordRow}
 
--- the rows are exactly those of the tree's schedules, classes, aggregations, records and events, in the order of their keys
-pub record AreTreeRows (schedules : List (List ℕ × Schedule)) (classes : List (List ℕ × Class)) (aggregations : List (ℕ × Aggregation)) (records : List (ℕ × RecordRow)) (events : List (ℕ × Event)) (tree : TreeState) : Type 0 where
+-- the rows are exactly those of the tree's schedules, classes, aggregations, records and events, in the order of their
+-- keys
+pub record AreTreeRows (schedules : List (List ℕ × Schedule)) (classes : List (List ℕ × Class))
+    (aggregations : List (ℕ × Aggregation)) (records : List (ℕ × RecordRow)) (events : List (ℕ × Event))
+    (tree : TreeState) : Type 0 where
   pub of_schedules : entries tree.schedules ≡ schedules
   pub of_classes : entries tree.classes ≡ classes
   pub of_aggregations : numbered_rows tree.aggregations ≡ aggregations

@@ -1,5 +1,5 @@
--- How the parts of a line are read, and why they are refused: 2 (BadText) where any part is not of its form, else 3 (BadNumber)
--- where a number is out of range. Source: own.
+-- How the parts of a line are read, and why they are refused: 2 (BadText) where any part is not of its form, else 3
+-- (BadNumber) where a number is out of range. Source: own.
 use Rattle.std.specs.Prelude.{ℕ, List, Option, Some, None, Result, Ok, Err, codes, nat_le, if◌then◌else◌}
 use Rattle.std.specs.Str.{bytes_eq}
 use Rattle.office_base.specs.declared.refusal.Refusal.{Refusal}
@@ -38,7 +38,8 @@ abbrev pub optional_part : {A : Type 0} → (List ℕ → Result A Refusal) → 
 optional_part read word = if bytes_eq word (codes "-") then Ok None else made (λ a. Some a) (read word)
 
 abbrev pub period_read : Option Unit → Option ℕ → Result RetentionPeriod Refusal
-period_read (Some unit) (Some count) = if nat_le count (longest unit) then Ok (record { unit = unit; count = count }) else Err BadNumber
+period_read (Some unit) (Some count) =
+    if nat_le count (longest unit) then Ok (record { unit = unit; count = count }) else Err BadNumber
 period_read (Some unit) None = Err BadText
 period_read None count = Err BadText
 

@@ -1,4 +1,5 @@
--- What a plan file makes and what is printed of it. Source: own; class, plan and due day are those of the tree (MoReq2010).
+-- What a plan file makes and what is printed of it. Source: own; class, plan and due day are those of the tree
+-- (MoReq2010).
 use Rattle.std.specs.Prelude.{ℕ, zero, suc, ℤ, ◌+◌, ◌==◌, List, [], ◌∷◌, ◌++◌, length, Option, Some, None, Result, Ok, Err, codes, replicate, if◌then◌else◌}
 use Rattle.std.specs.Fmt.{decimal}
 use Rattle.std.specs.Str.{is_utf8}
@@ -45,17 +46,22 @@ abbrev pub done_or_refused : Option Refusal → TreeState → Result TreeState R
 done_or_refused None tree = Ok tree
 done_or_refused (Some refusal) tree = Err refusal
 
--- what a line does to the tree, or why the tree refuses it; an event is recorded on the day on which it occurred, by the digits
--- of its record's number
+-- what a line does to the tree, or why the tree refuses it; an event is recorded on the day on which it occurred, by
+-- the digits of its record's number
 unfoldable pub line_done : TreeState → PlanLine → Result TreeState Refusal
-line_done tree (Schedule code schedule) = done_or_refused (first_of (conditions_of_add_schedule tree code)) (added_schedule tree code schedule)
+line_done tree (Schedule code schedule) =
+    done_or_refused (first_of (conditions_of_add_schedule tree code)) (added_schedule tree code schedule)
 line_done tree (Class code schedule) = done_or_refused (first_of (conditions_of_add_class tree code schedule)) (added_class tree code (record { title = code; schedule = schedule }))
 line_done tree (Aggregation class parent) =
-    done_or_refused (first_of (conditions_of_add_aggregation tree (next_aggregation tree) parent class)) (added_aggregation tree (next_aggregation tree) (next_aggregation tree) parent class)
-line_done tree (Close a day) = done_or_refused (first_of (conditions_of_close_aggregation tree a)) (closed_aggregation tree a day)
+    done_or_refused (first_of (conditions_of_add_aggregation tree (next_aggregation tree) parent class))
+    (added_aggregation tree (next_aggregation tree) (next_aggregation tree) parent class)
+line_done tree (Close a day) =
+    done_or_refused (first_of (conditions_of_close_aggregation tree a)) (closed_aggregation tree a day)
 line_done tree (Record a class schedule originated added) =
-    done_or_refused (first_of (conditions_of_add_record tree (next_record tree) a class schedule)) (added_record tree (planned_head (next_record tree) a class schedule originated added))
-line_done tree (Event r day) = done_or_refused (first_of (conditions_of_event tree day r day)) (with_event tree day r day (decimal r))
+    done_or_refused (first_of (conditions_of_add_record tree (next_record tree) a class schedule))
+    (added_record tree (planned_head (next_record tree) a class schedule originated added))
+line_done tree (Event r day) =
+    done_or_refused (first_of (conditions_of_event tree day r day)) (with_event tree day r day (decimal r))
 
 -- a line that was read is done
 abbrev pub read_and_done : TreeState → Result PlanLine Refusal → Result TreeState Refusal
@@ -69,7 +75,8 @@ line_taken tree line =
     else (if is_utf8 line then read_and_done tree (line_asked line) else Err BadText)
 
 -- what follows a line of that number, or its number and why it is refused
-abbrev pub followed : ℕ → Result TreeState Refusal → (TreeState → Result TreeState (ℕ × Refusal)) → Result TreeState (ℕ × Refusal)
+abbrev pub followed : ℕ → Result TreeState Refusal → (TreeState → Result TreeState (ℕ × Refusal))
+    → Result TreeState (ℕ × Refusal)
 followed number (Ok tree) rest = rest tree
 followed number (Err refusal) rest = Err (number, refusal)
 

@@ -1,5 +1,5 @@
--- The text of a certificate: lines that end with a line feed, the last with the digest of all bytes before it. Source: own;
--- the digest is SHA-256 (FIPS 180-4).
+-- The text of a certificate: lines that end with a line feed, the last with the digest of all bytes before it. Source:
+-- own; the digest is SHA-256 (FIPS 180-4).
 use Rattle.std.specs.Prelude.{ℕ, Bool, List, [], ◌∷◌, ◌++◌, filter, length, Option, Some, None, ℤ, codes}
 use Rattle.std.specs.List.{flat_map}
 use Rattle.std.specs.Option.{unwrap_or}
@@ -33,10 +33,12 @@ date_text day = day_text (civil day)
 abbrev pub counted : (Outcome → Bool) → List Entry → List ℕ
 counted test entries = decimal (length (filter (λ e. test e.outcome) entries))
 
--- the line of an entry and its record: number, outcome, ref, class, schedule, due day, hold or a hyphen, who confirmed, length and digest of the content
+-- the line of an entry and its record: number, outcome, ref, class, schedule, due day, hold or a hyphen, who confirmed,
+-- length and digest of the content
 unfoldable pub entry_words : Entry → Record → List ℕ
 entry_words e head = tabbed (
-    codes "ENTRY" ∷ decimal e.record_no ∷ outcome_word e.outcome ∷ head.ref_text ∷ e.class ∷ e.schedule ∷ date_text e.due
+    codes "ENTRY" ∷ decimal e.record_no ∷ outcome_word e.outcome ∷ head.ref_text ∷ e.class ∷ e.schedule
+    ∷ date_text e.due
     ∷ unwrap_or e.hold (codes "-") ∷ e.confirmed_by ∷ decimal head.length ∷ encode_lower head.digest ∷ [])
 
 -- the line of an entry, ended by a line feed
@@ -52,7 +54,8 @@ abbrev pub made_of : {A : Type 0} → (A → List ℕ) → Option A → List (Li
 made_of make None = []
 made_of make (Some x) = make x ∷ []
 
--- the lines above the last one, from the run's number, day, opener, entries by record number, and spent aggregations by number
+-- the lines above the last one, from the run's number, day, opener, entries by record number, and spent aggregations by
+-- number
 unfoldable pub certificate_lines : TreeState → ℕ → ℤ → List ℕ → List Entry → List ℕ → List (List ℕ)
 certificate_lines tree run day by entries spent =
     (codes "CERTIFICATE " ++ decimal run)

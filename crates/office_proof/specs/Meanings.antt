@@ -1,5 +1,5 @@
--- What a line and a column of a certificate are, how they are parted again, and which words are in the line of an entry:
--- the laws of `src/laws.rt` say that no title, ref or name breaks them. Source: own.
+-- What a line and a column of a certificate are, how they are parted again, and which words are in the line of an
+-- entry: the laws of `src/laws.rt` say that no title, ref or name breaks them. Source: own.
 use Rattle.std.specs.Prelude.{◌≢◌, ◌==◌, ℕ, List, [], ◌∷◌, codes, if◌then◌else◌}
 use Rattle.std.specs.Fmt.{decimal}
 use Rattle.std.specs.List.{All}
@@ -31,5 +31,6 @@ split_at value (b ∷ bs) = if b == value then [] ∷ split_at value bs else bef
 -- the eleven words of the line of an entry and its record
 abbrev pub entry_columns : Entry → Record → List (List ℕ)
 entry_columns e head =
-    codes "ENTRY" ∷ decimal e.record_no ∷ outcome_word e.outcome ∷ head.ref_text ∷ e.class ∷ e.schedule ∷ date_text e.due
+    codes "ENTRY" ∷ decimal e.record_no ∷ outcome_word e.outcome ∷ head.ref_text ∷ e.class ∷ e.schedule
+    ∷ date_text e.due
     ∷ unwrap_or e.hold (codes "-") ∷ e.confirmed_by ∷ decimal head.length ∷ encode_lower head.digest ∷ []

@@ -39,4 +39,5 @@ outcome_word Skipped = codes "skipped"
 
 -- the outcome that a text names: the one whose word it is
 abbrev pub outcome_named : List ℕ → Option Outcome
-outcome_named text = find (λ outcome. bytes_eq text (outcome_word outcome)) (Destroyed ∷ Transferred ∷ Sent ∷ Skipped ∷ [])
+outcome_named text =
+    find (λ outcome. bytes_eq text (outcome_word outcome)) (Destroyed ∷ Transferred ∷ Sent ∷ Skipped ∷ [])

@@ -13,7 +13,8 @@ candidate_by (Some Received) may = true
 candidate_by (Some Ended) may = false
 candidate_by None may = false
 
--- a record that a run takes once it is due: it is here, its action is to transfer or to destroy and its confirmation counts; or it is received
+-- a record that a run takes once it is due: it is here, its action is to transfer or to destroy and its confirmation
+-- counts; or it is received
 unfoldable pub is_candidate : TreeState → ℕ → Bool
 is_candidate tree r = candidate_by (status_of tree r) (holds_of (action_of tree r) is_disposal && counts tree r)
 

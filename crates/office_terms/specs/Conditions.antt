@@ -1,5 +1,5 @@
--- Why an act on the tree is refused: for each act one table of its conditions, in the order of the refusals' numbers, of which the
--- first that holds is answered. A condition about a thing that is not there is false. Source: own.
+-- Why an act on the tree is refused: for each act one table of its conditions, in the order of the refusals' numbers,
+-- of which the first that holds is answered. A condition about a thing that is not there is false. Source: own.
 use Rattle.std.specs.Prelude.{◌≡◌, ℕ, Bool, true, false, IsTrue, ◌&&◌, ◌||◌, not, List, [], ◌∷◌, length, nat_le, Option, Some, None, IfSome, IfNone, ◌==◌, ◌<◌, ◌≤◌, ℤ, int_le, int_lt, if◌then◌else◌}
 use Rattle.std.specs.Option.{is_some, is_none}
 use Rattle.std.specs.List.{list_any, All, AllByRecursion, Contains}
@@ -23,7 +23,8 @@ abbrev pub first_of : List (Refusal × Bool) → Option Refusal
 first_of [] = None
 first_of (c ∷ cs) = if c.1 then Some c.0 else first_of cs
 
--- an answer by a table: a refusal whose condition holds and whose number is not above that of any condition that holds; none where no condition holds
+-- an answer by a table: a refusal whose condition holds and whose number is not above that of any condition that holds;
+-- none where no condition holds
 pub record IsLeastOf (conditions : List (Refusal × Bool)) (answer : Option Refusal) : Type 0 where
   pub holds : IfSome answer (λ r. Contains conditions (r, true))
   pub least : IfSome answer (λ r. All (λ c. IsTrue c.1 → refusal_number r ≤ refusal_number c.0) conditions)
@@ -69,7 +70,8 @@ conditions_of_add_class tree code schedule =
     ∷ (Full, nat_le 1_000 (len tree.classes))
     ∷ []
 
--- the ref is there; no such parent or class; there are 50,000; the parent is closed; the parent has depth 8; neither parent nor class
+-- the ref is there; no such parent or class; there are 50,000; the parent is closed; the parent has depth 8; neither
+-- parent nor class
 abbrev pub conditions_of_add_aggregation : TreeState → List ℕ → Option ℕ → Option (List ℕ) → List (Refusal × Bool)
 conditions_of_add_aggregation tree ref_text parent class =
     (Exists, list_any (λ it. bytes_eq it.ref_text ref_text) tree.aggregations)
@@ -151,7 +153,8 @@ is_not_due tree r day = has_record tree r && not (holds_of (due_of tree r) (λ d
 abbrev pub has_other_action : TreeState → ℕ → Action → Bool
 has_other_action tree r named = has_record tree r && not (holds_of (action_of tree r) (same_action named))
 
--- no such record; it is ended; it is sent or received; it is not due; the named action is not the plan's, or it is to review
+-- no such record; it is ended; it is sent or received; it is not due; the named action is not the plan's, or it is to
+-- review
 abbrev pub conditions_of_confirm : TreeState → ℤ → ℕ → Action → List (Refusal × Bool)
 conditions_of_confirm tree day r named =
     (NoSuch, not (has_record tree r))
@@ -161,7 +164,8 @@ conditions_of_confirm tree day r named =
     ∷ (WrongAction, has_other_action tree r named || same_action named action.Review)
     ∷ []
 
--- no such record or schedule; the record is ended; it is sent or received; it is not due; its plan's action is not to review
+-- no such record or schedule; the record is ended; it is sent or received; it is not due; its plan's action is not to
+-- review
 abbrev pub conditions_of_review : TreeState → ℤ → ℕ → Option (List ℕ) → List (Refusal × Bool)
 conditions_of_review tree day r schedule =
     (NoSuch, not (has_record tree r) || lacks_schedule tree schedule)

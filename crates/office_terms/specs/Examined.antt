@@ -17,15 +17,18 @@ abbrev pub is_disposal_confirmed : Option Confirmation → Bool
 is_disposal_confirmed None = true
 is_disposal_confirmed (Some confirmation) = is_disposal confirmation.action
 
--- a record that is not here has a confirmation, a confirmation names transfer or destruction, and a received record has a receipt
+-- a record that is not here has a confirmation, a confirmation names transfer or destruction, and a received record has
+-- a receipt
 abbrev pub has_documents : Record → Status → Bool
 has_documents head status =
-    (is_here status || is_some head.confirmation) && is_disposal_confirmed head.confirmation && (not (is_received status) || is_some head.receipt)
+    (is_here status || is_some head.confirmation) && is_disposal_confirmed head.confirmation
+    && (not (is_received status) || is_some head.receipt)
 
 -- so it is with each record
 abbrev pub AllHaveDocuments : List Record → List Status → Type 0
 AllHaveDocuments records statuses =
-    (r : ℕ) (head : Record) (status : Status) → numbered records r ≡ Some head → numbered statuses r ≡ Some status → has_documents head status ≡ true
+    (r : ℕ) (head : Record) (status : Status) → numbered records r ≡ Some head → numbered statuses r ≡ Some status
+    → has_documents head status ≡ true
 
 -- the day, if there is one, is not after the other
 abbrev pub is_by : ℤ → Option ℤ → Bool
@@ -49,7 +52,8 @@ is_receipted_by last (Some receipt) = int_le receipt.day last
 -- no day of an act on the record is after that day
 abbrev pub is_record_by : ℤ → Record → Bool
 is_record_by last head =
-    int_le head.added last && is_reviewed_by last head.review && is_confirmed_by last head.confirmation && is_receipted_by last head.receipt
+    int_le head.added last && is_reviewed_by last head.review && is_confirmed_by last head.confirmation
+    && is_receipted_by last head.receipt
 
 -- no day of an act on the tree is after that day
 pub record IsTreeBy (aggregations : List Aggregation) (records : List Record) (last : ℤ) : Type 0 where
@@ -62,4 +66,5 @@ AreContentsShort records = All (λ head. nat_le head.length 262_144 ≡ true) re
 
 -- an event is of one of so many records; it occurred on or before the day of its act, which is not after that day
 abbrev pub is_sound_event : ℕ → ℤ → ℕ → Event → Bool
-is_sound_event count last r event = nat_le 1 r && nat_le r count && int_le event.occurred event.day && int_le event.day last
+is_sound_event count last r event =
+    nat_le 1 r && nat_le r count && int_le event.occurred event.day && int_le event.day last

@@ -76,7 +76,8 @@ pub record IsWellFormedEvent (it : Event) : Type 0 where
 
 -- every text, code, day and number of a tree is of its form and within its limit
 pub record IsWellFormedTree (tree : TreeState) : Type 0 where
-  pub schedules : (code : List ℕ) (it : Schedule) → get tree.schedules code ≡ Some it → IsCode code × IsWellFormedSchedule it
+  pub schedules : (code : List ℕ) (it : Schedule) → get tree.schedules code ≡ Some it
+      → IsCode code × IsWellFormedSchedule it
   pub classes : (code : List ℕ) (it : Class) → get tree.classes code ≡ Some it → IsCode code × IsWellFormedClass it
   pub aggregations : (a : ℕ) (it : Aggregation) → numbered tree.aggregations a ≡ Some it → IsWellFormedAggregation it
   pub records : (r : ℕ) (head : Record) → numbered tree.records r ≡ Some head → IsWellFormedRecord head

@@ -1,5 +1,5 @@
--- What the readings of a tree that compute mean, in the rules' own words: the laws of `src/laws.rt` say that they agree.
--- Source: MoReq2010, its classification and disposal scheduling services; what is spent is own.
+-- What the readings of a tree that compute mean, in the rules' own words: the laws of `src/laws.rt` say that they
+-- agree. Source: MoReq2010, its classification and disposal scheduling services; what is spent is own.
 use Rattle.std.specs.Prelude.{◌≡◌, ◌<◌, ◌≤ℤ◌, ◌⊎◌, ℕ, zero, suc, List, Option, Some, None, IsTrue, IsSome, ℤ}
 use Rattle.std.specs.Option.{option_and_then}
 use Rattle.office_terms.specs.Lists.{numbered}
@@ -38,7 +38,8 @@ pub record IsNearestFrom (aggregations : List Aggregation) (from : Option ℕ) (
   pub nearest : ℕ
   pub leads : reached aggregations steps from ≡ Some nearest
   pub own : own_class_of aggregations nearest ≡ Some class
-  pub nearer : (fewer b : ℕ) → fewer < steps → reached aggregations fewer from ≡ Some b → own_class_of aggregations b ≡ None
+  pub nearer : (fewer b : ℕ) → fewer < steps → reached aggregations fewer from ≡ Some b
+      → own_class_of aggregations b ≡ None
 
 -- some aggregation that contains the record has that class as its own, and none nearer has one
 abbrev pub IsNearestClass : TreeState → ℕ → List ℕ → Type 0
@@ -46,7 +47,8 @@ IsNearestClass tree r class = IsNearestFrom tree.aggregations (container_of tree
 
 -- the class of a record: its own, or where it has none that of the nearest aggregation that has one
 abbrev pub IsClassOf : TreeState → ℕ → List ℕ → Type 0
-IsClassOf tree r class = (record_own_class tree r ≡ Some class) ⊎ ((record_own_class tree r ≡ None) × IsNearestClass tree r class)
+IsClassOf tree r class =
+    (record_own_class tree r ≡ Some class) ⊎ ((record_own_class tree r ≡ None) × IsNearestClass tree r class)
 
 -- the greatest added day of the records ever added to the aggregation
 pub record IsLastAddition (records : List Record) (a : ℕ) (day : ℤ) : Type 0 where

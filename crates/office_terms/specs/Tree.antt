@@ -23,7 +23,8 @@ use Rattle.office_terms.specs.declared.head.Record.{Record}
 abbrev pub code_cmp : List ℕ → List ℕ → Ordering
 code_cmp = slice_cmp nat_cmp
 
--- schedules and classes by code; aggregation n and record n at place n - 1; a record's status beside its head; a record's event under its number
+-- schedules and classes by code; aggregation n and record n at place n - 1; a record's status beside its head; a
+-- record's event under its number
 pub record TreeState : Type 0 where
   pub schedules : FinMap code_cmp Schedule
   pub classes : FinMap code_cmp Class
@@ -34,7 +35,8 @@ pub record TreeState : Type 0 where
 
 -- nothing is there yet
 abbrev pub empty_tree : TreeState
-empty_tree = record { schedules = empty; classes = empty; aggregations = []; records = []; statuses = []; events = empty }
+empty_tree =
+    record { schedules = empty; classes = empty; aggregations = []; records = []; statuses = []; events = empty }
 
 -- there is an aggregation, or a record, of that number
 abbrev pub has_aggregation : TreeState → ℕ → Bool
@@ -43,11 +45,13 @@ has_aggregation tree a = nat_le 1 a && nat_le a (length tree.aggregations)
 abbrev pub has_record : TreeState → ℕ → Bool
 has_record tree r = nat_le 1 r && nat_le r (length tree.records)
 
--- the aggregation, its parent, that one's parent and so on. A parent's number is smaller, so there are at most as many steps as the number says
+-- the aggregation, its parent, that one's parent and so on. A parent's number is smaller, so there are at most as many
+-- steps as the number says
 unfoldable pub chain : List Aggregation → ℕ → Option ℕ → List ℕ
 chain aggregations steps None = []
 chain aggregations zero (Some a) = []
-chain aggregations (suc steps) (Some a) = a ∷ chain aggregations steps (option_and_then (λ aggregation. aggregation.parent) (numbered aggregations a))
+chain aggregations (suc steps) (Some a) =
+    a ∷ chain aggregations steps (option_and_then (λ aggregation. aggregation.parent) (numbered aggregations a))
 
 -- the aggregation and all that contain it, the nearest first; so many is its depth
 abbrev pub chain_of : List Aggregation → ℕ → List ℕ
@@ -66,13 +70,16 @@ above tree r = above_in tree.aggregations tree.records r
 
 -- the own class of each of these aggregations
 abbrev pub own_classes : List Aggregation → List ℕ → List (Option (List ℕ))
-own_classes aggregations numbers = map (λ a. option_and_then (λ aggregation. aggregation.class) (numbered aggregations a)) numbers
+own_classes aggregations numbers =
+    map (λ a. option_and_then (λ aggregation. aggregation.class) (numbered aggregations a)) numbers
 
--- the class of an aggregation: its own, else that of the nearest that contains it and has one (MoReq2010, classification service)
+-- the class of an aggregation: its own, else that of the nearest that contains it and has one (MoReq2010,
+-- classification service)
 unfoldable pub aggregation_class_in : List Aggregation → ℕ → Option (List ℕ)
 aggregation_class_in aggregations a = first_some (own_classes aggregations (chain_of aggregations a))
 
--- the class of a record: its own, else that of the nearest aggregation that contains it and has one (MoReq2010, classification service)
+-- the class of a record: its own, else that of the nearest aggregation that contains it and has one (MoReq2010,
+-- classification service)
 unfoldable pub class_in : List Aggregation → List Record → ℕ → Option (List ℕ)
 class_in aggregations records r = first_some (option_and_then (λ head. head.class) (numbered records r) ∷ own_classes aggregations (above_in aggregations records r))
 
@@ -84,7 +91,8 @@ unfoldable pub plan_in : FinMap code_cmp Class → List Aggregation → List Rec
 plan_in classes aggregations records r =
     or_else
     (option_and_then (λ head. head.schedule) (numbered records r))
-    (option_and_then (λ code. option_map (λ class. class.schedule) (get classes code)) (class_in aggregations records r))
+    (option_and_then (λ code. option_map (λ class. class.schedule) (get classes code))
+    (class_in aggregations records r))
 
 abbrev pub plan_of : TreeState → ℕ → Option (List ℕ)
 plan_of tree r = plan_in tree.classes tree.aggregations tree.records r
@@ -97,17 +105,21 @@ schedule_of tree r = option_and_then (get tree.schedules) (plan_of tree r)
 unfoldable pub last_addition : List Record → ℕ → Option ℤ
 last_addition records a = greatest (map (λ head. head.added) (filter (λ head. head.aggregation == a) records))
 
--- the start day by each trigger: the originated day; the added day; the day on which the own aggregation was closed; the last addition to it; the last review, else the added day; the day on which the record's own event occurred
+-- the start day by each trigger: the originated day; the added day; the day on which the own aggregation was closed;
+-- the last addition to it; the last review, else the added day; the day on which the record's own event occurred
 abbrev pub start_by : Trigger → List Aggregation → List Record → Option Event → Record → Option ℤ
 start_by trigger.Origin aggregations records event head = Some head.originated
 start_by trigger.Added aggregations records event head = Some head.added
-start_by trigger.Closed aggregations records event head = option_and_then (λ aggregation. aggregation.closed) (numbered aggregations head.aggregation)
+start_by trigger.Closed aggregations records event head =
+    option_and_then (λ aggregation. aggregation.closed) (numbered aggregations head.aggregation)
 start_by trigger.LastAddition aggregations records event head = last_addition records head.aggregation
-start_by trigger.Review aggregations records event head = or_else (option_map (λ review. review.day) head.review) (Some head.added)
+start_by trigger.Review aggregations records event head =
+    or_else (option_map (λ review. review.day) head.review) (Some head.added)
 start_by trigger.Event aggregations records event head = option_map (λ it. it.occurred) event
 
 unfoldable pub start_in : List Aggregation → List Record → FinMap nat_cmp Event → Schedule → ℕ → Option ℤ
-start_in aggregations records events schedule r = option_and_then (λ head. start_by schedule.trigger aggregations records (get events r) head) (numbered records r)
+start_in aggregations records events schedule r =
+    option_and_then (λ head. start_by schedule.trigger aggregations records (get events r) head) (numbered records r)
 
 -- the day on which the record's event occurred
 abbrev pub event_day : TreeState → ℕ → Option ℤ
@@ -115,7 +127,8 @@ event_day tree r = option_map (λ it. it.occurred) (get tree.events r)
 
 -- the start day of a record by its plan
 abbrev pub start_of : TreeState → ℕ → Option ℤ
-start_of tree r = option_and_then (λ schedule. start_in tree.aggregations tree.records tree.events schedule r) (schedule_of tree r)
+start_of tree r =
+    option_and_then (λ schedule. start_in tree.aggregations tree.records tree.events schedule r) (schedule_of tree r)
 
 -- the action is to retain permanently (MoReq2010, disposal scheduling service)
 abbrev pub is_keep : Action → Bool
@@ -124,7 +137,8 @@ is_keep action.Review = false
 is_keep action.Transfer = false
 is_keep action.Destroy = false
 
--- the start plus the period, then the offset; none where there is no start or the action is to keep (MoReq2010, disposal scheduling service)
+-- the start plus the period, then the offset; none where there is no start or the action is to keep (MoReq2010,
+-- disposal scheduling service)
 unfoldable pub due_by : Schedule → Option ℤ → Option ℤ
 due_by schedule start =
     if is_keep schedule.action then None else option_map (λ day. due_from day schedule.period schedule.offset) start

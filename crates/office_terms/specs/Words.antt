@@ -21,7 +21,9 @@ trigger_word Event = codes "event"
 
 -- the trigger that a text names: the one whose word it is
 abbrev pub trigger_named : List ℕ → Option Trigger
-trigger_named text = find (λ trigger. bytes_eq text (trigger_word trigger)) (Origin ∷ Added ∷ Closed ∷ LastAddition ∷ Review ∷ Event ∷ [])
+trigger_named text =
+    find (λ trigger. bytes_eq text (trigger_word trigger))
+    (Origin ∷ Added ∷ Closed ∷ LastAddition ∷ Review ∷ Event ∷ [])
 
 -- the word for each action
 abbrev pub action_word : Action → List ℕ
@@ -32,7 +34,9 @@ action_word action.Destroy = codes "destroy"
 
 -- the action that a text names: the one whose word it is
 abbrev pub action_named : List ℕ → Option Action
-action_named text = find (λ action. bytes_eq text (action_word action)) (action.Keep ∷ action.Review ∷ action.Transfer ∷ action.Destroy ∷ [])
+action_named text =
+    find (λ action. bytes_eq text (action_word action))
+    (action.Keep ∷ action.Review ∷ action.Transfer ∷ action.Destroy ∷ [])
 
 -- the word for each status
 abbrev pub status_word : Status → List ℕ

@@ -1,4 +1,5 @@
--- What is in each aggregation, records and aggregations alike, linked from the last to the first, so that it is gone through without the others. Source: own.
+-- What is in each aggregation, records and aggregations alike, linked from the last to the first, so that it is gone
+-- through without the others. Source: own.
 use Rattle.std.specs.Prelude.{◌≡◌, ◌+◌, ◌<◌, ◌≤◌, ℕ, List, map, length, Some}
 use Rattle.std.specs.Option.{unwrap_or}
 use Rattle.office_terms.specs.Lists.{numbered}
@@ -26,7 +27,8 @@ pub record AreLinked (child_lists : List ℕ) (count : ℕ) (last before : List 
   pub things : length before ≡ length child_lists
   pub within : (r a : ℕ) → numbered child_lists r ≡ Some a → a ≤ count
   pub lasts : (a q : ℕ) → numbered last a ≡ Some q → IsLastBelow child_lists a (length child_lists + 1) q
-  pub befores : (r a q : ℕ) → 0 < a → numbered child_lists r ≡ Some a → numbered before r ≡ Some q → IsLastBelow child_lists a r q
+  pub befores : (r a q : ℕ) → 0 < a → numbered child_lists r ≡ Some a → numbered before r ≡ Some q
+      → IsLastBelow child_lists a r q
 
 -- so the records of a tree are linked
 abbrev pub HasLinks : TreeState → List ℕ → List ℕ → Type 0

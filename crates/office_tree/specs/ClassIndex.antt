@@ -15,7 +15,8 @@ NumberMap = FinMap code_cmp ℕ
 
 -- the number is that of the record's class
 abbrev pub IsOfClass : NumberMap → List Aggregation → List Record → ℕ → ℕ → Type 0
-IsOfClass numbers aggregations records r class = option_and_then (get numbers) (class_in aggregations records r) ≡ Some class
+IsOfClass numbers aggregations records r class =
+    option_and_then (get numbers) (class_in aggregations records r) ≡ Some class
 
 -- each class has a number, and a list under it
 pub record HaveNumbers (classes : FinMap code_cmp Class) (numbers : NumberMap) (count : ℕ) : Type 0 where
@@ -23,7 +24,8 @@ pub record HaveNumbers (classes : FinMap code_cmp Class) (numbers : NumberMap) (
   pub within : (code : List ℕ) (n : ℕ) → get numbers code ≡ Some n → (0 < n) × (n ≤ count)
 
 -- the classes have numbers and lists, and each record is on the list of its class
-pub record AreListed (classes : FinMap code_cmp Class) (aggregations : List Aggregation) (records : List Record) (numbers : NumberMap) (first next previous class : List ℕ) : Type 0 where
+pub record AreListed (classes : FinMap code_cmp Class) (aggregations : List Aggregation) (records : List Record)
+    (numbers : NumberMap) (first next previous class : List ℕ) : Type 0 where
   pub numbers_agree : HaveNumbers classes numbers (length first)
   pub class_lists : AreClassLists first next previous class
   pub count : length class ≡ length records

@@ -1,5 +1,5 @@
--- What is cached of each record, so that it is not computed again each time: its schedule in effect, its due day, and whether a
--- disposal run may take it. Source: own.
+-- What is cached of each record, so that it is not computed again each time: its schedule in effect, its due day, and
+-- whether a disposal run may take it. Source: own.
 use Rattle.std.specs.Prelude.{◌≡◌, ℕ, List, length, Some}
 use Rattle.office_terms.specs.Candidates.{is_candidate}
 use Rattle.office_terms.specs.Lists.{numbered}

@@ -12,7 +12,8 @@ use Rattle.office_tree.specs.declared.summary.AggregationSummary.{AggregationSum
 abbrev pub live_below : TreeState → ℕ → List ℕ
 live_below tree a = filter (λ r. not (holds_of (status_of tree r) is_ended)) (records_below tree a)
 
--- what is cached of an aggregation is right: the last addition to it, how many records are below it, and how many of these are not ended
+-- what is cached of an aggregation is right: the last addition to it, how many records are below it, and how many of
+-- these are not ended
 pub record IsSummary (tree : TreeState) (a : ℕ) (it : AggregationSummary) : Type 0 where
   pub last_addition : it.last_addition ≡ last_addition tree.records a
   pub records : it.records ≡ length (records_below tree a)
@@ -24,9 +25,11 @@ pub record AreSummaries (tree : TreeState) (summaries : List AggregationSummary)
   pub each : (a : ℕ) (it : AggregationSummary) → numbered summaries a ≡ Some it → IsSummary tree a it
 
 -- of their last additions alone
-pub record AreLastAdditions (summaries : List AggregationSummary) (aggregations : List Aggregation) (records : List Record) : Type 0 where
+pub record AreLastAdditions (summaries : List AggregationSummary) (aggregations : List Aggregation)
+    (records : List Record) : Type 0 where
   pub count : length summaries ≡ length aggregations
-  pub each : (a : ℕ) (it : AggregationSummary) → numbered summaries a ≡ Some it → it.last_addition ≡ last_addition records a
+  pub each : (a : ℕ) (it : AggregationSummary) → numbered summaries a ≡ Some it
+      → it.last_addition ≡ last_addition records a
 
 -- an aggregation is the container of a record, or contains it
 abbrev pub is_in_chain : List Aggregation → ℕ → ℕ → Bool
@@ -41,17 +44,23 @@ added_to aggregations container day is_live a it = record {
 }
 
 -- and so of all aggregations
-pub record AreAdded (aggregations : List Aggregation) (container : ℕ) (day : ℤ) (is_live : Bool) (old new : List AggregationSummary) : Type 0 where
+pub record AreAdded (aggregations : List Aggregation) (container : ℕ) (day : ℤ) (is_live : Bool)
+    (old new : List AggregationSummary) : Type 0 where
   pub count : length new ≡ length old
-  pub each : (a : ℕ) (it : AggregationSummary) → numbered old a ≡ Some it → numbered new a ≡ Some (added_to aggregations container day is_live a it)
+  pub each : (a : ℕ) (it : AggregationSummary) → numbered old a ≡ Some it
+      → numbered new a ≡ Some (added_to aggregations container day is_live a it)
 
 -- what is cached of an aggregation once a record of a container was live, or not, and is live, or not
-pub record IsTurned (aggregations : List Aggregation) (container : ℕ) (was is : Bool) (a : ℕ) (old new : AggregationSummary) : Type 0 where
+pub record IsTurned (aggregations : List Aggregation) (container : ℕ) (was is : Bool) (a : ℕ)
+    (old new : AggregationSummary) : Type 0 where
   pub last_addition : new.last_addition ≡ old.last_addition
   pub records : new.records ≡ old.records
-  pub live : new.live + cond (is_in_chain aggregations container a && was) 1 0 ≡ old.live + cond (is_in_chain aggregations container a && is) 1 0
+  pub live : new.live + cond (is_in_chain aggregations container a && was) 1 0
+      ≡ old.live + cond (is_in_chain aggregations container a && is) 1 0
 
 -- and so of all aggregations
-pub record AreTurned (aggregations : List Aggregation) (container : ℕ) (was is : Bool) (old new : List AggregationSummary) : Type 0 where
+pub record AreTurned (aggregations : List Aggregation) (container : ℕ) (was is : Bool)
+    (old new : List AggregationSummary) : Type 0 where
   pub count : length new ≡ length old
-  pub each : (a : ℕ) (it : AggregationSummary) → numbered old a ≡ Some it → (next : AggregationSummary) × (numbered new a ≡ Some next) × IsTurned aggregations container was is a it next
+  pub each : (a : ℕ) (it : AggregationSummary) → numbered old a ≡ Some it
+      → (next : AggregationSummary) × (numbered new a ≡ Some next) × IsTurned aggregations container was is a it next

@@ -108,7 +108,8 @@ with_service_command app = with_subcommand app serve_app.top
 -- `office COMMAND ..`
 unfoldable pub office_app : App
 office_app =
-    with_service_command (with_csv_commands (with_run_commands (with_file_commands (with_plain_commands (with_commands (new_app (codes "office")))))))
+    with_service_command (with_csv_commands
+    (with_run_commands (with_file_commands (with_plain_commands (with_commands (new_app (codes "office")))))))
 
 -- the text of an operand; `clap` takes no words in which one lacks
 abbrev pub text_of : Text → List Row → Text
@@ -142,7 +143,9 @@ asked (Serve file port count) = service_asked file.now port.now count.now
 asked Nothing = nothing_asked
 
 abbrev pub due_asked : List Row → Asked
-due_asked rows = due_day_asked (text_of (codes "UNIT") rows) (text_of (codes "COUNT") rows) (text_of (codes "OFFSET") rows) (text_of (codes "DAY") rows)
+due_asked rows =
+    due_day_asked (text_of (codes "UNIT") rows) (text_of (codes "COUNT") rows) (text_of (codes "OFFSET") rows)
+    (text_of (codes "DAY") rows)
 
 abbrev pub plan_asked : List Row → Asked
 plan_asked rows = plan_file_asked (text_of (codes "FILE") rows)
@@ -160,16 +163,19 @@ abbrev pub number_asked : List Row → Asked
 number_asked rows = certificate_asked (text_of (codes "FILE") rows) (text_of (codes "N") rows)
 
 abbrev pub import_asked : List Row → Asked
-import_asked rows = importation_asked (text_of (codes "FILE") rows) (text_of (codes "DAY") rows) (text_of (codes "CSV") rows)
+import_asked rows =
+    importation_asked (text_of (codes "FILE") rows) (text_of (codes "DAY") rows) (text_of (codes "CSV") rows)
 
 abbrev pub export_asked : List Row → Asked
 export_asked rows = exportation_asked (text_of (codes "FILE") rows) (text_of (codes "REGISTER") rows)
 
 abbrev pub overdue_asked : List Row → Asked
-overdue_asked rows = overdue_list_asked (text_of (codes "FILE") rows) (text_of (codes "DAY") rows) (text_of (codes "COUNT") rows)
+overdue_asked rows =
+    overdue_list_asked (text_of (codes "FILE") rows) (text_of (codes "DAY") rows) (text_of (codes "COUNT") rows)
 
 abbrev pub serve_asked : List Row → Asked
-serve_asked rows = service_asked (text_of (codes "FILE") rows) (text_of (codes "PORT") rows) (text_of (codes "COUNT") rows)
+serve_asked rows =
+    service_asked (text_of (codes "FILE") rows) (text_of (codes "PORT") rows) (text_of (codes "COUNT") rows)
 
 -- what a subcommand with its matches asks for
 abbrev pub asked_in : Option (Text × List Row) → Asked

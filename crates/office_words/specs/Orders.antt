@@ -53,14 +53,16 @@ importation_of file csv None = Err BadText
 
 -- the register that a text names: `entries`, or the day of the due register
 abbrev pub register_named : Text → Option Register
-register_named text = if bytes_eq text (codes "entries") then Some register.Entries else option_map register.Due (day_named text)
+register_named text =
+    if bytes_eq text (codes "entries") then Some register.Entries else option_map register.Due (day_named text)
 
 -- the export of a register, where a text names one
 abbrev pub exportation_of : Text → Option Register → Result Ordered Refusal
 exportation_of file (Some it) = Ok (exportation_ordered file it)
 exportation_of file None = Err BadText
 
--- what is overdue on a day, where texts were read as the day and as the days to confirm: a text that is no day is reported first
+-- what is overdue on a day, where texts were read as the day and as the days to confirm: a text that is no day is
+-- reported first
 abbrev pub overdue_of : Text → Option ℤ → Result ℕ Refusal → Result Ordered Refusal
 overdue_of file (Some day) (Ok days) = Ok (overdue_ordered file day days)
 overdue_of file (Some day) (Err refusal) = Err refusal

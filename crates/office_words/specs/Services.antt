@@ -1,5 +1,5 @@
--- The numbers of a service: the TCP port, and how many connections are served. Source: RFC 9293, section 3.1 (ports have 16 bits),
--- and RFC 6335, section 6 (port 0 is reserved); the count and the reading are own.
+-- The numbers of a service: the TCP port, and how many connections are served. Source: RFC 9293, section 3.1 (ports
+-- have 16 bits), and RFC 6335, section 6 (port 0 is reserved); the count and the reading are own.
 use Rattle.std.specs.Prelude.{ℕ, ◌&&◌, Bool, List, nat_le, Option, Some, None, Result, Ok, Err, if◌then◌else◌}
 use Rattle.office_base.specs.declared.refusal.Refusal.{Refusal}
 use Rattle.office_base.specs.declared.refusal.Refusal.TheVariants.{BadText, BadNumber}
@@ -13,7 +13,8 @@ is_connection_count n = nat_le 1 n && nat_le n 1_000_000
 
 -- both numbers, or the refusal: what is no number is reported before what is out of its range
 abbrev pub service_numbered : Option ℕ → Option ℕ → Result (ℕ × ℕ) Refusal
-service_numbered (Some port) (Some count) = if is_port port && is_connection_count count then Ok (port, count) else Err BadNumber
+service_numbered (Some port) (Some count) =
+    if is_port port && is_connection_count count then Ok (port, count) else Err BadNumber
 service_numbered (Some port) None = Err BadText
 service_numbered None count = Err BadText
 
