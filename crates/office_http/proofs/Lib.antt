@@ -4,6 +4,7 @@ pub mod HeadLemmas
 pub mod MessageLemmas
 pub mod NumberLemmas
 pub mod OneRequest
+pub mod PostedActs
 pub mod SegmentLemmas
 pub mod Utf8Lemmas
 pub mod RouteLemmas

@@ -78,17 +78,22 @@ IsReceived received.Nothing bytes = IsRequest nothing bytes
 IsReceived received.Headless bytes = IsRequest headless bytes
 IsReceived (received.Request it) bytes = (h : RequestHead) × (rest : List ℕ) × IsRequest (asks h rest) bytes × IsAskedBy h rest it
 
--- why the rest of a request with that head was not received
+-- acts in a body of some size are asked for
+abbrev pub HasActs : RequestHead → Type 0
+HasActs h = (size : ℕ) × (plan_at h ≡ Serve (wants.Acts size))
+
+-- why the rest of a request with that head was not received: the body of acts alone takes memory
 abbrev pub IsOutOfMemoryFor : RequestHead → ReceiveStop → Type 0
 IsOutOfMemoryFor h stop.Io = Unit {0}
 IsOutOfMemoryFor h stop.Memory = ⊥
-IsOutOfMemoryFor h (stop.MemoryFor is_head) = is_head ≡ is_head_method h.method
+IsOutOfMemoryFor h stop.MemoryForBody = HasActs h
 
--- why nothing was received of all bytes: where memory ran out after the head, it is the head of these bytes
+-- why nothing was received of all bytes: where memory ran out after the head, these bytes have one that asks for acts
 abbrev pub IsOutOfMemory : ReceiveStop → List ℕ → Type 0
 IsOutOfMemory stop.Io bytes = Unit {0}
 IsOutOfMemory stop.Memory bytes = Unit {0}
-IsOutOfMemory (stop.MemoryFor is_head) bytes = (h : RequestHead) × (rest : List ℕ) × IsRequest (asks h rest) bytes × (is_head ≡ is_head_method h.method)
+IsOutOfMemory stop.MemoryForBody bytes =
+    (h : RequestHead) × (rest : List ℕ) × IsRequest (asks h rest) bytes × HasActs h
 
 -- what came of all bytes: what was received, or why nothing was
 abbrev pub Receives : Result Received ReceiveStop → List ℕ → Type 0

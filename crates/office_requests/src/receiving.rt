@@ -1,5 +1,5 @@
 //! All of a request is read here, and nothing is done yet.
-ghost use Rattle.std.specs.Prelude.{◌≡◌, ◌≢◌, ◌+◌, ◌≤◌, ◌++◌, drop, length, IfErr, IfOk, IfSome, OnErr};
+ghost use Rattle.std.specs.Prelude.{◌≡◌, ◌≢◌, ◌+◌, ℕ, ◌≤◌, ◌++◌, drop, length, IfErr, IfOk, IfSome, OnErr};
 ghost use Rattle.httparse.specs.Grammar.{RequestHead};
 ghost use Rattle.httparse.specs.Spans.{IsRequestAt};
 ghost use Rattle.office_http.specs.RequestPlans.{IsSized};
@@ -67,8 +67,8 @@ pub enum ReceiveStop {
     Io,
     /// Memory was refused before a byte was read.
     Memory,
-    /// Memory was refused for the body, after the head was read; whether its method is HEAD.
-    MemoryFor(bool),
+    /// Memory was refused for the body of acts, after the head was read.
+    MemoryForBody,
 }
 
 /// Reads the body of acts.
@@ -101,7 +101,9 @@ fn receive_wanted<R: Read>(
     requires start_in { start ≤ length buf.items }
     requires small { start ≤ 16_384 }
     requires sized { IsSized (RequestPlan.Serve want) }
-    ensures { AsksFor (want_wanted want) (drop start buf.items) (R.remaining reader.old) result }
+    ensures asked { AsksFor (want_wanted want) (drop start buf.items) (R.remaining reader.old)
+        result }
+    ensures memory { result ≡ Err Stop.Memory → (size : ℕ) × (want ≡ Want.Acts size) }
 {
     match want {
         Want::Acts(size) => receive_acts(reader, buf, start, size),
@@ -124,7 +126,10 @@ fn receive_planned<R: Read>(
     requires start_in { start ≤ length buf.items }
     requires small { start ≤ 16_384 }
     requires sized { IsSized plan }
-    ensures { AsksFor (plan_wanted plan) (drop start buf.items) (R.remaining reader.old) result }
+    ensures asked { AsksFor (plan_wanted plan) (drop start buf.items) (R.remaining reader.old)
+        result }
+    ensures memory { result ≡ Err Stop.Memory
+        → (size : ℕ) × (plan ≡ RequestPlan.Serve (Want.Acts size)) }
 {
     match plan {
         RequestPlan::Refuse(check) => Ok(Operation::Refused(check)),
@@ -153,14 +158,15 @@ fn receive_rest<R: Read>(
     let plan = plan_in(routes, buf.as_slice(), head, headers);
     match receive_planned(reader, buf, head.len, plan) {
         Ok(operation) => Ok(Asked { operation, is_head }),
-        Err(Stop::Memory) => Err(ReceiveStop::MemoryFor(is_head)),
+        Err(Stop::Memory) => Err(ReceiveStop::MemoryForBody),
         Err(Stop::Io) => Err(ReceiveStop::Io),
     }
 }
 
 /// Reads all of a request: its head, and a body where it asks for acts. It is known then whether a
 /// check of the head fails; no act is looked at yet. Nothing is known of the office here, so
-/// nothing is done where it stops.
+/// nothing is done where it stops. Memory is asked for twice: for the head before a byte is read,
+/// and for the body of acts; nothing else that a request asks for takes any here.
 pub fn receive<R: Read>(
     alloc: Global,
     routes: &Routes,

@@ -23,19 +23,15 @@ use Rattle.office_desk.proofs.Found.{after-append}
 use Rattle.office_desk.proofs.StepFates.{after_run, run_steps}
 use Rattle.office_json.specs.Acts.{Asked}
 use Rattle.office_json.specs.Lists.{NoActs, acts_in, bad_act, not_json}
-use Rattle.office_http.specs.Replies.{Response}
-use Rattle.office_wire.specs.Answering.{IsUnreported, PerformsAsked, Resumes, Serves, RunsOutOfMemory}
+use Rattle.office_wire.specs.Answering.{AnyAnswer, IsUnreported, PerformsAsked, Resumes, Serves}
 use Rattle.office_wire.specs.Connections.{Turn, Turns}
+use Rattle.office_wire.specs.Serving.{LeavesServed}
 use Rattle.office_requests.specs.Receiving.{Wanted, acts, certificate_reported, content_reported, cut, due_reported, overdue_reported, record_reported, refused, resumption}
 use Rattle.office_run.specs.NextWord.{IsServedTo, LeavesAt}
 use Rattle.office_run.specs.Serving.{IsDeskOf, ServiceEnds}
 use Rattle.office_orders.specs.declared.ending.Ending.{Ending}
 use Rattle.office_run.proofs.NextStates.{IsEnded, IsOneDatabase, StaySound, at_rows, at_stop, at_unopened, well_formed_prefix, found_same, sound_acts, sound_steps}
 use Rattle.office_run.proofs.Services.{clean_turn, clean_turns}
-
--- any answer
-abbrev any : Response → Type 0
-any r = Unit {0}
 
 well_formed_steps : (n : ℕ) → AreWellFormed (run_steps n)
 well_formed_steps zero = tt
@@ -80,7 +76,7 @@ module _ (stay : StaySound) (ends : IsEnded) {S : Type 0} (g : Ghosts S) where
   stop_served s v w to_v to_w sv sw fault.Version d stops left = absurd stops
 
   module _ (t : State) (sound : IsSound t) (d : DeskState S) where
-    acts_served : (asked : Result (List Asked) NoActs) → PerformsAsked any g t asked d → ServedAt t d
+    acts_served : (asked : Result (List Asked) NoActs) → PerformsAsked AnyAnswer g t asked d → ServedAt t d
     acts_served (Ok all) (done, same, inl it) = inl (after_acts t done, (done, it.formed, refl), it.represents)
     acts_served (Ok all) (done, same, inr (f, n, it)) =
         let sound_at = λ (k : ℕ). sound_acts stay (take k done) t sound (well_formed_prefix k done it.formed) in
@@ -88,7 +84,7 @@ module _ (stay : StaySound) (ends : IsEnded) {S : Type 0} (g : Ghosts S) where
     acts_served (Err not_json) it = as_it_was t d it.1
     acts_served (Err (bad_act place why)) it = as_it_was t d it.1
 
-    run_served : Resumes any g t d → ServedAt t d
+    run_served : Resumes AnyAnswer g t d → ServedAt t d
     run_served (inl (run, it)) =
         let n = suc (length (candidates t.office run)) in
         inl (whole t run, subst (IsServedTo t) (ends t run it.was_open) (steps_to n t), it.closed)
@@ -97,14 +93,14 @@ module _ (stay : StaySound) (ends : IsEnded) {S : Type 0} (g : Ghosts S) where
         let n = it.stopped.0 in
         stop_served t (after_steps t n) (after_steps t (suc n)) (steps_to n t) (steps_to (suc n) t) (sound_steps stay n t sound) (sound_steps stay (suc n) t sound) f d it.stopped.1 it.stopped.2
 
-    unreported_served : (r : ℕ) (f : Fault) → IsUnreported any g t r f d → ServedAt t d
+    unreported_served : (r : ℕ) (f : Fault) → IsUnreported AnyAnswer g t r f d → ServedAt t d
     unreported_served r fault.Store it = inr (it.poisoned refl, λ db may. (t, ([], tt, refl), record { edition = edition.Two; office = it.offices db may; sound = sound; rows = it.leaves db may }))
     unreported_served r fault.Memory it = as_it_was t d (it.kept (λ e. cc))
     unreported_served r fault.Reopen it = as_it_was t d (it.kept (λ e. cc))
     unreported_served r fault.Damaged it = as_it_was t d (it.kept (λ e. cc))
     unreported_served r fault.Version it = as_it_was t d (it.kept (λ e. cc))
 
-    wanted_served : (it : Wanted) → Serves any g t it d → ServedAt t d
+    wanted_served : (it : Wanted) → Serves AnyAnswer g t it d → ServedAt t d
     wanted_served (refused check) served = as_it_was t d served.1
     wanted_served cut served = as_it_was t d served.1
     wanted_served (acts body) served = acts_served (acts_in body) served
@@ -122,9 +118,8 @@ module _ (stay : StaySound) (ends : IsEnded) {S : Type 0} (g : Ghosts S) where
     wanted_served (certificate_reported None) served = as_it_was t d served.1
     wanted_served (certificate_reported (Some run)) served = as_it_was t d served.1
 
-    out_of_memory_served : (it : Wanted) → RunsOutOfMemory g t it d → ServedAt t d
-    out_of_memory_served it (inl represents) = as_it_was t d represents
-    out_of_memory_served it (inr served) = wanted_served it served
+    left_served : LeavesServed g t d → ServedAt t d
+    left_served (it, served) = wanted_served it served
 
   module _ (s : State) where
     after_served : (t : State) (d : DeskState S) → IsServedTo s t → ServedAt t d → ServedAt s d
@@ -135,7 +130,7 @@ module _ (stay : StaySound) (ends : IsEnded) {S : Type 0} (g : Ghosts S) where
     turn_served status old new (inl failed) clean at = subst (ServedAt s) (sym failed.1) at
     turn_served status old new (inr visited) clean (inl (t, to, represents)) =
         let left = visited.call.did t clean represents in
-        after_served t new to (out_of_memory_served t represents.sound new left.0 left.1)
+        after_served t new to (left_served t represents.sound new left)
     turn_served status old new (inr visited) clean (inr (gone, leaves)) = subst (ServedAt s) (sym (visited.kept gone)) (inr (gone, leaves))
 
     turns_served : (n : ℕ) (failed ended : Bool) (old new : DeskState S) → Turns g n failed ended old new → HasCleanDisk (state g new.held) → ServedAt s old → ServedAt s new

@@ -7,15 +7,11 @@ use Rattle.office_desk.specs.Desk.{DeskState}
 use Rattle.office_json.specs.Acts.{Asked}
 use Rattle.office_json.specs.Lists.{NoActs, not_json, bad_act}
 use Rattle.office_http.specs.Replies.{Response}
-use Rattle.office_wire.specs.Answering.{ArePerformed, PerformsAsked, Resumes, Serves, RunsOutOfMemory, ReportsCertificate, ReportsContent, ReportsDue, ReportsOverdue, ReportsRecord}
+use Rattle.office_wire.specs.Answering.{AnyAnswer, ArePerformed, PerformsAsked, Resumes, Serves, RunsOutOfMemory, ReportsCertificate, ReportsContent, ReportsDue, ReportsOverdue, ReportsRecord}
 use Rattle.office_requests.specs.Receiving.{Wanted, refused, cut, acts, resumption, record_reported, content_reported, due_reported, overdue_reported, certificate_reported}
-use Rattle.office_wire.specs.Serving.{IsServed}
+use Rattle.office_wire.specs.Serving.{IsServed, LeavesServed}
 
--- any answer
-abbrev any : Response → Type 0
-any r = Unit {0}
-
-performed_any : {S : Type 0} (Reported : Response → Type 0) (g : Ghosts S) (t : State) (done : List Act) (desk : DeskState S) → ArePerformed Reported g t done desk → ArePerformed any g t done desk
+performed_any : {S : Type 0} (Reported : Response → Type 0) (g : Ghosts S) (t : State) (done : List Act) (desk : DeskState S) → ArePerformed Reported g t done desk → ArePerformed AnyAnswer g t done desk
 performed_any Reported g t done desk (inl it) = inl (record { formed = it.formed; reported = tt; represents = it.represents; fates = it.fates })
 performed_any Reported g t done desk (inr it) = inr (
   it.0,
@@ -31,12 +27,12 @@ performed_any Reported g t done desk (inr it) = inr (
   },
 )
 
-asked_any : {S : Type 0} (Reported : Response → Type 0) (g : Ghosts S) (t : State) (asked : Result (List Asked) NoActs) (desk : DeskState S) → PerformsAsked Reported g t asked desk → PerformsAsked any g t asked desk
+asked_any : {S : Type 0} (Reported : Response → Type 0) (g : Ghosts S) (t : State) (asked : Result (List Asked) NoActs) (desk : DeskState S) → PerformsAsked Reported g t asked desk → PerformsAsked AnyAnswer g t asked desk
 asked_any Reported g t (Ok all) desk it = (it.0, it.1, performed_any Reported g t it.0 desk it.2)
 asked_any Reported g t (Err not_json) desk it = (tt, it.1)
 asked_any Reported g t (Err (bad_act place why)) desk it = (tt, it.1)
 
-resumed_any : {S : Type 0} (Reported : Response → Type 0) (g : Ghosts S) (t : State) (desk : DeskState S) → Resumes Reported g t desk → Resumes any g t desk
+resumed_any : {S : Type 0} (Reported : Response → Type 0) (g : Ghosts S) (t : State) (desk : DeskState S) → Resumes Reported g t desk → Resumes AnyAnswer g t desk
 resumed_any Reported g t desk (inl it) = inl (
   it.0,
   record {
@@ -59,7 +55,7 @@ resumed_any Reported g t desk (inr (inr it)) = inr (inr (
   },
 ))
 
-content_any : {S : Type 0} (Reported : Response → Type 0) (g : Ghosts S) (t : State) (r : Option ℕ) (desk : DeskState S) → ReportsContent Reported g t r desk → ReportsContent any g t r desk
+content_any : {S : Type 0} (Reported : Response → Type 0) (g : Ghosts S) (t : State) (r : Option ℕ) (desk : DeskState S) → ReportsContent Reported g t r desk → ReportsContent AnyAnswer g t r desk
 content_any Reported g t None desk it = (tt, it.1)
 content_any Reported g t (Some r) desk (inl it) = inl (it.0, it.1, tt, it.3)
 content_any Reported g t (Some r) desk (inr it) = inr (
@@ -75,24 +71,24 @@ content_any Reported g t (Some r) desk (inr it) = inr (
   },
 )
 
-record_any : {S : Type 0} (Reported : Response → Type 0) (g : Ghosts S) (t : State) (r : Option ℕ) (desk : DeskState S) → ReportsRecord Reported g t r desk → ReportsRecord any g t r desk
+record_any : {S : Type 0} (Reported : Response → Type 0) (g : Ghosts S) (t : State) (r : Option ℕ) (desk : DeskState S) → ReportsRecord Reported g t r desk → ReportsRecord AnyAnswer g t r desk
 record_any Reported g t None desk it = (tt, it.1)
 record_any Reported g t (Some r) desk it = (inl tt, it.1)
 
-due_any : {S : Type 0} (Reported : Response → Type 0) (g : Ghosts S) (t : State) (day : Option ℤ) (desk : DeskState S) → ReportsDue Reported g t day desk → ReportsDue any g t day desk
+due_any : {S : Type 0} (Reported : Response → Type 0) (g : Ghosts S) (t : State) (day : Option ℤ) (desk : DeskState S) → ReportsDue Reported g t day desk → ReportsDue AnyAnswer g t day desk
 due_any Reported g t None desk it = (tt, it.1)
 due_any Reported g t (Some day) desk it = (inr tt, it.1)
 
-overdue_any : {S : Type 0} (Reported : Response → Type 0) (g : Ghosts S) (t : State) (day : Option ℤ) (count : Option ℕ) (desk : DeskState S) → ReportsOverdue Reported g t day count desk → ReportsOverdue any g t day count desk
+overdue_any : {S : Type 0} (Reported : Response → Type 0) (g : Ghosts S) (t : State) (day : Option ℤ) (count : Option ℕ) (desk : DeskState S) → ReportsOverdue Reported g t day count desk → ReportsOverdue AnyAnswer g t day count desk
 overdue_any Reported g t None count desk it = (tt, it.1)
 overdue_any Reported g t (Some day) None desk it = (tt, it.1)
 overdue_any Reported g t (Some day) (Some n) desk it = (inr tt, it.1)
 
-certificate_any : {S : Type 0} (Reported : Response → Type 0) (g : Ghosts S) (t : State) (run : Option ℕ) (desk : DeskState S) → ReportsCertificate Reported g t run desk → ReportsCertificate any g t run desk
+certificate_any : {S : Type 0} (Reported : Response → Type 0) (g : Ghosts S) (t : State) (run : Option ℕ) (desk : DeskState S) → ReportsCertificate Reported g t run desk → ReportsCertificate AnyAnswer g t run desk
 certificate_any Reported g t None desk it = (tt, it.1)
 certificate_any Reported g t (Some run) desk it = (inl tt, it.1)
 
-serves_any : {S : Type 0} (Reported : Response → Type 0) (g : Ghosts S) (t : State) (it : Wanted) (desk : DeskState S) → Serves Reported g t it desk → Serves any g t it desk
+serves_any : {S : Type 0} (Reported : Response → Type 0) (g : Ghosts S) (t : State) (it : Wanted) (desk : DeskState S) → Serves Reported g t it desk → Serves AnyAnswer g t it desk
 serves_any Reported g t (refused check) desk served = (tt, served.1)
 serves_any Reported g t cut desk served = (tt, served.1)
 serves_any Reported g t (acts body) desk served = asked_any Reported g t _ desk served
@@ -103,7 +99,21 @@ serves_any Reported g t (due_reported day) desk served = due_any Reported g t da
 serves_any Reported g t (overdue_reported day count) desk served = overdue_any Reported g t day count desk served
 serves_any Reported g t (certificate_reported run) desk served = certificate_any Reported g t run desk served
 
+-- where memory ran out for it, the desk is where serving it leaves it, or where it was
+out_of_memory_leaves : {S : Type 0} (g : Ghosts S) (t : State) (it : Wanted) (desk : DeskState S) → RunsOutOfMemory g t it desk → LeavesServed g t desk
+out_of_memory_leaves g t (refused check) desk out = absurd out
+out_of_memory_leaves g t cut desk out = absurd out
+out_of_memory_leaves g t (acts body) desk (inl at) = (cut, (tt, at))
+out_of_memory_leaves g t (acts body) desk (inr served) = (acts body, served)
+out_of_memory_leaves g t resumption desk served = (resumption, served)
+out_of_memory_leaves g t (record_reported r) desk out = (cut, (tt, out.1))
+out_of_memory_leaves g t (content_reported None) desk out = absurd out
+out_of_memory_leaves g t (content_reported (Some r)) desk out = (content_reported (Some r), inr out)
+out_of_memory_leaves g t (due_reported day) desk out = (cut, (tt, out.1))
+out_of_memory_leaves g t (overdue_reported day count) desk out = (cut, (tt, out.2))
+out_of_memory_leaves g t (certificate_reported run) desk out = (cut, (tt, out.1))
+
 -- what is served leaves the desk as serving it may
-pub served_leaves : {S : Type 0} (g : Ghosts S) (t : State) (it : Wanted) (r : Response) (desk : DeskState S) → IsServed g t it r desk → RunsOutOfMemory g t it desk
-served_leaves g t it r desk (inl answered) = inr (serves_any (λ reported. r ≡ reported) g t it desk answered)
-served_leaves g t it r desk (inr out_of_memory) = out_of_memory.1
+pub served_leaves : {S : Type 0} (g : Ghosts S) (t : State) (it : Wanted) (r : Response) (desk : DeskState S) → IsServed g t it r desk → LeavesServed g t desk
+served_leaves g t it r desk (inl answered) = (it, serves_any (λ reported. r ≡ reported) g t it desk answered)
+served_leaves g t it r desk (inr (is, out)) = out_of_memory_leaves g t it desk out

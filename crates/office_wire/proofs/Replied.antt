@@ -1,5 +1,5 @@
 -- The answer to a request that was received.
-use Rattle.std.proofs.Common.{◌≡◌, ◌⊎◌, ◌∙◌, ap, refl, subst, inl, inr, ℕ, Bool, false, List, Option, Some, None, Result, Ok, Err}
+use Rattle.std.proofs.Common.{◌≡◌, ◌⊎◌, ◌∙◌, ap, refl, subst, sym, inl, inr, ℕ, Bool, false, List, Option, Some, None, Result, Ok, Err}
 use Rattle.std.specs.Prelude.{IfSome, IsSome}
 use Rattle.std.proofs.lemmas.Result.{IfOk-weaker}
 use Rattle.httparse.specs.Grammar.{RequestHead}
@@ -12,10 +12,11 @@ use Rattle.office_http.specs.Replies.{Response, response, status_number}
 use Rattle.office_http.specs.Requests.{IsRequest, asks, headless}
 use Rattle.office_http.specs.declared.failure.Failure.TheVariants as failure
 use Rattle.office_http.specs.declared.status.Status.{Status}
+use Rattle.office_http.proofs.PostedActs.{acts_are_no_head}
 use Rattle.office_base.specs.declared.output.Io.{Io}
 use Rattle.office_wire.specs.Calling.{AnsweredAt, CalledAt}
 use Rattle.office_wire.specs.Connections.{IsVisited}
-use Rattle.office_requests.specs.Receiving.{IsAskedBy, IsReceived, IsOutOfMemory, Wanted, asked_for, cut}
+use Rattle.office_requests.specs.Receiving.{HasActs, IsAskedBy, IsReceived, IsOutOfMemory, Wanted, asked_for, cut}
 use Rattle.office_wire.specs.Serving.{AnswersNext, Breaks, GoneReplies, HasReply, InHalves, IsFailed, IsGoneReply, IsGoneServed, IsGoneToSend, IsNextReady, IsOneServed, IsReply, IsSent, IsServed, IsToSend, Replies, Sends, ServesOne, ReportsUnavailable}
 use Rattle.office_requests.specs.declared.receiving.Asked.{Asked}
 use Rattle.office_requests.specs.declared.receiving.Received.TheVariants as received
@@ -31,25 +32,29 @@ some_more (Some a) P Q it more = more a it
 pub asked_reply : {S : Type 0} (g : Ghosts S) (t : State) (bytes : List ℕ) (unread : Type 0) (h : RequestHead) (rest : List ℕ) (it : Asked) (is_head : Bool) (r : Response) (desk : DeskState S)
     → IsRequest (asks h rest) bytes → IsAskedBy h rest it → is_head ≡ it.is_head → IsServed g t (asked_for it.operation) r desk → IsReply g t bytes unread is_head r desk
 asked_reply g t bytes unread h rest it is_head r desk request by same served =
-    inl (asks h rest, request, (same ∙ by.is_head, subst (λ (w : Wanted). IsServed g t w r desk) by.wanted served))
+    inl (asks h rest, request, (same ∙ by.is_head, inl (subst (λ (w : Wanted). IsServed g t w r desk) by.wanted served)))
 
-pub out_of_memory_reply : {S : Type 0} (g : Ghosts S) (t : State) (bytes : List ℕ) (unread : Type 0) (h : RequestHead) (rest : List ℕ) (is_head : Bool) (it : Option OutgoingReply) (desk : DeskState S)
-    → IsRequest (asks h rest) bytes → is_head ≡ is_head_method h.method → IsFailed failure.Memory is_head it → IsAt g t desk → IsToSend g t bytes unread it desk
-out_of_memory_reply g t bytes unread h rest is_head None desk request same failed represents = absurd failed
-out_of_memory_reply g t bytes unread h rest is_head (Some it) desk request same failed represents =
-    inl (asks h rest, request, (failed.1 ∙ same, inr (failed.0, inl represents)))
+-- acts are not asked for by HEAD
+no_head : (h : RequestHead) (is_head : Bool) → HasActs h → is_head ≡ false → is_head ≡ is_head_method h.method
+no_head h is_head has is = is ∙ sym (acts_are_no_head h has.0 has.1)
+
+out_of_memory_reply : {S : Type 0} (g : Ghosts S) (t : State) (bytes : List ℕ) (unread : Type 0) (h : RequestHead) (rest : List ℕ) (it : Option OutgoingReply) (desk : DeskState S)
+    → IsRequest (asks h rest) bytes → HasActs h → IsFailed failure.Memory false it → IsAt g t desk → IsToSend g t bytes unread it desk
+out_of_memory_reply g t bytes unread h rest None desk request has failed represents = absurd failed
+out_of_memory_reply g t bytes unread h rest (Some it) desk request has failed represents =
+    inl (asks h rest, request, (no_head h it.is_head has failed.1, inr ((has, failed.0), represents)))
 
 -- from a poisoned desk
 pub asked_gone : (bytes : List ℕ) (unread : Type 0) (h : RequestHead) (rest : List ℕ) (it : Asked) (is_head : Bool) (r : Response)
     → IsRequest (asks h rest) bytes → IsAskedBy h rest it → is_head ≡ it.is_head → IsGoneServed (asked_for it.operation) r → IsGoneReply bytes unread is_head r
 asked_gone bytes unread h rest it is_head r request by same served =
-    inl (asks h rest, request, (same ∙ by.is_head, subst (λ (w : Wanted). IsGoneServed w r) by.wanted served))
+    inl (asks h rest, request, (same ∙ by.is_head, inl (subst (λ (w : Wanted). IsGoneServed w r) by.wanted served)))
 
-pub out_of_memory_gone : (bytes : List ℕ) (unread : Type 0) (h : RequestHead) (rest : List ℕ) (is_head : Bool) (it : Option OutgoingReply)
-    → IsRequest (asks h rest) bytes → is_head ≡ is_head_method h.method → IsFailed failure.Memory is_head it → IsGoneToSend bytes unread it
-out_of_memory_gone bytes unread h rest is_head None request same failed = absurd failed
-out_of_memory_gone bytes unread h rest is_head (Some it) request same failed =
-    inl (asks h rest, request, (failed.1 ∙ same, inr failed.0))
+out_of_memory_gone : (bytes : List ℕ) (unread : Type 0) (h : RequestHead) (rest : List ℕ) (it : Option OutgoingReply)
+    → IsRequest (asks h rest) bytes → HasActs h → IsFailed failure.Memory false it → IsGoneToSend bytes unread it
+out_of_memory_gone bytes unread h rest None request has failed = absurd failed
+out_of_memory_gone bytes unread h rest (Some it) request has failed =
+    inl (asks h rest, request, (no_head h it.is_head has failed.1, inr (has, failed.0)))
 
 -- what was to be written is written
 sent_reply : {S : Type 0} (g : Ghosts S) (t : State) (bytes : List ℕ) (unread : Type 0) (it : Option OutgoingReply) (status : ℕ) (written after : Option (List ℕ)) (desk : DeskState S)
@@ -74,7 +79,7 @@ module _ {S : Type 0} (g : Ghosts S) (all : Option (List ℕ)) (unread : Type 0)
       → AnsweredAt g desk desk (λ t. IsNextReady g t all unread (Ok next) desk) (IfSome all (λ bytes. IsGoneToSend bytes unread next)) (ReportsUnavailable next)
   unasked desk next Came came to gone =
       not_answered g desk (λ t. IsNextReady g t all unread (Ok next) desk) (IfSome all (λ bytes. IsGoneToSend bytes unread next)) (ReportsUnavailable next)
-      (λ t at. record { ok = some_more all Came (λ bytes. IsToSend g t bytes unread next desk) came (λ bytes it. to t bytes at it); leaves = (cut, inl at) })
+      (λ t at. record { ok = some_more all Came (λ bytes. IsToSend g t bytes unread next desk) came (λ bytes it. to t bytes at it); leaves = (cut, (tt, at)) })
       (some_more all Came (λ bytes. IsGoneToSend bytes unread next) came gone)
 
   pub silent_next : (desk : DeskState S) → IfSome all (λ bytes. IsReceived received.Nothing bytes)
@@ -108,12 +113,12 @@ module _ {S : Type 0} (g : Ghosts S) (all : Option (List ℕ)) (unread : Type 0)
   unread_next desk next is failed came =
       unasked desk next (λ bytes. IsOutOfMemory stop.Memory bytes) came (λ t bytes at it. unread_to t desk next bytes is failed at) (λ bytes it. unread_gone next bytes is failed)
 
-  -- or after the head
-  pub out_of_memory_next : (desk : DeskState S) (is_head : Bool) (next : Option OutgoingReply) → IsFailed failure.Memory is_head next → IfSome all (λ bytes. IsOutOfMemory (stop.MemoryFor is_head) bytes)
+  -- or for the body of acts
+  pub out_of_memory_next : (desk : DeskState S) (next : Option OutgoingReply) → IsFailed failure.Memory false next → IfSome all (λ bytes. IsOutOfMemory stop.MemoryForBody bytes)
       → AnsweredAt g desk desk (λ t. IsNextReady g t all unread (Ok next) desk) (IfSome all (λ bytes. IsGoneToSend bytes unread next)) (ReportsUnavailable next)
-  out_of_memory_next desk is_head next failed came =
-      unasked desk next (λ bytes. IsOutOfMemory (stop.MemoryFor is_head) bytes) came
-      (λ t bytes at it. out_of_memory_reply g t bytes unread it.0 it.1 is_head next desk it.2 it.3 failed at) (λ bytes it. out_of_memory_gone bytes unread it.0 it.1 is_head next it.2 it.3 failed)
+  out_of_memory_next desk next failed came =
+      unasked desk next (λ bytes. IsOutOfMemory stop.MemoryForBody bytes) came
+      (λ t bytes at it. out_of_memory_reply g t bytes unread it.0 it.1 next desk it.2 it.3 failed at) (λ bytes it. out_of_memory_gone bytes unread it.0 it.1 next it.2 it.3 failed)
 
   -- a request was answered
   pub asked_next : (old new : DeskState S) (asked : Asked) (sent : OutgoingReply) → IfSome all (λ bytes. IsReceived (received.Request asked) bytes) → sent.is_head ≡ asked.is_head → HasReply g (asked_for asked.operation) (response sent.reply) old new
@@ -125,7 +130,7 @@ module _ {S : Type 0} (g : Ghosts S) (all : Option (List ℕ)) (unread : Type 0)
       record {
         ok = some_more all (λ bytes. IsReceived (received.Request asked) bytes) (λ bytes. IsToSend g t bytes unread (Some sent) new) came
             (λ bytes is. asked_reply g t bytes unread is.0 is.1 asked sent.is_head r new is.2 is.3 same served);
-        leaves = (asked_for asked.operation, served_leaves g t (asked_for asked.operation) r new served);
+        leaves = served_leaves g t (asked_for asked.operation) r new served;
       })
       (λ gone. some_more all (λ bytes. IsReceived (received.Request asked) bytes) (λ bytes. IsGoneToSend bytes unread (Some sent)) came
       (λ bytes is. asked_gone bytes unread is.0 is.1 asked sent.is_head r is.2 is.3 same gone))
@@ -133,7 +138,7 @@ module _ {S : Type 0} (g : Ghosts S) (all : Option (List ℕ)) (unread : Type 0)
 
   -- the reader failed
   pub failed_next : (desk : DeskState S) (e : Io) → AnsweredAt g desk desk (λ t. IsNextReady g t all unread (Err e) desk) (Unit {0}) (Unit {0})
-  failed_next desk e = not_answered g desk (λ t. IsNextReady g t all unread (Err e) desk) (Unit {0}) (Unit {0}) (λ t at. record { ok = tt; leaves = (cut, inl at) }) tt
+  failed_next desk e = not_answered g desk (λ t. IsNextReady g t all unread (Err e) desk) (Unit {0}) (Unit {0}) (λ t at. record { ok = tt; leaves = (cut, (tt, at)) }) tt
 
 -- ---- both halves
 

@@ -1,6 +1,6 @@
 -- What is answered to what is asked of the office, and where the desk is then. Source: own.
 use Rattle.std.specs.FinMap.{get}
-use Rattle.std.specs.Prelude.{◌≡◌, ◌≢◌, ◌⊎◌, ◌+◌, ◌≤◌, ℕ, ℤ, suc, IfOk, IsTrue, List, MatchResult, [], length, map, take, Option, Some, None, Result, Ok, Err}
+use Rattle.std.specs.Prelude.{◌≡◌, ◌≢◌, ◌⊎◌, ◌+◌, ◌≤◌, ℕ, ℤ, suc, IfOk, IsSome, IsTrue, List, MatchResult, [], length, map, take, Option, Some, None, Result, Ok, Err}
 use Rattle.sqlite.specs.Held.{state}
 use Rattle.sqlite_trees.specs.declared.store.Store.{Ghosts}
 use Rattle.office_base.specs.declared.refusal.Refusal.TheVariants as refusal
@@ -62,7 +62,7 @@ PerformsAsked Reported g t (Err (bad_act place why)) desk = Reported (bad_act_re
 
 -- ---- the open run
 
--- the open run was taken up and closed, in whatever moment it had been stopped
+-- the open run was resumed and closed, at whatever moment it had been stopped
 pub record IsResumed {S : Type 0} (Reported : Response → Type 0) (g : Ghosts S) (t : State) (run : ℕ) (desk : DeskState S) : Type 0 where
   pub was_open : open_run t.office ≡ Some run
   pub reported : Reported (answer_response (RunClosed run))
@@ -193,9 +193,35 @@ IsUnavailable r = r.status ≡ status.ServiceUnavailable
 
 -- ---- lack of memory
 
--- memory ran out for its answer: nothing was done, or it was served and no answer given
+-- any answer, or none
+abbrev pub AnyAnswer : Response → Type 0
+AnyAnswer r = Unit {0}
+
+-- what takes memory to answer: a failed check, a cut body and what names nothing are answered from fixed bytes
+abbrev pub TakesMemory : Wanted → Type 0
+TakesMemory (refused check) = ⊥
+TakesMemory cut = ⊥
+TakesMemory (acts body) = Unit {0}
+TakesMemory resumption = Unit {0}
+TakesMemory (record_reported r) = IsSome r
+TakesMemory (content_reported r) = IsSome r
+TakesMemory (due_reported day) = IsSome day
+TakesMemory (overdue_reported day n) = IsSome day × IsSome n
+TakesMemory (certificate_reported run) = IsSome run
+
+-- memory ran out for its answer: what it asks for was done, but for acts that could not be read; of a content only the
+-- answer to a fault takes memory
 abbrev pub RunsOutOfMemory : {S : Type 0} → Ghosts S → State → Wanted → DeskState S → Type 0
-RunsOutOfMemory g t wanted desk = IsAt g t desk ⊎ Serves (λ reported. Unit {0}) g t wanted desk
+RunsOutOfMemory g t (refused check) desk = ⊥
+RunsOutOfMemory g t cut desk = ⊥
+RunsOutOfMemory g t (acts body) desk = IsAt g t desk ⊎ PerformsAsked AnyAnswer g t (acts_in body) desk
+RunsOutOfMemory g t resumption desk = Resumes AnyAnswer g t desk
+RunsOutOfMemory g t (record_reported r) desk = IsSome r × IsAt g t desk
+RunsOutOfMemory g t (content_reported None) desk = ⊥
+RunsOutOfMemory g t (content_reported (Some r)) desk = (f : Fault) × IsUnreported AnyAnswer g t r f desk
+RunsOutOfMemory g t (due_reported day) desk = IsSome day × IsAt g t desk
+RunsOutOfMemory g t (overdue_reported day n) desk = IsSome day × IsSome n × IsAt g t desk
+RunsOutOfMemory g t (certificate_reported run) desk = IsSome run × IsAt g t desk
 
 -- ---- calls at a desk
 
@@ -216,13 +242,22 @@ ArePerformedBy g done given old new =
 abbrev pub IsPerformed : {S : Type 0} → Ghosts S → Wanted → Result Reply Memory → DeskState S → DeskState S → Type 0
 IsPerformed g wanted given old new = AnsweredAt g old new (λ t. Serves (IsGiven given) g t wanted new) (IsGiven given (gone_response wanted)) (IsGivenUnavailable given)
 
--- where memory ran out for the answer, perhaps it was not done
+-- at a state it was served with the answer that was given, or memory ran out for that
+abbrev pub IsGivenAt : {S : Type 0} → Ghosts S → State → Wanted → Result Reply Memory → DeskState S → Type 0
+IsGivenAt g t wanted given desk =
+    MatchResult given (λ reply. Answers g t wanted (response reply) desk) (λ _. RunsOutOfMemory g t wanted desk)
+
+-- the answer that was given is that of a poisoned desk, or memory ran out for what takes it
+abbrev pub IsGoneGiven : Wanted → Result Reply Memory → Type 0
+IsGoneGiven wanted given =
+    MatchResult given (λ reply. response reply ≡ gone_response wanted) (λ _. TakesMemory wanted)
+
+-- what is wanted was answered, or memory ran out for the answer
 abbrev pub IsAnswered : {S : Type 0} → Ghosts S → Wanted → Result Reply Memory → DeskState S → DeskState S → Type 0
 IsAnswered g wanted given old new =
-    AnsweredAt g old new (λ t. MatchResult given (λ reply. Answers g t wanted (response reply) new) (λ _. RunsOutOfMemory g t wanted new))
-    (IsGiven given (gone_response wanted)) (IsGivenUnavailable given)
+    AnsweredAt g old new (λ t. IsGivenAt g t wanted given new) (IsGoneGiven wanted given) (IsGivenUnavailable given)
 
 -- what is wanted was read of a desk, which stays as it is, and answered
 pub record IsRead {S : Type 0} (g : Ghosts S) (wanted : Wanted) (given : Result Reply Memory) (desk : DeskState S) : Type 0 where
-  pub ok : (t : State) → IsAt g t desk → IfOk given (λ reply. Answers g t wanted (response reply) desk)
-  pub gone : IsTrue desk.is_poisoned → IsGiven given (gone_response wanted)
+  pub answered : (t : State) → IsAt g t desk → IsGivenAt g t wanted given desk
+  pub gone : IsTrue desk.is_poisoned → IsGoneGiven wanted given

@@ -1,6 +1,7 @@
 -- One request and its answer. Source: own; requests and the form of answers are those of RFC 9112.
 use Rattle.std.specs.Prelude.{◌≡◌, ◌⊎◌, ℕ, Bool, false, List, IfErr, IfOk, IfSome, IsSome, OnErr, Option, Some, None, Result, Err}
 use Rattle.std.specs.Io.KnownBytes.{Appends}
+use Rattle.httparse.specs.Grammar.{RequestHead}
 use Rattle.sqlite_trees.specs.declared.store.Store.{Ghosts}
 use Rattle.office_base.specs.declared.output.Io.{Io}
 use Rattle.office_rules.specs.State.{State}
@@ -12,9 +13,9 @@ use Rattle.office_wire.specs.declared.serving.OutgoingReply.{OutgoingReply}
 use Rattle.office_http.specs.Replies.{Response, response, failure_response, response_text, status_number}
 use Rattle.office_http.specs.Requests.{Request, IsRequest, nothing, headless, asks}
 use Rattle.office_http.specs.declared.failure.Failure.TheVariants as failure
-use Rattle.office_wire.specs.Answering.{Answers, IsUnavailable, RunsOutOfMemory, gone_response}
+use Rattle.office_wire.specs.Answering.{Answers, AnyAnswer, IsUnavailable, RunsOutOfMemory, Serves, TakesMemory, gone_response}
 use Rattle.office_wire.specs.Calling.{AnsweredAt, CalledAt}
-use Rattle.office_requests.specs.Receiving.{Wanted, wanted}
+use Rattle.office_requests.specs.Receiving.{HasActs, Wanted, wanted}
 
 -- an answer is written, to HEAD its head alone, and the status is its
 abbrev pub Writes : Bool → Response → ℕ → Option (List ℕ) → Option (List ℕ) → Type 0
@@ -24,11 +25,17 @@ Writes is_head r status written after = Appends written after (response_text is_
 abbrev pub IsServed : {S : Type 0} → Ghosts S → State → Wanted → Response → DeskState S → Type 0
 IsServed g t it r desk = Answers g t it r desk ⊎ ((r ≡ failure_response failure.Memory) × RunsOutOfMemory g t it desk)
 
+-- memory ran out for the body of acts, and that is reported
+abbrev pub LacksRoomForBody : RequestHead → Response → Type 0
+LacksRoomForBody h r = HasActs h × (r ≡ failure_response failure.Memory)
+
 -- which answer a request gets, whether to HEAD, and where the desk is then; a connection without a byte gets none
 abbrev pub IsReplied : {S : Type 0} → Ghosts S → State → Request → Bool → Response → DeskState S → Type 0
 IsReplied g t nothing is_head r desk = ⊥
 IsReplied g t headless is_head r desk = (is_head ≡ false) × (r ≡ failure_response failure.Head) × IsAt g t desk
-IsReplied g t (asks h rest) is_head r desk = (is_head ≡ is_head_method h.method) × IsServed g t (wanted h rest) r desk
+IsReplied g t (asks h rest) is_head r desk =
+    (is_head ≡ is_head_method h.method)
+    × (IsServed g t (wanted h rest) r desk ⊎ LacksRoomForBody h r × IsAt g t desk)
 
 -- a connection without a byte: nothing is written, and nothing done
 abbrev pub IsSilent : {S : Type 0} → Ghosts S → State → List ℕ → ℕ → Option (List ℕ) → Option (List ℕ) → DeskState S → Type 0
@@ -52,14 +59,15 @@ Breaks g t bytes unread desk = (is_head : Bool) × (r : Response) × IsReply g t
 
 -- ---- a poisoned desk
 
--- which answer a request gets from it, whether to HEAD; lack of memory may be reported in its place
+-- which answer a request gets from it, whether to HEAD; of what takes memory, lack of it may be reported in its place
 abbrev pub IsGoneServed : Wanted → Response → Type 0
-IsGoneServed it r = (r ≡ gone_response it) ⊎ (r ≡ failure_response failure.Memory)
+IsGoneServed it r = (r ≡ gone_response it) ⊎ (r ≡ failure_response failure.Memory) × TakesMemory it
 
 abbrev pub IsGoneReplied : Request → Bool → Response → Type 0
 IsGoneReplied nothing is_head r = ⊥
 IsGoneReplied headless is_head r = (is_head ≡ false) × (r ≡ failure_response failure.Head)
-IsGoneReplied (asks h rest) is_head r = (is_head ≡ is_head_method h.method) × IsGoneServed (wanted h rest) r
+IsGoneReplied (asks h rest) is_head r =
+    (is_head ≡ is_head_method h.method) × (IsGoneServed (wanted h rest) r ⊎ LacksRoomForBody h r)
 
 -- its answer to all bytes of a connection
 abbrev pub IsGoneReply : List ℕ → Type 0 → Bool → Response → Type 0
@@ -77,7 +85,7 @@ GoneReplies bytes unread status written after =
 
 -- the desk is where serving something may leave it
 abbrev pub LeavesServed : {S : Type 0} → Ghosts S → State → DeskState S → Type 0
-LeavesServed g t desk = (it : Wanted) × RunsOutOfMemory g t it desk
+LeavesServed g t desk = (it : Wanted) × Serves AnyAnswer g t it desk
 
 -- ---- what the code sends
 

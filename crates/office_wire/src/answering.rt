@@ -103,7 +103,7 @@ fn report_content<S: Alter>(
     desk: &mut Desk<S>,
     number: Option<u32>,
 ) -> Result<Reply, Memory>
-    ensures { IsPerformed S.Store (content_reported number) result desk.old desk.new }
+    ensures { IsAnswered S.Store (content_reported number) result desk.old desk.new }
 {
     let Some(record_no) = number else {
         return Ok(failure_reply(Failure::Content));
@@ -166,8 +166,9 @@ fn report_certificate<S: Alter>(
     }
 }
 
-/// Does at the desk what is asked, and gives the answer. `Memory` comes where memory was refused
-/// for the answer; what was done is kept then.
+/// Does at the desk what is asked, and gives the answer. `Memory` comes where memory was refused to
+/// read the acts, and then none was done; or for the answer, and what was done is kept then. A
+/// failed check, a cut body and a number or day that names nothing are answered without memory.
 pub fn answer<S: Alter>(
     alloc: Global,
     desk: &mut Desk<S>,

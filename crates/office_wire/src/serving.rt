@@ -72,7 +72,7 @@ pub fn answer_next<R: Read, S: Alter>(
         Ok(Received::Headless) => Ok(failed(Failure::Head, false)),
         Ok(Received::Request(asked)) => Ok(Some(answered(alloc, desk, asked))),
         Err(ReceiveStop::Memory) => Ok(failed(Failure::Memory, false)),
-        Err(ReceiveStop::MemoryFor(is_head)) => Ok(failed(Failure::Memory, is_head)),
+        Err(ReceiveStop::MemoryForBody) => Ok(failed(Failure::Memory, false)),
         Err(ReceiveStop::Io) => Err(Io),
     }
 }

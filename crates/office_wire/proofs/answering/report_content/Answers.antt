@@ -1,8 +1,9 @@
-use Rattle.std.proofs.Common.{inl, sym, rules}
+use Rattle.std.proofs.Common.{inl, refl, sym, rules, Some}
 use Rattle.std.specs.Prelude.{option_map}
 use Rattle.office_http.specs.Replies.{response}
-use Rattle.office_wire.specs.Answering.{IsGiven}
-use Rattle.office_wire.proofs.Unreported.{unreported}
+use Rattle.office_requests.specs.Receiving.{content_reported}
+use Rattle.office_wire.proofs.Reported.{gone_given}
+use Rattle.office_wire.proofs.Unreported.{unreported_at}
 use Rattle.office_wire.proofs.Unavailable.{fault_unavailable}
 use Rattle.office_wire.proofs.answering.report_content.Goals as goal
 
@@ -28,9 +29,9 @@ returns-in-Err g c =
       call = record {
         clean = it.called.clean;
         did = λ t clean at. let read = it.called.did t at.is_open (sym at.office) in
-            rw c.in-Some.is (unreported g.S.Store t c.in-Some.record_no c.in-Err.fault c.content.new.self _ read.ends (clean, at) (read.leaves (clean, at)) (read.offices (clean, at)) (IsGiven c.fault_reply.result) c.fault_reply.ensures);
+            rw c.in-Some.is (unreported_at g.S.Store t c.in-Some.record_no c.in-Err.fault c.content.new.self _ read.ends (clean, at) (read.leaves (clean, at)) (read.offices (clean, at)) c.fault_reply.result c.fault_reply.ensures);
       };
       kept = λ was. (it.gone was).0;
-      gone = search rules;
+      gone = λ was. rw c.in-Some.is (gone_given (content_reported (Some c.in-Some.record_no)) c.fault_reply.result refl (search rules));
       reported = λ is_open gone. fault_unavailable response c.fault_reply.result _ c.fault_reply.ensures;
     }

@@ -17,9 +17,9 @@ pub returns-in-Err-Memory-clause-next : goal.returns-in-Err-Memory-clause-next
 returns-in-Err-Memory-clause-next g c =
     unread_next g.S.Store _ _ _ _ (c.in-Err-Memory.ensures.unread (ap (λ (why : ReceiveStop). Err why) c.in-Err-Memory.field-0-is)) c.failed-in-Err-Memory.ensures (rw c.in-Err-Memory.field-0-is at c.in-Err-Memory.ensures.came)
 
-pub returns-in-Err-MemoryFor-clause-next : goal.returns-in-Err-MemoryFor-clause-next
-returns-in-Err-MemoryFor-clause-next g c =
-    out_of_memory_next g.S.Store _ _ _ _ _ (rw c.in-Err-MemoryFor.is_head-is at c.failed-in-Err-MemoryFor.ensures) (rw c.in-Err-MemoryFor.field-0-is at c.in-Err-MemoryFor.ensures.came)
+pub returns-in-Err-MemoryForBody-clause-next : goal.returns-in-Err-MemoryForBody-clause-next
+returns-in-Err-MemoryForBody-clause-next g c =
+    out_of_memory_next g.S.Store _ _ _ _ c.failed-in-Err-MemoryForBody.ensures (rw c.in-Err-MemoryForBody.field-0-is at c.in-Err-MemoryForBody.ensures.came)
 
 pub returns-in-Err-Io-clause-next : goal.returns-in-Err-Io-clause-next
 returns-in-Err-Io-clause-next g c = failed_next g.S.Store _ _ _ _
