@@ -15,8 +15,8 @@ pub enum Want {
     Content(Option<u32>),
     /// The records that are due on that day.
     Due(Option<Day>),
-    /// The records that were to be confirmed so many days after their due day, and were not by that
-    /// day.
+    /// The records whose deadline, so many days after their due day, is before that day, and of
+    /// which no confirmation counts now.
     Overdue(Option<Day>, Option<ConfirmDays>),
     /// The certificate of the run with that number.
     Certificate(Option<u32>),

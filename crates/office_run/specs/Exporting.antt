@@ -29,7 +29,8 @@ IsRegisterText (register.Overdue day n) = IsOverdueRegister day n
 abbrev pub IsRegister : Register → Option (List ℕ) → Option (List ℕ) → Office → Type 0
 IsRegister it written after s = (text : List ℕ) × IsRegisterText it s text × Appends written after text
 
--- the writing of a register at an open desk, by its ending; where it was not written to its end, some of it may have gone out. Of reports of which states it is so
+-- the writing of a register at an open desk, by its ending, where some of it may have gone out if it was not written to
+-- its end; `Of` says of which states this is so
 abbrev pub Exports : ((State → Type 0) → Type 0) → Register → Option (List ℕ) → Option (List ℕ) → Ending → Type 0
 Exports Of it written after how.Done = Of (λ s. IsRegister it written after s.office)
 Exports Of it written after (how.Refused refusal) = ⊥

@@ -58,11 +58,12 @@ pub(crate) fn close<D: Disk + Drop>(conn: Connection<FileStore<D>>) -> FilesLeft
 
 /// Opens the office's file, which is made where there is none, carries out an order on the office
 /// in it, as [`run_on`] does, and closes the file. It gives the exit status, and what is left of
-/// the file, which is shut when that is dropped. A file that is no database's stays as it is: fault
-/// 31.
+/// the file, which is shut when that is dropped. A file that is not opened, as one that is no
+/// database's, is fault 31, and nothing goes to `out`.
 ///
 /// `start` names what the two files held, and how a crash is read; the promise holds whatever that
-/// was, where nothing else writes them. Which file is opened no clause says.
+/// was, where nothing else writes them. Which file is opened no clause says, nor what becomes of one
+/// that is not opened.
 pub fn open_and_run<S: Start, R: Read, W: Write, E: Write>(
     rt: &HostRuntime,
     file: &str,

@@ -24,12 +24,13 @@ pub fn law_of_the_next_word<D: Disk + Drop>()
 /// over which a word was run ([`crate::open_and_run`] promises `RunsInFiles`), hold an office
 /// again, at the state at which the word leaves it (`IsLeftBy`): of `apply`, after the acts whose
 /// answers were written and at most one more; of `import`, after the rows whose lines were written
-/// and at most one more; of `resume`, after some steps of the run, and where it says `certificate`
-/// after all; of each other word, at the same state. A service ([`crate::open_and_serve`] promises
-/// `ServesInFiles`) leaves it after some acts (`IsServedTo`). It is so where the word ended and the
-/// files were closed, as they read now and after any crash, and where they could not be closed,
-/// after any crash. Of a word that was killed, and so has no end, it says nothing: what that leaves
-/// is [`law_of_the_next_word`]'s.
+/// and at most one more; where either ended by `File`, as when standard output could not be
+/// written, after any number of them, whatever was written; of `resume`, after some steps of the
+/// run, and where it says `certificate` after all; of each other word, at the same state. A service
+/// ([`crate::open_and_serve`] promises `ServesInFiles`) leaves it after some acts (`IsServedTo`).
+/// It is so where the word ended and the files were closed, as they read now and after any crash,
+/// and where they could not be closed, after any crash. Of a word that was killed, and so has no
+/// end, it says nothing: what that leaves is [`law_of_the_next_word`]'s.
 ///
 /// What is concluded of the files is what is asked of them, so the law holds for any number of
 /// words after one another. `text` is what the reader of ACTS or CSV has, where it reports that;

@@ -14,7 +14,8 @@ use sqlite::{Alter, Connection};
 use std::alloc::Global;
 use std::io::{Read, Write};
 
-/// Reports the port of this machine at which a service listens, and sends the line out.
+/// Reports the port of this machine at which a service listens, and sends the line out. `Io` comes
+/// where the writer answered an error, and some of the line may have gone out then.
 pub fn report_listening<W: Write>(port: u16, out: &mut W) -> Result<(), Io>
     ensures { OnOk result
         (Appends (W.contents out.old) (W.contents out.new) (listening_line port)) }

@@ -50,7 +50,8 @@ fn drain<C: Read + OpenStream>(stream: &mut C) {
     }
 }
 
-/// Reports the peer that the answer has ended, and drains what it still sends.
+/// Shuts down the writing side, by which the peer sees that the answer has ended, and drains what it
+/// still sends.
 fn finish<C: Read + OpenStream>(stream: &mut C) {
     if stream.shutdown(Shutdown::Write).is_ok() {
         drain(stream);
@@ -92,8 +93,8 @@ fn serve_stream<C: Read + Write + OpenStream + Drop, K: Clock, S: Alter>(
     Ok(status)
 }
 
-/// Waits for a connection and serves it. Where none can be accepted it waits a little, so that a
-/// lasting want, as of file descriptors, does not use up the count at once.
+/// Waits for a connection and serves it. Where none can be accepted it waits a little: if file
+/// descriptors run out for a while, the count is not used up at once.
 fn serve_next<L: OpenListener, K: Clock, S: Alter>(
     alloc: Global,
     routes: &Routes,
