@@ -28,7 +28,8 @@ pub(crate) fn action_of<'a>(reported: &'a DueRow<'a>) -> &'a str
     reported.action.text()
 }
 
-/// Writes the header of the due register.
+/// Writes the header of the due register. `Memory` comes where memory was refused, and then nothing
+/// was written; `Io` where the writer answered an error, and some of the header may have gone out.
 pub fn write_due_header<W: Write>(alloc: Global, out: &mut W) -> Result<(), Stop>
     ensures { OnOk result (Appends (W.contents out.old) (W.contents out.new) (row_of due_columns)) }
 {
@@ -55,7 +56,7 @@ pub(crate) struct DueTexts {
     pub(crate) due: Vec<u8>,
 }
 
-/// They, of a row.
+/// The texts of a row that are written of its number and its due day.
 pub(crate) fn due_texts(alloc: Global, reported: &DueRow<'_>) -> Result<DueTexts, Memory>
     ensures number { IfOk result (λ it. string_bytes it.number ≡ decimal reported.now.number) }
     ensures due { IfOk result (λ it. it.due.items ≡ day_field reported.now.due) }
@@ -97,7 +98,8 @@ fn put_line<'a, W: Write>(
     )
 }
 
-/// Writes the line of a record that is due.
+/// Writes the line of a record that is due. `Memory` and `Io` come as of the header: at `Io` some of
+/// the line may have gone out.
 #[tactic(auto, unfolding(crate::specs::Registers::due_line))]
 pub fn write_due_line<W: Write>(
     alloc: Global,

@@ -16,7 +16,9 @@ use office_rules::EntryRow;
 use std::alloc::Global;
 use std::io::Write;
 
-/// Writes the header of the register of entries.
+/// Writes the header of the register of entries. `Memory` comes where memory was refused, and then
+/// nothing was written; `Io` where the writer answered an error, and some of the header may have
+/// gone out.
 pub fn write_entry_header<W: Write>(alloc: Global, out: &mut W) -> Result<(), Stop>
     ensures { OnOk result
         (Appends (W.contents out.old) (W.contents out.new) (row_of entry_columns)) }
@@ -50,7 +52,7 @@ struct Written {
     digest: String,
 }
 
-/// They, of a row.
+/// The texts of a row that are written of its numbers, its day and its digest.
 fn texts_of(alloc: Global, reported: &EntryRow<'_>) -> Result<Written, Memory>
     ensures numbers { IfOk result
         (λ it. (string_bytes it.run ≡ decimal reported.now.entry.now.run)
@@ -112,7 +114,8 @@ fn put_line<W: Write>(
     )
 }
 
-/// Writes the line of an entry.
+/// Writes the line of an entry. `Memory` and `Io` come as of the header: at `Io` some of the line
+/// may have gone out.
 #[tactic(auto, unfolding(crate::specs::Registers::entry_line))]
 pub fn write_entry_line<W: Write>(
     alloc: Global,

@@ -105,7 +105,8 @@ fn record_of(
 
 /// The new record that a row asks to add. It is refused as `BadText` where a field is not of its
 /// form, else as `BadNumber` where the number of the aggregation or the length of the content is
-/// out of its range. Empty fields for class and schedule are none.
+/// out of its range. Empty fields for class and schedule are none. `Memory` comes where memory was
+/// refused.
 #[tactic(auto, unfolding(crate::specs::ImportRows::record_asked))]
 pub fn read_import_row(alloc: Global, row: &ImportRow) -> Result<NewRecord, ReadFault>
     ensures { IsRowRead (named row.now) result }

@@ -16,7 +16,9 @@ use office_rules::DueRow;
 use std::alloc::Global;
 use std::io::Write;
 
-/// Writes the header of the overdue register.
+/// Writes the header of the overdue register. `Memory` comes where memory was refused, and then
+/// nothing was written; `Io` where the writer answered an error, and some of the header may have
+/// gone out.
 pub fn write_overdue_header<W: Write>(alloc: Global, out: &mut W) -> Result<(), Stop>
     ensures { OnOk result
         (Appends (W.contents out.old) (W.contents out.new) (row_of overdue_columns)) }
@@ -74,7 +76,8 @@ fn put_line<'a, W: Write>(
     )
 }
 
-/// Writes the line of a record that is overdue, so many days after its due day.
+/// Writes the line of a record that is overdue, so many days after its due day. `Memory` and `Io`
+/// come as of the header: at `Io` some of the line may have gone out.
 #[tactic(auto, unfolding(crate::specs::Registers::overdue_line))]
 pub fn write_overdue_line<W: Write>(
     alloc: Global,

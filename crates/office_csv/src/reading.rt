@@ -36,7 +36,8 @@ pub fn import_reader<R: Read>(alloc: Global, reader: R) -> Reader<R>
         .from_reader(alloc, reader)
 }
 
-/// Reads the next row. Whether there was one.
+/// Reads the next row. Whether there was one. `NotText` comes where it is not UTF-8, `Memory` where
+/// memory for it was refused, `Io` where the reader answered an error.
 pub fn next_row<R: Read>(rdr: &mut Reader<R>, row: &mut StringRecord) -> Result<bool, RowStop>
     requires { IsPlain rdr.old }
     ensures plain { IfOk result (λ found. found ≡ true → IsPlain rdr.new) }
@@ -95,7 +96,7 @@ fn is_header(row: &StringRecord) -> bool
     }
 }
 
-/// Reads the first row. Whether there is one that names the columns.
+/// Reads the first row. Whether there is one that names the columns. It stops as [`next_row`] does.
 pub fn read_header<R: Read>(rdr: &mut Reader<R>, row: &mut StringRecord) -> Result<bool, RowStop>
     requires { IsPlain rdr.old }
     ensures plain { IfOk result (λ named. named ≡ true → IsPlain rdr.new) }
