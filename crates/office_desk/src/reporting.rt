@@ -1,5 +1,5 @@
 //! What a desk reports of its office.
-ghost use Rattle.std.specs.Prelude.{◌≡◌, ◌≢◌, Err, IfErr, IsTrue, OnOk, false};
+ghost use Rattle.std.specs.Prelude.{◌≡◌, ◌≢◌, Err, IfErr, IsTrue, None, Ok, OnOk, false};
 ghost use Rattle.std.specs.FinMap.{get};
 ghost use Rattle.std.specs.Option.{option_map};
 ghost use Rattle.std.specs.String.{string_bytes};
@@ -36,10 +36,13 @@ impl<S: Alter> Desk<S> {
         Ok(())
     }
 
-    /// What is reported of the record; `None` where it is not there. `Memory` where a growth was
-    /// refused, `Reopen` where the desk was poisoned.
+    /// What is reported of the record; `None` where it is not there, which takes no memory.
+    /// `Memory` where a growth was refused, `Reopen` where the desk was poisoned.
     pub fn record(&self, record_no: RecordNo) -> Result<Option<RecordView>, Fault>
-        ensures { Reads self.now (λ view. view ≡ record_view self.now.office record_no) result }
+        ensures reads { Reads self.now (λ view. view ≡ record_view self.now.office record_no)
+            result }
+        ensures absent { self.now.is_poisoned ≡ false
+            → record_view self.now.office record_no ≡ None → result ≡ Ok None }
     {
         self.check_open()?;
         self.machine
@@ -47,10 +50,13 @@ impl<S: Alter> Desk<S> {
             .map_err(of_memory)
     }
 
-    /// The entry that ended the record; `None` where it is not ended or not there. Faults as of
-    /// `record`.
+    /// The entry that ended the record; `None` where it is not ended or not there, which takes no
+    /// memory. Faults as of `record`.
     pub fn entry_of(&self, record_no: RecordNo) -> Result<Option<Entry>, Fault>
-        ensures { Reads self.now (λ entry. entry ≡ ending_entry self.now.office record_no) result }
+        ensures reads { Reads self.now (λ entry. entry ≡ ending_entry self.now.office record_no)
+            result }
+        ensures absent { self.now.is_poisoned ≡ false
+            → ending_entry self.now.office record_no ≡ None → result ≡ Ok None }
     {
         self.check_open()?;
         self.machine
@@ -66,12 +72,14 @@ impl<S: Alter> Desk<S> {
         self.machine.entries(self.alloc).map_err(of_memory)
     }
 
-    /// The text of the certificate of that run; `None` where it is not closed or not there. Faults
-    /// as of `record`.
+    /// The text of the certificate of that run; `None` where it is not closed or not there, which
+    /// takes no memory. Faults as of `record`.
     pub fn certificate(&self, run: RunNo) -> Result<Option<String>, Fault>
-        ensures { Reads self.now
+        ensures reads { Reads self.now
             (λ text. option_map (λ it. string_bytes it) text ≡ get self.now.office.certificates run)
             result }
+        ensures absent { self.now.is_poisoned ≡ false
+            → get self.now.office.certificates run ≡ None → result ≡ Ok None }
     {
         self.check_open()?;
         self.machine.certificate(self.alloc, run).map_err(of_memory)

@@ -1,5 +1,5 @@
 //! The office as the layers above see it, sound at any time: it decides, applies and reports.
-ghost use Rattle.std.specs.Prelude.{◌≡◌, IfOk, OnErr, OnOk, false};
+ghost use Rattle.std.specs.Prelude.{◌≡◌, IfOk, None, Ok, OnErr, OnOk, false};
 ghost use Rattle.std.specs.FinMap.{get};
 ghost use Rattle.std.specs.Option.{option_map};
 ghost use Rattle.std.specs.String.{string_bytes};
@@ -99,16 +99,19 @@ impl Machine {
         self.parts.next_counted()
     }
 
-    /// What is reported of the record; `None` where it is not there.
+    /// What is reported of the record; `None` where it is not there, which takes no memory.
     pub fn record(&self, alloc: Global, record_no: RecordNo) -> Result<Option<RecordView>, Memory>
-        ensures { IfOk result (λ view. view ≡ record_view self.now record_no) }
+        ensures read { IfOk result (λ view. view ≡ record_view self.now record_no) }
+        ensures absent { record_view self.now record_no ≡ None → result ≡ Ok None }
     {
         self.parts.view(alloc, record_no)
     }
 
-    /// The entry that ended the record; `None` where it is not ended or not there.
+    /// The entry that ended the record; `None` where it is not ended or not there, which takes no
+    /// memory.
     pub fn entry_of(&self, alloc: Global, record_no: RecordNo) -> Result<Option<Entry>, Memory>
-        ensures { IfOk result (λ entry. entry ≡ ending_entry self.now record_no) }
+        ensures read { IfOk result (λ entry. entry ≡ ending_entry self.now record_no) }
+        ensures absent { ending_entry self.now record_no ≡ None → result ≡ Ok None }
     {
         self.parts.entry_that_ended(alloc, record_no)
     }
@@ -120,10 +123,12 @@ impl Machine {
         self.parts.all_entries(alloc)
     }
 
-    /// The text of the certificate of that run; `None` where it is not closed or not there.
+    /// The text of the certificate of that run; `None` where it is not closed or not there, which
+    /// takes no memory.
     pub fn certificate(&self, alloc: Global, run: RunNo) -> Result<Option<String>, Memory>
-        ensures { IfOk result
+        ensures read { IfOk result
             (λ text. option_map (λ it. string_bytes it) text ≡ get self.now.certificates run) }
+        ensures absent { get self.now.certificates run ≡ None → result ≡ Ok None }
     {
         self.parts.certificate(alloc, run)
     }

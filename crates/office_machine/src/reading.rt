@@ -1,5 +1,5 @@
 //! What is read of one record, of entries and of certificates.
-ghost use Rattle.std.specs.Prelude.{◌≡◌, ◌↔◌, IfOk, IsTrue, Some};
+ghost use Rattle.std.specs.Prelude.{◌≡◌, ◌↔◌, IfOk, IsSome, IsTrue, None, Ok, Some};
 ghost use Rattle.std.specs.FinMap.{from_entries, get, values};
 ghost use Rattle.std.specs.Option.{option_copied, option_map};
 ghost use Rattle.std.specs.String.{string_bytes};
@@ -71,14 +71,16 @@ impl Parts {
         None
     }
 
-    /// The entry that ended the record; `None` where it is not ended or not there.
+    /// The entry that ended the record; `None` where it is not ended or not there, which takes no
+    /// memory.
     pub(crate) fn entry_that_ended(
         &self,
         alloc: Global,
         record_no: RecordNo,
     ) -> Result<Option<Entry>, Memory>
         requires { IsSoundOffice self.now }
-        ensures { IfOk result (λ entry. entry ≡ ending_entry self.now record_no) }
+        ensures read { IfOk result (λ entry. entry ≡ ending_entry self.now record_no) }
+        ensures absent { ending_entry self.now record_no ≡ None → result ≡ Ok None }
     {
         if !self.is_ended(record_no) {
             return Ok(None);
@@ -96,10 +98,12 @@ impl Parts {
         copy_entries(alloc, &self.entries)
     }
 
-    /// The text of the certificate of that run; `None` where it is not closed or not there.
+    /// The text of the certificate of that run; `None` where it is not closed or not there, which
+    /// takes no memory.
     pub(crate) fn certificate(&self, alloc: Global, run: RunNo) -> Result<Option<String>, Memory>
-        ensures { IfOk result
+        ensures read { IfOk result
             (λ text. option_map (λ it. string_bytes it) text ≡ get self.now.certificates run) }
+        ensures absent { get self.now.certificates run ≡ None → result ≡ Ok None }
     {
         match self.certificates.get(&run) {
             Some(certificate) => Ok(Some(String::from_str(alloc, certificate.text())?)),
@@ -110,7 +114,8 @@ impl Parts {
     /// What is reported of a record that is there.
     fn view_of(&self, alloc: Global, record_no: RecordNo) -> Result<RecordView, Memory>
         requires { IsTrue (has_record self.now.tree record_no) }
-        ensures { IfOk result (λ view. Some view ≡ record_view self.now record_no) }
+        ensures read { IfOk result (λ view. Some view ≡ record_view self.now record_no) }
+        ensures there { IsSome (record_view self.now record_no) }
     {
         let tree = &self.tree;
         let head = tree.record(record_no);
@@ -148,13 +153,14 @@ impl Parts {
         })
     }
 
-    /// What is reported of the record; `None` where it is not there.
+    /// What is reported of the record; `None` where it is not there, which takes no memory.
     pub(crate) fn view(
         &self,
         alloc: Global,
         record_no: RecordNo,
     ) -> Result<Option<RecordView>, Memory>
-        ensures { IfOk result (λ view. view ≡ record_view self.now record_no) }
+        ensures read { IfOk result (λ view. view ≡ record_view self.now record_no) }
+        ensures absent { record_view self.now record_no ≡ None → result ≡ Ok None }
     {
         if !self.tree.has_record(record_no) {
             return Ok(None);
