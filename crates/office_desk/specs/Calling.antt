@@ -69,7 +69,7 @@ pub record IsFaulted {S : Type 0} (g : Ghosts S) (s next : State) (f : Fault) (o
   pub stops : StopsAt old.office f new
   pub left : At → StopsLeaving s next f (state g new.held)
 
--- so the saving and making of a change ends
+-- how the saving and making of a change ends
 abbrev pub EndChange : {S : Type 0} (g : Ghosts S) (s : State) (change : Change) (result : Result Answer Fault) (old new : DeskState S) (At : Type 0) → Type 0
 EndChange g s change result old new At =
     MatchResult result (λ answer. IsSaved g s change answer old new At) (λ f. IsFaulted g s (all_writes change.writes.items s) f old new At)
@@ -81,7 +81,7 @@ pub record IsDone {S : Type 0} (g : Ghosts S) (s : State) (a : Act) (answer : An
   pub is_open : new.is_poisoned ≡ false
   pub represents : At → IsAt g (step s a).1 new
 
--- so an act ends
+-- how an act ends
 abbrev pub EndAct : {S : Type 0} (g : Ghosts S) (s : State) (a : Act) (result : Result Answer Fault) (old new : DeskState S) (At : Type 0) → Type 0
 EndAct g s a result old new At = MatchResult result (λ answer. IsDone g s a answer new At) (λ f. IsFaulted g s (step s a).1 f old new At)
 
@@ -107,7 +107,7 @@ pub record AreStopped {S : Type 0} (g : Ghosts S) (s : State) (acts : List Act) 
   pub stops : StopsAt (after s (take count acts)).office f new
   pub left : At → StopsLeaving (after s (take count acts)) (after s (take (count + 1) acts)) f (state g new.held)
 
--- so acts end
+-- how acts end
 abbrev pub EndActs : {S T : Type 0} (g : Ghosts S) (s : State) (acts : List Act) (given found : List Answer) (result : Result T Fault) (new : DeskState S) (At : Type 0) → Type 0
 EndActs g s acts given found result new At = MatchResult result (λ _. AreDone g s acts given found new At) (λ f. AreStopped g s acts given found f new At)
 
@@ -135,7 +135,7 @@ pub record AreStepsStopped {S : Type 0} (g : Ghosts S) (s : State) (f : Fault) (
   pub stops : StopsAt (after_steps s count).office f new
   pub left : At → StopsLeaving (after_steps s count) (after_steps s (suc count)) f (state g new.held)
 
--- so steps end
+-- how steps end
 abbrev pub EndSteps : {S : Type 0} (g : Ghosts S) (s : State) (result : Result Answer Fault) (old new : DeskState S) (At : Type 0) → Type 0
 EndSteps g s result old new At = MatchResult result (λ answer. AreStepsDone g s answer old new At) (λ f. AreStepsStopped g s f old new At)
 
@@ -172,7 +172,7 @@ pub record IsContentMissed {S : Type 0} (g : Ghosts S) (s : State) (r : ℕ) (f 
   pub poisoned : f ≡ fault.Store → IsTrue new.is_poisoned
   pub kept : At → f ≢ fault.Store → IsAt g s new
 
--- so the reading of a content ends, and what a crash leaves
+-- how the reading of a content ends, and what a crash leaves
 pub record IsContentRead {S : Type 0} (g : Ghosts S) (s : State) (r : ℕ) (result : Result (Option (Vec ℕ Global)) Fault) (old new : DeskState S) (At : Type 0) : Type 0 where
   pub ends : MatchResult result (λ bytes. IsContentTaken g s r (option_map (λ it. it.items) bytes) new At) (λ f. IsContentMissed g s r f new At)
   pub office : new.office ≡ old.office

@@ -27,7 +27,8 @@ pub enum Ending {
     CsvRow(u64),
     /// The words are no command of the program; what is wrong was said already.
     BadWords,
-    /// Standard output could not be written.
+    /// Standard output could not be written; or a plan file, a text of acts or one of CSV could not
+    /// be opened or read to its end.
     File,
     /// The port could not be bound.
     Socket,

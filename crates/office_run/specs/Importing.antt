@@ -69,7 +69,7 @@ AreUnreported day text new t =
 abbrev pub IsUnheaded : Option (List ℕ) → FileState → Option (List ℕ) → Option (List ℕ) → State → Type 0
 IsUnheaded text new written after t = LacksHeader StartRecord text × HoldsRows (rows_of t) new × (after ≡ written)
 
--- the rows of a text at an open desk, by the ending; Of says of which states it is so
+-- the rows of a text at an open desk, by the ending; Of P is that P holds of the state at which the desk was
 abbrev pub ImportsAt : ((State → Type 0) → Type 0) → ℤ → Option (List ℕ) → FileState → Option (List ℕ) → Option (List ℕ) → Ending → Type 0
 ImportsAt Of day text new written after how.Done = Of (AreAllSaved day text true new written after)
 ImportsAt Of day text new written after how.SomeRefused = Of (AreAllSaved day text false new written after)

@@ -78,7 +78,7 @@ pub record IsOfficeOf (e : Edition) (db : Database) : Type 0 where
 abbrev pub IsOfficeIn : Edition → Trees → Type 0
 IsOfficeIn e trees = (schema : Schema) × IsOfficeOf e (record { schema = schema; trees = trees })
 
--- so it is of version 2
+-- an office's tables of version 2
 abbrev pub IsOffice : Database → Type 0
 IsOffice db = IsOfficeOf edition.Two db
 
