@@ -1,9 +1,11 @@
 -- How the performing of acts ends.
-use Rattle.std.proofs.Common.{◌≡◌, ◌∙◌, inl, inr, ℕ, Bool, true, false, List, Option, Result, Ok, Err, refl, sym, ap, subst, map, take, if◌then◌else◌}
+use Rattle.std.proofs.Common.{◌≡◌, ◌∙◌, inl, inr, ℕ, Bool, true, false, List, Option, Some, None, Result, Ok, Err, refl, sym, ap, subst, map, take, if◌then◌else◌}
 use Rattle.std.specs.List.{list_any}
-use Rattle.std.specs.Prelude.{IfErr, OnOk}
+use Rattle.std.specs.Prelude.{IfErr, IfSome, OnOk}
 use Rattle.std.specs.Io.KnownBytes.{Appends}
+use Rattle.sqlite.specs.Held.{Held, state}
 use Rattle.sqlite.specs.State.{State as FileState}
+use Rattle.sqlite_trees.specs.declared.store.Store.{Ghosts}
 use Rattle.office_rules.specs.Answers.{is_refusal}
 use Rattle.office_rules.specs.Acts.{answers}
 use Rattle.office_rules.specs.State.{State}
@@ -13,7 +15,7 @@ use Rattle.office_store.specs.declared.fault.Fault.{Fault}
 use Rattle.office_json.specs.Acts.{asked}
 use Rattle.office_json.specs.Answers.{answer_lines}
 use Rattle.office_json.specs.Lists.{acts_in}
-use Rattle.office_orders.specs.Applying.{AreDone, AreStopped, Applies, Performs}
+use Rattle.office_orders.specs.Applying.{AreDone, AreStopped, Applies, ApplyEnds, Performs, TextEnds}
 use Rattle.office_orders.specs.Endings.{ending_of_acts}
 use Rattle.office_orders.specs.declared.ending.Ending.{Ending}
 use Rattle.office_orders.specs.declared.ending.Ending.TheVariants as how
@@ -73,3 +75,9 @@ unreported_performs A B acts new written after (Err f) given done stopped = λ t
 pub performs_applies : (Of : (State → Type 0) → Type 0) (text : List ℕ) (new : FileState) (written after : Option (List ℕ)) (e : Ending) (acts items : List Act) → acts ≡ items → acts_in text ≡ Ok (map asked items)
     → Performs Of acts new written after e → Applies Of text new written after e
 performs_applies Of text new written after e acts items same is_read done = inr (acts, subst (λ (all : List Act). acts_in text ≡ Ok (map asked all)) (sym same) is_read, done)
+
+-- the text that was read is the one that the reader reports
+pub text_applies : {S : Type 0} (g : Ghosts S) (remaining : Option (List ℕ)) (text : List ℕ) (old new : Held S) (written after : Option (List ℕ)) (e : Ending) → IfSome remaining (λ bytes. text ≡ bytes)
+    → TextEnds text (state g old) (state g new) written after e → ApplyEnds g remaining old new written after e
+text_applies g None text old new written after e is ends = tt
+text_applies g (Some bytes) text old new written after e is ends = inr (subst (λ (it : List ℕ). TextEnds it (state g old) (state g new) written after e) is ends)

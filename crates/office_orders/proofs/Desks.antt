@@ -14,9 +14,11 @@ module _ {S : Type 0} (g : Ghosts S) (conn : Held S) (desk : DeskState S) (it : 
   -- the office was opened
   pub opened : IsOpened (state g conn) (state g desk.held)
   opened = record {
+    clear = it.clear;
     made = λ clean blank. ((it.finds clean).made blank).rows;
     found = λ clean rest. let f = (it.finds clean).found edition.Two rest in (f.0, f.1, f.2.rows, (it.finds clean).same rest);
     moved = λ clean rest. let f = (it.finds clean).found edition.One rest in (f.0, f.1, f.2.rows);
+    rest = λ clean. (it.finds clean).rest;
   }
 
   -- what is so of each state with the office of the desk is so of the one that was opened

@@ -4,5 +4,6 @@ pub mod Certificates
 pub mod DeskActs
 pub mod Desks
 pub mod Endings
+pub mod KeptRest
 pub mod Resumptions
 pub mod Unopened

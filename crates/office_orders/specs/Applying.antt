@@ -21,7 +21,7 @@ use Rattle.office_json.specs.Answers.{answer_lines}
 use Rattle.office_json.specs.Lists.{acts_in, not_json, bad_act}
 use Rattle.office_orders.specs.declared.ending.Ending.{Ending}
 use Rattle.office_orders.specs.declared.ending.Ending.TheVariants as how
-use Rattle.office_orders.specs.Opening.{IsNotOpened, IsOfOpened}
+use Rattle.office_orders.specs.Opening.{IsNotOpened, IsOfOpened, IsRestKept}
 
 -- the acts were done one after another: the tables are those after them, and these acts report what became of contents
 pub record AreDone (acts : List Act) (new : FileState) (t : State) : Type 0 where
@@ -48,7 +48,7 @@ pub record AreCutShort (f : Fault) (acts : List Act) (n : ℕ) (new : FileState)
   pub stopped : AreStopped f acts n new t
   pub reported : Appends written after (answer_lines (answers t (take n acts)))
 
--- a list of acts at an open desk, by the ending; Of says of which states it is so
+-- a list of acts at an open desk, by the ending; Of P is that P holds of the state at which the desk was
 abbrev pub Performs : ((State → Type 0) → Type 0) → List Act → FileState → Option (List ℕ) → Option (List ℕ) → Ending → Type 0
 Performs Of acts new written after how.Done = Of (AreAnswered acts false new written after)
 Performs Of acts new written after how.SomeRefused = Of (AreAnswered acts true new written after)
@@ -86,9 +86,11 @@ Applies Of text new written after ending =
     IsUnread text ending × Of (λ t. HoldsRows (rows_of t) new) × (after ≡ written)
     ⊎ ((acts : List Act) × (acts_in text ≡ Ok (map asked acts)) × Performs Of acts new written after ending)
 
--- `apply FILE ACTS` where the text of acts was read, by the ending
+-- `apply FILE ACTS` where the text of acts was read, by the ending; what else the file has is kept
 abbrev pub TextEnds : List ℕ → FileState → FileState → Option (List ℕ) → Option (List ℕ) → Ending → Type 0
-TextEnds text old new written after ending = IsNotOpened old new written after ending ⊎ Applies (IsOfOpened old new) text new written after ending
+TextEnds text old new written after ending =
+    IsNotOpened old new written after ending
+    ⊎ IsRestKept old new × Applies (IsOfOpened old new) text new written after ending
 
 -- the text of acts was not read to its end, or memory ran out for it, and nothing was done
 abbrev pub IsNoText : {S : Type 0} → Held S → Held S → Option (List ℕ) → Option (List ℕ) → Ending → Type 0

@@ -4,6 +4,7 @@ use Rattle.sqlite.specs.Held.{Held, state}
 use Rattle.sqlite.specs.State.{State as FileState, HasCleanDisk}
 use Rattle.sqlite_trees.specs.declared.store.Store.{Ghosts}
 use Rattle.office_rules.specs.State.{State}
+use Rattle.office_desk.specs.Calling.{LeavesRestOf}
 use Rattle.office_desk.specs.Desk.{DeskState}
 use Rattle.office_desk.specs.Leaving.{IsAt}
 use Rattle.office_orders.specs.Endings.{exit_status}
@@ -15,7 +16,7 @@ pub record CarriedOut {S O : Type 0} (g : Ghosts S) (old : Held S) (result : End
   pub ends : Ends old result.1 (contents out) (contents after) result.0
   pub clean : HasCleanDisk (state g result.1) → HasCleanDisk (state g old)
 
--- so a word ends, by what the connections show
+-- how a word ends, by what the connections show
 abbrev pub Shown : {S : Type 0} → Ghosts S → (FileState → FileState → Option (List ℕ) → Option (List ℕ) → Ending → Type 0) → Held S → Held S → Option (List ℕ) → Option (List ℕ) → Ending → Type 0
 Shown g Ends old new written after ending = Ends (state g old) (state g new) written after ending
 
@@ -29,9 +30,14 @@ pub record Exits (status : ℕ) (Ends : Ending → Type 0) : Type 0 where
   pub is : status ≡ exit_status ending
   pub ends : Ends ending
 
--- so it is of each state at which the desk was, where the disk is clean then
+-- P holds of each state at which the desk was, where the disk is clean then
 abbrev pub AtDesk : {S : Type 0} → Ghosts S → DeskState S → DeskState S → (State → Type 0) → Type 0
 AtDesk g old new P = (t : State) → HasCleanDisk (state g new.held) → IsAt g t old → P t
+
+-- what else the file has is spared, where the desk was at a state and the disk is clean then
+abbrev pub SparesRestAt : {S : Type 0} → Ghosts S → DeskState S → DeskState S → Type 0
+SparesRestAt g old new =
+    (s : State) → HasCleanDisk (state g new.held) → IsAt g s old → LeavesRestOf g old new
 
 -- something was done at a desk, and ends so, by what its tables show and what the writer has before and after; where the disk is clean then, it was clean before
 pub record DoneAt {S O : Type 0} (g : Ghosts S) (old new : DeskState S) (contents : O → Option (List ℕ)) (out after : O) (ending : Ending)

@@ -14,7 +14,7 @@ use Rattle.office_orders.specs.Opening.{IsNotOpened, IsOfOpened, IsOpened}
 abbrev pub IsCertificate : ℕ → Option (List ℕ) → State → Type 0
 IsCertificate run text s = get s.office.certificates run ≡ text
 
--- the reporting of a certificate at an open desk, by its ending; Of says of which states it is so
+-- the reporting of a certificate at an open desk, by its ending; Of P is that P holds of the state at which the desk was
 abbrev pub Certifies : ((State → Type 0) → Type 0) → ℕ → Option (List ℕ) → Option (List ℕ) → Ending → Type 0
 Certifies Of run written after how.Done = (text : List ℕ) × Of (IsCertificate run (Some text)) × Appends written after text
 Certifies Of run written after (how.Refused refusal) = (refusal ≡ refused.NoSuch) × Of (IsCertificate run None) × (after ≡ written)

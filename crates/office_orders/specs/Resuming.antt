@@ -14,7 +14,7 @@ use Rattle.office_desk.specs.Leaving.{LeavesRowsOf, StopsLeaving}
 use Rattle.office_desk.specs.Resuming.{LeavesMidway}
 use Rattle.office_orders.specs.declared.ending.Ending.{Ending}
 use Rattle.office_orders.specs.declared.ending.Ending.TheVariants as how
-use Rattle.office_orders.specs.Opening.{IsNotOpened, IsOfOpened}
+use Rattle.office_orders.specs.Opening.{IsNotOpened, IsOfOpened, IsRestKept}
 
 -- the line that reports the run that was closed
 abbrev pub certificate_line : ℕ → List ℕ
@@ -44,7 +44,7 @@ abbrev pub IsAnswerReported : Option ℕ → Option (List ℕ) → Option (List 
 IsAnswerReported None written after ending = (ending ≡ how.Refused refused.NoRun) × (after ≡ written)
 IsAnswerReported (Some run) written after ending = (ending ≡ how.Done) × Appends written after (certificate_line run) ⊎ (ending ≡ how.File)
 
--- a resumption at an open desk, by its ending; Of says of which states it is so
+-- a resumption at an open desk, by its ending; Of P is that P holds of the state at which the desk was
 abbrev pub Resumes : ((State → Type 0) → Type 0) → FileState → Option (List ℕ) → Option (List ℕ) → Ending → Type 0
 Resumes Of new written after how.Done = (run : ℕ) × Of (IsResumed run new) × Appends written after (certificate_line run)
 Resumes Of new written after (how.Refused refusal) = (refusal ≡ refused.NoRun) × Of (IsNoRun new) × (after ≡ written)
@@ -60,6 +60,7 @@ Resumes Of new written after how.SomeFailed = ⊥
 Resumes Of new written after how.File = (run : ℕ) × Of (IsResumed run new)
 Resumes Of new written after (how.Fault f) = Of (IsStopped f new) × (after ≡ written)
 
--- `resume FILE`, by its ending
+-- `resume FILE`, by its ending; what else the file has is kept
 abbrev pub ResumeEnds : FileState → FileState → Option (List ℕ) → Option (List ℕ) → Ending → Type 0
-ResumeEnds old new written after ending = IsNotOpened old new written after ending ⊎ Resumes (IsOfOpened old new) new written after ending
+ResumeEnds old new written after ending =
+    IsNotOpened old new written after ending ⊎ IsRestKept old new × Resumes (IsOfOpened old new) new written after ending

@@ -1,6 +1,6 @@
 //! The acts of a JSON array, at the office in a file.
 ghost use Rattle.std.specs.Prelude.{◌≡◌, false};
-ghost use Rattle.office_orders.specs.Calling.{CarriedOut, DoneAt, EndsShown};
+ghost use Rattle.office_orders.specs.Calling.{CarriedOut, DoneAt, EndsShown, SparesRestAt};
 ghost use Rattle.office_orders.specs.Applying.{Applies, ApplyEnds, Performs, TextEnds};
 ghost use Rattle.office_orders.specs.Endings.{ending_of_acts};
 
@@ -22,8 +22,9 @@ fn perform_at<W: Write, S: Alter>(
     out: &mut W,
 ) -> Ending
     requires { desk.old.is_poisoned ≡ false }
-    ensures { DoneAt S.Store desk.old desk.new W.contents out.old out.new result
+    ensures done { DoneAt S.Store desk.old desk.new W.contents out.old out.new result
         (λ Of. Performs Of acts.now) }
+    ensures rest { SparesRestAt S.Store desk.old desk.new }
 {
     let mut answers = Vec::new(alloc);
     let done = desk.perform_all(acts, &mut answers);
@@ -41,8 +42,9 @@ fn apply_at<W: Write, S: Alter>(
     out: &mut W,
 ) -> Ending
     requires { desk.old.is_poisoned ≡ false }
-    ensures { DoneAt S.Store desk.old desk.new W.contents out.old out.new result
+    ensures done { DoneAt S.Store desk.old desk.new W.contents out.old out.new result
         (λ Of. Applies Of text.now) }
+    ensures rest { SparesRestAt S.Store desk.old desk.new }
 {
     match read_acts(alloc, text) {
         Ok(acts) => perform_at(alloc, desk, acts.as_slice(), out),

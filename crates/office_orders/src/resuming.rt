@@ -2,7 +2,7 @@
 ghost use Rattle.std.specs.Prelude.{◌≡◌, ℕ, Option, Some, false, OnOk};
 ghost use Rattle.std.specs.Io.KnownBytes.{Appends};
 ghost use Rattle.office_desk.specs.Resuming.{resumed_answer};
-ghost use Rattle.office_orders.specs.Calling.{DoneAt, EndsShown};
+ghost use Rattle.office_orders.specs.Calling.{DoneAt, EndsShown, SparesRestAt};
 ghost use Rattle.office_orders.specs.Resuming.{IsAnswerReported, ResumeEnds, Resumes, certificate_line};
 
 use crate::ending::Ending;
@@ -49,7 +49,8 @@ fn report_answer<W: Write>(answer: Answer, out: &mut W) -> Ending
 /// Resumes the open run at a desk that is open.
 fn resume_at<W: Write, S: Alter>(desk: &mut Desk<S>, out: &mut W) -> Ending
     requires { desk.old.is_poisoned ≡ false }
-    ensures { DoneAt S.Store desk.old desk.new W.contents out.old out.new result Resumes }
+    ensures done { DoneAt S.Store desk.old desk.new W.contents out.old out.new result Resumes }
+    ensures rest { SparesRestAt S.Store desk.old desk.new }
 {
     law_of_resumption();
     match desk.resume() {

@@ -41,7 +41,7 @@ use Rattle.office_orders.specs.Certifying.{CertificateEnds}
 use Rattle.office_run.specs.Exporting.{ExportEnds}
 use Rattle.office_run.specs.Importing.{ImportsAt, IsRowCut}
 use Rattle.office_run.specs.NextWord.{AreActsDone, AreRowsAdded, AreStepsTaken, IsLeftBy, IsOfficeAt, IsUntouched, LeavesAt}
-use Rattle.office_orders.specs.Opening.{IsNotOpened, IsOfOpened, IsOpened, IsUnopened}
+use Rattle.office_orders.specs.Opening.{IsNotOpened, IsOfOpened, IsOpened, IsRestKept, IsUnopened}
 use Rattle.office_orders.specs.Resuming.{ResumeEnds, Resumes}
 use Rattle.office_orders.specs.Making.{InitEnds}
 use Rattle.office_run.specs.Running.{RunEnds}
@@ -243,10 +243,10 @@ module _ (one : IsOneDatabase) (stay : StaySound) (ends : IsEnded) (old new : Fi
         performs_at how.Socket it = it
         performs_at how.SomeFailed it = it
 
-      applies_left : (ending : Ending) → IsNotOpened old new written after ending ⊎ Applies (IsOfOpened old new) text new written after ending → LeavesAt (ActsLeft ending) new
+      applies_left : (ending : Ending) → IsNotOpened old new written after ending ⊎ IsRestKept old new × Applies (IsOfOpened old new) text new written after ending → LeavesAt (ActsLeft ending) new
       applies_left ending (inl none) = let it = not_opened written after ending none in untouched (ActsLeft ending) written after inl it.1 it.0
-      applies_left ending (inr (inl unread)) = untouched (ActsLeft ending) written after inl unread.2 (at_rows new s sound (of_opened ed (λ t. HoldsRows (rows_of t) new) rest rows unread.1))
-      applies_left ending (inr (inr it)) = performs_left it.0 it.1 ending (performs_at it.0 it.1 ending it.2)
+      applies_left ending (inr (kept, inl unread)) = untouched (ActsLeft ending) written after inl unread.2 (at_rows new s sound (of_opened ed (λ t. HoldsRows (rows_of t) new) rest rows unread.1))
+      applies_left ending (inr (kept, inr it)) = performs_left it.0 it.1 ending (performs_at it.0 it.1 ending it.2)
 
     -- ---- import
 
@@ -387,7 +387,7 @@ module _ (one : IsOneDatabase) (stay : StaySound) (ends : IsEnded) (old new : Fi
 
     resume_left : (written after : Option (List ℕ)) (ending : Ending) → ResumeEnds old new written after ending → LeavesAt (AreStepsTaken ending s) new
     resume_left written after ending (inl none) = none_taken ending (λ done. let other : how.Fault none.0 ≡ how.Done = sym none.1 ∙ done in cc) (not_opened written after ending none).0
-    resume_left written after ending (inr it) = resumes_left written after ending it
+    resume_left written after ending (inr it) = resumes_left written after ending it.1
 
 -- ---- each word
 

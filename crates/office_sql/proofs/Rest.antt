@@ -59,3 +59,12 @@ leaves_then e old mid new rest first next db may =
     let spared : SparesRest old.now mid.now = subst (λ (s : Schema). SparesRest old.now (record { schema = s; trees = mid.now.trees })) same was.2 in
     let left = next db may in
     (left.0, left.1, spares_then old.now mid.now _ spared left.2)
+
+-- what one call keeps is kept where the next spares it
+pub leaves_kept : (e : Edition) (old mid new : State) → IsAtRestOver e mid → Leaves (KeepsRest old.now) mid → Leaves (SparesRest mid.now) new → Leaves (KeepsRest old.now) new
+leaves_kept e old mid new rest first next db may =
+    let was = first mid.now.trees rest.stays in
+    let same : was.0 ≡ mid.now.schema = same_schema was.0 mid.now.schema mid.now.trees was.1 rest.office.has.database in
+    let kept : KeepsRest old.now mid.now = subst (λ (s : Schema). KeepsRest old.now (record { schema = s; trees = mid.now.trees })) same was.2 in
+    let left = next db may in
+    (left.0, left.1, keeps_then old.now mid.now _ kept (keeps_spared mid.now _ left.2))

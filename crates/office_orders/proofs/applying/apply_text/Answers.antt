@@ -6,6 +6,7 @@ use Rattle.office_orders.specs.Opening.{IsOfOpened}
 use Rattle.office_orders.proofs.Applications.{applies_of}
 use Rattle.office_orders.proofs.Callings.{carried}
 use Rattle.office_orders.proofs.Desks.{of_desk}
+use Rattle.office_orders.proofs.KeptRest.{kept_after}
 use Rattle.office_orders.proofs.Unopened.{unopened}
 use Rattle.office_orders.proofs.applying.apply_text.Goals as goal
 
@@ -13,11 +14,14 @@ pub returns-in-Ok : goal.returns-in-Ok
 returns-in-Ok g c =
     let desk = c.apply_at-ending.new.desk in
     let opened = c.in-Ok.ensures.ok in
-    let ended = c.apply_at-ending.ensures in
+    let ended = c.apply_at-ending.ensures.done in
     carried g.S.Store c.args.conn desk.held _ g.W.Write.contents _ _ (Shown g.S.Store (TextEnds c.args.text.now)) c.apply_at-ending.result c.close.ensures.same
     (λ clean. opened.clean (ended.clean clean))
-    (inr (applies_of (AtDesk g.S.Store c.in-Ok.desk desk) (IsOfOpened (state g.S.Store c.args.conn) (state g.S.Store desk.held)) (of_desk g.S.Store c.args.conn c.in-Ok.desk opened desk ended.clean)
-    _ _ _ _ _ ended.ends))
+    (inr (
+      kept_after g.S.Store c.args.conn c.in-Ok.desk opened desk ended.clean c.apply_at-ending.ensures.rest,
+      applies_of (AtDesk g.S.Store c.in-Ok.desk desk) (IsOfOpened (state g.S.Store c.args.conn) (state g.S.Store desk.held)) (of_desk g.S.Store c.args.conn c.in-Ok.desk opened desk ended.clean)
+          _ _ _ _ _ ended.ends,
+    ))
 
 pub returns-in-Err : goal.returns-in-Err
 returns-in-Err g c =

@@ -7,8 +7,8 @@ use Rattle.office_orders.proofs.Applications.{reported_performs, unreported_perf
 use Rattle.office_orders.proofs.DeskActs.{done_at, stopped_at}
 use Rattle.office_orders.proofs.applying.perform_at.Goals as goal
 
-pub returns-in-Ok : goal.returns-in-Ok
-returns-in-Ok g c =
+pub returns-in-Ok-clause-done : goal.returns-in-Ok-clause-done
+returns-in-Ok-clause-done g c =
     let old = c.args.desk.now in
     let desk = c.perform_all-done.new.self in
     let it = c.perform_all-done.ensures in
@@ -21,8 +21,8 @@ returns-in-Ok g c =
       clean = it.called.clean;
     }
 
-pub returns : goal.returns
-returns g c =
+pub returns-clause-done : goal.returns-clause-done
+returns-clause-done g c =
     let old = c.args.desk.now in
     let desk = c.perform_all-done.new.self in
     let it = c.perform_all-done.ensures in
@@ -33,3 +33,9 @@ returns g c =
           (λ t clean represents. stopped_at g.S.Store c.args.acts.now t desk c.perform_all-done.result _ given _ c.new-answers.ensures.items (it.called.did t c.requires (sym represents.office)) (clean, represents));
       clean = it.called.clean;
     }
+
+pub returns-in-Ok-clause-rest : goal.returns-in-Ok-clause-rest
+returns-in-Ok-clause-rest g c = c.perform_all-done.ensures.called.rest
+
+pub returns-clause-rest : goal.returns-clause-rest
+returns-clause-rest g c = c.perform_all-done.ensures.called.rest

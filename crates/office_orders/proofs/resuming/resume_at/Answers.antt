@@ -10,8 +10,8 @@ use Rattle.office_orders.proofs.resuming.resume_at.Goals as goal
 pub report_answer-requires : goal.report_answer-requires
 report_answer-requires g c = (open_run c.args.desk.now.office, (c.in-Ok.ensures.called.did (with_contents c.args.desk.now.office empty) c.requires refl).ends.answered)
 
-pub returns-in-Ok : goal.returns-in-Ok
-returns-in-Ok g c =
+pub returns-in-Ok-clause-done : goal.returns-in-Ok-clause-done
+returns-in-Ok-clause-done g c =
     let reported = c.in-Ok.ensures.called in
     let new = state g.S.Store c.resume.new.self.held in
     record {
@@ -33,8 +33,8 @@ returns-in-Ok g c =
       clean = reported.clean;
     }
 
-pub returns-in-Err : goal.returns-in-Err
-returns-in-Err g c =
+pub returns-in-Err-clause-done : goal.returns-in-Err-clause-done
+returns-in-Err-clause-done g c =
     let reported = c.in-Err.ensures.called in
     record {
       ends = (
@@ -50,3 +50,9 @@ returns-in-Err g c =
       );
       clean = reported.clean;
     }
+
+pub returns-in-Ok-clause-rest : goal.returns-in-Ok-clause-rest
+returns-in-Ok-clause-rest g c = c.in-Ok.ensures.called.rest
+
+pub returns-in-Err-clause-rest : goal.returns-in-Err-clause-rest
+returns-in-Err-clause-rest g c = c.in-Err.ensures.called.rest
