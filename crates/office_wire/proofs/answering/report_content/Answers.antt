@@ -9,7 +9,7 @@ use Rattle.office_wire.proofs.answering.report_content.Goals as goal
 
 pub returns-in-Ok : goal.returns-in-Ok
 returns-in-Ok g c =
-    let it = c.in-Ok.ensures in
+    let it = c.in-Ok.ensures.reads in
     record {
       call = record {
         clean = it.called.clean;
@@ -24,7 +24,7 @@ returns-in-Ok g c =
 
 pub returns-in-Err : goal.returns-in-Err
 returns-in-Err g c =
-    let it = c.in-Err.ensures in
+    let it = c.in-Err.ensures.reads in
     record {
       call = record {
         clean = it.called.clean;
