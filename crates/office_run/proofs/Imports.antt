@@ -63,7 +63,7 @@ stopped g day text old desk written after (import.Row number) h = λ t clean rep
 stopped g day text old desk written after (import.Fault f) h = λ t clean represents. let it = h t clean represents in
     (it.0, it.1, it.2, it.3, it.4, cut g day text it.2 it.0 f desk it.5)
 stopped g day text old desk written after import.Io h = λ t clean represents. let it = h t clean represents in
-    (it.0, it.1, it.2, it.3, it.4, it.5.rows)
+    (it.0, it.1, it.2, it.3, it.4, it.5.rows, it.6)
 
 -- an import ends as it was done
 pub imported : {S : Type 0} (g : Ghosts S) (day : ℤ) (text : Option (List ℕ)) (old desk : DeskState S) (written after : Option (List ℕ)) (x : Result ℕ ImportStop) (e : Ending) → e ≡ ending_of_import x

@@ -322,7 +322,7 @@ module _ (one : IsOneDatabase) (stay : StaySound) (ends : IsEnded) (old new : Fi
       imports_left (how.CsvRow number) (fs, reported, u, (r, left, first, bad), it, is) = added (how.CsvRow number) fs reported u (inr (r, left, first)) it.done (inr it.reported) it.saved
       imports_left (how.Fault f) (fs, reported, u, done, lines, inl it) = added (how.Fault f) fs reported u it.1 done (inr lines) it.2
       imports_left (how.Fault f) (fs, reported, u, done, lines, inr it) = cut_row (how.Fault f) fs reported u it.0 f it.1 done lines it.2
-      imports_left how.File (fs, reported, u, prefix, done, holds) = added how.File fs reported u prefix done (inl refl) holds
+      imports_left how.File (fs, reported, u, prefix, done, holds, out) = added how.File fs reported u prefix done (inl refl) holds
       imports_left (how.Refused refusal) it = absurd it
       imports_left (how.LineRefused line refusal) it = absurd it
       imports_left (how.ActRefused place refusal) it = absurd it

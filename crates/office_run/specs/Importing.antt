@@ -18,7 +18,7 @@ use Rattle.office_csv.specs.ImportRows.{Fields, record_asked}
 use Rattle.office_csv.specs.ImportText.{LacksHeader}
 use Rattle.office_wire.specs.declared.importing.ImportStop.{ImportStop}
 use Rattle.office_wire.specs.declared.importing.ImportStop.TheVariants as import
-use Rattle.office_wire.specs.Importing.{IsAdding, AreAllRows, ArePrefixRows, AreRowsBeforeBad, AreRowsDone, AreSomeRows, lines_from, refused_count}
+use Rattle.office_wire.specs.Importing.{IsAdding, AreAllRows, AreLinesOut, ArePrefixRows, AreRowsBeforeBad, AreRowsDone, AreSomeRows, lines_from, refused_count}
 use Rattle.office_orders.specs.Opening.{IsNotOpened, IsOfOpened}
 use Rattle.office_orders.specs.declared.ending.Ending.{Ending}
 use Rattle.office_orders.specs.declared.ending.Ending.TheVariants as how
@@ -60,10 +60,11 @@ AreCutShort day text f new written after t =
     (rows : List Fields) × (answers : List Answer) × (u : State) × AreRowsDone day t rows answers u × Appends written after (lines_from 0 answers)
     × ((f ≡ fault.Memory) × ArePrefixRows text rows × HoldsRows (rows_of u) new ⊎ ((row : Fields) × AreSomeRows text (rows ++ row ∷ []) × IsRowCut day u row f new))
 
--- reading or writing failed after some rows
-abbrev pub AreUnreported : ℤ → Option (List ℕ) → FileState → State → Type 0
-AreUnreported day text new t =
-    (rows : List Fields) × (answers : List Answer) × (u : State) × ArePrefixRows text rows × AreRowsDone day t rows answers u × HoldsRows (rows_of u) new
+-- reading or writing failed after some rows; of the line of the last one a part may be written
+abbrev pub AreUnreported : ℤ → Option (List ℕ) → FileState → Option (List ℕ) → Option (List ℕ) → State → Type 0
+AreUnreported day text new written after t =
+    (rows : List Fields) × (answers : List Answer) × (u : State) × ArePrefixRows text rows
+    × AreRowsDone day t rows answers u × HoldsRows (rows_of u) new × AreLinesOut answers written after
 
 -- nothing was done, since the first row does not name the columns
 abbrev pub IsUnheaded : Option (List ℕ) → FileState → Option (List ℕ) → Option (List ℕ) → State → Type 0
@@ -76,7 +77,7 @@ ImportsAt Of day text new written after how.SomeRefused = Of (AreAllSaved day te
 ImportsAt Of day text new written after how.CsvHeader = Of (IsUnheaded text new written after)
 ImportsAt Of day text new written after (how.CsvRow number) = Of (AreSavedBeforeBad day text number new written after)
 ImportsAt Of day text new written after (how.Fault f) = Of (AreCutShort day text f new written after)
-ImportsAt Of day text new written after how.File = Of (AreUnreported day text new)
+ImportsAt Of day text new written after how.File = Of (AreUnreported day text new written after)
 ImportsAt Of day text new written after (how.Refused refusal) = ⊥
 ImportsAt Of day text new written after (how.LineRefused line refusal) = ⊥
 ImportsAt Of day text new written after (how.ActRefused place refusal) = ⊥

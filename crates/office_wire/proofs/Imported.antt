@@ -28,7 +28,7 @@ use Rattle.office_csv.specs.declared.reading.RowStop.{RowStop}
 use Rattle.office_csv.specs.declared.reading.RowStop.TheVariants as row_stop
 use Rattle.office_csv.proofs.Prefix.{bad_next, bad_text, no_more, none_yet, one_more}
 use Rattle.office_wire.specs.Calling.{CalledAt}
-use Rattle.office_wire.specs.Importing.{ArePrefixRows, AreImported, AreRowsBehind, AreRowsDone, AreSomeRows, EndsImport, EndsLine, EndsRow, EndsRows, EndsTaking, Imports, IsRowDone, IsRowStopped, RowsStop, Stops, StopsAtFault, StopsAtIo, TakeStops, line_of, lines_from, one_if, refused_count, stop_at}
+use Rattle.office_wire.specs.Importing.{AppendsSome, ArePrefixRows, AreImported, AreRowsBehind, AreRowsDone, AreSomeRows, EndsImport, EndsLine, EndsRow, EndsRows, EndsTaking, Imports, IsRowDone, IsRowStopped, RowsStop, Stops, StopsAtFault, StopsAtIo, TakeStops, line_of, lines_from, one_if, refused_count, stop_at}
 use Rattle.office_wire.specs.declared.importing.ImportStop.{ImportStop}
 use Rattle.office_wire.specs.declared.importing.ImportStop.TheVariants as stop
 use Rattle.office_wire.proofs.Calls.{called, called_on, not_called}
@@ -171,8 +171,15 @@ module _ {S : Type 0} (g : Ghosts S) (day : ℤ) (s0 s1 s2 : Reading) (o0 o1 o2 
     subst (λ (x : Option (List ℕ)). Appends w0 x (lines_from 0 it.answers)) (sym silent) it.imported.reported,
     inr (row, (s2, o2, row_read it.rows row it.prefix is), stopped),
   )
-  row_stopped s stop.Io it (row, is, (answer, t, one, represents)) =
-      (it.rows ++ row ∷ [], it.answers ++ answer ∷ [], t, (s2, o2, row_read it.rows row it.prefix is), done_more day s it.rows it.answers it.last row answer t it.imported.done one, represents)
+  row_stopped s stop.Io it (row, is, (answer, t, one, represents, some)) = (
+    it.rows ++ row ∷ [],
+    it.answers ++ answer ∷ [],
+    t,
+    (s2, o2, row_read it.rows row it.prefix is),
+    done_more day s it.rows it.answers it.last row answer t it.imported.done one,
+    represents,
+    inr (it.answers, answer, w, refl, it.imported.reported, subst (λ (n : ℕ). AppendsSome w w2 (line_of (n + 1) answer)) (it.count ∙ sym (as_many day s it.rows it.answers it.last it.imported.done)) some),
+  )
 
   pub prefix_stopped : (why : ImportStop) → Prefix g day s0 o0 s1 o1 d0 d w0 w before refused → CalledAt g d d2 (λ s. EndsTaking g day s (before + 1) fields (Err why) d2 w w2)
       → CalledAt g d0 d2 (λ s. EndsRows g day s s0 o0 (Err why) d2 w0 w2)
@@ -191,7 +198,7 @@ module _ {S : Type 0} (g : Ghosts S) (day : ℤ) (s0 s1 : Reading) (o0 o1 : Opti
   unread : (s : State) (why : RowStop) → (why ≡ row_stop.NotText → TakesNoText s1 o1) → IsPrefix g day s s0 o0 s1 o1 d w0 w before refused → RowsStop g day s s0 o0 (stop_at why (before + 1)) d w0 w
   unread s row_stop.NotText none it = (it.rows, it.answers, it.last, (s1, o1, it.prefix, bad_text o1 s1 (none refl)), it.imported, ap (λ (n : ℕ). n + 1) it.count)
   unread s row_stop.Memory none it = (it.rows, it.answers, it.last, it.imported.done, it.imported.reported, inl (refl, (s1, o1, it.prefix), it.imported.represents))
-  unread s row_stop.Io none it = (it.rows, it.answers, it.last, (s1, o1, it.prefix), it.imported.done, it.imported.represents)
+  unread s row_stop.Io none it = (it.rows, it.answers, it.last, (s1, o1, it.prefix), it.imported.done, it.imported.represents, inl it.imported.reported)
 
   pub prefix_unread : (why : RowStop) → (why ≡ row_stop.NotText → TakesNoText s1 o1) → CalledAt g d0 d (λ s. EndsRows g day s s0 o0 (Err (stop_at why (before + 1))) d w0 w)
   prefix_unread why none =
@@ -201,7 +208,7 @@ module _ {S : Type 0} (g : Ghosts S) (day : ℤ) (s0 s1 : Reading) (o0 o1 : Opti
   pub prefix_io : CalledAt g d0 d (λ s. EndsRows g day s s0 o0 (Err stop.Io) d w0 w)
   prefix_io =
       called g d0 d (λ s. IsPrefix g day s s0 o0 s1 o1 d w0 w before refused) (λ s. EndsRows g day s s0 o0 (Err stop.Io) d w0 w) f.call
-      (λ s it. (it.rows, it.answers, it.last, (s1, o1, it.prefix), it.imported.done, it.imported.represents))
+      (λ s it. (it.rows, it.answers, it.last, (s1, o1, it.prefix), it.imported.done, it.imported.represents, inl it.imported.reported))
 
 -- a row of seven fields
 pub taken : {S : Type 0} (g : Ghosts S) (day : ℤ) (s : State) (number : ℕ) (fields : List (List ℕ)) (row : Fields) (x : Result Bool ImportStop) (desk : DeskState S) (old new : Option (List ℕ)) → fields ≡ fields_in row
@@ -227,7 +234,7 @@ stops_behind : {S : Type 0} (g : Ghosts S) (day : ℤ) (s1 : Reading) (o o1 : Op
 stops_behind g day s1 o o1 s d w0 w stop.Header heads it = absurd it
 stops_behind g day s1 o o1 s d w0 w (stop.Row number) heads it = (it.0, it.1, it.2, (it.3.0, it.3.1, (s1, o1, heads, it.3.2), it.3.3), it.4, it.5)
 stops_behind g day s1 o o1 s d w0 w (stop.Fault f) heads it = (it.0, it.1, it.2, it.3, it.4, fault_behind g day s1 o o1 f it.2 it.0 d heads it.5)
-stops_behind g day s1 o o1 s d w0 w stop.Io heads it = (it.0, it.1, it.2, inr (some_behind s1 o o1 it.0 heads it.3), it.4, it.5)
+stops_behind g day s1 o o1 s d w0 w stop.Io heads it = (it.0, it.1, it.2, inr (some_behind s1 o o1 it.0 heads it.3), it.4, it.5, it.6)
 
 pub headed : {S : Type 0} (g : Ghosts S) (day : ℤ) (s1 : Reading) (o o1 : Option (List ℕ)) (s : State) (x : Result ℕ ImportStop) (d : DeskState S) (w0 w : Option (List ℕ)) → HeadsText StartRecord o s1 o1 → EndsRows g day s s1 o1 x d w0 w
     → EndsImport g day s o x d w0 w
@@ -238,6 +245,10 @@ headed g day s1 o o1 s (Err why) d w0 w heads it = stops_behind g day s1 o o1 s 
 pub none_done : {S : Type 0} (g : Ghosts S) (day : ℤ) (s : State) (o : Option (List ℕ)) (d : DeskState S) (w : Option (List ℕ)) → IsAt g s d → StopsAtFault g day s o fault.Memory d w w
 none_done g day s o d None represents = ([], [], s, (refl, refl), tt, inl (refl, inl refl, represents))
 none_done g day s o d (Some xs) represents = ([], [], s, (refl, refl), sym (append-nil xs), inl (refl, inl refl, represents))
+
+pub none_read : {S : Type 0} (g : Ghosts S) (day : ℤ) (s : State) (o : Option (List ℕ)) (d : DeskState S) (w : Option (List ℕ)) → IsAt g s d → StopsAtIo g day s o d w w
+none_read g day s o d None represents = ([], [], s, inl refl, (refl, refl), represents, inl tt)
+none_read g day s o d (Some xs) represents = ([], [], s, inl refl, (refl, refl), represents, inl (sym (append-nil xs)))
 
 -- ---- the lines go out
 
@@ -251,5 +262,6 @@ pub sent : {S : Type 0} (g : Ghosts S) (day : ℤ) (s : State) (o : Option (List
 sent g day s o refused d w0 w w2 k it =
     (it.0, it.1, it.2, it.3, record { done = it.4.done; represents = it.4.represents; reported = kept w0 w w2 _ it.4.reported k }, it.5)
 
-pub not_sent : {S : Type 0} (g : Ghosts S) (day : ℤ) (s : State) (o : Option (List ℕ)) (refused : ℕ) (d : DeskState S) (w0 w : Option (List ℕ)) → Imports g day s o refused d w0 w → StopsAtIo g day s o d
-not_sent g day s o refused d w0 w it = (it.0, it.1, it.2, inr (it.3.0, it.3.1, it.3.2), it.4.done, it.4.represents)
+pub not_sent : {S : Type 0} (g : Ghosts S) (day : ℤ) (s : State) (o : Option (List ℕ)) (refused : ℕ) (d : DeskState S) (w0 w w2 : Option (List ℕ)) → Keeps w w2 → Imports g day s o refused d w0 w → StopsAtIo g day s o d w0 w2
+not_sent g day s o refused d w0 w w2 k it =
+    (it.0, it.1, it.2, inr (it.3.0, it.3.1, it.3.2), it.4.done, it.4.represents, inl (kept w0 w w2 _ it.4.reported k))

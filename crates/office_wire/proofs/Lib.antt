@@ -1,6 +1,7 @@
 pub mod AnyAnswer
 pub mod Calls
 pub mod Connected
+pub mod ImportLines
 pub mod Imported
 pub mod Performed
 pub mod Replied

@@ -1,5 +1,5 @@
 -- Records that are added by the rows of a text of CSV. Source: own; the text is that of RFC 4180.
-use Rattle.std.specs.Prelude.{◌≡◌, ◌≢◌, ◌⊎◌, ◌+◌, ℕ, ℤ, Bool, true, false, IsTrue, List, MatchResult, [], ◌∷◌, ◌++◌, codes, length, option_map, Option, Result, Ok, Err}
+use Rattle.std.specs.Prelude.{◌≡◌, ◌≢◌, ◌⊎◌, ◌+◌, ◌≤◌, ℕ, ℤ, Bool, true, false, IsTrue, List, MatchResult, [], ◌∷◌, ◌++◌, codes, length, option_map, take, Option, Result, Ok, Err}
 use Rattle.std.specs.Fmt.{decimal}
 use Rattle.std.specs.Io.KnownBytes.{Appends}
 use Rattle.csv.specs.Reading.{strip_bom}
@@ -57,24 +57,10 @@ IsRowStopped g day s row f desk =
 abbrev pub EndsRow : {S : Type 0} → Ghosts S → ℤ → State → Fields → Result Answer Fault → DeskState S → Type 0
 EndsRow g day s row ended desk = MatchResult ended (λ answer. (t : State) × IsRowDone day s row answer t × IsAt g t desk) (λ f. IsRowStopped g day s row f desk)
 
--- what stopped a row of seven fields: a fault, or its line could not be written
-abbrev pub DoStops : {S : Type 0} → Ghosts S → ℤ → State → Fields → ImportStop → DeskState S → Option (List ℕ) → Option (List ℕ) → Type 0
-DoStops g day s row stop.Header desk old new = ⊥
-DoStops g day s row (stop.Row number) desk old new = ⊥
-DoStops g day s row (stop.Fault f) desk old new = (new ≡ old) × IsRowStopped g day s row f desk
-DoStops g day s row stop.Io desk old new = (answer : Answer) × (t : State) × IsRowDone day s row answer t × IsAt g t desk
-
--- and one of any number of fields
-abbrev pub TakeStops : {S : Type 0} → Ghosts S → ℤ → State → ℕ → List (List ℕ) → ImportStop → DeskState S → Option (List ℕ) → Option (List ℕ) → Type 0
-TakeStops g day s place fields stop.Header desk old new = ⊥
-TakeStops g day s place fields (stop.Row number) desk old new = (number ≡ place) × (length fields ≢ 7) × IsAt g s desk × (new ≡ old)
-TakeStops g day s place fields (stop.Fault f) desk old new = (row : Fields) × (fields ≡ fields_in row) × DoStops g day s row (stop.Fault f) desk old new
-TakeStops g day s place fields stop.Io desk old new = (row : Fields) × (fields ≡ fields_in row) × DoStops g day s row stop.Io desk old new
-
--- ---- the lines
+-- ---- one line
 
 abbrev pub line_with : ℕ → List ℕ → ℕ → List ℕ
-line_with number word n = decimal number ++ word ++ decimal n ++ codes "\n"
+line_with number word n = decimal number ++ (word ++ (decimal n ++ codes "\n"))
 
 -- the line of a row: its number, and the answer; a row is answered in these three ways alone
 unfoldable pub line_of : ℕ → Answer → List ℕ
@@ -84,6 +70,28 @@ line_of number (kind.Refused why) = line_with number (codes " refused ") (refusa
 line_of number kind.Done = decimal number ++ codes "\n"
 line_of number (kind.Step r outcome) = decimal number ++ codes "\n"
 line_of number (kind.RunClosed n) = decimal number ++ codes "\n"
+
+-- the first of these bytes were written, or none
+abbrev pub AppendsSome : Option (List ℕ) → Option (List ℕ) → List ℕ → Type 0
+AppendsSome old new bytes = (n : ℕ) × (n ≤ length bytes) × Appends old new (take n bytes)
+
+-- what stopped a row of seven fields: a fault, or its line could not be written whole
+abbrev pub DoStops : {S : Type 0} → Ghosts S → ℤ → State → ℕ → Fields → ImportStop → DeskState S → Option (List ℕ) → Option (List ℕ) → Type 0
+DoStops g day s number row stop.Header desk old new = ⊥
+DoStops g day s number row (stop.Row place) desk old new = ⊥
+DoStops g day s number row (stop.Fault f) desk old new = (new ≡ old) × IsRowStopped g day s row f desk
+DoStops g day s number row stop.Io desk old new =
+    (answer : Answer) × (t : State) × IsRowDone day s row answer t × IsAt g t desk
+    × AppendsSome old new (line_of number answer)
+
+-- and one of any number of fields
+abbrev pub TakeStops : {S : Type 0} → Ghosts S → ℤ → State → ℕ → List (List ℕ) → ImportStop → DeskState S → Option (List ℕ) → Option (List ℕ) → Type 0
+TakeStops g day s place fields stop.Header desk old new = ⊥
+TakeStops g day s place fields (stop.Row number) desk old new = (number ≡ place) × (length fields ≢ 7) × IsAt g s desk × (new ≡ old)
+TakeStops g day s place fields (stop.Fault f) desk old new = (row : Fields) × (fields ≡ fields_in row) × DoStops g day s place row (stop.Fault f) desk old new
+TakeStops g day s place fields stop.Io desk old new = (row : Fields) × (fields ≡ fields_in row) × DoStops g day s place row stop.Io desk old new
+
+-- ---- lines one after another
 
 -- those of rows of which so many came before
 abbrev pub lines_from : ℕ → List Answer → List ℕ
@@ -101,12 +109,19 @@ IsRowWritten g day s number row refused desk old new =
 
 -- that, or what stopped it
 abbrev pub EndsLine : {S : Type 0} → Ghosts S → ℤ → State → ℕ → Fields → Result Bool ImportStop → DeskState S → Option (List ℕ) → Option (List ℕ) → Type 0
-EndsLine g day s number row ended desk old new = MatchResult ended (λ refused. IsRowWritten g day s number row refused desk old new) (λ why. DoStops g day s row why desk old new)
+EndsLine g day s number row ended desk old new = MatchResult ended (λ refused. IsRowWritten g day s number row refused desk old new) (λ why. DoStops g day s number row why desk old new)
 
 -- the same of a row of any number of fields
 abbrev pub EndsTaking : {S : Type 0} → Ghosts S → ℤ → State → ℕ → List (List ℕ) → Result Bool ImportStop → DeskState S → Option (List ℕ) → Option (List ℕ) → Type 0
 EndsTaking g day s number fields ended desk old new =
     MatchResult ended (λ refused. (row : Fields) × (fields ≡ fields_in row) × IsRowWritten g day s number row refused desk old new) (λ why. TakeStops g day s number fields why desk old new)
+
+-- the lines of rows were written, of the last one perhaps a part alone
+abbrev pub AreLinesOut : List Answer → Option (List ℕ) → Option (List ℕ) → Type 0
+AreLinesOut answers old new =
+    Appends old new (lines_from 0 answers)
+    ⊎ ((before : List Answer) × (last : Answer) × (mid : Option (List ℕ)) × (answers ≡ before ++ last ∷ [])
+    × Appends old mid (lines_from 0 before) × AppendsSome mid new (line_of (length before + 1) last))
 
 -- how many answers are refusals
 abbrev pub refused_count : List Answer → ℕ
@@ -170,16 +185,17 @@ RowsStopAtFault g day s headed behind f desk old new =
     × ((f ≡ fault.Memory) × AreRowsBehind headed behind rows × IsAt g t desk
     ⊎ ((row : Fields) × AreRowsBehind headed behind (rows ++ row ∷ []) × IsRowStopped g day t row f desk))
 
--- reading or writing failed after some rows; the line of the last one may not be written
-abbrev pub RowsStopAtIo : {S : Type 0} → Ghosts S → ℤ → State → Reading → Option (List ℕ) → DeskState S → Type 0
-RowsStopAtIo g day s headed behind desk =
-    (rows : List Fields) × (answers : List Answer) × (t : State) × AreRowsBehind headed behind rows × AreRowsDone day s rows answers t × IsAt g t desk
+-- reading or writing failed after some rows; of the line of the last one a part may be written
+abbrev pub RowsStopAtIo : {S : Type 0} → Ghosts S → ℤ → State → Reading → Option (List ℕ) → DeskState S → Option (List ℕ) → Option (List ℕ) → Type 0
+RowsStopAtIo g day s headed behind desk old new =
+    (rows : List Fields) × (answers : List Answer) × (t : State) × AreRowsBehind headed behind rows
+    × AreRowsDone day s rows answers t × IsAt g t desk × AreLinesOut answers old new
 
 abbrev pub RowsStop : {S : Type 0} → Ghosts S → ℤ → State → Reading → Option (List ℕ) → ImportStop → DeskState S → Option (List ℕ) → Option (List ℕ) → Type 0
 RowsStop g day s headed behind stop.Header desk old new = ⊥
 RowsStop g day s headed behind (stop.Row number) desk old new = RowsStopAtRow g day s headed behind number desk old new
 RowsStop g day s headed behind (stop.Fault f) desk old new = RowsStopAtFault g day s headed behind f desk old new
-RowsStop g day s headed behind stop.Io desk old new = RowsStopAtIo g day s headed behind desk
+RowsStop g day s headed behind stop.Io desk old new = RowsStopAtIo g day s headed behind desk old new
 
 -- all of them were done, or what stopped them
 abbrev pub EndsRows : {S : Type 0} → Ghosts S → ℤ → State → Reading → Option (List ℕ) → Result ℕ ImportStop → DeskState S → Option (List ℕ) → Option (List ℕ) → Type 0
@@ -209,16 +225,17 @@ StopsAtFault g day s text f desk old new =
     (rows : List Fields) × (answers : List Answer) × (t : State) × AreRowsDone day s rows answers t × Appends old new (lines_from 0 answers)
     × ((f ≡ fault.Memory) × ArePrefixRows text rows × IsAt g t desk ⊎ ((row : Fields) × AreSomeRows text (rows ++ row ∷ []) × IsRowStopped g day t row f desk))
 
--- reading or writing failed after some rows; the line of the last one may not be written
-abbrev pub StopsAtIo : {S : Type 0} → Ghosts S → ℤ → State → Option (List ℕ) → DeskState S → Type 0
-StopsAtIo g day s text desk =
-    (rows : List Fields) × (answers : List Answer) × (t : State) × ArePrefixRows text rows × AreRowsDone day s rows answers t × IsAt g t desk
+-- reading or writing failed after some rows; of the line of the last one a part may be written
+abbrev pub StopsAtIo : {S : Type 0} → Ghosts S → ℤ → State → Option (List ℕ) → DeskState S → Option (List ℕ) → Option (List ℕ) → Type 0
+StopsAtIo g day s text desk old new =
+    (rows : List Fields) × (answers : List Answer) × (t : State) × ArePrefixRows text rows
+    × AreRowsDone day s rows answers t × IsAt g t desk × AreLinesOut answers old new
 
 abbrev pub Stops : {S : Type 0} → Ghosts S → ℤ → State → Option (List ℕ) → ImportStop → DeskState S → Option (List ℕ) → Option (List ℕ) → Type 0
 Stops g day s text stop.Header desk old new = LacksHeader StartRecord text × IsAt g s desk × (new ≡ old)
 Stops g day s text (stop.Row number) desk old new = StopsAtRow g day s text number desk old new
 Stops g day s text (stop.Fault f) desk old new = StopsAtFault g day s text f desk old new
-Stops g day s text stop.Io desk old new = StopsAtIo g day s text desk
+Stops g day s text stop.Io desk old new = StopsAtIo g day s text desk old new
 
 -- all rows were done, or what stopped it
 abbrev pub EndsImport : {S : Type 0} → Ghosts S → ℤ → State → Option (List ℕ) → Result ℕ ImportStop → DeskState S → Option (List ℕ) → Option (List ℕ) → Type 0

@@ -1,14 +1,14 @@
 //! Records that are added by the rows of a text of CSV.
-ghost use Rattle.std.specs.Prelude.{◌≡◌, ◌+◌, ◌-◌, ◌^◌, ◌<◌, OnOk};
-ghost use Rattle.std.specs.Io.KnownBytes.{Appends};
+ghost use Rattle.std.specs.Prelude.{◌≡◌, ◌+◌, ◌-◌, ◌^◌, ◌<◌};
 ghost use Rattle.csv.specs.Reading.{reader_state, source_of};
 ghost use Rattle.csv.specs.declared.parser.State.TheVariants.{StartRecord};
 ghost use Rattle.csv.specs.Records.{fields_of};
 ghost use Rattle.office_csv.specs.ImportRows.{named};
 ghost use Rattle.office_csv.specs.ImportText.{IsPlain};
 ghost use Rattle.office_wire.specs.Calling.{CalledAt};
-ghost use Rattle.office_wire.specs.Importing.{EndsImport, EndsLine, EndsRow, EndsRows, EndsTaking, ImportsText, line_of, one_if, stop_at};
+ghost use Rattle.office_wire.specs.Importing.{EndsImport, EndsLine, EndsRow, EndsRows, EndsTaking, ImportsText, one_if, stop_at};
 
+use crate::import_lines::write_line;
 use csv::{Reader, StringRecord};
 use office_base::Io;
 use office_csv::{
@@ -51,21 +51,6 @@ fn answer_row<S: Alter>(
         Err(ReadFault::Refused(refusal)) => Ok(Answer::Refused(refusal)),
         Err(ReadFault::Memory) => Err(Fault::Memory),
     }
-}
-
-/// Writes the line of a row: its number, and what was answered to it.
-#[tactic(auto, unfolding(crate::specs::Importing::line_of))]
-fn write_line<W: Write>(number: u64, answer: Answer, out: &mut W) -> Result<(), Io>
-    ensures { OnOk result
-        (Appends (W.contents out.old) (W.contents out.new) (line_of number answer)) }
-{
-    let written = match answer {
-        Answer::Number(n) => writeln!(out, "{number} number {n}"),
-        Answer::Same(n) => writeln!(out, "{number} same {n}"),
-        Answer::Refused(why) => writeln!(out, "{number} refused {}", why.number()),
-        Answer::Done | Answer::Step(_, _) | Answer::RunClosed(_) => writeln!(out, "{number}"),
-    };
-    written.or(Err(Io))
 }
 
 /// Does what a row of seven fields asks for, and writes its line. Whether it was refused.
@@ -189,9 +174,9 @@ fn import_text<S: Alter, R: Read, W: Write>(
 ///
 /// Where it stops, what the rows before asked for is done: at `Header` that is nothing; at `Row(N)`
 /// the Nth row has another number of fields or is not UTF-8; at `Fault` the desk was stopped at the
-/// next row, or memory was wanting to read it; at `Io` the reader or the writer answered an error,
-/// and the last row that was done may have no line. The same text may be given again: a record that
-/// is there is reported as the same.
+/// next row, or memory was refused to read it; at `Io` the reader or the writer answered an error.
+/// Each row that was done has its line then, but of the last one there may be only some of it, or
+/// nothing. The same text may be given again: a record that is there is reported as the same.
 pub fn import_records<S: Alter, R: Read, W: Write>(
     alloc: Global,
     desk: &mut Desk<S>,

@@ -11,6 +11,7 @@
 
 mod answering;
 mod connections;
+mod import_lines;
 mod importing;
 mod registers;
 mod replies;

@@ -20,7 +20,7 @@ returns-in-Ok-flush g c =
 pub returns-in-Ok : goal.returns-in-Ok
 returns-in-Ok g c =
     record {
-      call = called g.S.Store _ _ _ _ c.in-Ok.ensures (λ s it. not_sent g.S.Store c.args.day s _ _ _ _ _ (rw c.import_reader-rdr.ensures.source at it));
+      call = called g.S.Store _ _ _ _ c.in-Ok.ensures (λ s it. not_sent g.S.Store c.args.day s _ _ _ _ _ _ c.flush.ensures.bytes (rw c.import_reader-rdr.ensures.source at it));
       gone = λ was. absurd (let wrong = was in cc (c.is_poisoned.ensures, c.if-is_poisoned.false));
     }
 

@@ -1,6 +1,6 @@
-use Rattle.std.proofs.Common.{inl, refl, rules, []}
+use Rattle.std.proofs.Common.{rules}
 use Rattle.office_wire.proofs.Calls.{called, not_called}
-use Rattle.office_wire.proofs.Imported.{headed, none_done}
+use Rattle.office_wire.proofs.Imported.{headed, none_done, none_read}
 use Rattle.office_wire.proofs.importing.import_text.Goals as goal
 
 pub returns-in-Ok-true : goal.returns-in-Ok-true
@@ -12,4 +12,4 @@ pub returns-in-Err-Memory : goal.returns-in-Err-Memory
 returns-in-Err-Memory g c = not_called g.S.Store _ _ (λ s at. none_done g.S.Store c.args.day s _ _ _ at)
 
 pub returns : goal.returns
-returns g c = not_called g.S.Store _ _ (λ s at. ([], [], s, inl refl, (refl, refl), at))
+returns g c = not_called g.S.Store _ _ (λ s at. none_read g.S.Store c.args.day s _ _ _ at)

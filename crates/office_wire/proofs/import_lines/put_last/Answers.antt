@@ -1,0 +1,5 @@
+use Rattle.office_wire.proofs.ImportLines.{err_then}
+use Rattle.office_wire.proofs.import_lines.put_last.Goals as goal
+
+pub returns-clause-err : goal.returns-clause-err
+returns-clause-err g c = err_then c.put_bytes.result _ _ _ _ _ c.in_ok-put_number.ensures.ok c.put_bytes.ensures.err
