@@ -98,8 +98,8 @@ fn put_line<'a, W: Write>(
     )
 }
 
-/// Writes the line of a record that is due. `Memory` and `Io` come as of the header: at `Io` some of
-/// the line may have gone out.
+/// Writes the line of a record that is due. `Memory` and `Io` come as of the header: at `Io` some
+/// of the line may have gone out.
 #[tactic(auto, unfolding(crate::specs::Registers::due_line))]
 pub fn write_due_line<W: Write>(
     alloc: Global,

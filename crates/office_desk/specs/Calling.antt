@@ -39,7 +39,8 @@ pub record Called {S : Type 0} (g : Ghosts S) (old new : DeskState S) (Did : Sta
   pub rest : (s : State) → HasCleanDisk (state g new.held) → IsAt g s old → LeavesRestOf g old new
 
 -- by any desk
-pub record Asked {S : Type 0} (g : Ghosts S) (old new : DeskState S) (Gone Now : Type 0) (Did : State → Type 0 → Type 0) : Type 0 where
+pub record Asked {S : Type 0} (g : Ghosts S) (old new : DeskState S) (Gone Now : Type 0) (Did : State → Type 0 → Type 0)
+    : Type 0 where
   -- one that was poisoned stays as it was, and is answered so
   pub gone : IsTrue old.is_poisoned → (new ≡ old) × Gone
   -- of one that was open this is so now
@@ -59,68 +60,84 @@ pub record IsPoisoned {S : Type 0} (f : Fault) (new : DeskState S) : Type 0 wher
   pub gone : IsTrue new.is_poisoned
 
 -- a change was saved and made
-pub record IsSaved {S : Type 0} (g : Ghosts S) (s : State) (change : Change) (answer : Answer) (old new : DeskState S) (At : Type 0) : Type 0 where
+pub record IsSaved {S : Type 0} (g : Ghosts S) (s : State) (change : Change) (answer : Answer) (old new : DeskState S)
+    (At : Type 0) : Type 0 where
   pub made : IsMade change answer old new
   pub rows : At → HoldsRows (rows_of (all_writes change.writes.items s)) (state g new.held)
 
 -- a fault on the way from a state to the next
-pub record IsFaulted {S : Type 0} (g : Ghosts S) (s next : State) (f : Fault) (old new : DeskState S) (At : Type 0) : Type 0 where
+pub record IsFaulted {S : Type 0} (g : Ghosts S) (s next : State) (f : Fault) (old new : DeskState S) (At : Type 0) :
+    Type 0 where
   pub memory : f ≡ fault.Memory → new ≡ old
   pub stops : StopsAt old.office f new
   pub left : At → StopsLeaving s next f (state g new.held)
 
 -- how the saving and making of a change ends
-abbrev pub EndChange : {S : Type 0} (g : Ghosts S) (s : State) (change : Change) (result : Result Answer Fault) (old new : DeskState S) (At : Type 0) → Type 0
+abbrev pub EndChange : {S : Type 0} (g : Ghosts S) (s : State) (change : Change) (result : Result Answer Fault)
+    (old new : DeskState S) (At : Type 0) → Type 0
 EndChange g s change result old new At =
-    MatchResult result (λ answer. IsSaved g s change answer old new At) (λ f. IsFaulted g s (all_writes change.writes.items s) f old new At)
+    MatchResult result (λ answer. IsSaved g s change answer old new At)
+    (λ f. IsFaulted g s (all_writes change.writes.items s) f old new At)
 
 -- an act was done, and is answered
-pub record IsDone {S : Type 0} (g : Ghosts S) (s : State) (a : Act) (answer : Answer) (new : DeskState S) (At : Type 0) : Type 0 where
+pub record IsDone {S : Type 0} (g : Ghosts S) (s : State) (a : Act) (answer : Answer) (new : DeskState S) (At : Type 0)
+    : Type 0 where
   pub answered : answer ≡ (step s a).0
   pub office : new.office ≡ (step s a).1.office
   pub is_open : new.is_poisoned ≡ false
   pub represents : At → IsAt g (step s a).1 new
 
 -- how an act ends
-abbrev pub EndAct : {S : Type 0} (g : Ghosts S) (s : State) (a : Act) (result : Result Answer Fault) (old new : DeskState S) (At : Type 0) → Type 0
-EndAct g s a result old new At = MatchResult result (λ answer. IsDone g s a answer new At) (λ f. IsFaulted g s (step s a).1 f old new At)
+abbrev pub EndAct : {S : Type 0} (g : Ghosts S) (s : State) (a : Act) (result : Result Answer Fault)
+    (old new : DeskState S) (At : Type 0) → Type 0
+EndAct g s a result old new At =
+    MatchResult result (λ answer. IsDone g s a answer new At) (λ f. IsFaulted g s (step s a).1 f old new At)
 
 -- and what a crash leaves at each end
-pub record PerformedOne {S : Type 0} (g : Ghosts S) (s : State) (a : Act) (result : Result Answer Fault) (old new : DeskState S) (At : Type 0) : Type 0 where
+pub record PerformedOne {S : Type 0} (g : Ghosts S) (s : State) (a : Act) (result : Result Answer Fault)
+    (old new : DeskState S) (At : Type 0) : Type 0 where
   pub formed : IsWellFormedAct a
   pub ends : EndAct g s a result old new At
   pub offices : At → LeavesOffices (state g new.held)
   pub fates : At → LeavesFates s (a ∷ []) (state g new.held)
-  pub midway : (begun : State) (run : ℕ) → a ≡ act.RunStep → open_run begun.office ≡ Some run → IsMidway begun run s → At → LeavesMidway begun run (state g new.held)
+  pub midway : (begun : State) (run : ℕ) → a ≡ act.RunStep → open_run begun.office ≡ Some run → IsMidway begun run s
+      → At → LeavesMidway begun run (state g new.held)
 
 -- acts were done, and are answered behind those that were given
-pub record AreDone {S : Type 0} (g : Ghosts S) (s : State) (acts : List Act) (given found : List Answer) (new : DeskState S) (At : Type 0) : Type 0 where
+pub record AreDone {S : Type 0} (g : Ghosts S) (s : State) (acts : List Act) (given found : List Answer)
+    (new : DeskState S) (At : Type 0) : Type 0 where
   pub answered : found ≡ given ++ answers s acts
   pub office : new.office ≡ (after s acts).office
   pub is_open : new.is_poisoned ≡ false
   pub represents : At → IsAt g (after s acts) new
 
 -- acts were stopped by a fault after so many
-pub record AreStopped {S : Type 0} (g : Ghosts S) (s : State) (acts : List Act) (given found : List Answer) (f : Fault) (new : DeskState S) (At : Type 0) : Type 0 where
+pub record AreStopped {S : Type 0} (g : Ghosts S) (s : State) (acts : List Act) (given found : List Answer) (f : Fault)
+    (new : DeskState S) (At : Type 0) : Type 0 where
   pub count : ℕ
   pub prefix : IsPrefixAnswered s acts given found f count
   pub stops : StopsAt (after s (take count acts)).office f new
   pub left : At → StopsLeaving (after s (take count acts)) (after s (take (count + 1) acts)) f (state g new.held)
 
 -- how acts end
-abbrev pub EndActs : {S T : Type 0} (g : Ghosts S) (s : State) (acts : List Act) (given found : List Answer) (result : Result T Fault) (new : DeskState S) (At : Type 0) → Type 0
-EndActs g s acts given found result new At = MatchResult result (λ _. AreDone g s acts given found new At) (λ f. AreStopped g s acts given found f new At)
+abbrev pub EndActs : {S T : Type 0} (g : Ghosts S) (s : State) (acts : List Act) (given found : List Answer)
+    (result : Result T Fault) (new : DeskState S) (At : Type 0) → Type 0
+EndActs g s acts given found result new At =
+    MatchResult result (λ _. AreDone g s acts given found new At) (λ f. AreStopped g s acts given found f new At)
 
 -- and what a crash leaves at each end
-pub record Performed {S T : Type 0} (g : Ghosts S) (s : State) (acts : List Act) (given found : List Answer) (result : Result T Fault) (new : DeskState S) (At : Type 0) : Type 0 where
+pub record Performed {S T : Type 0} (g : Ghosts S) (s : State) (acts : List Act) (given found : List Answer)
+    (result : Result T Fault) (new : DeskState S) (At : Type 0) : Type 0 where
   pub formed : AreWellFormed acts
   pub ends : EndActs g s acts given found result new At
   pub offices : At → LeavesOffices (state g new.held)
   pub fates : At → LeavesFates s acts (state g new.held)
-  pub midway : (begun : State) (run : ℕ) → AreRunSteps acts → open_run begun.office ≡ Some run → IsMidway begun run s → At → LeavesMidway begun run (state g new.held)
+  pub midway : (begun : State) (run : ℕ) → AreRunSteps acts → open_run begun.office ≡ Some run → IsMidway begun run s
+      → At → LeavesMidway begun run (state g new.held)
 
 -- steps were taken until no run was open
-pub record AreStepsDone {S : Type 0} (g : Ghosts S) (s : State) (answer : Answer) (old new : DeskState S) (At : Type 0) : Type 0 where
+pub record AreStepsDone {S : Type 0} (g : Ghosts S) (s : State) (answer : Answer) (old new : DeskState S) (At : Type 0)
+    : Type 0 where
   pub answered : answer ≡ resumed_answer (open_run old.office)
   pub is_open : new.is_poisoned ≡ false
   pub count : ℕ
@@ -129,43 +146,53 @@ pub record AreStepsDone {S : Type 0} (g : Ghosts S) (s : State) (answer : Answer
   pub represents : At → IsAt g (after_steps s count) new
 
 -- steps were stopped by a fault after so many
-pub record AreStepsStopped {S : Type 0} (g : Ghosts S) (s : State) (f : Fault) (old new : DeskState S) (At : Type 0) : Type 0 where
+pub record AreStepsStopped {S : Type 0} (g : Ghosts S) (s : State) (f : Fault) (old new : DeskState S) (At : Type 0) :
+    Type 0 where
   pub memory : open_run old.office ≡ None → f ≡ fault.Memory → new ≡ old
   pub count : ℕ
   pub stops : StopsAt (after_steps s count).office f new
   pub left : At → StopsLeaving (after_steps s count) (after_steps s (suc count)) f (state g new.held)
 
 -- how steps end
-abbrev pub EndSteps : {S : Type 0} (g : Ghosts S) (s : State) (result : Result Answer Fault) (old new : DeskState S) (At : Type 0) → Type 0
-EndSteps g s result old new At = MatchResult result (λ answer. AreStepsDone g s answer old new At) (λ f. AreStepsStopped g s f old new At)
+abbrev pub EndSteps : {S : Type 0} (g : Ghosts S) (s : State) (result : Result Answer Fault) (old new : DeskState S)
+    (At : Type 0) → Type 0
+EndSteps g s result old new At =
+    MatchResult result (λ answer. AreStepsDone g s answer old new At) (λ f. AreStepsStopped g s f old new At)
 
 -- the run was closed as one that never stopped, or none was open
-pub record IsResumed {S : Type 0} (g : Ghosts S) (s : State) (answer : Answer) (old new : DeskState S) (At : Type 0) : Type 0 where
+pub record IsResumed {S : Type 0} (g : Ghosts S) (s : State) (answer : Answer) (old new : DeskState S) (At : Type 0) :
+    Type 0 where
   pub answered : answer ≡ resumed_answer (open_run old.office)
   pub is_open : new.is_poisoned ≡ false
-  pub office : (begun : State) (run : ℕ) → open_run begun.office ≡ Some run → IsMidway begun run s → new.office ≡ (whole begun run).office
-  pub whole : (begun : State) (run : ℕ) → open_run begun.office ≡ Some run → IsMidway begun run s → At → IsAt g (whole begun run) new
+  pub office : (begun : State) (run : ℕ) → open_run begun.office ≡ Some run → IsMidway begun run s
+      → new.office ≡ (whole begun run).office
+  pub whole : (begun : State) (run : ℕ) → open_run begun.office ≡ Some run → IsMidway begun run s → At
+      → IsAt g (whole begun run) new
   pub same : open_run old.office ≡ None → new.office ≡ old.office
   pub none : open_run s.office ≡ None → At → IsAt g s new
 
 -- and what a crash leaves
-pub record Resumed {S : Type 0} (g : Ghosts S) (s : State) (result : Result Answer Fault) (old new : DeskState S) (At : Type 0) : Type 0 where
+pub record Resumed {S : Type 0} (g : Ghosts S) (s : State) (result : Result Answer Fault) (old new : DeskState S)
+    (At : Type 0) : Type 0 where
   pub ends : MatchResult result (λ answer. IsResumed g s answer old new At) (λ f. AreStepsStopped g s f old new At)
   pub left : open_run s.office ≡ None → At → LeavesRowsOf s (state g new.held)
-  pub midway : (begun : State) (run : ℕ) → open_run begun.office ≡ Some run → IsMidway begun run s → At → LeavesMidway begun run (state g new.held)
+  pub midway : (begun : State) (run : ℕ) → open_run begun.office ≡ Some run → IsMidway begun run s → At
+      → LeavesMidway begun run (state g new.held)
   pub offices : At → LeavesOffices (state g new.held)
   pub fates : At → LeavesStepFates s (state g new.held)
 
 -- ---- a content
 
 -- a content is reported, and the desk stays
-pub record IsContentTaken {S : Type 0} (g : Ghosts S) (s : State) (r : ℕ) (bytes : Option (List ℕ)) (new : DeskState S) (At : Type 0) : Type 0 where
+pub record IsContentTaken {S : Type 0} (g : Ghosts S) (s : State) (r : ℕ) (bytes : Option (List ℕ)) (new : DeskState S)
+    (At : Type 0) : Type 0 where
   pub reported : At → IsContentReported s r bytes
   pub is_open : new.is_poisoned ≡ false
   pub represents : At → IsAt g s new
 
 -- a content is not reported
-pub record IsContentMissed {S : Type 0} (g : Ghosts S) (s : State) (r : ℕ) (f : Fault) (new : DeskState S) (At : Type 0) : Type 0 where
+pub record IsContentMissed {S : Type 0} (g : Ghosts S) (s : State) (r : ℕ) (f : Fault) (new : DeskState S) (At : Type 0)
+    : Type 0 where
   pub faults : (f ≢ fault.Reopen) × (f ≢ fault.Version)
   pub damaged : At → f ≡ fault.Damaged → IsOtherContent s r
   -- where the database failed the desk is poisoned, and else it stays
@@ -173,8 +200,10 @@ pub record IsContentMissed {S : Type 0} (g : Ghosts S) (s : State) (r : ℕ) (f 
   pub kept : At → f ≢ fault.Store → IsAt g s new
 
 -- how the reading of a content ends, and what a crash leaves
-pub record IsContentRead {S : Type 0} (g : Ghosts S) (s : State) (r : ℕ) (result : Result (Option (Vec ℕ Global)) Fault) (old new : DeskState S) (At : Type 0) : Type 0 where
-  pub ends : MatchResult result (λ bytes. IsContentTaken g s r (option_map (λ it. it.items) bytes) new At) (λ f. IsContentMissed g s r f new At)
+pub record IsContentRead {S : Type 0} (g : Ghosts S) (s : State) (r : ℕ) (result : Result (Option (Vec ℕ Global)) Fault)
+    (old new : DeskState S) (At : Type 0) : Type 0 where
+  pub ends : MatchResult result (λ bytes. IsContentTaken g s r (option_map (λ it. it.items) bytes) new At)
+      (λ f. IsContentMissed g s r f new At)
   pub office : new.office ≡ old.office
   pub leaves : At → LeavesRowsOf s (state g new.held)
   pub offices : At → LeavesOffices (state g new.held)
@@ -182,21 +211,31 @@ pub record IsContentRead {S : Type 0} (g : Ghosts S) (s : State) (r : ℕ) (resu
 -- ---- the public calls
 
 -- one act is performed
-abbrev pub PerformsOne : {S : Type 0} (g : Ghosts S) (a : Act) (result : Result Answer Fault) (old new : DeskState S) → Type 0
-PerformsOne g a result old new = Asked g old new (result ≡ Err fault.Reopen) (OnOk result (new.is_poisoned ≡ false)) (λ s At. PerformedOne g s a result old new At)
+abbrev pub PerformsOne : {S : Type 0} (g : Ghosts S) (a : Act) (result : Result Answer Fault) (old new : DeskState S)
+    → Type 0
+PerformsOne g a result old new =
+    Asked g old new (result ≡ Err fault.Reopen) (OnOk result (new.is_poisoned ≡ false))
+    (λ s At. PerformedOne g s a result old new At)
 
 -- a list of acts is performed
-abbrev pub PerformsAll : {S T : Type 0} (g : Ghosts S) (acts : List Act) (given found : List Answer) (result : Result T Fault) (old new : DeskState S) → Type 0
+abbrev pub PerformsAll : {S T : Type 0} (g : Ghosts S) (acts : List Act) (given found : List Answer)
+    (result : Result T Fault) (old new : DeskState S) → Type 0
 PerformsAll g acts given found result old new =
-    Asked g old new ((result ≡ Err fault.Reopen) × (found ≡ given)) (OnOk result (new.is_poisoned ≡ false)) (λ s At. Performed g s acts given found result new At)
+    Asked g old new ((result ≡ Err fault.Reopen) × (found ≡ given)) (OnOk result (new.is_poisoned ≡ false))
+    (λ s At. Performed g s acts given found result new At)
 
 -- the open run is resumed
 abbrev pub ResumesRun : {S : Type 0} (g : Ghosts S) (result : Result Answer Fault) (old new : DeskState S) → Type 0
-ResumesRun g result old new = Asked g old new (result ≡ Err fault.Reopen) (OnOk result (new.is_poisoned ≡ false)) (λ s At. Resumed g s result old new At)
+ResumesRun g result old new =
+    Asked g old new (result ≡ Err fault.Reopen) (OnOk result (new.is_poisoned ≡ false))
+    (λ s At. Resumed g s result old new At)
 
 -- the content of a record is read
-abbrev pub ReadsContent : {S : Type 0} (g : Ghosts S) (r : ℕ) (result : Result (Option (Vec ℕ Global)) Fault) (old new : DeskState S) → Type 0
-ReadsContent g r result old new = Asked g old new (result ≡ Err fault.Reopen) (OnOk result (new.is_poisoned ≡ false)) (λ s At. IsContentRead g s r result old new At)
+abbrev pub ReadsContent : {S : Type 0} (g : Ghosts S) (r : ℕ) (result : Result (Option (Vec ℕ Global)) Fault)
+    (old new : DeskState S) → Type 0
+ReadsContent g r result old new =
+    Asked g old new (result ≡ Err fault.Reopen) (OnOk result (new.is_poisoned ≡ false))
+    (λ s At. IsContentRead g s r result old new At)
 
 -- something is read of the office in memory
 pub record Reads {S X : Type 0} (desk : DeskState S) (Is : X → Type 0) (result : Result X Fault) : Type 0 where

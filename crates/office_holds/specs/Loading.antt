@@ -32,7 +32,8 @@ pub record AreRowsOf (rows : List (List ℕ × HoldRow)) (targets : List (List �
   where
     pub columns : hold_rows holds ≡ rows
     pub targets_exist : (code : List ℕ) (target : Target)
-        → list_any (λ e. is_pair e.0 e.1 code target) targets ≡ holds_of (get holds code) (λ hold. has_target hold target)
+        → list_any (λ e. is_pair e.0 e.1 code target) targets
+        ≡ holds_of (get holds code) (λ hold. has_target hold target)
 
 -- the hold is there, and it has the target or room for it
 abbrev pub takes_target : HoldMap → List ℕ → Target → Bool

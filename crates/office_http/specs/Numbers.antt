@@ -4,7 +4,8 @@ use Rattle.std.specs.Result.{result_ok}
 use Rattle.office_base.specs.Numerals.{number_named}
 use Rattle.office_base.specs.ThingNumbers.{thing_number}
 
--- the length that a field value says: 1 to 19 ASCII digits. Source: RFC 9110 section 8.6; the greatest number of digits is own
+-- the length that a field value says: 1 to 19 ASCII digits. Source: RFC 9110 section 8.6; the greatest number of digits
+-- is own
 abbrev pub content_length : List ℕ → Option ℕ
 content_length value = if nat_lt 19 (length value) then None else number_named value
 

@@ -1,4 +1,5 @@
--- What a request target names. Source: own; the origin form without a query of RFC 9112 section 3.2.1, and routes as `matchit` reads them.
+-- What a request target names. Source: own; the origin form without a query of RFC 9112 section 3.2.1, and routes as
+-- `matchit` reads them.
 use Rattle.std.specs.Prelude.{ℕ, ◌==◌, ◌&&◌, Bool, List, [], codes, Option, option_map, Result, Ok, Err, unwrap_or, slice_get, not}
 use Rattle.std.specs.List.{list_any, slice_split}
 use Rattle.std.specs.Str.{is_utf8}
@@ -41,7 +42,7 @@ is_path target = not (list_any (λ byte. byte == 63) target) && is_utf8 target
 abbrev pub resource_at : List ℕ → Option Resource
 resource_at path = option_map (λ route. route.value) (first office_routes path)
 
--- the segment of a path at that place, where 1 is its first word, as `records` of `/records/8`: the second reports which record, day or
--- certificate is meant, and the third of `/overdue/{day}/{count}` how many days
+-- the segment of a path at that place, where 1 is its first word, as `records` of `/records/8`: the second reports
+-- which record, day or certificate is meant, and the third of `/overdue/{day}/{count}` how many days
 abbrev pub path_segment : ℕ → List ℕ → List ℕ
 path_segment place path = unwrap_or (slice_get (slice_split (λ byte. byte == 47) path) place) []

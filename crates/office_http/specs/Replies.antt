@@ -100,7 +100,8 @@ response_text is_head r = if is_head then response_head r else response_head r +
 
 -- an answer that names an error by a word
 abbrev pub error_response : Status → Allow → List ℕ → Response
-error_response status allow word = record { status = status; kind = kinds.Json; allow = allow; body = codes "{\"error\":\"" ++ word ++ codes "\"}" }
+error_response status allow word =
+    record { status = status; kind = kinds.Json; allow = allow; body = codes "{\"error\":\"" ++ word ++ codes "\"}" }
 
 -- the answer where a check of the head fails
 unfoldable pub check_response : Check → Response

@@ -1,4 +1,5 @@
--- What is done for a head: the first check that fails, or else what is asked for. Source: own; methods, fields and targets are those of RFC 9110.
+-- What is done for a head: the first check that fails, or else what is asked for. Source: own; methods, fields and
+-- targets are those of RFC 9110.
 use Rattle.std.specs.Prelude.{◌≡◌, ℕ, ◌≤◌, List, codes, map, take, Bool, true, false, ◌==◌, nat_lt, if◌then◌else◌, bytes_eq, Option, Some, None}
 use Rattle.std.specs.Result.{result_ok}
 use Rattle.httparse.specs.Grammar.{RequestHead}
@@ -35,7 +36,8 @@ coding_plan (one value) lengths = Refuse checks.TransferCoding
 coding_plan many lengths = Refuse checks.TransferCoding
 
 abbrev pub acts_plan : List (List ℕ × List ℕ) → RequestPlan
-acts_plan fields = coding_plan (found_named (codes "transfer-encoding") fields) (found_named (codes "content-length") fields)
+acts_plan fields =
+    coding_plan (found_named (codes "transfer-encoding") fields) (found_named (codes "content-length") fields)
 
 -- the method is GET
 abbrev pub get_plan : List ℕ → RequestPlan → RequestPlan
@@ -49,11 +51,16 @@ post_plan method plan = if bytes_eq method (codes "POST") then plan else Refuse 
 abbrev pub resource_plan : Resource → List ℕ → List ℕ → List (List ℕ × List ℕ) → RequestPlan
 resource_plan resources.Acts path method fields = post_plan method (acts_plan fields)
 resource_plan resources.OpenRun path method fields = post_plan method (Serve wants.Resume)
-resource_plan resources.Record path method fields = get_plan method (Serve (wants.Record (segment_number (path_segment 2 path))))
-resource_plan resources.Content path method fields = get_plan method (Serve (wants.Content (segment_number (path_segment 2 path))))
+resource_plan resources.Record path method fields =
+    get_plan method (Serve (wants.Record (segment_number (path_segment 2 path))))
+resource_plan resources.Content path method fields =
+    get_plan method (Serve (wants.Content (segment_number (path_segment 2 path))))
 resource_plan resources.Due path method fields = get_plan method (Serve (wants.Due (day_named (path_segment 2 path))))
-resource_plan resources.Overdue path method fields = get_plan method (Serve (wants.Overdue (day_named (path_segment 2 path)) (result_ok (confirm_days_named (path_segment 3 path)))))
-resource_plan resources.Certificate path method fields = get_plan method (Serve (wants.Certificate (segment_number (path_segment 2 path))))
+resource_plan resources.Overdue path method fields =
+    get_plan method
+    (Serve (wants.Overdue (day_named (path_segment 2 path)) (result_ok (confirm_days_named (path_segment 3 path)))))
+resource_plan resources.Certificate path method fields =
+    get_plan method (Serve (wants.Certificate (segment_number (path_segment 2 path))))
 
 -- the path names something
 abbrev pub path_plan : Option Resource → List ℕ → List ℕ → List (List ℕ × List ℕ) → RequestPlan
@@ -62,7 +69,8 @@ path_plan (Some resource) path method fields = resource_plan resource path metho
 
 -- the target is a path without a query
 abbrev pub target_plan : List ℕ → List ℕ → List (List ℕ × List ℕ) → RequestPlan
-target_plan target method fields = if is_path target then path_plan (resource_at target) target method fields else Refuse checks.Path
+target_plan target method fields =
+    if is_path target then path_plan (resource_at target) target method fields else Refuse checks.Path
 
 abbrev pub is_one : Values → Bool
 is_one missing = false
@@ -73,7 +81,8 @@ is_one many = false
 abbrev pub has_host : ℕ → Values → Bool
 has_host minor hosts = if minor == 1 then is_one hosts else true
 
--- what is done for a method, a target, a minor version and the fields: Host first, then target, method, transfer coding and length
+-- what is done for a method, a target, a minor version and the fields: Host first, then target, method, transfer coding
+-- and length
 abbrev pub plan_of : List ℕ → List ℕ → ℕ → List (List ℕ × List ℕ) → RequestPlan
 plan_of method target minor fields =
     if has_host minor (found_named (codes "host") fields) then target_plan target method fields else Refuse checks.Host
@@ -84,7 +93,9 @@ plan_at h = plan_of h.method h.target h.minor (map name_and_value h.fields)
 
 -- the same, for a head in a buffer
 abbrev pub plan_in : List ℕ → RequestSpans → List HeaderSpan → RequestPlan
-plan_in buf head headers = plan_of (span_bytes buf head.method) (span_bytes buf head.path) head.version (map (header_bytes buf) (take head.headers headers))
+plan_in buf head headers =
+    plan_of (span_bytes buf head.method) (span_bytes buf head.path) head.version
+    (map (header_bytes buf) (take head.headers headers))
 
 -- the method is HEAD, so the head of the answer alone is written
 abbrev pub is_head_method : List ℕ → Bool
@@ -101,7 +112,8 @@ IsSized (Serve (wants.Due day)) = Unit {0}
 IsSized (Serve (wants.Overdue day days)) = Unit {0}
 IsSized (Serve (wants.Certificate n)) = Unit {0}
 
--- what is done for a head that lies in a buffer: what its parts say there, and so what is done for any head that they are
+-- what is done for a head that lies in a buffer: what its parts say there, and so what is done for any head that they
+-- are
 pub record IsPlanned (buf : List ℕ) (spans : RequestSpans) (headers : List HeaderSpan) (it : RequestPlan) : Type 0 where
   pub plan : it ≡ plan_in buf spans headers
   pub head : (h : RequestHead) → IsRequestAt buf headers spans h → it ≡ plan_at h

@@ -1,4 +1,5 @@
--- Which bytes are which request, up to the end of the head. Source: RFC 9112 section 2 as `httparse` reads it; the limits are own.
+-- Which bytes are which request, up to the end of the head. Source: RFC 9112 section 2 as `httparse` reads it; the
+-- limits are own.
 use Rattle.std.specs.Prelude.{◌≡◌, ◌≢◌, ℕ, ◌≤◌, List, [], ◌++◌, drop, length, Option, IfSome}
 use Rattle.std.specs.Io.KnownBytes.{Consumes}
 use Rattle.httparse.specs.Grammar.{RequestHead, print_request, ReadsRequest, HasNoRequest}
@@ -33,7 +34,8 @@ IsRequest (asks h rest) bytes = ReadsRequest bytes h rest × IsShort h
 
 -- the spans cover the parts of a short head with which the buffer begins
 abbrev pub IsHeadAt : RequestSpans → List ℕ → List HeaderSpan → Type 0
-IsHeadAt spans buf headers = IsRequestWithin buf headers spans × ((h : RequestHead) × IsRequestAt buf headers spans h × IsShort h)
+IsHeadAt spans buf headers =
+    IsRequestWithin buf headers spans × ((h : RequestHead) × IsRequestAt buf headers spans h × IsShort h)
 
 -- what a buffer reports of all bytes that may begin with it
 abbrev pub IsSeen : HeadParse → List ℕ → List HeaderSpan → Type 0
@@ -53,15 +55,19 @@ IsRead (Found spans) bytes = Unit {0}
 IsRead Missing bytes = IsRequest headless bytes
 IsRead Empty bytes = IsRequest nothing bytes
 
--- where a head was found, what all bytes are: that head, then what the buffer has after it and what is left in the reader
+-- where a head was found, what all bytes are: that head, then what the buffer has after it and what is left in the
+-- reader
 abbrev pub IsAsked : Head → List ℕ → List ℕ → List HeaderSpan → List ℕ → Type 0
-IsAsked (Found spans) bytes buf headers left = (h : RequestHead) × IsRequestAt buf headers spans h × IsRequest (asks h (drop spans.len buf ++ left)) bytes
+IsAsked (Found spans) bytes buf headers left =
+    (h : RequestHead) × IsRequestAt buf headers spans h × IsRequest (asks h (drop spans.len buf ++ left)) bytes
 IsAsked Missing bytes buf headers left = Unit {0}
 IsAsked Empty bytes buf headers left = Unit {0}
 
--- a connection was read into an empty buffer until its head was whole, or until there was none, by what is before and after in the reader
-pub record ReadsHead (it : Head) (buf : List ℕ) (headers : List HeaderSpan) (before after : Option (List ℕ)) : Type 0 where
-  pub read : Consumes before after buf
-  pub head : IfSome before (λ bytes. IsRead it bytes)
-  pub spans : IsHeadOf it buf headers
-  pub asked : IfSome before (λ bytes. IfSome after (λ left. IsAsked it bytes buf headers left))
+-- a connection was read into an empty buffer until its head was whole, or until there was none, by what is before and
+-- after in the reader
+pub record ReadsHead (it : Head) (buf : List ℕ) (headers : List HeaderSpan) (before after : Option (List ℕ)) : Type 0
+  where
+    pub read : Consumes before after buf
+    pub head : IfSome before (λ bytes. IsRead it bytes)
+    pub spans : IsHeadOf it buf headers
+    pub asked : IfSome before (λ bytes. IfSome after (λ left. IsAsked it bytes buf headers left))

@@ -8,7 +8,8 @@ use Rattle.office_rules.specs.State.{Office}
 
 -- each is of a record that is there, with its due day
 abbrev pub AreOwnPairs : TreeState → List (ℤ × ℕ) → Type 0
-AreOwnPairs tree pairs = AllByRecursion (λ pair. IsTrue (has_record tree pair.1) × (due_of tree pair.1 ≡ Some pair.0)) pairs
+AreOwnPairs tree pairs =
+    AllByRecursion (λ pair. IsTrue (has_record tree pair.1) × (due_of tree pair.1 ≡ Some pair.0)) pairs
 
 -- what is reported of their records, in their order
 abbrev pub rows_of_pairs : Office → List (ℤ × ℕ) → List DueRowView

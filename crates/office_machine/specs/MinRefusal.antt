@@ -7,4 +7,5 @@ use Rattle.office_base.specs.declared.refusal.Refusal.{Refusal}
 abbrev pub min_refusal : Option Refusal → Option Refusal → Option Refusal
 min_refusal None other = other
 min_refusal (Some one) None = Some one
-min_refusal (Some one) (Some other) = if nat_lt (refusal_number other) (refusal_number one) then Some other else Some one
+min_refusal (Some one) (Some other) =
+    if nat_lt (refusal_number other) (refusal_number one) then Some other else Some one

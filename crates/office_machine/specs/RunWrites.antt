@@ -19,4 +19,5 @@ outcome_writes outcome.Transferred r head = row_write.Record r head status.Ended
 -- its entry, its own rows, and the run with its cursor at it
 abbrev pub taking_writes : Outcome → Entry → Record → Run → List RowWrite
 taking_writes o entry head run =
-    row_write.Entry entry ∷ outcome_writes o entry.record_no head ++ row_write.Run entry.run (record run { cursor = entry.record_no }) ∷ []
+    row_write.Entry entry ∷ outcome_writes o entry.record_no head
+    ++ row_write.Run entry.run (record run { cursor = entry.record_no }) ∷ []

@@ -17,7 +17,8 @@ selects_due (Due day) tree r due = int_le due day
 selects_due (Overdue day n) tree r due = int_lt (deadline_from due n) day && not (counts tree r)
 
 abbrev pub is_selected : Selection → TreeState → ℕ → Bool
-is_selected it tree r = holds_of (status_of tree r) is_here && holds_of (due_of tree r) (λ due. selects_due it tree r due)
+is_selected it tree r =
+    holds_of (status_of tree r) is_here && holds_of (due_of tree r) (λ due. selects_due it tree r due)
 
 -- the due day of a record that it has
 abbrev pub due_selected : Selection → TreeState → ℕ → Option ℤ

@@ -38,22 +38,26 @@ pub record AreStopped (f : Fault) (acts : List Act) (n : ℕ) (new : FileState) 
   pub fates : LeavesFates t acts new
 
 -- they were all done, and all answers are reported; some are refusals, or none is
-pub record AreAnswered (acts : List Act) (some_refused : Bool) (new : FileState) (written after : Option (List ℕ)) (t : State) : Type 0 where
+pub record AreAnswered (acts : List Act) (some_refused : Bool) (new : FileState) (written after : Option (List ℕ))
+    (t : State) : Type 0 where
   pub done : AreDone acts new t
   pub reported : Appends written after (answer_lines (answers t acts))
   pub refused : list_any is_refusal (answers t acts) ≡ some_refused
 
 -- a fault stopped them, and the answers that were given are reported
-pub record AreCutShort (f : Fault) (acts : List Act) (n : ℕ) (new : FileState) (written after : Option (List ℕ)) (t : State) : Type 0 where
+pub record AreCutShort (f : Fault) (acts : List Act) (n : ℕ) (new : FileState) (written after : Option (List ℕ))
+    (t : State) : Type 0 where
   pub stopped : AreStopped f acts n new t
   pub reported : Appends written after (answer_lines (answers t (take n acts)))
 
 -- a list of acts at an open desk, by the ending; Of P is that P holds of the state at which the desk was
-abbrev pub Performs : ((State → Type 0) → Type 0) → List Act → FileState → Option (List ℕ) → Option (List ℕ) → Ending → Type 0
+abbrev pub Performs : ((State → Type 0) → Type 0) → List Act → FileState → Option (List ℕ) → Option (List ℕ) → Ending
+    → Type 0
 Performs Of acts new written after how.Done = Of (AreAnswered acts false new written after)
 Performs Of acts new written after how.SomeRefused = Of (AreAnswered acts true new written after)
 Performs Of acts new written after (how.Fault f) = Of (λ t. (n : ℕ) × AreCutShort f acts n new written after t)
-Performs Of acts new written after how.File = Of (λ t. AreDone acts new t ⊎ ((f : Fault) × (n : ℕ) × AreStopped f acts n new t))
+Performs Of acts new written after how.File =
+    Of (λ t. AreDone acts new t ⊎ ((f : Fault) × (n : ℕ) × AreStopped f acts n new t))
 Performs Of acts new written after (how.Refused refusal) = ⊥
 Performs Of acts new written after (how.LineRefused line refusal) = ⊥
 Performs Of acts new written after (how.ActRefused place refusal) = ⊥
@@ -81,7 +85,8 @@ IsUnread text how.SomeFailed = ⊥
 IsUnread text how.File = ⊥
 
 -- the text was not read as acts, and nothing was done; or its acts were performed
-abbrev pub Applies : ((State → Type 0) → Type 0) → List ℕ → FileState → Option (List ℕ) → Option (List ℕ) → Ending → Type 0
+abbrev pub Applies : ((State → Type 0) → Type 0) → List ℕ → FileState → Option (List ℕ) → Option (List ℕ) → Ending
+    → Type 0
 Applies Of text new written after ending =
     IsUnread text ending × Of (λ t. HoldsRows (rows_of t) new) × (after ≡ written)
     ⊎ ((acts : List Act) × (acts_in text ≡ Ok (map asked acts)) × Performs Of acts new written after ending)
@@ -94,8 +99,12 @@ TextEnds text old new written after ending =
 
 -- the text of acts was not read to its end, or memory ran out for it, and nothing was done
 abbrev pub IsNoText : {S : Type 0} → Held S → Held S → Option (List ℕ) → Option (List ℕ) → Ending → Type 0
-IsNoText old new written after ending = ((ending ≡ how.File) ⊎ (ending ≡ how.Fault fault.Memory)) × (new ≡ old) × (after ≡ written)
+IsNoText old new written after ending =
+    ((ending ≡ how.File) ⊎ (ending ≡ how.Fault fault.Memory)) × (new ≡ old) × (after ≡ written)
 
 -- `apply FILE ACTS`, by the ending, where the reader reports the text
-abbrev pub ApplyEnds : {S : Type 0} → Ghosts S → Option (List ℕ) → Held S → Held S → Option (List ℕ) → Option (List ℕ) → Ending → Type 0
-ApplyEnds g text old new written after ending = IfSome text (λ it. IsNoText old new written after ending ⊎ TextEnds it (state g old) (state g new) written after ending)
+abbrev pub ApplyEnds : {S : Type 0} → Ghosts S → Option (List ℕ) → Held S → Held S → Option (List ℕ) → Option (List ℕ)
+    → Ending → Type 0
+ApplyEnds g text old new written after ending =
+    IfSome text
+    (λ it. IsNoText old new written after ending ⊎ TextEnds it (state g old) (state g new) written after ending)

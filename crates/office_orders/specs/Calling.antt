@@ -10,18 +10,23 @@ use Rattle.office_desk.specs.Leaving.{IsAt}
 use Rattle.office_orders.specs.Endings.{exit_status}
 use Rattle.office_orders.specs.declared.ending.Ending.{Ending}
 
--- a word was carried out over a connection, and ends so over the one that it gives back, by what the writer has before and after; where the disk is clean then, it was clean before
-pub record CarriedOut {S O : Type 0} (g : Ghosts S) (old : Held S) (result : Ending × Held S) (contents : O → Option (List ℕ)) (out after : O)
+-- a word was carried out over a connection, and ends so over the one that it gives back, by what the writer has before
+-- and after; where the disk is clean then, it was clean before
+pub record CarriedOut {S O : Type 0} (g : Ghosts S) (old : Held S) (result : Ending × Held S)
+    (contents : O → Option (List ℕ)) (out after : O)
     (Ends : Held S → Held S → Option (List ℕ) → Option (List ℕ) → Ending → Type 0) : Type 0 where
   pub ends : Ends old result.1 (contents out) (contents after) result.0
   pub clean : HasCleanDisk (state g result.1) → HasCleanDisk (state g old)
 
 -- how a word ends, by what the connections show
-abbrev pub Shown : {S : Type 0} → Ghosts S → (FileState → FileState → Option (List ℕ) → Option (List ℕ) → Ending → Type 0) → Held S → Held S → Option (List ℕ) → Option (List ℕ) → Ending → Type 0
+abbrev pub Shown : {S : Type 0} → Ghosts S
+    → (FileState → FileState → Option (List ℕ) → Option (List ℕ) → Ending → Type 0) → Held S → Held S → Option (List ℕ)
+    → Option (List ℕ) → Ending → Type 0
 Shown g Ends old new written after ending = Ends (state g old) (state g new) written after ending
 
 -- a word was carried out, and ends so by what the connections show
-abbrev pub EndsShown : {S O : Type 0} → Ghosts S → Held S → Ending × Held S → (O → Option (List ℕ)) → O → O → (FileState → FileState → Option (List ℕ) → Option (List ℕ) → Ending → Type 0) → Type 0
+abbrev pub EndsShown : {S O : Type 0} → Ghosts S → Held S → Ending × Held S → (O → Option (List ℕ)) → O → O
+    → (FileState → FileState → Option (List ℕ) → Option (List ℕ) → Ending → Type 0) → Type 0
 EndsShown g old result contents out after Ends = CarriedOut g old result contents out after (Shown g Ends)
 
 -- the exit status is that of an ending, and so it ended
@@ -39,8 +44,11 @@ abbrev pub SparesRestAt : {S : Type 0} → Ghosts S → DeskState S → DeskStat
 SparesRestAt g old new =
     (s : State) → HasCleanDisk (state g new.held) → IsAt g s old → LeavesRestOf g old new
 
--- something was done at a desk, and ends so, by what its tables show and what the writer has before and after; where the disk is clean then, it was clean before
-pub record DoneAt {S O : Type 0} (g : Ghosts S) (old new : DeskState S) (contents : O → Option (List ℕ)) (out after : O) (ending : Ending)
-    (Ends : ((State → Type 0) → Type 0) → FileState → Option (List ℕ) → Option (List ℕ) → Ending → Type 0) : Type 0 where
-  pub ends : Ends (AtDesk g old new) (state g new.held) (contents out) (contents after) ending
-  pub clean : HasCleanDisk (state g new.held) → HasCleanDisk (state g old.held)
+-- something was done at a desk, and ends so, by what its tables show and what the writer has before and after; where
+-- the disk is clean then, it was clean before
+pub record DoneAt {S O : Type 0} (g : Ghosts S) (old new : DeskState S) (contents : O → Option (List ℕ)) (out after : O)
+    (ending : Ending)
+    (Ends : ((State → Type 0) → Type 0) → FileState → Option (List ℕ) → Option (List ℕ) → Ending → Type 0) : Type 0
+  where
+    pub ends : Ends (AtDesk g old new) (state g new.held) (contents out) (contents after) ending
+    pub clean : HasCleanDisk (state g new.held) → HasCleanDisk (state g old.held)

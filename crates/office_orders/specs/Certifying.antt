@@ -14,10 +14,13 @@ use Rattle.office_orders.specs.Opening.{IsNotOpened, IsOfOpened, IsOpened}
 abbrev pub IsCertificate : ℕ → Option (List ℕ) → State → Type 0
 IsCertificate run text s = get s.office.certificates run ≡ text
 
--- the reporting of a certificate at an open desk, by its ending; Of P is that P holds of the state at which the desk was
+-- the reporting of a certificate at an open desk, by its ending; Of P is that P holds of the state at which the desk
+-- was
 abbrev pub Certifies : ((State → Type 0) → Type 0) → ℕ → Option (List ℕ) → Option (List ℕ) → Ending → Type 0
-Certifies Of run written after how.Done = (text : List ℕ) × Of (IsCertificate run (Some text)) × Appends written after text
-Certifies Of run written after (how.Refused refusal) = (refusal ≡ refused.NoSuch) × Of (IsCertificate run None) × (after ≡ written)
+Certifies Of run written after how.Done =
+    (text : List ℕ) × Of (IsCertificate run (Some text)) × Appends written after text
+Certifies Of run written after (how.Refused refusal) =
+    (refusal ≡ refused.NoSuch) × Of (IsCertificate run None) × (after ≡ written)
 Certifies Of run written after (how.LineRefused line refusal) = ⊥
 Certifies Of run written after how.SomeRefused = ⊥
 Certifies Of run written after (how.ActRefused place refusal) = ⊥
@@ -32,4 +35,6 @@ Certifies Of run written after (how.Fault f) = (f ≡ fault.Memory) × (after �
 
 -- `certificate FILE N`, by its ending; an office of version 2 that was opened stays as it was
 abbrev pub CertificateEnds : ℕ → FileState → FileState → Option (List ℕ) → Option (List ℕ) → Ending → Type 0
-CertificateEnds run old new written after ending = IsNotOpened old new written after ending ⊎ IsOpened old new × Certifies (IsOfOpened old new) run written after ending
+CertificateEnds run old new written after ending =
+    IsNotOpened old new written after ending
+    ⊎ IsOpened old new × Certifies (IsOfOpened old new) run written after ending

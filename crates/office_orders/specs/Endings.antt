@@ -33,9 +33,11 @@ abbrev pub ending_of_acts : Result (Unit {0}) AnyFault → List Answer → Endin
 ending_of_acts (Ok done) given = if list_any is_refusal given then SomeRefused else Done
 ending_of_acts (Err f) given = Fault f
 
--- a service that was poisoned is reported as the fault by which a desk answers no more, and a connection that failed by the exit status alone
+-- a service that was poisoned is reported as the fault by which a desk answers no more, and a connection that failed by
+-- the exit status alone
 abbrev pub ending_of_service : Bool → Bool → Ending
-ending_of_service has_failed is_poisoned = if is_poisoned then Fault fault.Reopen else if has_failed then SomeFailed else Done
+ending_of_service has_failed is_poisoned =
+    if is_poisoned then Fault fault.Reopen else if has_failed then SomeFailed else Done
 
 -- 0 done, 1 something refused, 2 bad words, 3 a file, the store or a connection, 4 memory
 abbrev pub exit_status : Ending → ℕ
@@ -61,9 +63,11 @@ exit_status (Fault fault.Version) = 3
 abbrev pub line_said : Ending → List ℕ
 line_said Done = []
 line_said (Refused refusal) = codes "office: refused " ++ decimal (refusal_number refusal) ++ 10 ∷ []
-line_said (LineRefused line refusal) = codes "office: line " ++ decimal line ++ codes " refused " ++ decimal (refusal_number refusal) ++ 10 ∷ []
+line_said (LineRefused line refusal) =
+    codes "office: line " ++ decimal line ++ codes " refused " ++ decimal (refusal_number refusal) ++ 10 ∷ []
 line_said SomeRefused = []
-line_said (ActRefused place refusal) = codes "office: act " ++ decimal place ++ codes " refused " ++ decimal (refusal_number refusal) ++ 10 ∷ []
+line_said (ActRefused place refusal) =
+    codes "office: act " ++ decimal place ++ codes " refused " ++ decimal (refusal_number refusal) ++ 10 ∷ []
 line_said NotJson = codes "office: json" ++ 10 ∷ []
 line_said CsvHeader = codes "office: csv header" ++ 10 ∷ []
 line_said (CsvRow number) = codes "office: csv row " ++ decimal number ++ 10 ∷ []

@@ -20,20 +20,26 @@ use Rattle.office_orders.specs.declared.ending.Ending.TheVariants as how
 abbrev pub IsRestKept : FileState → FileState → Type 0
 IsRestKept old new = HasCleanDisk new → IsOpenable old → LeavesRest old new
 
--- the office was opened: a new one where there was none, else the one that the tables represent; these are as they were, or, of version 1, made those of version 2
+-- the office was opened: a new one where there was none, else the one that the tables represent; these are as they
+-- were, or, of version 1, made those of version 2
 pub record IsOpened (old new : FileState) : Type 0 where
   -- it is made anew only where none of its other tables is there
   pub clear : has_office_table old ≡ false → has_other_table old.now.schema ≡ false
   pub made : HasCleanDisk new → IsBlank old → HoldsRows (rows_of empty_state) new
-  pub found : HasCleanDisk new → IsAtRest old → (s : State) × RepresentState old.now.trees s × HoldsRows (rows_of s) new × (new.now ≡ old.now)
-  pub moved : HasCleanDisk new → IsAtRestOver edition.One old → (s : State) × OldRepresent old.now.trees s × HoldsRows (rows_of s) new
+  pub found : HasCleanDisk new → IsAtRest old
+      → (s : State) × RepresentState old.now.trees s × HoldsRows (rows_of s) new × (new.now ≡ old.now)
+  pub moved : HasCleanDisk new → IsAtRestOver edition.One old
+      → (s : State) × OldRepresent old.now.trees s × HoldsRows (rows_of s) new
   pub rest : IsRestKept old new
 
 -- the office was not opened, by this fault
 pub record IsUnopened (f : Fault) (old new : FileState) : Type 0 where
-  pub version : (ed : Edition) → HasCleanDisk new → IsAtRestOver ed old → f ≡ fault.Version → IsOtherVersion old.now.trees
-  pub damaged : (ed : Edition) → HasCleanDisk new → IsAtRestOver ed old → f ≡ fault.Damaged → RepresentNone ed old.now.trees
-  pub this_version : (ed : Edition) → HasCleanDisk new → IsAtRestOver ed old → f ≡ fault.Damaged → IsOtherVersion old.now.trees → ⊥
+  pub version : (ed : Edition) → HasCleanDisk new → IsAtRestOver ed old → f ≡ fault.Version
+      → IsOtherVersion old.now.trees
+  pub damaged : (ed : Edition) → HasCleanDisk new → IsAtRestOver ed old → f ≡ fault.Damaged
+      → RepresentNone ed old.now.trees
+  pub this_version : (ed : Edition) → HasCleanDisk new → IsAtRestOver ed old → f ≡ fault.Damaged
+      → IsOtherVersion old.now.trees → ⊥
   pub anew : has_office_table old ≡ false → (f ≡ fault.Damaged) ⊎ (f ≡ fault.Store)
   -- damaged without a table `office`: just where another of its tables is there, and then nothing was done
   pub other_tables : has_office_table old ≡ false → f ≡ fault.Damaged
@@ -50,9 +56,11 @@ pub record IsUnopened (f : Fault) (old new : FileState) : Type 0 where
 
 -- the office was not opened, by this fault, and nothing is written
 abbrev pub IsNotOpened : FileState → FileState → Option (List ℕ) → Option (List ℕ) → Ending → Type 0
-IsNotOpened old new written after ending = (f : Fault) × (ending ≡ how.Fault f) × IsUnopened f old new × (after ≡ written)
+IsNotOpened old new written after ending =
+    (f : Fault) × (ending ≡ how.Fault f) × IsUnopened f old new × (after ≡ written)
 
--- P holds of the state with which the office was opened: of a new office where there was none, else of the state that the tables represent
+-- P holds of the state with which the office was opened: of a new office where there was none, else of the state that
+-- the tables represent
 pub record IsOfOpened (old new : FileState) (P : State → Type 0) : Type 0 where
   pub made : HasCleanDisk new → IsBlank old → P empty_state
   pub found : HasCleanDisk new → IsAtRest old → (s : State) × RepresentState old.now.trees s × P s

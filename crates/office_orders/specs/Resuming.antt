@@ -20,11 +20,13 @@ use Rattle.office_orders.specs.Opening.{IsNotOpened, IsOfOpened, IsRestKept}
 abbrev pub certificate_line : ℕ → List ℕ
 certificate_line run = codes "certificate " ++ decimal run ++ 10 ∷ []
 
--- the run that was open in the state is closed: the tables are those of the run that never stopped, wherever it was stopped on the way from an earlier state
+-- the run that was open in the state is closed: the tables are those of the run that never stopped, wherever it was
+-- stopped on the way from an earlier state
 pub record IsResumed (run : ℕ) (new : FileState) (t : State) : Type 0 where
   pub was_open : open_run t.office ≡ Some run
   pub is_whole : HoldsRows (rows_of (whole t run)) new
-  pub never_stopped : (s : State) → open_run s.office ≡ Some run → IsMidway s run t → HoldsRows (rows_of (whole s run)) new
+  pub never_stopped : (s : State) → open_run s.office ≡ Some run → IsMidway s run t
+      → HoldsRows (rows_of (whole s run)) new
   pub fates : LeavesStepFates t new
 
 -- no run was open in the state, and the tables are the state's
@@ -32,21 +34,25 @@ pub record IsNoRun (new : FileState) (t : State) : Type 0 where
   pub none_open : open_run t.office ≡ None
   pub rows : HoldsRows (rows_of t) new
 
--- the resumption of the state's run was stopped by this fault: a crash leaves the state after some steps or after one more, midway in the run, or the state where no run is open
+-- the resumption of the state's run was stopped by this fault: a crash leaves the state after some steps or after one
+-- more, midway in the run, or the state where no run is open
 pub record IsStopped (f : Fault) (new : FileState) (t : State) : Type 0 where
   pub stopped : (n : ℕ) × StopsLeaving (after_steps t n) (after_steps t (suc n)) f new
   pub midway : (s : State) (run : ℕ) → open_run s.office ≡ Some run → IsMidway s run t → LeavesMidway s run new
   pub none_open : open_run t.office ≡ None → LeavesRowsOf t new
   pub fates : LeavesStepFates t new
 
--- how the answer of a resumption is reported, by the run that was open: a certificate, or the refusal, with nothing written
+-- how the answer of a resumption is reported, by the run that was open: a certificate, or the refusal, with nothing
+-- written
 abbrev pub IsAnswerReported : Option ℕ → Option (List ℕ) → Option (List ℕ) → Ending → Type 0
 IsAnswerReported None written after ending = (ending ≡ how.Refused refused.NoRun) × (after ≡ written)
-IsAnswerReported (Some run) written after ending = (ending ≡ how.Done) × Appends written after (certificate_line run) ⊎ (ending ≡ how.File)
+IsAnswerReported (Some run) written after ending =
+    (ending ≡ how.Done) × Appends written after (certificate_line run) ⊎ (ending ≡ how.File)
 
 -- a resumption at an open desk, by its ending; Of P is that P holds of the state at which the desk was
 abbrev pub Resumes : ((State → Type 0) → Type 0) → FileState → Option (List ℕ) → Option (List ℕ) → Ending → Type 0
-Resumes Of new written after how.Done = (run : ℕ) × Of (IsResumed run new) × Appends written after (certificate_line run)
+Resumes Of new written after how.Done =
+    (run : ℕ) × Of (IsResumed run new) × Appends written after (certificate_line run)
 Resumes Of new written after (how.Refused refusal) = (refusal ≡ refused.NoRun) × Of (IsNoRun new) × (after ≡ written)
 Resumes Of new written after (how.LineRefused line refusal) = ⊥
 Resumes Of new written after how.SomeRefused = ⊥
@@ -63,4 +69,5 @@ Resumes Of new written after (how.Fault f) = Of (IsStopped f new) × (after ≡ 
 -- `resume FILE`, by its ending; what else the file has is kept
 abbrev pub ResumeEnds : FileState → FileState → Option (List ℕ) → Option (List ℕ) → Ending → Type 0
 ResumeEnds old new written after ending =
-    IsNotOpened old new written after ending ⊎ IsRestKept old new × Resumes (IsOfOpened old new) new written after ending
+    IsNotOpened old new written after ending
+    ⊎ IsRestKept old new × Resumes (IsOfOpened old new) new written after ending

@@ -1,4 +1,5 @@
--- What a connection asks for, by all its bytes. Source: RFC 9112 for the request, as `office_http` reads it; the rest is own.
+-- What a connection asks for, by all its bytes. Source: RFC 9112 for the request, as `office_http` reads it; the rest
+-- is own.
 use Rattle.std.specs.Prelude.{◌≡◌, ◌++◌, ℕ, ℤ, List, IfOk, IfSome, MatchResult, length, take, nat_lt, if◌then◌else◌, Option, Result}
 use Rattle.httparse.specs.Grammar.{RequestHead}
 use Rattle.office_http.specs.RequestPlans.{is_head_method, plan_at}
@@ -76,7 +77,8 @@ pub record IsAskedBy (h : RequestHead) (rest : List ℕ) (it : Asked) : Type 0 w
 abbrev pub IsReceived : Received → List ℕ → Type 0
 IsReceived received.Nothing bytes = IsRequest nothing bytes
 IsReceived received.Headless bytes = IsRequest headless bytes
-IsReceived (received.Request it) bytes = (h : RequestHead) × (rest : List ℕ) × IsRequest (asks h rest) bytes × IsAskedBy h rest it
+IsReceived (received.Request it) bytes =
+    (h : RequestHead) × (rest : List ℕ) × IsRequest (asks h rest) bytes × IsAskedBy h rest it
 
 -- acts in a body of some size are asked for
 abbrev pub HasActs : RequestHead → Type 0

@@ -46,6 +46,8 @@ Exports Of it written after how.SomeFailed = ⊥
 Exports Of it written after how.File = ⊤
 Exports Of it written after (how.Fault f) = f ≡ fault.Memory
 
--- `export FILE entries`, `export FILE DAY` or `overdue FILE DAY COUNT`, by its ending; an office of version 2 that was opened stays as it was
+-- `export FILE entries`, `export FILE DAY` or `overdue FILE DAY COUNT`, by its ending; an office of version 2 that was
+-- opened stays as it was
 abbrev pub ExportEnds : Register → FileState → FileState → Option (List ℕ) → Option (List ℕ) → Ending → Type 0
-ExportEnds it old new written after ending = IsNotOpened old new written after ending ⊎ IsOpened old new × Exports (IsOfOpened old new) it written after ending
+ExportEnds it old new written after ending =
+    IsNotOpened old new written after ending ⊎ IsOpened old new × Exports (IsOfOpened old new) it written after ending

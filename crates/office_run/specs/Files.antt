@@ -29,35 +29,48 @@ pub record HeldOffice (ed : Edition) (image : Image) (trees : Trees) : Type 0 wh
 abbrev pub LeavesAnOffice : FileState → Type 0
 LeavesAnOffice s = (db : Trees) → s.may_leave db → (ed : Edition) × IsOfficeIn ed db
 
--- files that held this were opened as that connection, as far as a later one is clean: it is at rest over the office that they held, or has room for one where it found nothing
+-- files that held this were opened as that connection, as far as a later one is clean: it is at rest over the office
+-- that they held, or has room for one where it found nothing
 pub record IsOpenedFrom {D : Type 0} {g : Ghosts D} (image : Image) (was last : Held (FileStore D g)) : Type 0 where
   pub found : HasCleanDisk (file_state last) → AreFoundIn image (file_state was).now.trees
-  pub rest : HasCleanDisk (file_state last) → (ed : Edition) (trees : Trees) → HeldOffice ed image trees → IsAtRestOver ed (file_state was) × ((file_state was).now.trees ≡ trees)
+  pub rest : HasCleanDisk (file_state last) → (ed : Edition) (trees : Trees) → HeldOffice ed image trees
+      → IsAtRestOver ed (file_state was) × ((file_state was).now.trees ≡ trees)
   pub blank : HasCleanDisk (file_state last) → IsEmpty (file_state was).now.trees → IsBlank (file_state was)
 
--- files that held this were opened, and so it ended over the connection, which is this one then; where it is open, a crash may leave its last commit
-pub record EndsOver {D : Type 0} {g : Ghosts D} (image : Image) (Ends : Held (FileStore D g) → Held (FileStore D g) → Type 0) (last : Held (FileStore D g)) : Type 0 where
+-- files that held this were opened, and so it ended over the connection, which is this one then; where it is open, a
+-- crash may leave its last commit
+pub record EndsOver {D : Type 0} {g : Ghosts D} (image : Image)
+    (Ends : Held (FileStore D g) → Held (FileStore D g) → Type 0) (last : Held (FileStore D g)) : Type 0 where
   pub was : Held (FileStore D g)
   pub opened : IsOpenedFrom image was last
   pub ends : Ends was last
   pub stays : IsTrue (file_state last).is_open → (file_state last).may_leave (file_state last).committed.trees
 
--- what a connection leaves of its files as it is closed: its last commit, in the database file alone; or, where that failed, no more than what a crash left before
+-- what a connection leaves of its files as it is closed: its last commit, in the database file alone; or, where that
+-- failed, no more than what a crash left before
 abbrev pub IsLeftOf : {D : Type 0} {g : Ghosts D} → Held (FileStore D g) → FilesLeft D g → Type 0
 IsLeftOf last files.Unopened = ⊥
 IsLeftOf {g = g} last (files.Closed it) = AreClean g it.log it.db → IsCopied last it
 IsLeftOf last (files.Unclosed store) = IsClosed last store
 
--- files that held this were not opened, which is fault 31, with nothing written; or so it ended over their connection, which was closed
-abbrev pub EndsInFiles : {D : Type 0} {g : Ghosts D} → FilesLeft D g → Image → (Held (FileStore D g) → Held (FileStore D g) → Type 0) → Option (List ℕ) → Option (List ℕ) → Ending → Type 0
+-- files that held this were not opened, which is fault 31, with nothing written; or so it ended over their connection,
+-- which was closed
+abbrev pub EndsInFiles : {D : Type 0} {g : Ghosts D} → FilesLeft D g → Image
+    → (Held (FileStore D g) → Held (FileStore D g) → Type 0) → Option (List ℕ) → Option (List ℕ) → Ending → Type 0
 EndsInFiles {D} {g} left image Ends written after ending =
     ((ending ≡ how.Fault fault.Store) × (left ≡ files.Unopened) × (after ≡ written))
     ⊎ ((last : Held (FileStore D g)) × EndsOver image Ends last × IsLeftOf last left)
 
 -- an order on the office in files that held this, where the reader reports the text that it reads
-abbrev pub RunsInFiles : {D : Type 0} {g : Ghosts D} → FilesLeft D g → Image → Ordered → Option (List ℕ) → Option (List ℕ) → Option (List ℕ) → Ending → Type 0
-RunsInFiles left image order text written after ending = EndsInFiles left image (λ was last. RunEnds over_files order text was last written after ending) written after ending
+abbrev pub RunsInFiles : {D : Type 0} {g : Ghosts D} → FilesLeft D g → Image → Ordered → Option (List ℕ)
+    → Option (List ℕ) → Option (List ℕ) → Ending → Type 0
+RunsInFiles left image order text written after ending =
+    EndsInFiles left image (λ was last. RunEnds over_files order text was last written after ending) written after
+    ending
 
 -- a service of the office in files that held this, at a port and for so many connections
-abbrev pub ServesInFiles : {D : Type 0} {g : Ghosts D} → FilesLeft D g → Image → ℕ → ℕ → Option (List ℕ) → Option (List ℕ) → Ending → Type 0
-ServesInFiles left image port count written after ending = EndsInFiles left image (λ was last. ServiceEnds over_files port count was last written after ending) written after ending
+abbrev pub ServesInFiles : {D : Type 0} {g : Ghosts D} → FilesLeft D g → Image → ℕ → ℕ → Option (List ℕ)
+    → Option (List ℕ) → Ending → Type 0
+ServesInFiles left image port count written after ending =
+    EndsInFiles left image (λ was last. ServiceEnds over_files port count was last written after ending) written after
+    ending

@@ -32,7 +32,8 @@ ending_of_import (Err (import.Fault f)) = how.Fault f
 ending_of_import (Err import.Io) = how.File
 
 -- rows were done from a state on: the tables are those of the state after them, and their lines are written
-pub record AreSaved (day : ℤ) (rows : List Fields) (answers : List Answer) (u : State) (new : FileState) (written after : Option (List ℕ)) (t : State) : Type 0 where
+pub record AreSaved (day : ℤ) (rows : List Fields) (answers : List Answer) (u : State) (new : FileState)
+    (written after : Option (List ℕ)) (t : State) : Type 0 where
   pub done : AreRowsDone day t rows answers u
   pub saved : HoldsRows (rows_of u) new
   pub reported : Appends written after (lines_from 0 answers)
@@ -40,12 +41,14 @@ pub record AreSaved (day : ℤ) (rows : List Fields) (answers : List Answer) (u 
 -- all rows of the text were done, and some of them are refused, or none is
 abbrev pub AreAllSaved : ℤ → Option (List ℕ) → Bool → FileState → Option (List ℕ) → Option (List ℕ) → State → Type 0
 AreAllSaved day text none_refused new written after t =
-    (rows : List Fields) × (answers : List Answer) × (u : State) × AreAllRows text rows × AreSaved day rows answers u new written after t × ((refused_count answers == 0) ≡ none_refused)
+    (rows : List Fields) × (answers : List Answer) × (u : State) × AreAllRows text rows
+    × AreSaved day rows answers u new written after t × ((refused_count answers == 0) ≡ none_refused)
 
 -- those before a row of another number of fields, or one that is not UTF-8, whose number is reported
 abbrev pub AreSavedBeforeBad : ℤ → Option (List ℕ) → ℕ → FileState → Option (List ℕ) → Option (List ℕ) → State → Type 0
 AreSavedBeforeBad day text number new written after t =
-    (rows : List Fields) × (answers : List Answer) × (u : State) × AreRowsBeforeBad text rows × AreSaved day rows answers u new written after t × (number ≡ length rows + 1)
+    (rows : List Fields) × (answers : List Answer) × (u : State) × AreRowsBeforeBad text rows
+    × AreSaved day rows answers u new written after t × (number ≡ length rows + 1)
 
 -- a fault stopped a row: memory ran out to read it, or a crash leaves the tables before its act or after it
 abbrev pub IsRowCut : ℤ → State → Fields → Fault → FileState → Type 0
@@ -57,8 +60,10 @@ IsRowCut day u row f new =
 -- a fault stopped the import after some rows: memory ran out for the next one, or that one was cut
 abbrev pub AreCutShort : ℤ → Option (List ℕ) → Fault → FileState → Option (List ℕ) → Option (List ℕ) → State → Type 0
 AreCutShort day text f new written after t =
-    (rows : List Fields) × (answers : List Answer) × (u : State) × AreRowsDone day t rows answers u × Appends written after (lines_from 0 answers)
-    × ((f ≡ fault.Memory) × ArePrefixRows text rows × HoldsRows (rows_of u) new ⊎ ((row : Fields) × AreSomeRows text (rows ++ row ∷ []) × IsRowCut day u row f new))
+    (rows : List Fields) × (answers : List Answer) × (u : State) × AreRowsDone day t rows answers u
+    × Appends written after (lines_from 0 answers)
+    × ((f ≡ fault.Memory) × ArePrefixRows text rows × HoldsRows (rows_of u) new
+    ⊎ ((row : Fields) × AreSomeRows text (rows ++ row ∷ []) × IsRowCut day u row f new))
 
 -- reading or writing failed after some rows; of the line of the last one a part may be written
 abbrev pub AreUnreported : ℤ → Option (List ℕ) → FileState → Option (List ℕ) → Option (List ℕ) → State → Type 0
@@ -71,7 +76,8 @@ abbrev pub IsUnheaded : Option (List ℕ) → FileState → Option (List ℕ) �
 IsUnheaded text new written after t = LacksHeader StartRecord text × HoldsRows (rows_of t) new × (after ≡ written)
 
 -- the rows of a text at an open desk, by the ending; Of P is that P holds of the state at which the desk was
-abbrev pub ImportsAt : ((State → Type 0) → Type 0) → ℤ → Option (List ℕ) → FileState → Option (List ℕ) → Option (List ℕ) → Ending → Type 0
+abbrev pub ImportsAt : ((State → Type 0) → Type 0) → ℤ → Option (List ℕ) → FileState → Option (List ℕ) → Option (List ℕ)
+    → Ending → Type 0
 ImportsAt Of day text new written after how.Done = Of (AreAllSaved day text true new written after)
 ImportsAt Of day text new written after how.SomeRefused = Of (AreAllSaved day text false new written after)
 ImportsAt Of day text new written after how.CsvHeader = Of (IsUnheaded text new written after)
@@ -87,5 +93,8 @@ ImportsAt Of day text new written after how.Socket = ⊥
 ImportsAt Of day text new written after how.SomeFailed = ⊥
 
 -- `import FILE DAY CSV`, by the ending; a byte order mark at the start of the text is passed over
-abbrev pub ImportEnds : ℤ → Option (List ℕ) → FileState → FileState → Option (List ℕ) → Option (List ℕ) → Ending → Type 0
-ImportEnds day text old new written after ending = IsNotOpened old new written after ending ⊎ ImportsAt (IsOfOpened old new) day (option_map strip_bom text) new written after ending
+abbrev pub ImportEnds : ℤ → Option (List ℕ) → FileState → FileState → Option (List ℕ) → Option (List ℕ) → Ending
+    → Type 0
+ImportEnds day text old new written after ending =
+    IsNotOpened old new written after ending
+    ⊎ ImportsAt (IsOfOpened old new) day (option_map strip_bom text) new written after ending

@@ -1,4 +1,5 @@
--- From one word of the program to the next: at which state a word leaves an office, and what its two files hold then. Source: own.
+-- From one word of the program to the next: at which state a word leaves an office, and what its two files hold then.
+-- Source: own.
 use Rattle.std.specs.Prelude.{◌≡◌, ◌⊎◌, ◌+◌, ◌≤◌, ℕ, ℤ, IsTrue, List, ◌++◌, length, map, take, Option, Ok, Some, option_map}
 use Rattle.std.specs.Io.KnownBytes.{Appends}
 use Rattle.csv.specs.Reading.{strip_bom}
@@ -56,7 +57,8 @@ LeavesAt Is s = (db : Trees) → s.may_leave db → (u : State) × Is u × IsOff
 abbrev pub IsUntouched : Option (List ℕ) → Option (List ℕ) → State → State → Type 0
 IsUntouched written after s u = (u ≡ s) × (after ≡ written)
 
--- acts of the text were done: those whose answers were written, and at most one more; where writing failed, some of them
+-- acts of the text were done: those whose answers were written, and at most one more; where writing failed, some of
+-- them
 pub record AreActsDone (text : List ℕ) (written after : Option (List ℕ)) (ending : Ending) (s u : State) : Type 0 where
   pub acts : List Act
   pub read : acts_in text ≡ Ok (map asked acts)
@@ -65,8 +67,10 @@ pub record AreActsDone (text : List ℕ) (written after : Option (List ℕ)) (en
   pub answered : (ending ≡ how.File) ⊎ Appends written after (answer_lines (answers s (take count acts)))
   pub state : (u ≡ after_acts s (take count acts)) ⊎ (u ≡ after_acts s (take (count + 1) acts))
 
--- rows of the text were added, in their order: those whose lines were written, and at most one more; where writing failed, some of them
-pub record AreRowsAdded (day : ℤ) (text : Option (List ℕ)) (written after : Option (List ℕ)) (ending : Ending) (s u : State) : Type 0 where
+-- rows of the text were added, in their order: those whose lines were written, and at most one more; where writing
+-- failed, some of them
+pub record AreRowsAdded (day : ℤ) (text : Option (List ℕ)) (written after : Option (List ℕ)) (ending : Ending)
+    (s u : State) : Type 0 where
   pub rows : List Fields
   pub answers : List Answer
   pub reached : State
@@ -83,8 +87,10 @@ pub record AreStepsTaken (ending : Ending) (s u : State) : Type 0 where
 
 -- at which state an order leaves an office that was at one, by what it read and wrote and how it ended
 abbrev pub IsLeftBy : Ordered → List ℕ → Option (List ℕ) → Option (List ℕ) → Ending → State → State → Type 0
-IsLeftBy (application_ordered file acts) text written after ending s u = IsUntouched written after s u ⊎ AreActsDone text written after ending s u
-IsLeftBy (importation_ordered file day csv) text written after ending s u = IsUntouched written after s u ⊎ AreRowsAdded day (option_map strip_bom (Some text)) written after ending s u
+IsLeftBy (application_ordered file acts) text written after ending s u =
+    IsUntouched written after s u ⊎ AreActsDone text written after ending s u
+IsLeftBy (importation_ordered file day csv) text written after ending s u =
+    IsUntouched written after s u ⊎ AreRowsAdded day (option_map strip_bom (Some text)) written after ending s u
 IsLeftBy (resumption_ordered file) text written after ending s u = AreStepsTaken ending s u
 IsLeftBy (init_file_ordered file) text written after ending s u = u ≡ s
 IsLeftBy (exportation_ordered file register) text written after ending s u = u ≡ s
@@ -101,8 +107,14 @@ IsServedTo s u = (done : List Act) × AreWellFormed done × (u ≡ after_acts s 
 
 -- ---- what the two files hold then
 
--- closed, they hold an office at a state of this kind as they read now and after any crash; not closed, after any crash; what was not opened was not written
+-- closed, they hold an office at a state of this kind as they read now and after any crash; not closed, after any
+-- crash; what was not opened was not written
 abbrev pub LeavesFilesAt : {D : Type 0} {g : Ghosts D} → (State → Type 0) → FilesLeft D g → Type 0
 LeavesFilesAt Is files.Unopened = Unit {0}
-LeavesFilesAt {g = g} Is (files.Closed it) = AreClean g it.log it.db → (u : State) × Is u × HoldsOfficeAt (image_of g it) u × ((image : Image) → outcomes g it.log it.db image → HoldsOfficeAt image u)
-LeavesFilesAt Is (files.Unclosed store) = IsClean (view store) → IsTrue (view store).is_numbered → (image : Image) → (store_state store).may_leave image → ∥ ((u : State) × Is u × HoldsOfficeAt image u) ∥₁
+LeavesFilesAt {g = g} Is (files.Closed it) =
+    AreClean g it.log it.db
+    → (u : State) × Is u × HoldsOfficeAt (image_of g it) u
+    × ((image : Image) → outcomes g it.log it.db image → HoldsOfficeAt image u)
+LeavesFilesAt Is (files.Unclosed store) =
+    IsClean (view store) → IsTrue (view store).is_numbered → (image : Image) → (store_state store).may_leave image
+    → ∥ ((u : State) × Is u × HoldsOfficeAt image u) ∥₁

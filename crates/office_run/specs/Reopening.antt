@@ -27,21 +27,31 @@ pub record KeepOffice {D : Type 0} (g : Ghosts D) (ed : Edition) (it : Files D) 
 
 -- a connection whose last commit is an office's was closed: its files hold that office
 abbrev pub ClosedFilesKeepOffice : {D : Type 0} → Ghosts D → Type 0
-ClosedFilesKeepOffice {D} g = (last : Held (FileStore D g)) (it : Files D) (ed : Edition) → IsLeftOf last (files.Closed it) → AreClean g it.log it.db
+ClosedFilesKeepOffice {D} g =
+    (last : Held (FileStore D g)) (it : Files D) (ed : Edition) → IsLeftOf last (files.Closed it)
+    → AreClean g it.log it.db
     → IsOfficeIn ed (file_state last).committed.trees → KeepOffice g ed it (file_state last).committed.trees
 
--- the process ended with a connection of which a crash leaves an office, whatever it leaves: the files hold one of those offices
+-- the process ended with a connection of which a crash leaves an office, whatever it leaves: the files hold one of
+-- those offices
 abbrev pub CrashedFilesHoldOffice : {D : Type 0} → Ghosts D → Type 0
-CrashedFilesHoldOffice {D} g = (last : Held (FileStore D g)) → IsTrue (view last.store).is_numbered → LeavesAnOffice (file_state last)
+CrashedFilesHoldOffice {D} g =
+    (last : Held (FileStore D g)) → IsTrue (view last.store).is_numbered → LeavesAnOffice (file_state last)
     → (left : Image) → (store_state last.store).may_leave left
     → ∥ ((trees : Trees) × (ed : Edition) × (file_state last).may_leave trees × HeldOffice ed left trees) ∥₁
 
 -- over files that hold an office at a state a word was run: they hold one at a state at which the word leaves it
 abbrev pub WordLeavesOffice : {D : Type 0} → Ghosts D → Type 0
-WordLeavesOffice {D} g = (image : Image) (s : State) (order : Ordered) (text : List ℕ) (written after : Option (List ℕ)) (ending : Ending) (left : FilesLeft D g)
-    → HoldsOfficeAt image s → RunsInFiles left image order (Some text) written after ending → LeavesFilesAt (IsLeftBy order text written after ending s) left
+WordLeavesOffice {D} g =
+    (image : Image) (s : State) (order : Ordered) (text : List ℕ) (written after : Option (List ℕ)) (ending : Ending)
+    (left : FilesLeft D g)
+    → HoldsOfficeAt image s → RunsInFiles left image order (Some text) written after ending
+    → LeavesFilesAt (IsLeftBy order text written after ending s) left
 
 -- the same of a service, which leaves the office after some acts
 abbrev pub ServiceLeavesOffice : {D : Type 0} → Ghosts D → Type 0
-ServiceLeavesOffice {D} g = (image : Image) (s : State) (port count : ℕ) (written after : Option (List ℕ)) (ending : Ending) (left : FilesLeft D g)
-    → HoldsOfficeAt image s → ServesInFiles left image port count written after ending → LeavesFilesAt (IsServedTo s) left
+ServiceLeavesOffice {D} g =
+    (image : Image) (s : State) (port count : ℕ) (written after : Option (List ℕ)) (ending : Ending)
+    (left : FilesLeft D g)
+    → HoldsOfficeAt image s → ServesInFiles left image port count written after ending
+    → LeavesFilesAt (IsServedTo s) left

@@ -23,8 +23,10 @@ listening_line port = codes "listening 127.0.0.1:" ++ decimal port ++ 10 ∷ []
 abbrev pub IsNotRun : {S : Type 0} → Held S → Held S → Option (List ℕ) → Option (List ℕ) → Ending → Type 0
 IsNotRun old new written after ending = (ending ≡ how.BadWords) × (new ≡ old) × (after ≡ written)
 
--- what an order does, by its ending, where the reader reports the text that it reads; an order that is not carried out over a connection is none here, and nothing is done
-abbrev pub RunEnds : {S : Type 0} → Ghosts S → Ordered → Option (List ℕ) → Held S → Held S → Option (List ℕ) → Option (List ℕ) → Ending → Type 0
+-- what an order does, by its ending, where the reader reports the text that it reads; an order that is not carried out
+-- over a connection is none here, and nothing is done
+abbrev pub RunEnds : {S : Type 0} → Ghosts S → Ordered → Option (List ℕ) → Held S → Held S → Option (List ℕ)
+    → Option (List ℕ) → Ending → Type 0
 RunEnds g nothing_ordered text = IsNotRun
 RunEnds g (due_day_ordered unit count offset day) text = IsNotRun
 RunEnds g (plan_file_ordered file) text = IsNotRun
@@ -38,5 +40,7 @@ RunEnds g (resumption_ordered file) text = Shown g ResumeEnds
 RunEnds g (certificate_ordered file run) text = Shown g (CertificateEnds run)
 
 -- an order was carried out over a connection, with the status of its ending
-abbrev pub Runs : {S O : Type 0} → Ghosts S → Ordered → Option (List ℕ) → Held S → ℕ × Held S → (O → Option (List ℕ)) → O → O → Type 0
-Runs g order text old result contents out after = Exits result.0 (λ ending. CarriedOut g old (ending, result.1) contents out after (RunEnds g order text))
+abbrev pub Runs : {S O : Type 0} → Ghosts S → Ordered → Option (List ℕ) → Held S → ℕ × Held S → (O → Option (List ℕ))
+    → O → O → Type 0
+Runs g order text old result contents out after =
+    Exits result.0 (λ ending. CarriedOut g old (ending, result.1) contents out after (RunEnds g order text))

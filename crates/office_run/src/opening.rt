@@ -62,8 +62,8 @@ pub(crate) fn close<D: Disk + Drop>(conn: Connection<FileStore<D>>) -> FilesLeft
 /// database's, is fault 31, and nothing goes to `out`.
 ///
 /// `start` names what the two files held, and how a crash is read; the promise holds whatever that
-/// was, where nothing else writes them. Which file is opened no clause says, nor what becomes of one
-/// that is not opened.
+/// was, where nothing else writes them. Which file is opened no clause says, nor what becomes of
+/// one that is not opened.
 pub fn open_and_run<S: Start, R: Read, W: Write, E: Write>(
     rt: &HostRuntime,
     file: &str,

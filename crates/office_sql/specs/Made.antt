@@ -33,13 +33,17 @@ pub record IsMade (table : Table) (old new : Database) : Type 0 where
   pub sound : IsDatabase new
 
 -- what the making of tables inside a transaction leaves, where it starts so
-pub record MakesInside {X : Type 0} (Starts : Database → Type 0) (Changes : Database → Database → Type 0) (old new : State) (result : Result X Error) : Type 0 where
+pub record MakesInside {X : Type 0} (Starts : Database → Type 0) (Changes : Database → Database → Type 0)
+    (old new : State) (result : Result X Error) : Type 0 where
   pub ok : HasCleanDisk new → IsTrue old.is_open → IsTrue old.in_transaction → Starts old.now
-      → OnOk result (Changes old.now new.now × IsTrue new.is_open × IsTrue new.in_transaction × (new.committed ≡ old.committed))
-  pub err : HasCleanDisk new → IsTrue old.is_open → IsTrue old.in_transaction → Starts old.now → OnErr result (KeepsCommit old new)
+      → OnOk result
+      (Changes old.now new.now × IsTrue new.is_open × IsTrue new.in_transaction × (new.committed ≡ old.committed))
+  pub err : HasCleanDisk new → IsTrue old.is_open → IsTrue old.in_transaction → Starts old.now
+      → OnErr result (KeepsCommit old new)
   pub survives : Survives old new (λ _. ⊥)
 
--- the new tables are there beside those that were made before, and have no row; whatever was there is as it was, and there is still room for the rest
+-- the new tables are there beside those that were made before, and have no row; whatever was there is as it was, and
+-- there is still room for the rest
 pub record Grown (made news rest : List Table) (old new : Database) : Type 0 where
   pub has : HasTables (made ++ news) new
   pub room : HasRoom rest new.schema

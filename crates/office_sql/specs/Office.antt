@@ -1,4 +1,5 @@
--- What the database of an office is between calls and inside a transaction, beside whatever else the file has, and what a put or a removal does to it. Source: own.
+-- What the database of an office is between calls and inside a transaction, beside whatever else the file has, and what
+-- a put or a removal does to it. Source: own.
 use Rattle.std.specs.Prelude.{◌≡◌, ◌≢◌, ◌⊎◌, ℕ, pos, neg_ℤ, true, false, List, [], ◌∷◌, filter, not, slice_get, Option, Some, option_map, option_and_then, unwrap_or, Result, OnOk, OnErr, IsTrue}
 use Rattle.std.specs.List.{AllByRecursion, list_any}
 use Rattle.std.specs.Str.{bytes_eq}
@@ -39,7 +40,9 @@ IsUnreferred s t = AllByRecursion (λ u. list_any (λ ref. same_name t.name ref.
 pub record HasTable (s : Schema) (t : Table) : Type 0 where
   pub found : option_and_then (slice_get s.tables) (table_named s t.name) ≡ Some (at (tree_of s t.name) t)
   pub unreferred : IsUnreferred s t
-  pub keyed : AllByRecursion (λ i. guards i (at (tree_of s t.name) t) ≡ true → (list_any (bytes_eq i.columns) t.uniques ≡ true) × (i.order ≡ plain)) s.indexes
+  pub keyed : AllByRecursion
+      (λ i. guards i (at (tree_of s t.name) t) ≡ true
+      → (list_any (bytes_eq i.columns) t.uniques ≡ true) × (i.order ≡ plain)) s.indexes
 
 -- a sound database in which each table has a tree of its own, with these tables, in each of which the rowids rise
 pub record HasTables (version : List Table) (db : Database) : Type 0 where
@@ -112,20 +115,24 @@ Leaves Is s = (db : Trees) → s.may_leave db → (schema : Schema) × IsDatabas
 
 -- the rows of the others of these tables are as they were
 abbrev pub KeepsOthers : List Table → Table → Database → Database → Type 0
-KeepsOthers tables t old new = AllByRecursion (λ u. bytes_eq u.name t.name ≡ false → rows_of u new.trees ≡ rows_of u old.trees) tables
+KeepsOthers tables t old new =
+    AllByRecursion (λ u. bytes_eq u.name t.name ≡ false → rows_of u new.trees ≡ rows_of u old.trees) tables
 
 -- nothing but this table and entries of indexes is other than it was
 pub record SparesOthers (t : Table) (old new : Database) : Type 0 where
   pub schema : new.schema ≡ old.schema
-  pub tables : AllByRecursion (λ u. u.tree ≢ tree_of old.schema t.name → new.trees u.tree ≡ old.trees u.tree) old.schema.tables
-  pub others : (tree : ℕ) → tree ≢ tree_of old.schema t.name → IsNoIndex old.schema tree → new.trees tree ≡ old.trees tree
+  pub tables : AllByRecursion (λ u. u.tree ≢ tree_of old.schema t.name → new.trees u.tree ≡ old.trees u.tree)
+      old.schema.tables
+  pub others : (tree : ℕ) → tree ≢ tree_of old.schema t.name → IsNoIndex old.schema tree
+      → new.trees tree ≡ old.trees tree
 
 -- the row is put in: those that share one of the keys with it are out, all else as it was
-pub record Wrote (tables : List Table) (table : Table) (keys : List (List ℕ)) (row : Row) (old new : Database) : Type 0 where
-  pub has : HasTables tables new
-  pub put : IsPut keys row (rows_of table old.trees) (rows_of table new.trees)
-  pub others : KeepsOthers tables table old new
-  pub spares : SparesOthers table old new
+pub record Wrote (tables : List Table) (table : Table) (keys : List (List ℕ)) (row : Row) (old new : Database) : Type 0
+  where
+    pub has : HasTables tables new
+    pub put : IsPut keys row (rows_of table old.trees) (rows_of table new.trees)
+    pub others : KeepsOthers tables table old new
+    pub spares : SparesOthers table old new
 
 -- in a transaction over a database that has these tables
 pub record IsInside (tables : List Table) (s : State) : Type 0 where
@@ -134,16 +141,20 @@ pub record IsInside (tables : List Table) (s : State) : Type 0 where
   pub has : HasTables tables s.now
 
 -- what a call inside a transaction does, where its change of the database is so
-pub record GoesInside {X : Type 0} (tables : List Table) (Changes : Database → Database → Type 0) (old new : State) (result : Result X Error) : Type 0 where
-  pub ok : HasCleanDisk new → IsInside tables old → OnOk result (Changes old.now new.now × IsInside tables new × (new.committed ≡ old.committed))
+pub record GoesInside {X : Type 0} (tables : List Table) (Changes : Database → Database → Type 0) (old new : State)
+    (result : Result X Error) : Type 0 where
+  pub ok : HasCleanDisk new → IsInside tables old
+      → OnOk result (Changes old.now new.now × IsInside tables new × (new.committed ≡ old.committed))
   pub err : HasCleanDisk new → IsInside tables old → OnErr result (KeepsCommit old new)
   pub survives : Survives old new (λ _. ⊥)
 
 -- a row is put into this table, whatever tables are there beside it
 abbrev pub PutsInto : {X : Type 0} → Table → List (List ℕ) → Row → State → State → Result X Error → Type 0
-PutsInto table keys row old new result = (tables : List Table) → Has tables table → GoesInside tables (Wrote tables table keys row) old new result
+PutsInto table keys row old new result =
+    (tables : List Table) → Has tables table → GoesInside tables (Wrote tables table keys row) old new result
 
--- between calls over tables of that version: open, outside a transaction, and a crash leaves just what the last commit left
+-- between calls over tables of that version: open, outside a transaction, and a crash leaves just what the last commit
+-- left
 pub record IsAtRestOver (e : Edition) (s : State) : Type 0 where
   pub is_open : IsTrue s.is_open
   pub autocommit : s.in_transaction ≡ false
@@ -178,7 +189,9 @@ pub record IsNewOffice (old new : Database) : Type 0 where
 
 -- what a crash may leave is the old database, or a new office
 abbrev pub LeavesNew : State → State → Type 0
-LeavesNew old new = (db : Trees) → new.may_leave db → (db ≡ old.now.trees) ⊎ ((next : Database) × IsNewOffice old.now next × (db ≡ next.trees))
+LeavesNew old new =
+    (db : Trees) → new.may_leave db → (db ≡ old.now.trees)
+    ⊎ ((next : Database) × IsNewOffice old.now next × (db ≡ next.trees))
 
 -- how the making of an office ends
 pub record Creates {X : Type 0} (old new : State) (result : Result X Error) : Type 0 where
@@ -188,7 +201,8 @@ pub record Creates {X : Type 0} (old new : State) (result : Result X Error) : Ty
   pub undone : HasCleanDisk new → IsBlank old → IsTrue new.is_open → OnErr result ((new.now ≡ old.now) × IsBlank new)
 
 -- the rows that share the key with this one are out, all else as it was
-pub record Removed (tables : List Table) (table : Table) (keys : List (List ℕ)) (row : Row) (old new : Database) : Type 0 where
+pub record Removed (tables : List Table) (table : Table) (keys : List (List ℕ)) (row : Row) (old new : Database) : Type
+    0 where
   pub has : HasTables tables new
   pub removed : rows_of table new.trees ≡ filter (λ r. not (share keys r row)) (rows_of table old.trees)
   pub others : KeepsOthers tables table old new
@@ -196,7 +210,8 @@ pub record Removed (tables : List Table) (table : Table) (keys : List (List ℕ)
 
 -- they are taken out of this table, whatever tables are there beside it
 abbrev pub TakesFrom : {X : Type 0} → Table → List (List ℕ) → Row → State → State → Result X Error → Type 0
-TakesFrom table keys row old new result = (tables : List Table) → Has tables table → GoesInside tables (Removed tables table keys row) old new result
+TakesFrom table keys row old new result =
+    (tables : List Table) → Has tables table → GoesInside tables (Removed tables table keys row) old new result
 
 -- each of them is done, one after the other
 abbrev pub AreDone : {X : Type 0} → (X → Database → Database → Type 0) → List X → Database → Database → Type 0

@@ -80,35 +80,40 @@ pub record AreTaken (ed : Edition) (old new : State) (had has : TableLists) : Ty
   pub same : new.now ≡ old.now
 
 -- its tables were not taken over, by this fault
-pub record AreNotTaken (ed : Edition) (old new : State) (f : Fault) (had : TableLists) (Examines : Type 0) : Type 0 where
-  -- damaged tables are no office's; where each row is of its form, what takes them in examines them
-  pub damaged : f ≡ fault.Damaged → had ≡ no_rows → HoldNoOffice ed old.now.trees
-  pub form : f ≡ fault.Damaged → AllReadable ed old.now.trees → Examines
-  -- another version is reported as such, and never as damage
-  pub version : f ≡ fault.Version → IsOtherVersion old.now.trees
-  pub this_version : f ≡ fault.Damaged → IsOtherVersion old.now.trees → ⊥
-  -- where the database did not fail, the tables are as they were
-  pub kept : f ≢ fault.Store → StaysAtRest ed old new
-  pub leaves : LeavesLess old new
+pub record AreNotTaken (ed : Edition) (old new : State) (f : Fault) (had : TableLists) (Examines : Type 0) : Type 0
+  where
+    -- damaged tables are no office's; where each row is of its form, what takes them in examines them
+    pub damaged : f ≡ fault.Damaged → had ≡ no_rows → HoldNoOffice ed old.now.trees
+    pub form : f ≡ fault.Damaged → AllReadable ed old.now.trees → Examines
+    -- another version is reported as such, and never as damage
+    pub version : f ≡ fault.Version → IsOtherVersion old.now.trees
+    pub this_version : f ≡ fault.Damaged → IsOtherVersion old.now.trees → ⊥
+    -- where the database did not fail, the tables are as they were
+    pub kept : f ≢ fault.Store → StaysAtRest ed old new
+    pub leaves : LeavesLess old new
 
 -- the tables are by their names those of one version, and `office` names that version
 pub record AreOfOneVersion {S : Type 0} (g : Ghosts S) (conn store : Held S) : Type 0 where
   pub version : Edition
   pub layout : layout_of (state g conn).now.schema ≡ Some version
-  pub named : HasCleanDisk (state g store) → HasTables (office ∷ []) (state g conn).now → IsNamed version (state g conn).now.trees
+  pub named : HasCleanDisk (state g store) → HasTables (office ∷ []) (state g conn).now
+      → IsNamed version (state g conn).now.trees
 
 -- a store over the connection, whose tables were taken over
 pub record IsAdopted {S : Type 0} (g : Ghosts S) (conn store : Held S) (had has : TableLists) : Type 0 where
   pub version : AreOfOneVersion g conn store
   pub clean : HasCleanDisk (state g store) → HasCleanDisk (state g conn)
-  pub taken : (ed : Edition) → HasCleanDisk (state g store) → IsAtRestOver ed (state g conn) → AreTaken ed (state g conn) (state g store) had has
+  pub taken : (ed : Edition) → HasCleanDisk (state g store) → IsAtRestOver ed (state g conn)
+      → AreTaken ed (state g conn) (state g store) had has
 
 -- the connection is given back with this fault, and its tables were not taken over
-pub record IsNotAdopted {S : Type 0} (g : Ghosts S) (conn : Held S) (f : Fault) (back : Held S) (had : TableLists) (Examines : Type 0) : Type 0 where
+pub record IsNotAdopted {S : Type 0} (g : Ghosts S) (conn : Held S) (f : Fault) (back : Held S) (had : TableLists)
+    (Examines : Type 0) : Type 0 where
   pub ended : back.in_transaction ≡ false
   pub faults : f ≢ fault.Reopen
   pub clean : HasCleanDisk (state g back) → HasCleanDisk (state g conn)
-  pub left : (ed : Edition) → HasCleanDisk (state g back) → IsAtRestOver ed (state g conn) → AreNotTaken ed (state g conn) (state g back) f had Examines
+  pub left : (ed : Edition) → HasCleanDisk (state g back) → IsAtRestOver ed (state g conn)
+      → AreNotTaken ed (state g conn) (state g back) f had Examines
 
 -- ---- version 1 made version 2
 
@@ -129,12 +134,15 @@ pub record Migrated {X : Type 0} (old new : State) (result : Result X Fault) : T
 -- ---- a change that is saved
 
 -- how it ends over tables that have the rows of a state
-pub record AreSaved {X E : Type 0} (s : OfficeState) (change : Change) (new : State) (result : Result X E) : Type 0 where
-  -- of a change that can be made of a sound state the next rows are there, or a crash leaves the old ones or the next
-  pub ok : IsSound s → CanBeMade s.office change → OnOk result (HoldsRows (rows_of (all_writes change.writes.items s)) new)
-  pub err : IsSound s → CanBeMade s.office change → OnErr result (LeavesWithin (rows_of s) (rows_of (all_writes change.writes.items s)) new)
-  -- where no fault has shut the connection, the old rows are there
-  pub undone : IsTrue new.is_open → OnErr result (HoldsRows (rows_of s) new)
+pub record AreSaved {X E : Type 0} (s : OfficeState) (change : Change) (new : State) (result : Result X E) : Type 0
+  where
+    -- of a change that can be made of a sound state the next rows are there, or a crash leaves the old ones or the next
+    pub ok : IsSound s → CanBeMade s.office change
+        → OnOk result (HoldsRows (rows_of (all_writes change.writes.items s)) new)
+    pub err : IsSound s → CanBeMade s.office change
+        → OnErr result (LeavesWithin (rows_of s) (rows_of (all_writes change.writes.items s)) new)
+    -- where no fault has shut the connection, the old rows are there
+    pub undone : IsTrue new.is_open → OnErr result (HoldsRows (rows_of s) new)
 
 -- whatever a crash leaves is an office's tables again, and the rest of the file is as it was
 pub record LeavesOffice (old new : State) : Type 0 where
@@ -142,17 +150,20 @@ pub record LeavesOffice (old new : State) : Type 0 where
   pub rest : Leaves (SparesRest old.now) new
 
 -- how the saving of a change ends
-pub record Saved {S X : Type 0} (g : Ghosts S) (change : Change) (old new : Held S) (result : Result X Fault) : Type 0 where
-  pub faults : IfErr result (λ f. (f ≡ fault.Memory) ⊎ (f ≡ fault.Store))
-  pub memory : result ≡ Err fault.Memory → new ≡ old
-  pub clean : HasCleanDisk (state g new) → HasCleanDisk (state g old)
-  pub left : HasCleanDisk (state g new) → IsAtRest (state g old) → LeavesOffice (state g old) (state g new)
-  pub rows : (s : OfficeState) → HasCleanDisk (state g new) → HoldsRows (rows_of s) (state g old) → AreSaved s change (state g new) result
+pub record Saved {S X : Type 0} (g : Ghosts S) (change : Change) (old new : Held S) (result : Result X Fault) : Type 0
+  where
+    pub faults : IfErr result (λ f. (f ≡ fault.Memory) ⊎ (f ≡ fault.Store))
+    pub memory : result ≡ Err fault.Memory → new ≡ old
+    pub clean : HasCleanDisk (state g new) → HasCleanDisk (state g old)
+    pub left : HasCleanDisk (state g new) → IsAtRest (state g old) → LeavesOffice (state g old) (state g new)
+    pub rows : (s : OfficeState) → HasCleanDisk (state g new) → HoldsRows (rows_of s) (state g old)
+        → AreSaved s change (state g new) result
 
 -- ---- a content that is read
 
 -- how it ends over tables that have the rows of a state
-pub record AreBytesRead (s : OfficeState) (number : ℕ) (new : State) (result : Result (Option (Vec ℕ Global)) Fault) : Type 0 where
+pub record AreBytesRead (s : OfficeState) (number : ℕ) (new : State) (result : Result (Option (Vec ℕ Global)) Fault) :
+    Type 0 where
   pub read : IfOk result (λ bytes. option_map (λ it. it.items) bytes ≡ get s.contents number)
   pub same : OnOk result (HoldsRows (rows_of s) new)
   pub kept : IfErr result (λ f. f ≢ fault.Store → HoldsRows (rows_of s) new)

@@ -81,7 +81,8 @@ pub record HoldsOldRows (t : TableRows) (s : State) : Type 0 where
   pub rest : IsAtRestOver edition.One s
   pub represents : OldRepresentsRows t s.now.trees
 
--- the tables are such as opening asks of an office: those of a sound database that has an office's, beside whatever else
+-- the tables are such as opening asks of an office: those of a sound database that has an office's, beside whatever
+-- else
 abbrev pub AreOfficeTables : Trees → Type 0
 AreOfficeTables db = IsOfficeIn edition.Two db
 
@@ -96,12 +97,17 @@ pub record LeavesWithin (t u : TableRows) (s : State) : Type 0 where
 
 -- a crash leaves what was there, or the tables of version 2 that have these rows
 abbrev pub LeavesMoved : TableRows → State → State → Type 0
-LeavesMoved t old new = (db : Trees) → new.may_leave db → (db ≡ old.now.trees) ⊎ (RepresentsRows t db × AreOfficeTables db)
+LeavesMoved t old new =
+    (db : Trees) → new.may_leave db → (db ≡ old.now.trees) ⊎ (RepresentsRows t db × AreOfficeTables db)
 
 -- a crash leaves what was there, or the tables of a new office
 abbrev pub LeavesFirst : State → State → Type 0
-LeavesFirst old new = (db : Trees) → new.may_leave db → (db ≡ old.now.trees) ⊎ (RepresentsRows (rows_of empty_state) db × AreOfficeTables db)
+LeavesFirst old new =
+    (db : Trees) → new.may_leave db → (db ≡ old.now.trees)
+    ⊎ (RepresentsRows (rows_of empty_state) db × AreOfficeTables db)
 
 -- the writes of a change make tables that have the rows of a state those of the next
 abbrev pub SavesRows : OfficeState → Change → Type 0
-SavesRows s change = (old new : Database) → RepresentsRows (rows_of s) old.trees → AreWritten change.writes.items old new → RepresentsRows (rows_of (all_writes change.writes.items s)) new.trees
+SavesRows s change =
+    (old new : Database) → RepresentsRows (rows_of s) old.trees → AreWritten change.writes.items old new
+    → RepresentsRows (rows_of (all_writes change.writes.items s)) new.trees

@@ -35,14 +35,16 @@ use Rattle.office_wire.specs.Replies.{acts_response, answer_response, bad_act_re
 -- ---- acts; Reported says which answer is given
 
 -- all acts were done, and a crash leaves the tables after them
-pub record AreDone {S : Type 0} (Reported : Response → Type 0) (g : Ghosts S) (t : State) (done : List Act) (desk : DeskState S) : Type 0 where
+pub record AreDone {S : Type 0} (Reported : Response → Type 0) (g : Ghosts S) (t : State) (done : List Act)
+    (desk : DeskState S) : Type 0 where
   pub formed : AreWellFormed done
   pub reported : Reported (acts_response (answers t done))
   pub represents : IsAt g (after t done) desk
   pub fates : LeavesFates t done (state g desk.held)
 
 -- a fault stopped them after so many: a crash leaves the tables after these or after one more
-pub record AreStopped {S : Type 0} (Reported : Response → Type 0) (g : Ghosts S) (t : State) (done : List Act) (f : Fault) (n : ℕ) (desk : DeskState S) : Type 0 where
+pub record AreStopped {S : Type 0} (Reported : Response → Type 0) (g : Ghosts S) (t : State) (done : List Act)
+    (f : Fault) (n : ℕ) (desk : DeskState S) : Type 0 where
   pub formed : AreWellFormed done
   pub within : n ≤ length done
   pub one_more : LeavesOne f n done
@@ -52,18 +54,22 @@ pub record AreStopped {S : Type 0} (Reported : Response → Type 0) (g : Ghosts 
   pub fates : LeavesFates t done (state g desk.held)
 
 abbrev pub ArePerformed : {S : Type 0} → (Response → Type 0) → Ghosts S → State → List Act → DeskState S → Type 0
-ArePerformed Reported g t done desk = AreDone Reported g t done desk ⊎ ((f : Fault) × (n : ℕ) × AreStopped Reported g t done f n desk)
+ArePerformed Reported g t done desk =
+    AreDone Reported g t done desk ⊎ ((f : Fault) × (n : ℕ) × AreStopped Reported g t done f n desk)
 
 -- what bytes ask for, by what is read of them
-abbrev pub PerformsAsked : {S : Type 0} → (Response → Type 0) → Ghosts S → State → Result (List Asked) NoActs → DeskState S → Type 0
-PerformsAsked Reported g t (Ok all) desk = (done : List Act) × (all ≡ map asked done) × ArePerformed Reported g t done desk
+abbrev pub PerformsAsked : {S : Type 0} → (Response → Type 0) → Ghosts S → State → Result (List Asked) NoActs
+    → DeskState S → Type 0
+PerformsAsked Reported g t (Ok all) desk =
+    (done : List Act) × (all ≡ map asked done) × ArePerformed Reported g t done desk
 PerformsAsked Reported g t (Err not_json) desk = Reported (failure_response failure.Json) × IsAt g t desk
 PerformsAsked Reported g t (Err (bad_act place why)) desk = Reported (bad_act_response place why) × IsAt g t desk
 
 -- ---- the open run
 
 -- the open run was resumed and closed, at whatever moment it had been stopped
-pub record IsResumed {S : Type 0} (Reported : Response → Type 0) (g : Ghosts S) (t : State) (run : ℕ) (desk : DeskState S) : Type 0 where
+pub record IsResumed {S : Type 0} (Reported : Response → Type 0) (g : Ghosts S) (t : State) (run : ℕ)
+    (desk : DeskState S) : Type 0 where
   pub was_open : open_run t.office ≡ Some run
   pub reported : Reported (answer_response (RunClosed run))
   pub closed : IsAt g (whole t run) desk
@@ -71,21 +77,27 @@ pub record IsResumed {S : Type 0} (Reported : Response → Type 0) (g : Ghosts S
   pub fates : LeavesStepFates t (state g desk.held)
 
 -- none was open
-pub record HasNoRun {S : Type 0} (Reported : Response → Type 0) (g : Ghosts S) (t : State) (desk : DeskState S) : Type 0 where
-  pub none_open : open_run t.office ≡ None
-  pub reported : Reported (answer_response (Refused refusal.NoRun))
-  pub represents : IsAt g t desk
+pub record HasNoRun {S : Type 0} (Reported : Response → Type 0) (g : Ghosts S) (t : State) (desk : DeskState S) : Type 0
+  where
+    pub none_open : open_run t.office ≡ None
+    pub reported : Reported (answer_response (Refused refusal.NoRun))
+    pub represents : IsAt g t desk
 
 -- a fault stopped it: a crash leaves the run midway, or the state where none was open
-pub record IsRunStopped {S : Type 0} (Reported : Response → Type 0) (g : Ghosts S) (t : State) (f : Fault) (desk : DeskState S) : Type 0 where
+pub record IsRunStopped {S : Type 0} (Reported : Response → Type 0) (g : Ghosts S) (t : State) (f : Fault)
+    (desk : DeskState S) : Type 0 where
   pub reported : Reported (fault_response f)
-  pub stopped : (n : ℕ) × StopsAt (after_steps t n).office f desk × StopsLeaving (after_steps t n) (after_steps t (suc n)) f (state g desk.held)
-  pub midway : (s : State) (run : ℕ) → open_run s.office ≡ Some run → IsMidway s run t → LeavesMidway s run (state g desk.held)
+  pub stopped : (n : ℕ) × StopsAt (after_steps t n).office f desk
+      × StopsLeaving (after_steps t n) (after_steps t (suc n)) f (state g desk.held)
+  pub midway : (s : State) (run : ℕ) → open_run s.office ≡ Some run → IsMidway s run t
+      → LeavesMidway s run (state g desk.held)
   pub none_open : open_run t.office ≡ None → LeavesRowsOf t (state g desk.held)
   pub fates : LeavesStepFates t (state g desk.held)
 
 abbrev pub Resumes : {S : Type 0} → (Response → Type 0) → Ghosts S → State → DeskState S → Type 0
-Resumes Reported g t desk = ((run : ℕ) × IsResumed Reported g t run desk) ⊎ (HasNoRun Reported g t desk ⊎ ((f : Fault) × IsRunStopped Reported g t f desk))
+Resumes Reported g t desk =
+    ((run : ℕ) × IsResumed Reported g t run desk)
+    ⊎ (HasNoRun Reported g t desk ⊎ ((f : Fault) × IsRunStopped Reported g t f desk))
 
 -- ---- what is reported
 
@@ -99,14 +111,18 @@ ReportsNone Reported g t response desk = Reported response × IsAt g t desk
 
 abbrev pub ReportsRecord : {S : Type 0} → (Response → Type 0) → Ghosts S → State → Option ℕ → DeskState S → Type 0
 ReportsRecord Reported g t None desk = ReportsNone Reported g t (failure_response failure.Record) desk
-ReportsRecord Reported g t (Some r) desk = Reports Reported g t (record_response (record_view t.office r) (ending_entry t.office r)) desk
+ReportsRecord Reported g t (Some r) desk =
+    Reports Reported g t (record_response (record_view t.office r) (ending_entry t.office r)) desk
 
 -- the content of the record, with its length and digest
 abbrev pub IsReported : {S : Type 0} → (Response → Type 0) → Ghosts S → State → ℕ → DeskState S → Type 0
-IsReported Reported g t r desk = (content : Option (List ℕ)) × IsContentReported t r content × Reported (content_response content) × IsAt g t desk
+IsReported Reported g t r desk =
+    (content : Option (List ℕ)) × IsContentReported t r content × Reported (content_response content) × IsAt g t desk
 
--- a fault kept it from being reported: it is damaged, or memory ran out, or the database failed and the desk is poisoned; a crash leaves the state
-pub record IsUnreported {S : Type 0} (Reported : Response → Type 0) (g : Ghosts S) (t : State) (r : ℕ) (f : Fault) (desk : DeskState S) : Type 0 where
+-- a fault kept it from being reported: it is damaged, or memory ran out, or the database failed and the desk is
+-- poisoned; a crash leaves the state
+pub record IsUnreported {S : Type 0} (Reported : Response → Type 0) (g : Ghosts S) (t : State) (r : ℕ) (f : Fault)
+    (desk : DeskState S) : Type 0 where
   pub reported : Reported (fault_response f)
   pub damaged : f ≡ fault.Damaged → IsOtherContent t r
   pub kept : f ≢ fault.Store → IsAt g t desk
@@ -117,21 +133,28 @@ pub record IsUnreported {S : Type 0} (Reported : Response → Type 0) (g : Ghost
 
 abbrev pub ReportsContent : {S : Type 0} → (Response → Type 0) → Ghosts S → State → Option ℕ → DeskState S → Type 0
 ReportsContent Reported g t None desk = ReportsNone Reported g t (failure_response failure.Content) desk
-ReportsContent Reported g t (Some r) desk = IsReported Reported g t r desk ⊎ ((f : Fault) × IsUnreported Reported g t r f desk)
+ReportsContent Reported g t (Some r) desk =
+    IsReported Reported g t r desk ⊎ ((f : Fault) × IsUnreported Reported g t r f desk)
 
 abbrev pub ReportsDue : {S : Type 0} → (Response → Type 0) → Ghosts S → State → Option ℤ → DeskState S → Type 0
 ReportsDue Reported g t None desk = ReportsNone Reported g t (failure_response failure.Day) desk
-ReportsDue Reported g t (Some day) desk = (((rows : List DueRowView) × AreDueRows t.office day rows × Reported (due_response rows)) ⊎ Reported (fault_response fault.Memory)) × IsAt g t desk
+ReportsDue Reported g t (Some day) desk =
+    (((rows : List DueRowView) × AreDueRows t.office day rows × Reported (due_response rows))
+    ⊎ Reported (fault_response fault.Memory)) × IsAt g t desk
 
 -- what is overdue on a day, so many days after the due day; of a bad day and a bad count the day is reported
-abbrev pub ReportsOverdue : {S : Type 0} → (Response → Type 0) → Ghosts S → State → Option ℤ → Option ℕ → DeskState S → Type 0
+abbrev pub ReportsOverdue : {S : Type 0} → (Response → Type 0) → Ghosts S → State → Option ℤ → Option ℕ → DeskState S
+    → Type 0
 ReportsOverdue Reported g t None count desk = ReportsNone Reported g t (failure_response failure.Day) desk
 ReportsOverdue Reported g t (Some day) None desk = ReportsNone Reported g t (failure_response failure.Count) desk
-ReportsOverdue Reported g t (Some day) (Some n) desk = (((rows : List DueRowView) × AreOverdueRows t.office day n rows × Reported (overdue_response n rows)) ⊎ Reported (fault_response fault.Memory)) × IsAt g t desk
+ReportsOverdue Reported g t (Some day) (Some n) desk =
+    (((rows : List DueRowView) × AreOverdueRows t.office day n rows × Reported (overdue_response n rows))
+    ⊎ Reported (fault_response fault.Memory)) × IsAt g t desk
 
 abbrev pub ReportsCertificate : {S : Type 0} → (Response → Type 0) → Ghosts S → State → Option ℕ → DeskState S → Type 0
 ReportsCertificate Reported g t None desk = ReportsNone Reported g t (failure_response failure.Certificate) desk
-ReportsCertificate Reported g t (Some run) desk = Reports Reported g t (certificate_response (get t.office.certificates run)) desk
+ReportsCertificate Reported g t (Some run) desk =
+    Reports Reported g t (certificate_response (get t.office.certificates run)) desk
 
 -- ---- what the code answers
 
@@ -234,13 +257,17 @@ abbrev pub IsGivenUnavailable : Result Reply Memory → Type 0
 IsGivenUnavailable given = IfOk given (λ reply. IsUnavailable (response reply))
 
 -- acts were done and answered
-abbrev pub ArePerformedBy : {S : Type 0} → Ghosts S → List Act → Result Reply Memory → DeskState S → DeskState S → Type 0
+abbrev pub ArePerformedBy : {S : Type 0} → Ghosts S → List Act → Result Reply Memory → DeskState S → DeskState S
+    → Type 0
 ArePerformedBy g done given old new =
-    AnsweredAt g old new (λ t. ArePerformed (IsGiven given) g t done new) (IsGiven given (stopped_response [] fault.Reopen)) (IsGivenUnavailable given)
+    AnsweredAt g old new (λ t. ArePerformed (IsGiven given) g t done new)
+    (IsGiven given (stopped_response [] fault.Reopen)) (IsGivenUnavailable given)
 
 -- what is wanted was done and answered
 abbrev pub IsPerformed : {S : Type 0} → Ghosts S → Wanted → Result Reply Memory → DeskState S → DeskState S → Type 0
-IsPerformed g wanted given old new = AnsweredAt g old new (λ t. Serves (IsGiven given) g t wanted new) (IsGiven given (gone_response wanted)) (IsGivenUnavailable given)
+IsPerformed g wanted given old new =
+    AnsweredAt g old new (λ t. Serves (IsGiven given) g t wanted new) (IsGiven given (gone_response wanted))
+    (IsGivenUnavailable given)
 
 -- at a state it was served with the answer that was given, or memory ran out for that
 abbrev pub IsGivenAt : {S : Type 0} → Ghosts S → State → Wanted → Result Reply Memory → DeskState S → Type 0
@@ -258,6 +285,7 @@ IsAnswered g wanted given old new =
     AnsweredAt g old new (λ t. IsGivenAt g t wanted given new) (IsGoneGiven wanted given) (IsGivenUnavailable given)
 
 -- what is wanted was read of a desk, which stays as it is, and answered
-pub record IsRead {S : Type 0} (g : Ghosts S) (wanted : Wanted) (given : Result Reply Memory) (desk : DeskState S) : Type 0 where
+pub record IsRead {S : Type 0} (g : Ghosts S) (wanted : Wanted) (given : Result Reply Memory) (desk : DeskState S) :
+    Type 0 where
   pub answered : (t : State) → IsAt g t desk → IsGivenAt g t wanted given desk
   pub gone : IsTrue desk.is_poisoned → IsGoneGiven wanted given

@@ -13,7 +13,8 @@ pub record CalledAt {S : Type 0} (g : Ghosts S) (old new : DeskState S) (Did : S
   pub did : (t : State) → HasCleanDisk (state g new.held) → IsAt g t old → Did t
 
 -- and this is answered by a poisoned desk before, which stays as it was; and this where it is poisoned here
-pub record AnsweredAt {S : Type 0} (g : Ghosts S) (old new : DeskState S) (Did : State → Type 0) (Gone Reported : Type 0) : Type 0 where
+pub record AnsweredAt {S : Type 0} (g : Ghosts S) (old new : DeskState S) (Did : State → Type 0)
+    (Gone Reported : Type 0) : Type 0 where
   pub call : CalledAt g old new Did
   pub kept : IsTrue old.is_poisoned → new ≡ old
   pub gone : IsTrue old.is_poisoned → Gone

@@ -14,7 +14,8 @@ has_failed (Err e) = true
 
 -- one request was served, whatever it was
 abbrev pub IsVisited : {S : Type 0} → Ghosts S → Result ℕ Io → DeskState S → DeskState S → Type 0
-IsVisited g status old new = AnsweredAt g old new (λ t. LeavesServed g t new) (Unit {0}) (IfOk status (λ code. code ≡ 503))
+IsVisited g status old new =
+    AnsweredAt g old new (λ t. LeavesServed g t new) (Unit {0}) (IfOk status (λ code. code ≡ 503))
 
 -- one connection: it failed before the desk was asked, or a request was served
 abbrev pub Turn : {S : Type 0} → Ghosts S → Result ℕ Io → DeskState S → DeskState S → Type 0
@@ -30,7 +31,8 @@ unfoldable pub Turns : {S : Type 0} → Ghosts S → ℕ → Bool → Bool → D
 Turns g zero failed ended old new = (failed ≡ false) × (ended ≡ false) × (new ≡ old)
 Turns {S} g (suc n) failed ended old new =
     (m : DeskState S) × (earlier : Bool) × (status : Result ℕ Io)
-    × Turns g n earlier false old m × Turn g status m new × Ends status new.is_poisoned ended × (failed ≡ (earlier || has_failed status))
+    × Turns g n earlier false old m × Turn g status m new × Ends status new.is_poisoned ended
+    × (failed ≡ (earlier || has_failed status))
 
 -- connections were served, as many as the count, and fewer only where the desk was poisoned
 pub record ServesAll {S : Type 0} (g : Ghosts S) (count : ℕ) (service : Service) (old new : DeskState S) : Type 0 where

@@ -15,7 +15,8 @@ IsDueRegister day office text = (rows : List DueRowView) × AreDueRows office da
 
 -- the register of what is overdue on a day, so many days after the due day
 abbrev pub IsOverdueRegister : ℤ → ℕ → Office → List ℕ → Type 0
-IsOverdueRegister day days office text = (rows : List DueRowView) × AreOverdueRows office day days rows × (text ≡ overdue_register days rows)
+IsOverdueRegister day days office text =
+    (rows : List DueRowView) × AreOverdueRows office day days rows × (text ≡ overdue_register days rows)
 
 -- the register of the entries of all runs
 abbrev pub IsEntryRegister : Office → List ℕ → Type 0
@@ -23,10 +24,12 @@ IsEntryRegister office text = text ≡ entry_register (entry_rows office)
 
 -- the writer failed, or memory ran out, or the desk was poisoned before
 abbrev pub IsExportStopped : {S : Type 0} → DeskState S → ExportStop → Type 0
-IsExportStopped old why = (why ≡ stop.Io) ⊎ ((why ≡ stop.Fault fault.Memory) ⊎ (why ≡ stop.Fault fault.Reopen) × IsTrue old.is_poisoned)
+IsExportStopped old why =
+    (why ≡ stop.Io) ⊎ ((why ≡ stop.Fault fault.Memory) ⊎ (why ≡ stop.Fault fault.Reopen) × IsTrue old.is_poisoned)
 
 -- a register of the office was written whole, or stopped; the desk stays as it was
-pub record Exports {S W : Type 0} (IsText : Office → List ℕ → Type 0) (contents : W → Option (List ℕ)) (out after : W) (ended : Result (Unit {0}) ExportStop) (old new : DeskState S) : Type 0 where
+pub record Exports {S W : Type 0} (IsText : Office → List ℕ → Type 0) (contents : W → Option (List ℕ)) (out after : W)
+    (ended : Result (Unit {0}) ExportStop) (old new : DeskState S) : Type 0 where
   pub ok : OnOk ended ((text : List ℕ) × IsText old.office text × Appends (contents out) (contents after) text)
   pub err : IfErr ended (λ why. IsExportStopped old why)
   pub kept : new ≡ old

@@ -35,9 +35,11 @@ use Rattle.office_wire.specs.declared.importing.ImportStop.TheVariants as stop
 abbrev pub IsAdding : ℤ → AskedRecord → Act → Type 0
 IsAdding day new act = IsWellFormedAct act × (asked act ≡ adds day new)
 
--- a row is answered by the step of the act that adds its record on the day, or with its refusal, and then nothing is done
+-- a row is answered by the step of the act that adds its record on the day, or with its refusal, and then nothing is
+-- done
 abbrev pub IsAnsweredBy : ℤ → State → Result AskedRecord Refusal → Answer → State → Type 0
-IsAnsweredBy day s (Ok new) answer t = (act : Act) × IsAdding day new act × (answer ≡ (step s act).0) × (t ≡ (step s act).1)
+IsAnsweredBy day s (Ok new) answer t =
+    (act : Act) × IsAdding day new act × (answer ≡ (step s act).0) × (t ≡ (step s act).1)
 IsAnsweredBy day s (Err why) answer t = (answer ≡ kind.Refused why) × (t ≡ s)
 
 abbrev pub IsRowDone : ℤ → State → Fields → Answer → State → Type 0
@@ -51,11 +53,14 @@ IsActStopped g s act f desk = StopsAt s.office f desk × StopsLeaving s (step s 
 abbrev pub IsRowStopped : {S : Type 0} → Ghosts S → ℤ → State → Fields → Fault → DeskState S → Type 0
 IsRowStopped g day s row f desk =
     ((f ≡ fault.Memory) × IsAt g s desk)
-    ⊎ ((new : AskedRecord) × (act : Act) × (record_asked row ≡ Ok new) × IsAdding day new act × IsActStopped g s act f desk)
+    ⊎ ((new : AskedRecord) × (act : Act) × (record_asked row ≡ Ok new) × IsAdding day new act
+    × IsActStopped g s act f desk)
 
 -- a row was answered, or stopped
 abbrev pub EndsRow : {S : Type 0} → Ghosts S → ℤ → State → Fields → Result Answer Fault → DeskState S → Type 0
-EndsRow g day s row ended desk = MatchResult ended (λ answer. (t : State) × IsRowDone day s row answer t × IsAt g t desk) (λ f. IsRowStopped g day s row f desk)
+EndsRow g day s row ended desk =
+    MatchResult ended (λ answer. (t : State) × IsRowDone day s row answer t × IsAt g t desk)
+    (λ f. IsRowStopped g day s row f desk)
 
 -- ---- one line
 
@@ -76,7 +81,8 @@ abbrev pub AppendsSome : Option (List ℕ) → Option (List ℕ) → List ℕ �
 AppendsSome old new bytes = (n : ℕ) × (n ≤ length bytes) × Appends old new (take n bytes)
 
 -- what stopped a row of seven fields: a fault, or its line could not be written whole
-abbrev pub DoStops : {S : Type 0} → Ghosts S → ℤ → State → ℕ → Fields → ImportStop → DeskState S → Option (List ℕ) → Option (List ℕ) → Type 0
+abbrev pub DoStops : {S : Type 0} → Ghosts S → ℤ → State → ℕ → Fields → ImportStop → DeskState S → Option (List ℕ)
+    → Option (List ℕ) → Type 0
 DoStops g day s number row stop.Header desk old new = ⊥
 DoStops g day s number row (stop.Row place) desk old new = ⊥
 DoStops g day s number row (stop.Fault f) desk old new = (new ≡ old) × IsRowStopped g day s row f desk
@@ -85,11 +91,15 @@ DoStops g day s number row stop.Io desk old new =
     × AppendsSome old new (line_of number answer)
 
 -- and one of any number of fields
-abbrev pub TakeStops : {S : Type 0} → Ghosts S → ℤ → State → ℕ → List (List ℕ) → ImportStop → DeskState S → Option (List ℕ) → Option (List ℕ) → Type 0
+abbrev pub TakeStops : {S : Type 0} → Ghosts S → ℤ → State → ℕ → List (List ℕ) → ImportStop → DeskState S
+    → Option (List ℕ) → Option (List ℕ) → Type 0
 TakeStops g day s place fields stop.Header desk old new = ⊥
-TakeStops g day s place fields (stop.Row number) desk old new = (number ≡ place) × (length fields ≢ 7) × IsAt g s desk × (new ≡ old)
-TakeStops g day s place fields (stop.Fault f) desk old new = (row : Fields) × (fields ≡ fields_in row) × DoStops g day s place row (stop.Fault f) desk old new
-TakeStops g day s place fields stop.Io desk old new = (row : Fields) × (fields ≡ fields_in row) × DoStops g day s place row stop.Io desk old new
+TakeStops g day s place fields (stop.Row number) desk old new =
+    (number ≡ place) × (length fields ≢ 7) × IsAt g s desk × (new ≡ old)
+TakeStops g day s place fields (stop.Fault f) desk old new =
+    (row : Fields) × (fields ≡ fields_in row) × DoStops g day s place row (stop.Fault f) desk old new
+TakeStops g day s place fields stop.Io desk old new =
+    (row : Fields) × (fields ≡ fields_in row) × DoStops g day s place row stop.Io desk old new
 
 -- ---- lines one after another
 
@@ -103,18 +113,26 @@ one_if true = 1
 one_if false = 0
 
 -- a row was answered and its line written; whether it was refused
-abbrev pub IsRowWritten : {S : Type 0} → Ghosts S → ℤ → State → ℕ → Fields → Bool → DeskState S → Option (List ℕ) → Option (List ℕ) → Type 0
+abbrev pub IsRowWritten : {S : Type 0} → Ghosts S → ℤ → State → ℕ → Fields → Bool → DeskState S → Option (List ℕ)
+    → Option (List ℕ) → Type 0
 IsRowWritten g day s number row refused desk old new =
-    (answer : Answer) × (t : State) × IsRowDone day s row answer t × IsAt g t desk × Appends old new (line_of number answer) × (refused ≡ is_refusal answer)
+    (answer : Answer) × (t : State) × IsRowDone day s row answer t × IsAt g t desk
+    × Appends old new (line_of number answer) × (refused ≡ is_refusal answer)
 
 -- that, or what stopped it
-abbrev pub EndsLine : {S : Type 0} → Ghosts S → ℤ → State → ℕ → Fields → Result Bool ImportStop → DeskState S → Option (List ℕ) → Option (List ℕ) → Type 0
-EndsLine g day s number row ended desk old new = MatchResult ended (λ refused. IsRowWritten g day s number row refused desk old new) (λ why. DoStops g day s number row why desk old new)
+abbrev pub EndsLine : {S : Type 0} → Ghosts S → ℤ → State → ℕ → Fields → Result Bool ImportStop → DeskState S
+    → Option (List ℕ) → Option (List ℕ) → Type 0
+EndsLine g day s number row ended desk old new =
+    MatchResult ended (λ refused. IsRowWritten g day s number row refused desk old new)
+    (λ why. DoStops g day s number row why desk old new)
 
 -- the same of a row of any number of fields
-abbrev pub EndsTaking : {S : Type 0} → Ghosts S → ℤ → State → ℕ → List (List ℕ) → Result Bool ImportStop → DeskState S → Option (List ℕ) → Option (List ℕ) → Type 0
+abbrev pub EndsTaking : {S : Type 0} → Ghosts S → ℤ → State → ℕ → List (List ℕ) → Result Bool ImportStop → DeskState S
+    → Option (List ℕ) → Option (List ℕ) → Type 0
 EndsTaking g day s number fields ended desk old new =
-    MatchResult ended (λ refused. (row : Fields) × (fields ≡ fields_in row) × IsRowWritten g day s number row refused desk old new) (λ why. TakeStops g day s number fields why desk old new)
+    MatchResult ended
+    (λ refused. (row : Fields) × (fields ≡ fields_in row) × IsRowWritten g day s number row refused desk old new)
+    (λ why. TakeStops g day s number fields why desk old new)
 
 -- the lines of rows were written, of the last one perhaps a part alone
 abbrev pub AreLinesOut : List Answer → Option (List ℕ) → Option (List ℕ) → Type 0
@@ -133,10 +151,12 @@ refused_count (answer ∷ rest) = one_if (is_refusal answer) + refused_count res
 abbrev pub AreRowsDone : ℤ → State → List Fields → List Answer → State → Type 0
 AreRowsDone day s [] answers t = (answers ≡ []) × (t ≡ s)
 AreRowsDone day s (row ∷ rows) answers t =
-    (answer : Answer) × (rest : List Answer) × (m : State) × (answers ≡ answer ∷ rest) × IsRowDone day s row answer m × AreRowsDone day m rows rest t
+    (answer : Answer) × (rest : List Answer) × (m : State) × (answers ≡ answer ∷ rest) × IsRowDone day s row answer m
+    × AreRowsDone day m rows rest t
 
 -- rows were done, the desk is at the state after them, and their lines were written
-pub record AreImported {S : Type 0} (g : Ghosts S) (day : ℤ) (s : State) (rows : List Fields) (answers : List Answer) (t : State) (desk : DeskState S) (old new : Option (List ℕ)) : Type 0 where
+pub record AreImported {S : Type 0} (g : Ghosts S) (day : ℤ) (s : State) (rows : List Fields) (answers : List Answer)
+    (t : State) (desk : DeskState S) (old new : Option (List ℕ)) : Type 0 where
   pub done : AreRowsDone day s rows answers t
   pub represents : IsAt g t desk
   pub reported : Appends old new (lines_from 0 answers)
@@ -145,7 +165,9 @@ pub record AreImported {S : Type 0} (g : Ghosts S) (day : ℤ) (s : State) (rows
 
 -- a header, and rows at the head of what follows it, where the text is known; and what is left of it
 abbrev pub AreFirstRows : Option (List ℕ) → List Fields → Reading → Option (List ℕ) → Type 0
-AreFirstRows text rows s rest = (headed : Reading) × (behind : Option (List ℕ)) × HeadsText StartRecord text headed behind × AreAtPrefix headed behind rows s rest
+AreFirstRows text rows s rest =
+    (headed : Reading) × (behind : Option (List ℕ)) × HeadsText StartRecord text headed behind
+    × AreAtPrefix headed behind rows s rest
 
 -- all rows of a text with a header
 abbrev pub AreAllRows : Option (List ℕ) → List Fields → Type 0
@@ -169,37 +191,48 @@ AreRowsBeforeBad text rows = (s : Reading) × (rest : Option (List ℕ)) × AreF
 abbrev pub AreRowsBehind : Reading → Option (List ℕ) → List Fields → Type 0
 AreRowsBehind headed behind rows = (s2 : Reading) × (rest : Option (List ℕ)) × AreAtPrefix headed behind rows s2 rest
 
-abbrev pub RowsImport : {S : Type 0} → Ghosts S → ℤ → State → Reading → Option (List ℕ) → ℕ → DeskState S → Option (List ℕ) → Option (List ℕ) → Type 0
+abbrev pub RowsImport : {S : Type 0} → Ghosts S → ℤ → State → Reading → Option (List ℕ) → ℕ → DeskState S
+    → Option (List ℕ) → Option (List ℕ) → Type 0
 RowsImport g day s headed behind refused desk old new =
-    (rows : List Fields) × (answers : List Answer) × (t : State) × ((s2 : Reading) × (rest : Option (List ℕ)) × AreAtPrefix headed behind rows s2 rest × IsEnded s2 rest)
+    (rows : List Fields) × (answers : List Answer) × (t : State)
+    × ((s2 : Reading) × (rest : Option (List ℕ)) × AreAtPrefix headed behind rows s2 rest × IsEnded s2 rest)
     × AreImported g day s rows answers t desk old new × (refused ≡ refused_count answers)
 
-abbrev pub RowsStopAtRow : {S : Type 0} → Ghosts S → ℤ → State → Reading → Option (List ℕ) → ℕ → DeskState S → Option (List ℕ) → Option (List ℕ) → Type 0
+abbrev pub RowsStopAtRow : {S : Type 0} → Ghosts S → ℤ → State → Reading → Option (List ℕ) → ℕ → DeskState S
+    → Option (List ℕ) → Option (List ℕ) → Type 0
 RowsStopAtRow g day s headed behind number desk old new =
-    (rows : List Fields) × (answers : List Answer) × (t : State) × ((s2 : Reading) × (rest : Option (List ℕ)) × AreAtPrefix headed behind rows s2 rest × IsBadNext s2 rest)
+    (rows : List Fields) × (answers : List Answer) × (t : State)
+    × ((s2 : Reading) × (rest : Option (List ℕ)) × AreAtPrefix headed behind rows s2 rest × IsBadNext s2 rest)
     × AreImported g day s rows answers t desk old new × (number ≡ length rows + 1)
 
-abbrev pub RowsStopAtFault : {S : Type 0} → Ghosts S → ℤ → State → Reading → Option (List ℕ) → Fault → DeskState S → Option (List ℕ) → Option (List ℕ) → Type 0
+abbrev pub RowsStopAtFault : {S : Type 0} → Ghosts S → ℤ → State → Reading → Option (List ℕ) → Fault → DeskState S
+    → Option (List ℕ) → Option (List ℕ) → Type 0
 RowsStopAtFault g day s headed behind f desk old new =
-    (rows : List Fields) × (answers : List Answer) × (t : State) × AreRowsDone day s rows answers t × Appends old new (lines_from 0 answers)
+    (rows : List Fields) × (answers : List Answer) × (t : State) × AreRowsDone day s rows answers t
+    × Appends old new (lines_from 0 answers)
     × ((f ≡ fault.Memory) × AreRowsBehind headed behind rows × IsAt g t desk
     ⊎ ((row : Fields) × AreRowsBehind headed behind (rows ++ row ∷ []) × IsRowStopped g day t row f desk))
 
 -- reading or writing failed after some rows; of the line of the last one a part may be written
-abbrev pub RowsStopAtIo : {S : Type 0} → Ghosts S → ℤ → State → Reading → Option (List ℕ) → DeskState S → Option (List ℕ) → Option (List ℕ) → Type 0
+abbrev pub RowsStopAtIo : {S : Type 0} → Ghosts S → ℤ → State → Reading → Option (List ℕ) → DeskState S
+    → Option (List ℕ) → Option (List ℕ) → Type 0
 RowsStopAtIo g day s headed behind desk old new =
     (rows : List Fields) × (answers : List Answer) × (t : State) × AreRowsBehind headed behind rows
     × AreRowsDone day s rows answers t × IsAt g t desk × AreLinesOut answers old new
 
-abbrev pub RowsStop : {S : Type 0} → Ghosts S → ℤ → State → Reading → Option (List ℕ) → ImportStop → DeskState S → Option (List ℕ) → Option (List ℕ) → Type 0
+abbrev pub RowsStop : {S : Type 0} → Ghosts S → ℤ → State → Reading → Option (List ℕ) → ImportStop → DeskState S
+    → Option (List ℕ) → Option (List ℕ) → Type 0
 RowsStop g day s headed behind stop.Header desk old new = ⊥
 RowsStop g day s headed behind (stop.Row number) desk old new = RowsStopAtRow g day s headed behind number desk old new
 RowsStop g day s headed behind (stop.Fault f) desk old new = RowsStopAtFault g day s headed behind f desk old new
 RowsStop g day s headed behind stop.Io desk old new = RowsStopAtIo g day s headed behind desk old new
 
 -- all of them were done, or what stopped them
-abbrev pub EndsRows : {S : Type 0} → Ghosts S → ℤ → State → Reading → Option (List ℕ) → Result ℕ ImportStop → DeskState S → Option (List ℕ) → Option (List ℕ) → Type 0
-EndsRows g day s headed behind ended desk old new = MatchResult ended (λ refused. RowsImport g day s headed behind refused desk old new) (λ why. RowsStop g day s headed behind why desk old new)
+abbrev pub EndsRows : {S : Type 0} → Ghosts S → ℤ → State → Reading → Option (List ℕ) → Result ℕ ImportStop
+    → DeskState S → Option (List ℕ) → Option (List ℕ) → Type 0
+EndsRows g day s headed behind ended desk old new =
+    MatchResult ended (λ refused. RowsImport g day s headed behind refused desk old new)
+    (λ why. RowsStop g day s headed behind why desk old new)
 
 -- why an import stops where no row was read in a place
 abbrev pub stop_at : RowStop → ℕ → ImportStop
@@ -210,38 +243,53 @@ stop_at row_stop.Io number = stop.Io
 -- ---- the whole import
 
 -- all rows were done, of which so many were refused
-abbrev pub Imports : {S : Type 0} → Ghosts S → ℤ → State → Option (List ℕ) → ℕ → DeskState S → Option (List ℕ) → Option (List ℕ) → Type 0
+abbrev pub Imports : {S : Type 0} → Ghosts S → ℤ → State → Option (List ℕ) → ℕ → DeskState S → Option (List ℕ)
+    → Option (List ℕ) → Type 0
 Imports g day s text refused desk old new =
-    (rows : List Fields) × (answers : List Answer) × (t : State) × AreAllRows text rows × AreImported g day s rows answers t desk old new × (refused ≡ refused_count answers)
+    (rows : List Fields) × (answers : List Answer) × (t : State) × AreAllRows text rows
+    × AreImported g day s rows answers t desk old new × (refused ≡ refused_count answers)
 
 -- it stopped at a row that is none: those before it were done
-abbrev pub StopsAtRow : {S : Type 0} → Ghosts S → ℤ → State → Option (List ℕ) → ℕ → DeskState S → Option (List ℕ) → Option (List ℕ) → Type 0
+abbrev pub StopsAtRow : {S : Type 0} → Ghosts S → ℤ → State → Option (List ℕ) → ℕ → DeskState S → Option (List ℕ)
+    → Option (List ℕ) → Type 0
 StopsAtRow g day s text number desk old new =
-    (rows : List Fields) × (answers : List Answer) × (t : State) × AreRowsBeforeBad text rows × AreImported g day s rows answers t desk old new × (number ≡ length rows + 1)
+    (rows : List Fields) × (answers : List Answer) × (t : State) × AreRowsBeforeBad text rows
+    × AreImported g day s rows answers t desk old new × (number ≡ length rows + 1)
 
 -- a fault stopped it after some rows: memory ran out to read the next, or that one was stopped
-abbrev pub StopsAtFault : {S : Type 0} → Ghosts S → ℤ → State → Option (List ℕ) → Fault → DeskState S → Option (List ℕ) → Option (List ℕ) → Type 0
+abbrev pub StopsAtFault : {S : Type 0} → Ghosts S → ℤ → State → Option (List ℕ) → Fault → DeskState S → Option (List ℕ)
+    → Option (List ℕ) → Type 0
 StopsAtFault g day s text f desk old new =
-    (rows : List Fields) × (answers : List Answer) × (t : State) × AreRowsDone day s rows answers t × Appends old new (lines_from 0 answers)
-    × ((f ≡ fault.Memory) × ArePrefixRows text rows × IsAt g t desk ⊎ ((row : Fields) × AreSomeRows text (rows ++ row ∷ []) × IsRowStopped g day t row f desk))
+    (rows : List Fields) × (answers : List Answer) × (t : State) × AreRowsDone day s rows answers t
+    × Appends old new (lines_from 0 answers)
+    × ((f ≡ fault.Memory) × ArePrefixRows text rows × IsAt g t desk
+    ⊎ ((row : Fields) × AreSomeRows text (rows ++ row ∷ []) × IsRowStopped g day t row f desk))
 
 -- reading or writing failed after some rows; of the line of the last one a part may be written
-abbrev pub StopsAtIo : {S : Type 0} → Ghosts S → ℤ → State → Option (List ℕ) → DeskState S → Option (List ℕ) → Option (List ℕ) → Type 0
+abbrev pub StopsAtIo : {S : Type 0} → Ghosts S → ℤ → State → Option (List ℕ) → DeskState S → Option (List ℕ)
+    → Option (List ℕ) → Type 0
 StopsAtIo g day s text desk old new =
     (rows : List Fields) × (answers : List Answer) × (t : State) × ArePrefixRows text rows
     × AreRowsDone day s rows answers t × IsAt g t desk × AreLinesOut answers old new
 
-abbrev pub Stops : {S : Type 0} → Ghosts S → ℤ → State → Option (List ℕ) → ImportStop → DeskState S → Option (List ℕ) → Option (List ℕ) → Type 0
+abbrev pub Stops : {S : Type 0} → Ghosts S → ℤ → State → Option (List ℕ) → ImportStop → DeskState S → Option (List ℕ)
+    → Option (List ℕ) → Type 0
 Stops g day s text stop.Header desk old new = LacksHeader StartRecord text × IsAt g s desk × (new ≡ old)
 Stops g day s text (stop.Row number) desk old new = StopsAtRow g day s text number desk old new
 Stops g day s text (stop.Fault f) desk old new = StopsAtFault g day s text f desk old new
 Stops g day s text stop.Io desk old new = StopsAtIo g day s text desk old new
 
 -- all rows were done, or what stopped it
-abbrev pub EndsImport : {S : Type 0} → Ghosts S → ℤ → State → Option (List ℕ) → Result ℕ ImportStop → DeskState S → Option (List ℕ) → Option (List ℕ) → Type 0
-EndsImport g day s text ended desk old new = MatchResult ended (λ refused. Imports g day s text refused desk old new) (λ why. Stops g day s text why desk old new)
+abbrev pub EndsImport : {S : Type 0} → Ghosts S → ℤ → State → Option (List ℕ) → Result ℕ ImportStop → DeskState S
+    → Option (List ℕ) → Option (List ℕ) → Type 0
+EndsImport g day s text ended desk old new =
+    MatchResult ended (λ refused. Imports g day s text refused desk old new)
+    (λ why. Stops g day s text why desk old new)
 
--- the records of a text were added at a desk; a byte order mark at its start is passed over, and a poisoned desk stays as it was
-pub record ImportsText {S W : Type 0} (g : Ghosts S) (day : ℤ) (text : Option (List ℕ)) (contents : W → Option (List ℕ)) (out after : W) (ended : Result ℕ ImportStop) (old new : DeskState S) : Type 0 where
-  pub call : CalledAt g old new (λ s. EndsImport g day s (option_map strip_bom text) ended new (contents out) (contents after))
+-- the records of a text were added at a desk; a byte order mark at its start is passed over, and a poisoned desk stays
+-- as it was
+pub record ImportsText {S W : Type 0} (g : Ghosts S) (day : ℤ) (text : Option (List ℕ)) (contents : W → Option (List ℕ))
+    (out after : W) (ended : Result ℕ ImportStop) (old new : DeskState S) : Type 0 where
+  pub call : CalledAt g old new
+      (λ s. EndsImport g day s (option_map strip_bom text) ended new (contents out) (contents after))
   pub gone : IsTrue old.is_poisoned → (ended ≡ Err (stop.Fault fault.Reopen)) × (new ≡ old) × (after ≡ out)

@@ -19,7 +19,8 @@ use Rattle.office_requests.specs.Receiving.{HasActs, Wanted, wanted}
 
 -- an answer is written, to HEAD its head alone, and the status is its
 abbrev pub Writes : Bool → Response → ℕ → Option (List ℕ) → Option (List ℕ) → Type 0
-Writes is_head r status written after = Appends written after (response_text is_head r) × (status ≡ status_number r.status)
+Writes is_head r status written after =
+    Appends written after (response_text is_head r) × (status ≡ status_number r.status)
 
 -- what is asked is served with this answer, or memory ran out for that and is reported
 abbrev pub IsServed : {S : Type 0} → Ghosts S → State → Wanted → Response → DeskState S → Type 0
@@ -38,20 +39,25 @@ IsReplied g t (asks h rest) is_head r desk =
     × (IsServed g t (wanted h rest) r desk ⊎ LacksRoomForBody h r × IsAt g t desk)
 
 -- a connection without a byte: nothing is written, and nothing done
-abbrev pub IsSilent : {S : Type 0} → Ghosts S → State → List ℕ → ℕ → Option (List ℕ) → Option (List ℕ) → DeskState S → Type 0
-IsSilent g t bytes status written after desk = IsRequest nothing bytes × (status ≡ 0) × (after ≡ written) × IsAt g t desk
+abbrev pub IsSilent : {S : Type 0} → Ghosts S → State → List ℕ → ℕ → Option (List ℕ) → Option (List ℕ) → DeskState S
+    → Type 0
+IsSilent g t bytes status written after desk =
+    IsRequest nothing bytes × (status ≡ 0) × (after ≡ written) × IsAt g t desk
 
--- the answer to all bytes of a connection: that to their request; or, where memory ran out before a byte was read, the reporting of that
+-- the answer to all bytes of a connection: that to their request; or, where memory ran out before a byte was read, the
+-- reporting of that
 abbrev pub IsReply : {S : Type 0} → Ghosts S → State → List ℕ → Type 0 → Bool → Response → DeskState S → Type 0
 IsReply g t bytes unread is_head r desk =
     ((q : Request) × IsRequest q bytes × IsReplied g t q is_head r desk)
     ⊎ (unread × (is_head ≡ false) × (r ≡ failure_response failure.Memory) × IsAt g t desk)
 
 -- it was written
-abbrev pub Replies : {S : Type 0} → Ghosts S → State → List ℕ → Type 0 → ℕ → Option (List ℕ) → Option (List ℕ) → DeskState S → Type 0
+abbrev pub Replies : {S : Type 0} → Ghosts S → State → List ℕ → Type 0 → ℕ → Option (List ℕ) → Option (List ℕ)
+    → DeskState S → Type 0
 Replies g t bytes unread status written after desk =
     IsSilent g t bytes status written after desk
-    ⊎ ((is_head : Bool) × (r : Response) × IsReply g t bytes unread is_head r desk × Writes is_head r status written after)
+    ⊎ ((is_head : Bool) × (r : Response) × IsReply g t bytes unread is_head r desk
+    × Writes is_head r status written after)
 
 -- it was perhaps not written whole, as where the writer answered an error, and the desk is as if it had been
 abbrev pub Breaks : {S : Type 0} → Ghosts S → State → List ℕ → Type 0 → DeskState S → Type 0
@@ -115,41 +121,55 @@ IsSent None status written after = (status ≡ 0) × (after ≡ written)
 IsSent (Some it) status written after = Writes it.is_head (response it.reply) status written after
 
 -- so the half of serving after it ends
-pub record Sends (sending : Option OutgoingReply) (status : Result ℕ Io) (written after : Option (List ℕ)) : Type 0 where
-  pub ok : IfOk status (λ code. IsSent sending code written after)
-  -- nothing is written where nothing is to be, so nothing fails
-  pub err : OnErr status (IsSome sending)
+pub record Sends (sending : Option OutgoingReply) (status : Result ℕ Io) (written after : Option (List ℕ)) : Type 0
+  where
+    pub ok : IfOk status (λ code. IsSent sending code written after)
+    -- nothing is written where nothing is to be, so nothing fails
+    pub err : OnErr status (IsSome sending)
 
 -- ---- calls at a desk
 
 -- what is wanted was done, and this is the answer
 abbrev pub HasReply : {S : Type 0} → Ghosts S → Wanted → Response → DeskState S → DeskState S → Type 0
-HasReply g wanted r old new = AnsweredAt g old new (λ t. IsServed g t wanted r new) (IsGoneServed wanted r) (IsUnavailable r)
+HasReply g wanted r old new =
+    AnsweredAt g old new (λ t. IsServed g t wanted r new) (IsGoneServed wanted r) (IsUnavailable r)
 
--- from a state: where the reader reports its bytes, what is to be written is the answer to all of them; and the desk is where serving may leave it
-pub record IsNextReady {S : Type 0} (g : Ghosts S) (t : State) (all : Option (List ℕ)) (unread : Type 0) (next : Result (Option OutgoingReply) Io) (desk : DeskState S) : Type 0 where
+-- from a state: where the reader reports its bytes, what is to be written is the answer to all of them; and the desk is
+-- where serving may leave it
+pub record IsNextReady {S : Type 0} (g : Ghosts S) (t : State) (all : Option (List ℕ)) (unread : Type 0)
+    (next : Result (Option OutgoingReply) Io) (desk : DeskState S) : Type 0 where
   pub ok : IfOk next (λ it. IfSome all (λ bytes. IsToSend g t bytes unread it desk))
   pub leaves : LeavesServed g t desk
 
 -- the half of serving before a byte is written; at 503 alone the desk may be poisoned by it
-abbrev pub AnswersNext : {R S : Type 0} → Ghosts S → (R → Option (List ℕ)) → (reader left : R) → Result (Option OutgoingReply) Io → (old new : DeskState S) → Type 0
+abbrev pub AnswersNext : {R S : Type 0} → Ghosts S → (R → Option (List ℕ)) → (reader left : R)
+    → Result (Option OutgoingReply) Io → (old new : DeskState S) → Type 0
 AnswersNext g all reader left next old new =
     AnsweredAt g old new (λ t. IsNextReady g t (all reader) (left ≡ reader) next new)
-    (IfOk next (λ it. IfSome (all reader) (λ bytes. IsGoneToSend bytes (left ≡ reader) it))) (IfOk next (λ it. ReportsUnavailable it))
+    (IfOk next (λ it. IfSome (all reader) (λ bytes. IsGoneToSend bytes (left ≡ reader) it)))
+    (IfOk next (λ it. ReportsUnavailable it))
 
--- from a state: where the reader reports its bytes, the answer to all of them was written; and the desk is where serving may leave it
-pub record IsOneServed {S : Type 0} (g : Ghosts S) (t : State) (all : Option (List ℕ)) (unread : Type 0) (status : Result ℕ Io) (written after : Option (List ℕ)) (desk : DeskState S) : Type 0 where
+-- from a state: where the reader reports its bytes, the answer to all of them was written; and the desk is where
+-- serving may leave it
+pub record IsOneServed {S : Type 0} (g : Ghosts S) (t : State) (all : Option (List ℕ)) (unread : Type 0)
+    (status : Result ℕ Io) (written after : Option (List ℕ)) (desk : DeskState S) : Type 0 where
   pub ok : IfOk status (λ code. IfSome all (λ bytes. Replies g t bytes unread code written after desk))
   pub leaves : LeavesServed g t desk
 
 -- one request was served; at 503 alone the desk may be poisoned by it
-abbrev pub ServesOne : {R W S : Type 0} → Ghosts S → (R → Option (List ℕ)) → (reader left : R) → (W → Option (List ℕ)) → (writer after : W) → Result ℕ Io → (old new : DeskState S) → Type 0
+abbrev pub ServesOne : {R W S : Type 0} → Ghosts S → (R → Option (List ℕ)) → (reader left : R) → (W → Option (List ℕ))
+    → (writer after : W) → Result ℕ Io → (old new : DeskState S) → Type 0
 ServesOne g all reader left contents writer after status old new =
-    AnsweredAt g old new (λ t. IsOneServed g t (all reader) (left ≡ reader) status (contents writer) (contents after) new)
-    (IfOk status (λ code. IfSome (all reader) (λ bytes. GoneReplies bytes (left ≡ reader) code (contents writer) (contents after)))) (IfOk status (λ code. code ≡ 503))
+    AnsweredAt g old new
+    (λ t. IsOneServed g t (all reader) (left ≡ reader) status (contents writer) (contents after) new)
+    (IfOk status
+    (λ code. IfSome (all reader)
+    (λ bytes. GoneReplies bytes (left ≡ reader) code (contents writer) (contents after))))
+    (IfOk status (λ code. code ≡ 503))
 
 -- and it was served in two halves
-pub record InHalves {R W S : Type 0} (g : Ghosts S) (all : R → Option (List ℕ)) (reader left : R) (contents : W → Option (List ℕ)) (writer after : W) (status : Result ℕ Io) (old new : DeskState S) : Type 0 where
+pub record InHalves {R W S : Type 0} (g : Ghosts S) (all : R → Option (List ℕ)) (reader left : R)
+    (contents : W → Option (List ℕ)) (writer after : W) (status : Result ℕ Io) (old new : DeskState S) : Type 0 where
   -- the first gives what is to be written, for which the desk is already
   pub next : Result (Option OutgoingReply) Io
   pub first : AnswersNext g all reader left next old new
@@ -158,4 +178,6 @@ pub record InHalves {R W S : Type 0} (g : Ghosts S) (all : R → Option (List �
   -- the second writes that, or fails
   pub second : IfOk next (λ it. Sends it status (contents writer) (contents after))
   -- so at an error nothing was done and nothing written, or the desk is as if the answer had been written
-  pub err : OnErr status (IfSome (all reader) (λ bytes. ((new ≡ old) × (after ≡ writer)) ⊎ CalledAt g old new (λ t. Breaks g t bytes (left ≡ reader) new)))
+  pub err : OnErr status
+      (IfSome (all reader)
+      (λ bytes. ((new ≡ old) × (after ≡ writer)) ⊎ CalledAt g old new (λ t. Breaks g t bytes (left ≡ reader) new)))

@@ -50,8 +50,8 @@ fn drain<C: Read + OpenStream>(stream: &mut C) {
     }
 }
 
-/// Shuts down the writing side, by which the peer sees that the answer has ended, and drains what it
-/// still sends.
+/// Shuts down the writing side, by which the peer sees that the answer has ended, and drains what
+/// it still sends.
 fn finish<C: Read + OpenStream>(stream: &mut C) {
     if stream.shutdown(Shutdown::Write).is_ok() {
         drain(stream);
