@@ -65,6 +65,10 @@ pub(crate) const ACTS: &str = r#"
     act {"act":"set-record-schedule","day":"2024-01-02","record":1,"schedule":false} = refused 2
     # texts that are not of their form; a digest has 64 digits, in lower case
     act {"act":"lift-hold","day":"2024-02-30","hold":"H1"} = refused 2
+    act {"act":"lift-hold","day":"2023-02-29","hold":"H1"} = refused 2
+    act {"act":"lift-hold","day":"2024-2-01","hold":"H1"} = refused 2
+    act {"act":"lift-hold","day":"3000-01-01","hold":"H1"} = refused 2
+    act {"act":"lift-hold","day":"0000-12-31","hold":"H1"} = refused 2
     act {"act":"event","day":"2024-03-01","record":1,"occurred":"2024-02-30","by":"the court"} = refused 2
     act {"act":"lift-hold","day":"2024-01-02","hold":"H 1"} = refused 2
     act {"act":"open-run","day":"2024-01-02","by":""} = refused 2

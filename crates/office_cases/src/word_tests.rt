@@ -8,7 +8,8 @@ use office_words::{Order, Register, disk_of, order_of, read_words};
 use std::io::Write;
 
 /// Each row is a command line, or a variable with its value, where it is set. A refusal is that of
-/// an operand; what is no command of the program is reported by the kind of the error of `clap`.
+/// an operand; what is no command of the program is reported by the kind of the error of `clap`, or
+/// by its text.
 pub(crate) const ROWS: &str = "
     words office due years 7 from-month-4 2017-06-30 = due years 7 from-month-4 2017-06-30
     words office plan tree.txt = plan tree.txt
@@ -35,6 +36,11 @@ pub(crate) const ROWS: &str = "
     words office dew = InvalidSubcommand
     words office help = DisplayHelp
     words office due --help = DisplayHelp
+
+    # what is printed of them
+    text office due --strange = error: unexpected argument '--strange' found\\n\\n  tip: to pass '--strange' as a value, use '-- --strange'\\n\\nUsage: office due <UNIT> <COUNT> <OFFSET> <DAY>\\n\\nFor more information, try '--help'.\\n
+    text office dew = error: unrecognized subcommand 'dew'\\n\\nUsage: office <COMMAND>\\n\\nFor more information, try '--help'.\\n
+    text office help = A records disposal office with legal holds\\n\\nUsage: office <COMMAND>\\n\\nCommands:\\n  due          Prints the due day of a period that begins on a day\\n  plan         Prints the due day of each record of a plan file\\n  init         Opens the office in a file, or makes a new one there\\n  apply        Does the acts of a JSON array, one after another\\n  resume       Takes up the run that is open, to its end\\n  certificate  Prints the certificate of a run\\n  import       Adds the records of a CSV file, one after another\\n  export       Writes a register of the office as CSV\\n  overdue      Writes the register of what is overdue as CSV\\n  serve        Answers requests at a port of this machine\\n  help         Print this message or the help of the given subcommand(s)\\n\\nOptions:\\n  -h, --help  Print help\\n
 
     # days of no import
     words office import office.db 2024-1-02 letters.csv = refused 2
@@ -160,6 +166,14 @@ fn report_order(order: &Order<'_>, out: &mut Vec<u8>) -> Option<()> {
     }
 }
 
+/// The text of `clap` on words that are no command.
+fn report_text(words: &[&str], out: &mut Vec<u8>) -> Option<()> {
+    match read_words(*out.allocator(), words) {
+        Ok(_) => None,
+        Err(error) => write!(out, "{error}").ok(),
+    }
+}
+
 /// What some words order.
 fn report_words(words: &[&str], out: &mut Vec<u8>) -> Option<()> {
     match read_words(*out.allocator(), words) {
@@ -186,6 +200,7 @@ pub(crate) fn report(word: &str, asked: &[u8], out: &mut Vec<u8>) -> Option<()> 
     let words = words_of(*out.allocator(), text)?;
     match word {
         "disk" => report_disk(&words, out),
+        "text" => report_text(&words, out),
         _ => report_words(&words, out),
     }
 }

@@ -10,7 +10,7 @@ use crate::running::report_listening;
 use office_desk::Desk;
 use office_orders::Ending;
 use office_store::Fault;
-use office_wire::{Routes, serve_all};
+use office_wire::{Routes, serve_each};
 use sqlite::{Alter, Connection, FileFrom, Start};
 use std::io::{Read, Write};
 use std::net::{OpenListener, OpenStream};
@@ -33,7 +33,7 @@ where
 {
     match report_listening(port, out) {
         Ok(()) => {
-            let service = serve_all(rt.alloc(), routes, listener, rt, count, desk, err);
+            let service = serve_each(rt.alloc(), routes, listener, rt, count, desk, err);
             Ending::of_service(service.has_failed, service.is_poisoned)
         }
         Err(_) => Ending::File,

@@ -4,7 +4,7 @@ use crate::peer::{Document, Pieces};
 use crate::requests::{Exchange, exchange_of};
 use office_base::Io;
 use office_desk::Desk;
-use office_wire::{Routes, serve_one};
+use office_wire::{Routes, serve_one, serve_with};
 use sqlite::Alter;
 use std::alloc::Global;
 use std::test::Fail;
@@ -44,7 +44,11 @@ fn is_answered<S: Alter>(
         room: it.room,
         differs: false,
     };
-    let status = serve_one(alloc, routes, desk, &mut reader, &mut document);
+    let status = if most == 1 {
+        serve_one(alloc, desk, &mut reader, &mut document)
+    } else {
+        serve_with(alloc, routes, desk, &mut reader, &mut document)
+    };
     status == ending_of(it)
         && !document.differs
         && (document.room == 0 || document.awaited.is_empty())

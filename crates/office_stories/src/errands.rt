@@ -45,16 +45,23 @@ pub(crate) enum Errand<'a> {
     TakenOver(usize),
 }
 
-/// What is reported of acts and readings, a line for each.
+/// What is reported of acts or of a reading.
+fn line_of<S: Alter>(alloc: Global, desk: &mut Desk<S>, words: &str) -> Result<String, Fail> {
+    if is_act(words) {
+        return answered(alloc, desk, words);
+    }
+    reported(alloc, desk, words)
+}
+
+/// What is reported of acts and readings, a line for each; a poisoned desk is asked to resume, too.
 fn reported_of<S: Alter>(alloc: Global, desk: &mut Desk<S>, asks: &[&str]) -> Result<String, Fail> {
     let mut text = String::new(alloc);
     for words in asks {
-        let line = if is_act(words) {
-            answered(alloc, desk, words)?
-        } else {
-            reported(alloc, desk, words)?
-        };
-        text.push_str(line.as_str())?;
+        text.push_str(line_of(alloc, desk, words)?.as_str())?;
+        text.push('\n')?;
+    }
+    if desk.is_poisoned() {
+        text.push_str(line_of(alloc, desk, "resume")?.as_str())?;
         text.push('\n')?;
     }
     Ok(text)

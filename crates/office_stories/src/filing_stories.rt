@@ -65,4 +65,38 @@ record 1 has "due":"2025-01-02"
 {"act":"add-schedule","day":"2024-01-02","code":"Y","trigger":"origin","unit":"years","count":2,"offset":"quarter","action":"transfer"} = done
 2024-01-02 set-record-schedule 1 Y = {"done":true}
 record 1 has "due":"2026-04-01"
+
+# Each act is refused for what is not there, ended, in transfer or not due for it
+## at the desk of the busy office
+2025-01-02 add-class NEW NONE = refused 5
+2025-01-02 set-class-schedule NONE D1 = refused 5
+2025-01-02 set-class-schedule FIN NONE = refused 5
+2025-01-02 close-aggregation 9 = refused 5
+2025-01-02 close-aggregation 4 = refused 7
+2025-01-02 add-record r9 4 - = refused 7
+2025-01-02 set-record-schedule 9 D1 = refused 5
+2025-01-02 set-record-schedule 3 NONE = refused 5
+2025-01-02 set-record-schedule 1 D1 = refused 13
+2025-01-02 reclassify record 9 FIN = refused 5
+2025-01-02 reclassify record 3 NONE = refused 5
+2025-01-02 reclassify record 1 LEG = refused 13
+2025-01-02 reclassify record 4 FIN = refused 14
+2025-01-02 confirm 9 destroy = refused 5
+2025-01-02 confirm 1 destroy = refused 13
+2025-01-02 review 9 - = refused 5
+2025-01-02 review 3 NONE = refused 5
+2025-01-02 review 1 - = refused 13
+2025-01-02 review 4 - = refused 14
+2025-01-02 review 3 - = refused 16
+
+# An aggregation is no deeper than 8
+## at the desk of the base office
+2024-01-02 add-child A2 1 - = number 3
+2024-01-02 add-child A3 3 - = number 4
+2024-01-02 add-child A4 4 - = number 5
+2024-01-02 add-child A5 5 - = number 6
+2024-01-02 add-child A6 6 - = number 7
+2024-01-02 add-child A7 7 - = number 8
+2024-01-02 add-child A8 8 - = number 9
+2024-01-02 add-child A9 9 - = refused 9
 "#;

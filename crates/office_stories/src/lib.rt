@@ -41,15 +41,15 @@
 //! What is read is given by `is` (the whole text), `has` (a part of it) or `bytes` (its length):
 //! `record 1 has "held":"H-2"`, `content 1 is "abc"`, `content 1 is none`, `certificate 1 bytes
 //! 501`, `due-list 2025-01-02 is [3, 1, 2]`, `overdue-list 2025-02-02 30 is [2, 3]`, `entries is
-//! run 1 record 1 destroyed;`.
+//! run 1 record 1 destroyed;`, and of the entry that ended a record `ended 1 is none`.
 //!
 //! A request is `GET /records/1`, or with its length and body `POST /acts 20 [{"act":"run-step"}]`;
 //! one that begins with `bytes` is sent as it is, and of `first 12 of` another its first bytes
 //! alone. An answer is its status, type, length and body, `404 Not Found, application/json, 16:
 //! {"error":"path"}`, or begins with `bytes` too, of `in all` so many bytes. `nothing` is no byte.
 //! A client that is `lost` has no answer, and one that is `lost after` so many bytes gets only
-//! these. `\n`, `\r`, `\t`, `\x00`, `\x7f` and in a request `\xff` are written for the bytes that
-//! they name. What is sent as it is, and a body that is awaited, may be pieces between ` + `, each
+//! these. `\n`, `\r`, `\t`, `\x00`, `\x7f` and in what is sent or read `\xff` are written for the
+//! bytes that they name. What is sent as it is, and a body that is awaited, may be pieces between ` + `, each
 //! of them so often as it says: `GET / + a x 8000 + HTTP/1.1`.
 //!
 //! ` for each <n> of 1 2 7` or ` for each <n> of 1 to 1000` after a row or a title repeats it. A

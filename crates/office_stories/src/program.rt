@@ -1,7 +1,7 @@
 //! The program's words over a connection to an office.
 use crate::failures::failure;
 use crate::peer::{Document, Pieces};
-use crate::repeating::{number, unescaped};
+use crate::repeating::{bytes_of, number, unescaped};
 use office_days::{Day, read_confirm_days};
 use office_run::run_on;
 use office_words::{Order, Register};
@@ -107,9 +107,8 @@ fn line_of(row: &str) -> Result<(&str, Line), Fail> {
     Ok((row, line))
 }
 
-/// The text as far as the line gives it; it fails where that is not all.
-fn text_over(text: &str, line: Line) -> Pieces<'_> {
-    let bytes = text.as_bytes();
+/// The bytes as far as the line gives them; it fails where that is not all.
+fn bytes_over(bytes: &[u8], line: Line) -> Pieces<'_> {
     let (prefix, rest) = bytes.split_at(line.read.min(bytes.len()));
     Pieces {
         bytes: prefix,
@@ -145,7 +144,10 @@ fn is_carried_out<S: Alter>(
         return (false, conn);
     }
     let (order, text) = order_of(words);
-    let mut input = text_over(text, line);
+    let Ok(bytes) = bytes_of(alloc, text) else {
+        return (false, conn);
+    };
+    let mut input = bytes_over(bytes.as_slice(), line);
     let mut out = Document {
         awaited: output.as_bytes(),
         room: line.written,

@@ -111,6 +111,7 @@ import 2024-01-02 ref,title = 1;;office: csv header\n
 import 2024-01-02 title,ref,originated,aggregation,class,schedule,content\nx,r4,2023-05-01,1,,, = 1;;office: csv header\n
 import 2024-01-02 ref,title,originated,aggregation,class,schedule,content\nr4,x,2023-05-01,1,,,\nr5,x,2023-05-01,1,,\nr6,x,2023-05-01,1,,,\n = 1;1 number 4\n;office: csv row 2\n
 import 2024-01-02 ref,title,originated,aggregation,class,schedule,content\nr4,x,2023-05-01,1,,,\nr5,x,2023-05-01,1,,,,\n = 1;1 same 4\n;office: csv row 2\n
+import 2024-01-02 ref,title,originated,aggregation,class,schedule,content\nr4,x,2023-05-01,1,,,\nr5,x\xff,2023-05-01,1,,,\n = 1;1 same 4\n;office: csv row 2\n
 ## at the desk
 record 5 is none
 

@@ -106,6 +106,16 @@ fn entries_text<S: Alter>(alloc: Global, desk: &Desk<S>) -> Result<String, Fault
     Ok(text)
 }
 
+/// The entry that ended the record.
+fn ending_text<S: Alter>(alloc: Global, desk: &Desk<S>, record_no: u32) -> Result<String, Fault> {
+    let Some(entry) = desk.entry_of(record_no)? else {
+        return none(alloc);
+    };
+    let mut text = String::new(alloc);
+    push_entry(&mut text, &entry)?;
+    Ok(text)
+}
+
 /// What is read at the desk.
 fn read<S: Alter>(
     alloc: Global,
@@ -114,6 +124,7 @@ fn read<S: Alter>(
 ) -> Result<Result<String, Fault>, Fail> {
     match reading.split_once(' ') {
         Some(("record", record_no)) => Ok(record_text(alloc, desk, number(record_no)?)),
+        Some(("ended", record_no)) => Ok(ending_text(alloc, desk, number(record_no)?)),
         Some(("content", record_no)) => Ok(content_text(alloc, desk, number(record_no)?)),
         Some(("certificate", run)) => Ok(certificate_text(alloc, desk, number(run)?)),
         Some(("due-list", on)) => Ok(due_text(alloc, desk, Day::read(on).ok_or("no day")?)),

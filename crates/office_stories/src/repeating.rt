@@ -75,3 +75,15 @@ pub(crate) fn written(alloc: Global, text: &str) -> Result<String, AllocError> {
     }
     unescaped(alloc, whole.as_str())
 }
+
+/// The bytes of a text, in which `\xff` represents a byte that no text has.
+pub(crate) fn bytes_of(alloc: Global, text: &str) -> Result<Vec<u8>, AllocError> {
+    let mut bytes = Vec::new(alloc);
+    for (place, part) in text.split("\\xff").enumerate() {
+        if place > 0 {
+            bytes.push(0xff)?;
+        }
+        bytes.extend_from_slice(part.as_bytes())?;
+    }
+    Ok(bytes)
+}

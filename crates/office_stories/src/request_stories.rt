@@ -58,4 +58,12 @@ UPDATE contents SET bytes = x'616264' WHERE record = 1
 GET /records/1/content = 503 Service Unavailable, application/json, 12: {"fault":33}
 GET /records/1 = 200 OK, application/json, 306: {"added":"2024-01-02","aggregation":1,"class":"FIN","confirmed":null,"digest":"ba7816bf8f01cfea414140de5dae2223b00361a396177a9cb410ff61f20015ad","due":"2025-01-02","ended":null,"event":null,"held":null,"length":3,"number":1,"originated":"2024-01-02","ref":"r1","schedule":"D1","status":"here","title":"r1"}
 GET /nothing = 404 Not Found, application/json, 16: {"error":"path"}
+
+# A list of acts meets a fault: its answers so far come with it
+## at the desk
+## in the tables
+DROP TABLE certificates; CREATE TABLE certificates(run INTEGER PRIMARY KEY, body TEXT NOT NULL CHECK (body = '')) STRICT
+## clients in pieces of 4096
+POST /acts 75 [{"act":"open-run","day":"2025-01-02","by":"registrar"},{"act":"run-step"}] = 503 Service Unavailable, application/json, 37: {"answers":[{"number":1}],"fault":31}
+POST /acts 20 [{"act":"run-step"}] = 503 Service Unavailable, application/json, 25: {"answers":[],"fault":32}
 "#;

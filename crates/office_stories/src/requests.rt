@@ -1,6 +1,6 @@
 //! Requests of HTTP and their answers, byte for byte, of the words of a row.
 use crate::failures::failure;
-use crate::repeating::written;
+use crate::repeating::{bytes_of, written};
 use std::alloc::{AllocError, Global};
 use std::test::Fail;
 
@@ -40,18 +40,6 @@ fn request(alloc: Global, words: &str) -> Result<String, AllocError> {
         return request_with_body(alloc, target, length, body);
     }
     format!(in alloc; "{words} HTTP/1.1\r\nHost: h\r\n\r\n")
-}
-
-/// The bytes of a text, in which `\xff` represents a byte that no text has.
-fn bytes_of(alloc: Global, text: &str) -> Result<Vec<u8>, AllocError> {
-    let mut bytes = Vec::new(alloc);
-    for (place, part) in text.split("\\xff").enumerate() {
-        if place > 0 {
-            bytes.push(0xff)?;
-        }
-        bytes.extend_from_slice(part.as_bytes())?;
-    }
-    Ok(bytes)
 }
 
 /// How many bytes of a request are sent, and its words.

@@ -73,6 +73,7 @@ certificate 1 has \nENDED 0\nSENT 1\nSKIPPED 0\n
 2024-01-02 add-root A FIN = number 1
 2024-01-02 add-record r1 1 abc = number 1
 2024-03-01 add-record r2 1 - = number 2
+record <n> has "due":"2024-03-31" for each <n> of 1 2
 2024-04-02 place-hold H = done
 2024-04-02 hold-on H record 1 = done
 2024-04-02 confirm 1 destroy = done
@@ -143,14 +144,20 @@ certificate 1 has \nSPENT 1\nAGGREGATION\t2\tB\nSHA256
 2025-01-02 place-hold H = done
 2025-01-02 hold-on H record 1 = done
 2025-01-02 receipt 1 abc = done
+record 1 has "status":"received"
+content 1 is "abc"
 2025-01-02 receipt 1 abc = refused 19
 2025-01-02 set-record-schedule 1 D1 = refused 14
 2025-01-02 open-run = number 2
 2025-01-02 run-step = step 1 skipped
+record 1 has "status":"received"
+content 1 is "abc"
 2025-01-02 run-step = closed 2
 2025-01-02 lift-hold H = done
 2025-01-02 open-run = number 3
 2025-01-02 run-step = step 1 transferred
+record 1 has "status":"ended"
+content 1 is none
 2025-01-02 run-step = closed 3
 2025-01-02 receipt 1 abc = refused 13
 2025-01-02 receipt 9 abc = refused 5

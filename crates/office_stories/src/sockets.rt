@@ -4,7 +4,7 @@ use crate::failures::failure;
 use crate::reporting::report_parts;
 use crate::requests::exchange_of;
 use office_desk::Desk;
-use office_wire::{Routes, Service, serve_all};
+use office_wire::{Routes, Service, serve_all, serve_each};
 use sqlite::Alter;
 use std::alloc::Global;
 use std::io;
@@ -80,6 +80,23 @@ fn hear(alloc: Global, client: Client) -> Result<(), Fail> {
     Err(failure("a client was told", got.as_str()))
 }
 
+/// Serves the clients of a meeting; where nothing may be reported, with the machine's own standard
+/// error.
+fn served<S: Alter>(
+    rt: &HostRuntime,
+    listener: &TcpListener,
+    desk: &mut Desk<S>,
+    meeting: &Meeting<'_>,
+    err: &mut Vec<u8>,
+) -> Result<Service, Fail> {
+    if meeting.reported.is_empty() {
+        return Ok(serve_all(rt, listener, meeting.most, desk)?);
+    }
+    let alloc = rt.alloc();
+    let routes = Routes::new(alloc)?;
+    Ok(serve_each(alloc, &routes, listener, rt, meeting.most, desk, err))
+}
+
 /// Serving must end as the meeting says.
 pub(crate) fn serve<S: Alter>(
     rt: &HostRuntime,
@@ -88,16 +105,7 @@ pub(crate) fn serve<S: Alter>(
     meeting: &Meeting<'_>,
 ) -> Result<(), Fail> {
     let mut err = Vec::new(rt.alloc());
-    let routes = Routes::new(rt.alloc())?;
-    let service = serve_all(
-        rt.alloc(),
-        &routes,
-        listener,
-        rt,
-        meeting.most,
-        desk,
-        &mut err,
-    );
+    let service = served(rt, listener, desk, meeting, &mut err)?;
     if service == meeting.service && err.as_slice() == meeting.reported.as_bytes() {
         return Ok(());
     }

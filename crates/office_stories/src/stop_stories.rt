@@ -67,16 +67,21 @@ record 1 has \"status\":\"received\"
 content 2 is none
 ";
 
-/// A run of three.
+/// A run of four, whose entries and certificate are those of a run that never stopped.
 pub(crate) const STOPPED_SHORT_RUN: &str = "
-# A run of three is resumed
+# A run of four is resumed
 ## at the desk of the base office
-2025-01-02 confirm <n> destroy = done for each <n> of 1 to 3
+2024-01-02 add-record r4 1 abc = number 4
+2025-01-02 confirm <n> destroy = done for each <n> of 1 to 4
 2025-01-02 open-run = number 1
 ## closed
 ## resumed while a disk stops
-by 4 steps = closed 1, at least 8
-by 4 steps again = closed 1, at least 8
+by 5 steps = closed 1, at least 8
+by 5 steps again = closed 1, at least 8
+## at the desk
+resume = closed 1
+entries is run 1 record 1 destroyed; run 1 record 2 destroyed; run 1 record 3 destroyed; run 1 record 4 destroyed;
+certificate 1 has ENDED 4
 ";
 
 /// A run of ten, of which one is held.

@@ -46,13 +46,15 @@ fn states_of(alloc: Global, image: &Image, steps: &[String]) -> Result<Vec<Strin
 
 /// What is asked at once, and then what a poisoned desk answers with fault 32: readings, and an act
 /// that is refused at every other desk.
-fn asks_of(words: &str) -> [&str; 7] {
+fn asks_of(words: &str) -> [&str; 9] {
     [
         words,
         "record 1",
+        "ended 1",
         "content 1",
         "certificate 1",
         "due-list 2025-01-02",
+        "overdue-list 2025-02-02 30",
         "entries",
         "2000-01-01 lift-hold NONE",
     ]

@@ -30,8 +30,11 @@ SELECT * FROM events is none
 ## in the tables of the old base office
 ## clients in pieces of 4096
 GET /records/1 = 200 OK, application/json, 306: {"added":"2024-01-02","aggregation":1,"class":"FIN","confirmed":null,"digest":"ba7816bf8f01cfea414140de5dae2223b00361a396177a9cb410ff61f20015ad","due":"2025-01-02","ended":null,"event":null,"held":null,"length":3,"number":1,"originated":"2024-01-02","ref":"r1","schedule":"D1","status":"here","title":"r1"}
+GET /records/2 = 200 OK, application/json, 306: {"added":"2024-01-02","aggregation":2,"class":"LEG","confirmed":null,"digest":"e3b0c44298fc1c149afbf4c8996fb92427ae41e4649b934ca495991b7852b855","due":"2025-01-02","ended":null,"event":null,"held":null,"length":0,"number":2,"originated":"2024-01-02","ref":"r2","schedule":"D1","status":"here","title":"r2"}
+GET /records/3 = 200 OK, application/json, 306: {"added":"2024-01-02","aggregation":1,"class":"FIN","confirmed":null,"digest":"ba7816bf8f01cfea414140de5dae2223b00361a396177a9cb410ff61f20015ad","due":"2025-01-02","ended":null,"event":null,"held":null,"length":3,"number":3,"originated":"2024-01-02","ref":"r3","schedule":"D1","status":"here","title":"r3"}
 GET /records/1/content = 200 OK, application/octet-stream, 3: abc
 GET /records/2/content = 200 OK, application/octet-stream, 0:
+GET /records/3/content = 200 OK, application/octet-stream, 3: abc
 GET /due/2025-01-02 = 200 OK, application/json, 367: [{"action":"destroy","class":"FIN","confirmed":false,"due":"2025-01-02","held":null,"record":1,"ref":"r1","schedule":"D1"},{"action":"destroy","class":"LEG","confirmed":false,"due":"2025-01-02","held":null,"record":2,"ref":"r2","schedule":"D1"},{"action":"destroy","class":"FIN","confirmed":false,"due":"2025-01-02","held":null,"record":3,"ref":"r3","schedule":"D1"}]
 GET /due/2025-01-01 = 200 OK, application/json, 2: []
 GET /due/2025-1-2 = 400 Bad Request, application/json, 15: {"error":"day"}

@@ -29,6 +29,10 @@ pub some_more : {A : Type 0} (o : Option A) (P Q : A → Type 0) → IfSome o P 
 some_more None P Q it more = tt
 some_more (Some a) P Q it more = more a it
 
+some_trivial : {A : Type 0} (o : Option A) → IfSome o (λ a. Unit {0})
+some_trivial None = tt
+some_trivial (Some a) = tt
+
 pub asked_reply : {S : Type 0} (g : Ghosts S) (t : State) (bytes : List ℕ) (unread : Type 0) (h : RequestHead) (rest : List ℕ) (it : Asked) (is_head : Bool) (r : Response) (desk : DeskState S)
     → IsRequest (asks h rest) bytes → IsAskedBy h rest it → is_head ≡ it.is_head → IsServed g t (asked_for it.operation) r desk → IsReply g t bytes unread is_head r desk
 asked_reply g t bytes unread h rest it is_head r desk request by same served =
@@ -112,6 +116,12 @@ module _ {S : Type 0} (g : Ghosts S) (all : Option (List ℕ)) (unread : Type 0)
       → AnsweredAt g desk desk (λ t. IsNextReady g t all unread (Ok next) desk) (IfSome all (λ bytes. IsGoneToSend bytes unread next)) (ReportsUnavailable next)
   unread_next desk next is failed came =
       unasked desk next (λ bytes. IsOutOfMemory stop.Memory bytes) came (λ t bytes at it. unread_to t desk next bytes is failed at) (λ bytes it. unread_gone next bytes is failed)
+
+  -- or for the routes, before the reader was asked for a byte
+  pub unrouted_next : (desk : DeskState S) (next : Option OutgoingReply) → unread → IsFailed failure.Memory false next
+      → AnsweredAt g desk desk (λ t. IsNextReady g t all unread (Ok next) desk) (IfSome all (λ bytes. IsGoneToSend bytes unread next)) (ReportsUnavailable next)
+  unrouted_next desk next is failed =
+      unasked desk next (λ bytes. Unit {0}) (some_trivial all) (λ t bytes at it. unread_to t desk next bytes is failed at) (λ bytes it. unread_gone next bytes is failed)
 
   -- or for the body of acts
   pub out_of_memory_next : (desk : DeskState S) (next : Option OutgoingReply) → IsFailed failure.Memory false next → IfSome all (λ bytes. IsOutOfMemory stop.MemoryForBody bytes)

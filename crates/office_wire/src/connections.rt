@@ -1,9 +1,9 @@
 //! Connections over TCP, served one after another.
-ghost use Rattle.std.specs.Prelude.{◌≡◌, ◌||◌};
+ghost use Rattle.std.specs.Prelude.{◌≡◌, ◌||◌, IfOk, OnErr};
 ghost use Rattle.office_wire.specs.Connections.{Ends, ServesAll, Turn, has_failed};
 
-use crate::serving::serve_one;
-use office_base::Io;
+use crate::serving::serve_with;
+use office_base::{Io, Memory};
 use office_desk::Desk;
 use office_http::Routes;
 use office_requests::{Timed, is_interrupted};
@@ -85,7 +85,7 @@ fn serve_stream<C: Read + Write + OpenStream + Drop, K: Clock, S: Alter>(
         return Err(Io);
     };
     let mut reader = Timed::new(stream, clock);
-    let status = serve_one(alloc, routes, desk, &mut reader, &mut writer)?;
+    let status = serve_with(alloc, routes, desk, &mut reader, &mut writer)?;
     if writer.flush().is_err() {
         return Err(Io);
     }
@@ -145,7 +145,7 @@ fn report_failure<E: Write>(served: Result<u16, Io>, err: &mut E) {
 /// connection that takes longer fails. What a client asks is not known here, since a socket does
 /// not report its bytes beforehand: of each connection it is known that the desk is where serving
 /// something leaves it.
-pub fn serve_all<L: OpenListener, K: Clock, E: Write, S: Alter>(
+pub fn serve_each<L: OpenListener, K: Clock, E: Write, S: Alter>(
     alloc: Global,
     routes: &Routes,
     listener: &L,
@@ -176,4 +176,23 @@ where
         has_failed,
         is_poisoned: false,
     }
+}
+
+/// Serves so many connections as [`serve_each`] does, by routes of its own, the machine's clock and
+/// its standard error. `Memory` comes where it is refused for the routes: then no connection was
+/// accepted.
+pub fn serve_all<L: OpenListener, S: Alter>(
+    rt: &HostRuntime,
+    listener: &L,
+    count: u32,
+    desk: &mut Desk<S>,
+) -> Result<Service, Memory>
+where
+    L::Stream: Read + Write + OpenStream,
+    ensures ok { IfOk result (λ service. ServesAll S.Store count service desk.old desk.new) }
+    ensures err { OnErr result (desk.new ≡ desk.old) }
+{
+    let routes = Routes::new(rt.alloc())?;
+    let mut err = rt.stderr();
+    Ok(serve_each(rt.alloc(), &routes, listener, rt, count, desk, &mut err))
 }

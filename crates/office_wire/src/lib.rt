@@ -6,7 +6,7 @@
 //! writes the answer and touches no desk, and [`serve_one`] is these two. Acts and answers in JSON
 //! are those of `office_json`, heads and the bytes of an answer those of `office_http`.
 //! [`serve_all`] serves connections over TCP, one after another, each within its time
-//! ([`LONGEST`]).
+//! ([`LONGEST`]). What serves many makes its routes once: [`serve_with`], [`serve_each`].
 #![tactic(auto)]
 
 mod answering;
@@ -18,11 +18,11 @@ mod replies;
 mod serving;
 
 pub use answering::answer;
-pub use connections::{Service, serve_all};
+pub use connections::{Service, serve_all, serve_each};
 pub use importing::{ImportStop, import_records};
 pub use office_base::Io;
 pub use office_http::Routes;
 pub use office_json::{ReadFault, answer_value, read_act};
 pub use office_requests::{ActsBody, Asked, LONGEST, Operation, ReceiveStop, Received, receive};
 pub use registers::{ExportStop, export_due, export_entries, export_overdue};
-pub use serving::{OutgoingReply, answer_next, send, serve_one};
+pub use serving::{OutgoingReply, answer_next, send, serve_one, serve_with};

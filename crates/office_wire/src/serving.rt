@@ -89,9 +89,9 @@ pub fn send<W: Write>(sending: Option<OutgoingReply>, writer: &mut W) -> Result<
     }
 }
 
-/// Answers one request: its bytes are read, what it asks for is done at the desk, and the answer is
-/// written. It gives the status of the answer, or 0 where the connection had no byte. The answer
-/// does not depend on how the bytes were cut.
+/// Answers one request by routes that were made before: its bytes are read, what it asks for is
+/// done at the desk, and the answer is written. It gives the status of the answer, or 0 where the
+/// connection had no byte. The answer does not depend on how the bytes were cut.
 ///
 /// It is [`answer_next`] and then [`send`]. `Io` comes where the reader answered an error, and then
 /// nothing was done and nothing written; or where the writer did, and then the desk is as if the
@@ -100,7 +100,7 @@ pub fn send<W: Write>(sending: Option<OutgoingReply>, writer: &mut W) -> Result<
 ///
 /// A poisoned desk stays as it is, and fault 32 is reported in place of all that it would do or
 /// report. Where it is poisoned here, the status is 503.
-pub fn serve_one<R: Read, W: Write, S: Alter>(
+pub fn serve_with<R: Read, W: Write, S: Alter>(
     alloc: Global,
     routes: &Routes,
     desk: &mut Desk<S>,
@@ -114,4 +114,23 @@ pub fn serve_one<R: Read, W: Write, S: Alter>(
 {
     let sending = answer_next(alloc, routes, desk, reader)?;
     send(sending, writer)
+}
+
+/// Answers one request as [`serve_with`] does, by routes of its own. Without memory for these, the
+/// answer is 503 `{"error":"memory"}`, no byte is read, and the desk stays as it is.
+pub fn serve_one<R: Read, W: Write, S: Alter>(
+    alloc: Global,
+    desk: &mut Desk<S>,
+    reader: &mut R,
+    writer: &mut W,
+) -> Result<u16, Io>
+    ensures one { ServesOne S.Store R.remaining reader.old reader.new W.contents writer.old
+        writer.new result desk.old desk.new }
+    ensures halves { InHalves S.Store R.remaining reader.old reader.new W.contents writer.old
+        writer.new result desk.old desk.new }
+{
+    match Routes::new(alloc) {
+        Ok(routes) => serve_with(alloc, &routes, desk, reader, writer),
+        Err(_) => send(failed(Failure::Memory, false), writer),
+    }
 }

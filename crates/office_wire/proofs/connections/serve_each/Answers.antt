@@ -1,6 +1,6 @@
 use Rattle.std.proofs.Common.{arith, rules}
 use Rattle.office_wire.proofs.Connected.{none_yet, one_more}
-use Rattle.office_wire.proofs.connections.serve_all.Goals as goal
+use Rattle.office_wire.proofs.connections.serve_each.Goals as goal
 
 pub loop-before-init : goal.loop-before-init
 loop-before-init g c = none_yet _ _
