@@ -1,6 +1,6 @@
 -- The refs of a list differ exactly where its index has as many refs as the list has things.
-use Rattle.std.proofs.Common.{◌≡◌, ℕ, zero, suc, ◌+◌, ◌-◌, ◌<◌, ◌≤◌, List, [], length, get_or, map, Option, Some, None, Bool, true, false, IsSome, refl, sym, ap, ◌∙◌, arith, inl, inr}
-use Rattle.std.specs.FinMap.{contains_key, from_entries, get, get-from_entries}
+use Rattle.std.proofs.Common.{◌≡◌, ℕ, zero, suc, ◌<◌, List, length, get_or, map, Option, Some, None, Bool, true, false, refl, sym, ap, ◌∙◌, arith, inl, inr}
+use Rattle.std.specs.FinMap.{from_entries, get, get-from_entries}
 use Rattle.std.specs.FinMap.Entries.{is_some-find}
 use Rattle.std.specs.List.{IsDistinct, list_any, slice_get}
 use Rattle.std.specs.List.Sorted.{IsStrictlySortedBy}
