@@ -74,7 +74,9 @@ addition day p = AddRecord day p.0.0.0 p.0.0.1 p.0.1.0 p.0.1.1 p.1.0.0 p.1.0.1 p
 unfoldable pub act_asked : ℤ → Fields → Result Act Refusal
 act_asked day row =
     made (addition day)
-    (both (both (both (words_field row.ref_text) (words_field row.title)) (both (day_field row.originated) (thing_number row.aggregation)))
+    (both
+    (both (both (words_field row.ref_text) (words_field row.title))
+    (both (day_field row.originated) (thing_number row.aggregation)))
     (both (both (code_field row.class) (code_field row.schedule)) (content_of (content_named row.content))))
 
 -- why no act was read of a row: it is refused, or memory ran out

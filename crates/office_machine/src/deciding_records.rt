@@ -9,6 +9,7 @@ ghost use Rattle.office_rules.specs.Effects.{new_head};
 ghost use Rattle.office_rules.specs.Sound.{IsSoundOffice};
 ghost use Rattle.office_rules.specs.State.{with_contents};
 ghost use Rattle.office_rules.specs.Steps.{step_add_record, step_confirm, step_event, step_receipt, step_review, step_set_record_schedule};
+ghost use Rattle.office_machine.specs.Filings.{filed};
 
 use crate::deciding::two;
 use crate::filing::Filing;
@@ -63,8 +64,8 @@ fn confirmed(
 
 /// Whether the record is the one that is asked for, where its content has that digest.
 fn is_same(new: &Filing<'_>, digest: [u8; 32], head: &Record) -> bool
-    requires { digest ≡ sha256 new.now.content }
-    ensures { result ≡ is_same_record new.now head.now }
+    requires { digest ≡ sha256 (filed new.now).content }
+    ensures { result ≡ is_same_record (filed new.now) head.now }
 {
     *new.ref_text == head.ref_text
         && *new.title == head.title
@@ -76,8 +77,8 @@ fn is_same(new: &Filing<'_>, digest: [u8; 32], head: &Record) -> bool
 
 /// The head of a new record, where its content has that digest.
 fn new_head(alloc: Global, day: Day, new: &Filing<'_>, digest: [u8; 32]) -> Result<Record, Memory>
-    requires { digest ≡ sha256 new.now.content }
-    ensures { IfOk result (λ head. head ≡ new_head day new.now) }
+    requires { digest ≡ sha256 (filed new.now).content }
+    ensures { IfOk result (λ head. head ≡ new_head day (filed new.now)) }
 {
     let (class, schedule) = copy_plan(alloc, new.class, new.schedule)?;
     let (ref_text, title) = copy_texts(alloc, new.ref_text, new.title)?;
@@ -102,8 +103,8 @@ impl Parts {
     /// digest.
     fn same_record(&self, new: &Filing<'_>, digest: [u8; 32]) -> Option<RecordNo>
         requires sound { IsSoundOffice self.now }
-        requires digest { digest ≡ sha256 new.now.content }
-        ensures { result ≡ same_record self.now new.now }
+        requires digest { digest ≡ sha256 (filed new.now).content }
+        ensures { result ≡ same_record self.now (filed new.now) }
     {
         match self.tree.record_of_ref(new.ref_text) {
             Some(record_no) => {
@@ -127,7 +128,7 @@ impl Parts {
         requires { IsSoundOffice self.now }
         ensures { IfOk result
             (λ d. IsDecidedTo self.now
-            (λ contents. step_add_record (with_contents self.now contents) day new.now) d) }
+            (λ contents. step_add_record (with_contents self.now contents) day (filed new.now)) d) }
     {
         let digest = digest_of(new.content.bytes());
         if let Some(record_no) = self.same_record(new, digest) {
