@@ -255,7 +255,7 @@ fn report_counted(office: &Machine, out: &mut Vec<u8>) -> Option<()> {
 
 /// The certificate of a run.
 fn report_certificate(office: &Machine, run: RunNo, out: &mut Vec<u8>) -> Option<()> {
-    match office.certificate(*out.allocator(), run) {
+    match office.certificate(run) {
         Ok(Some(text)) => push(out, text.as_str()),
         Ok(None) => push(out, "none"),
         Err(_) => None,
