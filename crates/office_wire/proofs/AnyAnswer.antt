@@ -27,7 +27,7 @@ performed_any Reported g t done desk (inr it) = inr (
 )
 
 asked_any : {S : Type 0} (Reported : Response → Type 0) (g : Ghosts S) (t : State) (asked : Result (List Act) NoActs) (desk : DeskState S) → PerformsAsked Reported g t asked desk → PerformsAsked AnyAnswer g t asked desk
-asked_any Reported g t (Ok acts) desk it = performed_any Reported g t acts desk it
+asked_any Reported g t (Ok done) desk it = performed_any Reported g t done desk it
 asked_any Reported g t (Err not_json) desk it = (tt, it.1)
 asked_any Reported g t (Err (bad_act place why)) desk it = (tt, it.1)
 

@@ -59,7 +59,7 @@ ArePerformed Reported g t done desk =
 -- what bytes ask for, by what is read of them
 abbrev pub PerformsAsked : {S : Type 0} → (Response → Type 0) → Ghosts S → State → Result (List Act) NoActs
     → DeskState S → Type 0
-PerformsAsked Reported g t (Ok acts) desk = ArePerformed Reported g t acts desk
+PerformsAsked Reported g t (Ok done) desk = ArePerformed Reported g t done desk
 PerformsAsked Reported g t (Err not_json) desk = Reported (failure_response failure.Json) × IsAt g t desk
 PerformsAsked Reported g t (Err (bad_act place why)) desk = Reported (bad_act_response place why) × IsAt g t desk
 
