@@ -15,6 +15,7 @@ unopened {S = S} g conn f back it = record {
   anew = λ none. (it.anew none).faults;
   other_tables = λ none wrong. let is = (it.anew none).damaged wrong in (is.0, ap (λ (h : Held S). (state g h).now) is.1, λ db may. subst (λ (h : Held S). (state g h).may_leave db) is.1 may);
   always = λ none other. (it.anew none).other other;
+  used = λ none in_use. let is = (it.anew none).used in_use in (ap (λ (h : Held S). (state g h).now) is, λ db may. subst (λ (h : Held S). (state g h).may_leave db) is may);
   kept = λ ed clean rest. ((it.left clean).office ed rest).kept;
   leaves = λ clean rest. ((it.left clean).office edition.Two rest).leaves;
   leaves_old = λ clean rest. ((it.left clean).office edition.One rest).leaves;

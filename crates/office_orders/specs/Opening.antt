@@ -3,7 +3,7 @@ use Rattle.std.specs.Prelude.{◌≡◌, ◌≢◌, ◌⊎◌, ℕ, List, Option
 use Rattle.sqlite.specs.State.{State as FileState, HasCleanDisk}
 use Rattle.office_rules.specs.Rows.{rows_of}
 use Rattle.office_rules.specs.State.{State, empty_state}
-use Rattle.office_sql.specs.Names.{has_other_table}
+use Rattle.office_sql.specs.Names.{has_other_table, has_used_name}
 use Rattle.office_sql.specs.declared.editions.Edition.{Edition}
 use Rattle.office_sql.specs.declared.editions.Edition.TheVariants as edition
 use Rattle.office_sql.specs.Office.{IsAtRest, IsAtRestOver, IsBlank}
@@ -23,8 +23,8 @@ IsRestKept old new = HasCleanDisk new → IsOpenable old → LeavesRest old new
 -- the office was opened: a new one where there was none, else the one that the tables represent; these are as they
 -- were, or, of version 1, made those of version 2
 pub record IsOpened (old new : FileState) : Type 0 where
-  -- it is made anew only where none of its other tables is there
-  pub clear : has_office_table old ≡ false → has_other_table old.now.schema ≡ false
+  -- it is made anew only where none of its names is in use
+  pub clear : has_office_table old ≡ false → has_used_name old.now.schema ≡ false
   pub made : HasCleanDisk new → IsBlank old → HoldsRows (rows_of empty_state) new
   pub found : HasCleanDisk new → IsAtRest old
       → (s : State) × RepresentState old.now.trees s × HoldsRows (rows_of s) new × (new.now ≡ old.now)
@@ -45,6 +45,9 @@ pub record IsUnopened (f : Fault) (old new : FileState) : Type 0 where
   pub other_tables : has_office_table old ≡ false → f ≡ fault.Damaged
       → (has_other_table old.now.schema ≡ true) × (new.now ≡ old.now) × LeavesLess old new
   pub always : has_office_table old ≡ false → has_other_table old.now.schema ≡ true → f ≡ fault.Damaged
+  -- where anything has one of its names, nothing was done
+  pub used : has_office_table old ≡ false → has_used_name old.now.schema ≡ true
+      → (new.now ≡ old.now) × LeavesLess old new
   -- where the database did not fail, the tables are as they were
   pub kept : (ed : Edition) → HasCleanDisk new → IsAtRestOver ed old → f ≢ fault.Store → StaysAtRest ed old new
   pub leaves : HasCleanDisk new → IsAtRest old → LeavesLess old new

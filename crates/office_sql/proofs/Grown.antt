@@ -1,9 +1,9 @@
 -- One more table beside those of an office: they are there still with their rows, the new one has none, and there is room for the rest.
-use Rattle.std.proofs.Common.{◌≡◌, ◌⊎◌, inl, inr, ℕ, List, [], ◌∷◌, ◌++◌, map, Bool, true, false, ◌||◌, ◌+◌, is_some, Some, Option, cond, refl, sym, ap, subst, ◌∙◌, append_assoc}
+use Rattle.std.proofs.Common.{◌≡◌, inl, inr, ℕ, List, [], ◌∷◌, ◌++◌, map, Bool, true, false, ◌||◌, ◌+◌, is_some, Some, cond, refl, sym, ap, subst, ◌∙◌, append_assoc}
 use Rattle.std.specs.List.{AllByRecursion, list_any, position_from, slice_index_or}
 use Rattle.std.proofs.lemmas.Bool.{or_parts}
 use Rattle.sqlite_value.specs.Keys.{plain}
-use Rattle.sqlite_trees.specs.Tree.{Trees, IsAscending}
+use Rattle.sqlite_trees.specs.Tree.{IsAscending}
 use Rattle.sqlite_trees.specs.View.{IsShaped}
 use Rattle.sqlite_trees.specs.declared.store.Shape.TheVariants as shape
 use Rattle.sqlite_schema.specs.declared.schema.Index.{Index}
@@ -12,17 +12,18 @@ use Rattle.sqlite_schema.specs.declared.schema.Table.{Table}
 use Rattle.sqlite_schema.specs.Names.{same_name, table_named, index_named, view_named}
 use Rattle.sqlite_rules.specs.Lists.{Has}
 use Rattle.sqlite_rules.proofs.ListLemmas.{all_from, all_has, has_either, has_left, has_right}
-use Rattle.sqlite.specs.Change.{KeepsRows, created, is_used, next_tree}
-use Rattle.sqlite.specs.Effect.{Database, IsDatabase}
+use Rattle.sqlite.specs.Change.{created, is_used, next_tree}
+use Rattle.sqlite.specs.Effect.{Database}
 use Rattle.sqlite_catalog.specs.Change.{automatics}
 use Rattle.sqlite_catalog.specs.Listing.{automatic}
 use Rattle.office_sql.specs.Bags.{rows_of, shown, tree_in}
 use Rattle.office_sql.specs.Made.{Grown, IsMade}
-use Rattle.office_sql.specs.Office.{HasRoom, HasTable, HasTables, IsUnreferred, KeepsObjects, KeepsRest, tree_of}
+use Rattle.office_sql.specs.Office.{HasRoom, HasTable, HasTables, KeepsObjects, KeepsRest, tree_of}
 use Rattle.office_sql.specs.Schema.{at}
+use Rattle.office_sql.proofs.Asides.{aside_kept}
 use Rattle.office_sql.proofs.Growing.{all_either, is_there, new_tree, same_tree, still_there, trees_apart, uncounted_still}
 use Rattle.office_sql.proofs.Kept.{found_in, represents_in}
-use Rattle.office_sql.proofs.Rest.{objects_then}
+use Rattle.office_sql.proofs.Rest.{asides_then, objects_then}
 use Rattle.office_sql.proofs.TableThere.{from_representing, itself}
 
 -- fewer tables, in whatever order
@@ -143,6 +144,7 @@ module _ (made : List Table) (t : Table) (rest : List Table) (old new : Database
       indexes = λ i h. has_left old.schema.indexes _ i h;
       views = λ v h. h;
     });
+    asides = aside_kept old new t has.database did;
   }
 
 -- tables that are made after others
@@ -154,8 +156,9 @@ grown_then made xs ys rest a b c first second = record {
   kept = all_from _ made (λ u h. all_has _ (made ++ xs) u second.kept (has_left made xs u h) ∙ all_has _ made u first.kept h);
   others = all_from _ a.schema.tables (λ u h. all_has _ b.schema.tables u second.others (first.objects.tables u h) ∙ all_has _ a.schema.tables u first.others h);
   objects = objects_then a.schema b.schema c.schema first.objects second.objects;
+  asides = asides_then a b c first.objects first.asides second.asides;
 }
 
 -- whatever else was there is kept
 pub kept_made : (made news rest : List Table) (a b : Database) → Grown made news rest a b → KeepsRest a b
-kept_made made news rest a b grown = record { objects = grown.objects; rows = λ u here other. all_has _ a.schema.tables u grown.others here }
+kept_made made news rest a b grown = record { objects = grown.objects; rows = λ u here other. all_has _ a.schema.tables u grown.others here; asides = grown.asides }

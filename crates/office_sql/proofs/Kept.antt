@@ -1,11 +1,11 @@
 -- What one statement leaves of an office: all but one table is as it was, and that is in order.
-use Rattle.std.proofs.Common.{◌≡◌, ◌≢◌, inl, inr, ℕ, ◌<◌, ◌^◌, List, map, bytes_eq, true, false, true≢false, refl, sym, ap, subst, ◌∙◌, arith}
+use Rattle.std.proofs.Common.{◌≡◌, ◌≢◌, inl, inr, ℕ, ◌<◌, List, map, bytes_eq, true, false, true≢false, sym, ap, subst, ◌∙◌, arith}
 use Rattle.std.specs.List.{AllByRecursion}
 use Rattle.std.proofs.lemmas.Bool.Decides.{eqb_tells}
 use Rattle.std.proofs.lemmas.Slice.Eq.{bytes_eq-Decides}
 use Rattle.sqlite_value.specs.Order.{Row}
 use Rattle.sqlite_trees.specs.Objects.{catalog_tree}
-use Rattle.sqlite_trees.specs.Tree.{Trees, IsAscending}
+use Rattle.sqlite_trees.specs.Tree.{IsAscending}
 use Rattle.sqlite_trees.specs.View.{IsShaped}
 use Rattle.sqlite_trees.specs.declared.store.Shape.TheVariants as shape
 use Rattle.sqlite_schema.specs.declared.schema.Schema.{Schema}
@@ -115,4 +115,5 @@ pub spares_rest : (t : Table) → Has version_2 t → (old new : Database) → H
 spares_rest t mine old new has spares = record {
   schema = spares.schema;
   rows = λ u here other. all_has _ old.schema.tables u spares.tables here (other_tree version_2 t mine old has u here (all_has (λ (t : Table). same_name u.name t.name ≡ false) version_2 t other mine));
+  unlisted = λ tree is. spares.others tree (λ same. all_has _ old.schema.tables (at (tree_of old.schema t.name) t) is.0 (itself old.schema t has.apart (represents_in version_2 t mine old has)) (sym same)) is.1;
 }

@@ -7,23 +7,28 @@ use Rattle.sqlite_trees.specs.Objects.{catalog_tree}
 use Rattle.sqlite_rules.specs.Lists.{Has}
 use Rattle.sqlite.specs.Effect.{Database, IsDatabase}
 use Rattle.sqlite.specs.State.{State}
-use Rattle.office_sql.specs.Office.{IsAtRestOver, KeepsObjects, KeepsRest, Leaves, SparesRest}
+use Rattle.office_sql.specs.Office.{IsAlone, IsAtRestOver, IsUnlisted, KeepsAsides, KeepsObjects, KeepsRest, Leaves, SparesRest}
 use Rattle.office_sql.specs.declared.editions.Edition.{Edition}
 
 pub spares_none : (d : Database) → SparesRest d d
-spares_none d = record { schema = refl; rows = λ u here other. refl }
+spares_none d = record { schema = refl; rows = λ u here other. refl; unlisted = λ tree is. refl }
 
 pub spares_then : (a b c : Database) → SparesRest a b → SparesRest b c → SparesRest a c
 spares_then a b c first next = record {
   schema = next.schema ∙ first.schema;
   rows = λ u here other. next.rows u (subst (λ (s : Schema). Has s.tables u) (sym first.schema) here) other ∙ first.rows u here other;
+  unlisted = λ tree is. next.unlisted tree (subst (λ (s : Schema). IsUnlisted s tree) (sym first.schema) is) ∙ first.unlisted tree is;
 }
 
 pub keeps_objects : (a b : Schema) → b ≡ a → KeepsObjects a b
 keeps_objects a b same = subst (KeepsObjects a) (sym same) (record { tables = λ t h. h; indexes = λ i h. h; views = λ v h. h })
 
 pub keeps_spared : (a b : Database) → SparesRest a b → KeepsRest a b
-keeps_spared a b spared = record { objects = keeps_objects a.schema b.schema spared.schema; rows = spared.rows }
+keeps_spared a b spared = record {
+  objects = keeps_objects a.schema b.schema spared.schema;
+  rows = spared.rows;
+  asides = λ v here aside alone. (subst (λ (s : Schema). IsAlone s v) (sym spared.schema) alone, spared.unlisted v.tree alone.unlisted);
+}
 
 pub objects_then : (a b c : Schema) → KeepsObjects a b → KeepsObjects b c → KeepsObjects a c
 objects_then a b c first next = record {
@@ -32,10 +37,17 @@ objects_then a b c first next = record {
   views = λ v h. next.views v (first.views v h);
 }
 
+pub asides_then : (a b c : Database) → KeepsObjects a.schema b.schema → KeepsAsides a b → KeepsAsides b c → KeepsAsides a c
+asides_then a b c objects first next v here aside alone =
+    let was = first v here aside alone in
+    let now = next v (objects.views v here) aside was.0 in
+    (now.0, now.1 ∙ was.1)
+
 pub keeps_then : (a b c : Database) → KeepsRest a b → KeepsRest b c → KeepsRest a c
 keeps_then a b c first next = record {
   objects = objects_then a.schema b.schema c.schema first.objects next.objects;
   rows = λ u here other. next.rows u (first.objects.tables u here) other ∙ first.rows u here other;
+  asides = asides_then a b c first.objects first.asides next.asides;
 }
 
 -- trees list one schema

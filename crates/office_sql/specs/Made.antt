@@ -6,7 +6,7 @@ use Rattle.sqlite_schema.specs.declared.schema.Table.{Table}
 use Rattle.sqlite_schema.specs.declared.command.Command.TheVariants.{CreateTable}
 use Rattle.sqlite.specs.Compile.{table_defined_by}
 use Rattle.sqlite.specs.Change.{created, next_tree, KeepsRows}
-use Rattle.sqlite.specs.Effect.{Database, IsDatabase}
+use Rattle.sqlite.specs.Effect.{Database, IsDatabase, SparesFrozen}
 use Rattle.sqlite.specs.State.{State, HasCleanDisk, KeepsCommit, Survives}
 use Rattle.sqlite.specs.declared.error.Error.{Error}
 use Rattle.sqlite.specs.Does.{lacks_sequence}
@@ -15,7 +15,7 @@ use Rattle.sqlite.specs.Given.{IsPlain}
 use Rattle.sqlite.proofs.Callers.{command_of, statement_of}
 use Rattle.office_sql.specs.Bags.{rows_of}
 use Rattle.office_sql.specs.Editions.{version_2}
-use Rattle.office_sql.specs.Office.{HasRoom, HasRoomBeside, HasTables, KeepsObjects}
+use Rattle.office_sql.specs.Office.{HasRoom, HasRoomBeside, HasTables, KeepsAsides, KeepsObjects}
 
 -- under this schema the text makes this table
 pub record Makes (s : Schema) (text : List ℕ) (table : Table) : Type 0 where
@@ -30,6 +30,7 @@ pub record IsMade (table : Table) (old new : Database) : Type 0 where
   pub schema : new.schema ≡ created old.schema table
   pub empty : new.trees (next_tree old.schema) ≡ []
   pub others : KeepsRows old.schema.tables old.trees new.trees
+  pub frozen : SparesFrozen old new
   pub sound : IsDatabase new
 
 -- what the making of tables inside a transaction leaves, where it starts so
@@ -51,6 +52,7 @@ pub record Grown (made news rest : List Table) (old new : Database) : Type 0 whe
   pub kept : AllByRecursion (λ t. rows_of t new.trees ≡ rows_of t old.trees) made
   pub others : KeepsRows old.schema.tables old.trees new.trees
   pub objects : KeepsObjects old.schema new.schema
+  pub asides : KeepsAsides old new
 
 -- the first so many tables of version 2 are there, and there is room for the others
 abbrev pub IsMadeUpTo : ℕ → Database → Type 0

@@ -1,6 +1,6 @@
 -- What the database of an office is between calls and inside a transaction, beside whatever else the file has, and what
 -- a put or a removal does to it. Source: own.
-use Rattle.std.specs.Prelude.{◌≡◌, ◌≢◌, ◌⊎◌, ℕ, pos, neg_ℤ, true, false, List, [], ◌∷◌, filter, not, slice_get, Option, Some, option_map, option_and_then, unwrap_or, Result, OnOk, OnErr, IsTrue}
+use Rattle.std.specs.Prelude.{◌≡◌, ◌≢◌, ◌⊎◌, ℕ, pos, neg_ℤ, true, false, List, [], ◌∷◌, filter, not, slice_get, Some, option_map, option_and_then, unwrap_or, Result, OnOk, OnErr, IsSome, IsTrue}
 use Rattle.std.specs.List.{AllByRecursion, list_any}
 use Rattle.std.specs.Str.{bytes_eq}
 use Rattle.sqlite_value.specs.Keys.{plain}
@@ -93,10 +93,19 @@ IsOtherTable u = AllByRecursion (λ t. same_name u.name t.name ≡ false) versio
 abbrev pub KeepsOtherRows : Database → Database → Type 0
 KeepsOtherRows old new = (u : Table) → Has old.schema.tables u → IsOtherTable u → new.trees u.tree ≡ old.trees u.tree
 
+-- the tree is that of no table and of no index that the schema lists
+abbrev pub IsUnlisted : Schema → ℕ → Type 0
+IsUnlisted s tree = AllByRecursion (λ t. t.tree ≢ tree) s.tables × IsNoIndex s tree
+
+-- each such tree is as it was: the list of objects, and the tables that the database keeps as they are
+abbrev pub KeepsUnlisted : Database → Database → Type 0
+KeepsUnlisted old new = (tree : ℕ) → IsUnlisted old.schema tree → new.trees tree ≡ old.trees tree
+
 -- nothing but rows of the office's tables and entries of indexes is other than it was
 pub record SparesRest (old new : Database) : Type 0 where
   pub schema : new.schema ≡ old.schema
   pub rows : KeepsOtherRows old new
+  pub unlisted : KeepsUnlisted old new
 
 -- each table, index and view that was there is there
 pub record KeepsObjects (old new : Schema) : Type 0 where
@@ -104,10 +113,26 @@ pub record KeepsObjects (old new : Schema) : Type 0 where
   pub indexes : (i : Index) → Has old.indexes i → Has new.indexes i
   pub views : (v : View) → Has old.views v → Has new.views v
 
+-- a table that the database keeps as it is, since it does not understand it or a trigger is on it; or an index of one
+abbrev pub IsKeptAside : View → Type 0
+IsKeptAside v = IsSome v.foreign × (v.binds ≡ false)
+
+-- its tree is that of nothing else
+pub record IsAlone (s : Schema) (v : View) : Type 0 where
+  pub unlisted : IsUnlisted s v.tree
+  pub views : AllByRecursion (λ w. w.tree ≡ v.tree → w ≡ v) s.views
+
+-- each such table has the rows that it had, in a tree that is its own still
+abbrev pub KeepsAsides : Database → Database → Type 0
+KeepsAsides old new =
+    (v : View) → Has old.schema.views v → IsKeptAside v → IsAlone old.schema v
+    → IsAlone new.schema v × (new.trees v.tree ≡ old.trees v.tree)
+
 -- whatever else was there is there, and has its rows
 pub record KeepsRest (old new : Database) : Type 0 where
   pub objects : KeepsObjects old.schema new.schema
   pub rows : KeepsOtherRows old new
+  pub asides : KeepsAsides old new
 
 -- whatever a crash leaves is a database of this kind; its schema is one alone, which the trees list
 abbrev pub Leaves : (Database → Type 0) → State → Type 0

@@ -1,5 +1,5 @@
 -- Tables that were read whole, of which no `office` row came.
-use Rattle.std.proofs.Common.{◌≡◌, ◌≢◌, ℤ, [], ◌∷◌, false, subst}
+use Rattle.std.proofs.Common.{◌≡◌, ◌≢◌, inl, ℤ, [], ◌∷◌, false, refl, subst}
 use Rattle.sqlite.specs.Held.{Held, state}
 use Rattle.sqlite.specs.State.{HasCleanDisk}
 use Rattle.sqlite_trees.specs.declared.store.Store.{Ghosts}
@@ -13,6 +13,7 @@ pub not_of_none : {S : Type 0} (g : Ghosts S) (conn store back : Held S) (had ha
 not_of_none g conn store back had has is ended none it no_day = record {
   ended = ended;
   faults = λ wrong. cc;
+  mixed = λ named clean has is differs. inl refl;
   clean = λ clean. it.clean (subst (λ h. HasCleanDisk (state g h)) is clean);
   left = λ ed clean rest.
       let taken = it.taken ed (subst (λ h. HasCleanDisk (state g h)) is clean) rest in

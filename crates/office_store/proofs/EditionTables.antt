@@ -20,6 +20,10 @@ pub all_schedules_too : (P : Row → Type 0) (ed : Edition) (db : Trees) → All
 all_schedules_too P edition.One db all = all
 all_schedules_too P edition.Two db all = all
 
+pub only_schedules : (P : Row → Type 0) (ed : Edition) (db : Trees) → All P (bag_of (schedules_table ed) db) → All P (rows_of (schedules_of ed) db)
+only_schedules P edition.One db all = all
+only_schedules P edition.Two db all = all
+
 pub schedules_are_a_table : (ed : Edition) → IsTableOf ed (schedules_table ed)
 schedules_are_a_table edition.One = tt
 schedules_are_a_table edition.Two = tt

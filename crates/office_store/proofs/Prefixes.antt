@@ -137,24 +137,24 @@ module _ {ed : Edition} (s : State) (db : Trees) (sound : IsSound s) (represents
     unfolding tables_of rows
     they_begin =
         let order : AreInOrder rows = rows_in_order s in
-        let pairs = pairs_of (nat_lt 8 whole) (nat_lt 8 begun) db u.targets represents.targets.0 (formed target_pair _ (bag_of table.Targets db) all.targets) (IsPermutation-sym _ _ represents.targets.1) come.targets in
+        let pairs = pairs_of (nat_lt 8 whole) (nat_lt 8 begun) db u.targets represents.targets.0 (formed target_pair _ (bag_of table.Targets db) (all.rows.targets refl)) (IsPermutation-sym _ _ represents.targets.1) come.targets in
         let first = λ (some : u.targets ≢ []). after_holds whole begun near (pairs.3 some) in (
           tables_of rows pairs.0,
           tables_represent pairs.0 pairs.1,
           record {
             days = ([], sym (read_day rows db order represents u.days come.office) ∙ sym (append-nil u.days));
-            schedules = prefix_of schedule_pair (schedules_table ed) db (formed schedule_pair IsSchedulePair (bag_of (schedules_table ed) db) (all_schedules_too (IsRowOf schedule_pair IsSchedulePair) ed db all.schedules)) (nat_lt 1 whole) (nat_lt 1 begun) u.schedules rows.schedules (λ ts by. read_schedules rows db order represents ts (schedules_by_key ed db (map schedule_pair ts) by)) come.schedules;
-            classes = prefix_of class_pair table.Classes db (formed class_pair _ (bag_of table.Classes db) all.classes) (nat_lt 2 whole) (nat_lt 2 begun) u.classes rows.classes (read_classes rows db order represents) come.classes;
-            aggregations = prefix_of aggregation_pair table.Aggregations db (formed aggregation_pair _ (bag_of table.Aggregations db) all.aggregations) (nat_lt 3 whole) (nat_lt 3 begun) u.aggregations rows.aggregations (read_aggregations rows db order represents) come.aggregations;
-            records = prefix_of record_pair table.Records db (formed record_pair _ (bag_of table.Records db) all.records) (nat_lt 4 whole) (nat_lt 4 begun) u.records rows.records (read_records rows db order represents (λ e within. (well_formed_records s sound e within).1.digest)) come.records;
-            events = prefix_of_events ed db (formed event_pair _ (events_in ed db) all.events) (nat_lt 5 whole) (nat_lt 5 begun) u.events rows.events (read_events rows db order represents) come.events;
-            contents = prefix_of number_row table.Contents db (formed number_row _ (bag_of table.Contents db) all.contents) (nat_lt 6 whole) (nat_lt 6 begun) u.contents (map (λ e. e.0) rows.contents) (read_contents rows db order represents) come.contents;
-            holds = prefix_of hold_pair table.Holds db (formed hold_pair _ (bag_of table.Holds db) all.holds) (nat_lt 7 whole) (nat_lt 7 begun) u.holds rows.holds (read_holds rows db order represents) come.holds;
+            schedules = prefix_of schedule_pair (schedules_table ed) db (formed schedule_pair IsSchedulePair (bag_of (schedules_table ed) db) (all_schedules_too (IsRowOf schedule_pair IsSchedulePair) ed db (all.rows.schedules refl))) (nat_lt 1 whole) (nat_lt 1 begun) u.schedules rows.schedules (λ ts by. read_schedules rows db order represents ts (schedules_by_key ed db (map schedule_pair ts) by)) come.schedules;
+            classes = prefix_of class_pair table.Classes db (formed class_pair _ (bag_of table.Classes db) (all.rows.classes refl)) (nat_lt 2 whole) (nat_lt 2 begun) u.classes rows.classes (read_classes rows db order represents) come.classes;
+            aggregations = prefix_of aggregation_pair table.Aggregations db (formed aggregation_pair _ (bag_of table.Aggregations db) (all.rows.aggregations refl)) (nat_lt 3 whole) (nat_lt 3 begun) u.aggregations rows.aggregations (read_aggregations rows db order represents) come.aggregations;
+            records = prefix_of record_pair table.Records db (formed record_pair _ (bag_of table.Records db) (all.rows.records refl)) (nat_lt 4 whole) (nat_lt 4 begun) u.records rows.records (read_records rows db order represents (λ e within. (well_formed_records s sound e within).1.digest)) come.records;
+            events = prefix_of_events ed db (formed event_pair _ (events_in ed db) (all.rows.events refl)) (nat_lt 5 whole) (nat_lt 5 begun) u.events rows.events (read_events rows db order represents) come.events;
+            contents = prefix_of number_row table.Contents db (formed number_row _ (bag_of table.Contents db) (all.rows.contents refl)) (nat_lt 6 whole) (nat_lt 6 begun) u.contents (map (λ e. e.0) rows.contents) (read_contents rows db order represents) come.contents;
+            holds = prefix_of hold_pair table.Holds db (formed hold_pair _ (bag_of table.Holds db) (all.rows.holds refl)) (nat_lt 7 whole) (nat_lt 7 begun) u.holds rows.holds (read_holds rows db order represents) come.holds;
             all_holds = λ some. sym (read_holds rows db order represents u.holds (subst (λ b. HaveRowsCome b (nat_lt 7 begun) table.Holds db (map hold_pair u.holds)) (first some) come.holds));
             targets = pairs.2;
-            runs = prefix_of run_pair table.Runs db (formed run_pair _ (bag_of table.Runs db) all.runs) (nat_lt 9 whole) (nat_lt 9 begun) u.runs rows.runs (read_runs rows db order represents) come.runs;
-            entries = prefix_of entry_shown table.Entries db (formed entry_shown _ (bag_of table.Entries db) all.entries) (nat_lt 10 whole) (nat_lt 10 begun) u.entries (map (λ e. e.1) rows.entries_by) (read_entries rows db order represents (own_entries s sound)) come.entries;
-            certificates = prefix_of text_row table.Certificates db (All-weaker IsCertificateRow (IsShown text_row) (λ row it. ((it.0, it.1), it.4)) (bag_of table.Certificates db) all.certificates) (nat_lt 11 whole) (nat_lt 11 begun) u.certificates rows.certificates (read_certificates rows db order represents) come.certificates;
+            runs = prefix_of run_pair table.Runs db (formed run_pair _ (bag_of table.Runs db) (all.rows.runs refl)) (nat_lt 9 whole) (nat_lt 9 begun) u.runs rows.runs (read_runs rows db order represents) come.runs;
+            entries = prefix_of entry_shown table.Entries db (formed entry_shown _ (bag_of table.Entries db) (all.rows.entries refl)) (nat_lt 10 whole) (nat_lt 10 begun) u.entries (map (λ e. e.1) rows.entries_by) (read_entries rows db order represents (own_entries s sound)) come.entries;
+            certificates = prefix_of text_row table.Certificates db (All-weaker IsCertificateRow (IsShown text_row) (λ row it. ((it.0, it.1), it.4)) (bag_of table.Certificates db) (all.rows.certificates refl)) (nat_lt 11 whole) (nat_lt 11 begun) u.certificates rows.certificates (read_certificates rows db order represents) come.certificates;
           },
         )
 

@@ -1,5 +1,5 @@
 -- Each row of a sound state is of its form.
-use Rattle.std.proofs.Common.{◌≡◌, ℕ, zero, suc, ◌+◌, true, List, [], ◌∷◌, map, length, Option, Some, None, inl, inr, refl, sym, ap, subst, arith}
+use Rattle.std.proofs.Common.{◌≡◌, ℕ, zero, suc, ◌+◌, ◌<◌, ◌^◌, true, List, [], ◌∷◌, map, length, Option, Some, None, inl, inr, refl, sym, ap, subst, arith}
 use Rattle.std.specs.Cmp.{nat_cmp_total}
 use Rattle.std.specs.Cmp.Lexicographic.{nat_list_cmp_total}
 use Rattle.std.specs.FinMap.{entries, get}
@@ -63,7 +63,7 @@ well_formed_record_row head status formed few = record {
   originated = formed.originated;
   added = formed.added;
   aggregation = few;
-  size = omega (arith, formed.length_few);
+  size = formed.length_few;
   digest = formed.digest;
   class = formed.class;
   schedule = formed.schedule;
@@ -83,8 +83,8 @@ hold_in (f ∷ es) e (inr later) = let found = hold_in es e later in (found.0, i
 
 well_formed_target : (hold : HoldState) (t : Target) (s : State) → IsSound s → IsWellFormedHold hold → TargetsAreThere s.office.tree.classes (length s.office.tree.aggregations) (length s.office.tree.records) hold → has_target hold t ≡ true → IsWellFormedTargetText t
 well_formed_target hold (target.Class code) s sound formed there h = formed.classes code h
-well_formed_target hold (target.Aggregation a) s sound formed there h = omega (arith, (there.aggregation_targets a h).1, sound.limits.tree_few.aggregations_few)
-well_formed_target hold (target.Record r) s sound formed there h = omega (arith, (there.record_targets r h).1, sound.limits.tree_few.records_few)
+well_formed_target hold (target.Aggregation a) s sound formed there h = ((there.aggregation_targets a h).0, omega (arith, (there.aggregation_targets a h).1, sound.limits.tree_few.aggregations_few))
+well_formed_target hold (target.Record r) s sound formed there h = ((there.record_targets r h).0, omega (arith, (there.record_targets r h).1, sound.limits.tree_few.records_few))
 
 module _ (s : State) (sound : IsSound s) where
   pub well_formed_schedules : (e : List ℕ × Schedule) → IsIn (rows_of s).schedules e → IsSchedulePair e
@@ -99,10 +99,11 @@ module _ (s : State) (sound : IsSound s) where
   unfolding rows_of
   well_formed_aggregations e h =
       let at : numbered s.office.tree.aggregations e.0 ≡ Some e.1 = number_of s.office.tree.aggregations e (in_numbered 0 s.office.tree.aggregations e h) in
-      let few : IsNumber e.0 = omega (arith, (numbered_within s.office.tree.aggregations e.0 e.1 at).1, sound.limits.tree_few.aggregations_few) in (
-        few,
+      let within = numbered_within s.office.tree.aggregations e.0 e.1 at in
+      let few : e.0 < 2 ^ 32 = omega (arith, within.1, sound.limits.tree_few.aggregations_few) in (
+        (within.0, few),
         sound.limits.tree_forms.aggregations e.0 e.1 at,
-        each_some IsNumber e.1.parent (λ p has. omega (arith, few, (sound.forest.below e.0 p e.1 at has).1)),
+        each_some IsNumber e.1.parent (λ p has. let below = sound.forest.below e.0 p e.1 at has in (below.0, omega (arith, few, below.1))),
       )
 
   pub well_formed_records : (e : ℕ × RecordRow) → IsIn (rows_of s).records e → IsRecordPair e
@@ -111,22 +112,26 @@ module _ (s : State) (sound : IsSound s) where
       let found = in_numbered 0 (record_rows s.office.tree.records s.office.tree.statuses) e h in
       let of = row_of s.office.tree.records s.office.tree.statuses found.0 e.1 found.2 in
       let at : numbered s.office.tree.records e.0 ≡ Some of.0 = numbered_at s.office.tree.records e.0 found.0 of.0 found.1 of.2 in
-      let few : IsNumber e.0 = omega (arith, (numbered_within s.office.tree.records e.0 of.0 at).1, sound.limits.tree_few.records_few) in
-      let container : IsNumber of.0.aggregation = omega (arith, (sound.names.of_tree.child_lists e.0 of.0 at).1, sound.limits.tree_few.aggregations_few) in
+      let within = numbered_within s.office.tree.records e.0 of.0 at in
+      let few : IsNumber e.0 = (within.0, omega (arith, within.1, sound.limits.tree_few.records_few)) in
+      let there = sound.names.of_tree.child_lists e.0 of.0 at in
+      let container : IsNumber of.0.aggregation = (there.0, omega (arith, there.1, sound.limits.tree_few.aggregations_few)) in
       (few, subst IsWellFormedRecordRow of.3 (well_formed_record_row of.0 of.1 (sound.limits.tree_forms.records e.0 of.0 at) container))
 
   pub well_formed_events : (e : ℕ × Event) → IsIn (rows_of s).events e → IsEventPair e
   unfolding rows_of
   well_formed_events e h =
       let at = in_entries nat_cmp_total s.office.tree.events e h in
-      (omega (arith, (sound.events.of_records e.0 e.1 at).1, sound.limits.tree_few.records_few), sound.limits.tree_forms.events e.0 e.1 at)
+      let there = sound.events.of_records e.0 e.1 at in
+      ((there.0, omega (arith, there.1, sound.limits.tree_few.records_few)), sound.limits.tree_forms.events e.0 e.1 at)
 
   pub well_formed_contents : (e : ℕ × List ℕ) → IsIn (rows_of s).contents e → IsNumber e.0
   unfolding rows_of
   well_formed_contents e h =
       let there : IsSome (get s.contents e.0) = subst IsSome (sym (in_entries nat_cmp_total s.contents e h)) refl in
       let of = (sound.contents e.0).0 there in
-      omega (arith, (numbered_within s.office.tree.statuses e.0 of.0 of.1).1, sound.limits.statuses, sound.limits.tree_few.records_few)
+      let within = numbered_within s.office.tree.statuses e.0 of.0 of.1 in
+      (within.0, omega (arith, within.1, sound.limits.statuses, sound.limits.tree_few.records_few))
 
   pub well_formed_holds : (e : List ℕ × HoldRow) → IsIn (rows_of s).holds e → IsHoldPair e
   unfolding rows_of
@@ -151,7 +156,8 @@ module _ (s : State) (sound : IsSound s) where
   unfolding rows_of
   well_formed_runs e h =
       let at : numbered s.office.runs e.0 ≡ Some e.1 = number_of s.office.runs e (in_numbered 0 s.office.runs e h) in
-      (omega (arith, (numbered_within s.office.runs e.0 e.1 at).1, sound.limits.runs_few), sound.limits.run_forms e.0 e.1 at)
+      let within = numbered_within s.office.runs e.0 e.1 at in
+      ((within.0, omega (arith, within.1, sound.limits.runs_few)), sound.limits.run_forms e.0 e.1 at)
 
   -- and is under its own run and record
   pub own_entries : (e : (ℕ × ℕ) × Entry) → IsIn (rows_of s).entries_by e → e.0 ≡ (e.1.run, e.1.record_no)
@@ -166,8 +172,8 @@ module _ (s : State) (sound : IsSound s) where
       let at = in_entries entry_total s.office.entries e h in
       let keyed = sound.entries.keyed e.0.0 e.0.1 e.1 at in
       let named = sound.names.of_entries e.0.0 e.0.1 e.1 at in (
-        omega (arith, keyed.0, named.run_there.1, sound.limits.runs_few),
-        omega (arith, keyed.1, named.record_there.1, sound.limits.tree_few.records_few),
+        (omega (arith, keyed.0, named.run_there.0), omega (arith, keyed.0, named.run_there.1, sound.limits.runs_few)),
+        (omega (arith, keyed.1, named.record_there.0), omega (arith, keyed.1, named.record_there.1, sound.limits.tree_few.records_few)),
         sound.limits.entry_forms e.0.0 e.0.1 e.1 at,
       )
 
@@ -176,7 +182,8 @@ module _ (s : State) (sound : IsSound s) where
   well_formed_certificates e h =
       let there : IsSome (get s.office.certificates e.0) = subst IsSome (sym (in_entries nat_cmp_total s.office.certificates e h)) refl in
       let of = (sound.runs.certified e.0).0 there in
-      omega (arith, (numbered_within s.office.runs e.0 of.0 of.1).1, sound.limits.runs_few)
+      let within = numbered_within s.office.runs e.0 of.0 of.1 in
+      (within.0, omega (arith, within.1, sound.limits.runs_few))
 
   pub day_in_rows : IsDayNumber (rows_of s).day
   unfolding rows_of

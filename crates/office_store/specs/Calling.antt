@@ -13,7 +13,7 @@ use Rattle.office_rules.specs.State.{State as OfficeState, empty_state}
 use Rattle.office_rules.specs.Tables.{TableLists, no_rows}
 use Rattle.office_rules.specs.Writes.{all_writes}
 use Rattle.office_rules.specs.declared.change.Change.{Change}
-use Rattle.office_sql.specs.Names.{has_other_table, layout_of}
+use Rattle.office_sql.specs.Names.{has_other_table, has_used_name, layout_of}
 use Rattle.office_sql.specs.Office.{HasTables, IsAtRest, IsAtRestOver, IsBlank, KeepsRest, Leaves, SparesRest}
 use Rattle.office_sql.specs.Schema.{office}
 use Rattle.office_sql.specs.declared.editions.Edition.{Edition}
@@ -48,17 +48,19 @@ pub record LeavesUnmade (old new : State) : Type 0 where
   -- where no fault has shut the connection, nothing was done
   pub undone : IsTrue new.is_open → IsBlank new × (new.now ≡ old.now)
 
--- why a new office was not made: another of its tables is there, and then nothing was done, or the database failed
+-- why a new office was not made: another of its tables is there, or the database failed
 pub record IsUnmadeBy {S : Type 0} (g : Ghosts S) (conn : Held S) (f : Fault) (back : Held S) : Type 0 where
   pub faults : (f ≡ fault.Damaged) ⊎ (f ≡ fault.Store)
   pub damaged : f ≡ fault.Damaged → (has_other_table (state g conn).now.schema ≡ true) × (back ≡ conn)
   -- where another is there it is always so
   pub other : has_other_table (state g conn).now.schema ≡ true → f ≡ fault.Damaged
+  -- where anything has one of its names, nothing was done
+  pub used : has_used_name (state g conn).now.schema ≡ true → back ≡ conn
 
 -- a store of a new office over the connection
 pub record IsCreated {S : Type 0} (g : Ghosts S) (conn store : Held S) : Type 0 where
-  -- none of the other tables of an office was there
-  pub clear : has_other_table (state g conn).now.schema ≡ false
+  -- none of the names of an office's tables was in use
+  pub clear : has_used_name (state g conn).now.schema ≡ false
   pub clean : HasCleanDisk (state g store) → HasCleanDisk (state g conn)
   pub made : HasCleanDisk (state g store) → IsBlank (state g conn) → AreNew (state g conn) (state g store)
 
@@ -75,6 +77,8 @@ pub record IsNotCreated {S : Type 0} (g : Ghosts S) (conn : Held S) (f : Fault) 
 pub record AreTaken (ed : Edition) (old new : State) (had has : TableLists) : Type 0 where
   -- each table is read whole, where no row had come before
   pub read : had ≡ no_rows → IsRead ed has old.now.trees
+  -- each row is of its form, and each value within its limit
+  pub form : AllReadable ed old.now.trees
   pub bytes : AreNumbersAndBytes old.now.trees
   pub rest : IsAtRestOver ed new
   pub same : new.now ≡ old.now
@@ -106,11 +110,19 @@ pub record IsAdopted {S : Type 0} (g : Ghosts S) (conn store : Held S) (had has 
   pub taken : (ed : Edition) → HasCleanDisk (state g store) → IsAtRestOver ed (state g conn)
       → AreTaken ed (state g conn) (state g store) had has
 
+-- tables that are not those of the version that `office` names are reported as damage, unless the database failed
+abbrev pub ReportsMixed : {S : Type 0} (g : Ghosts S) (conn back : Held S) (f : Fault) → Type 0
+ReportsMixed g conn back f =
+    (named : Edition) → HasCleanDisk (state g back) → HasTables (office ∷ []) (state g conn).now
+    → IsNamed named (state g conn).now.trees → layout_of (state g conn).now.schema ≢ Some named
+    → (f ≡ fault.Damaged) ⊎ (f ≡ fault.Store)
+
 -- the connection is given back with this fault, and its tables were not taken over
 pub record IsNotAdopted {S : Type 0} (g : Ghosts S) (conn : Held S) (f : Fault) (back : Held S) (had : TableLists)
     (Examines : Type 0) : Type 0 where
   pub ended : back.in_transaction ≡ false
   pub faults : f ≢ fault.Reopen
+  pub mixed : ReportsMixed g conn back f
   pub clean : HasCleanDisk (state g back) → HasCleanDisk (state g conn)
   pub left : (ed : Edition) → HasCleanDisk (state g back) → IsAtRestOver ed (state g conn)
       → AreNotTaken ed (state g conn) (state g back) f had Examines

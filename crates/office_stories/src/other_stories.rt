@@ -133,6 +133,32 @@ init = 3;;office: fault 33\n
 SELECT * FROM <n> is none
 SELECT * FROM office is refused
 
+# A view of one of the thirteen names and no office is refused, and nothing is made for each <n> of office classes events
+## in the tables of an earlier program
+CREATE VIEW <n> AS SELECT id FROM notes WHERE id = 2
+## by the program
+init = 3;;office: fault 31\n
+## read from the tables
+SELECT * FROM <n> is 2;
+
+# An index of one of the thirteen names and no office is refused, and nothing is made for each <n> of office targets schedules2
+## in the tables of an earlier program
+CREATE INDEX <n> ON notes(weight)
+## by the program
+init = 3;;office: fault 31\n
+## read from the tables
+SELECT * FROM <n> is refused
+SELECT id FROM notes WHERE weight = 1.5 is 1;
+
+# A reference onto one of the thirteen names and no office is refused, and nothing is made for each <n> of office records events
+## in the tables of an earlier program
+CREATE TABLE remarks(id INTEGER PRIMARY KEY, about INTEGER REFERENCES <n>(num))
+## by the program
+init = 3;;office: fault 31\n
+## read from the tables
+SELECT * FROM remarks is none
+SELECT * FROM <n> is refused
+
 # It is not promised what becomes of a reference onto a table of the office; this one stays
 ## at the desk of the base office
 ## in the tables

@@ -1,10 +1,10 @@
 //! The rows of events.
 ghost use Rattle.office_store.specs.Stored.{IsEventPair, IsRowOf, event_handed, event_pair};
 
-use crate::columns::{day, has_columns, words};
+use crate::columns::{day, has_columns, thing_number, words};
 use crate::stored::Stored;
 use office_rules::Row as TableRow;
-use office_sql::{BadValue, number};
+use office_sql::BadValue;
 use office_terms::{Event, RecordNo};
 use sqlite::Row;
 use std::alloc::Global;
@@ -18,7 +18,7 @@ impl Stored for (RecordNo, Event) {
 
     fn read(alloc: Global, row: &Row) -> Result<(RecordNo, Event), BadValue> {
         has_columns(row, 4)?;
-        let numbered = number(row, 0)?;
+        let numbered = thing_number(row, 0)?;
         let event = Event {
             occurred: day(row, 1)?,
             day: day(row, 2)?,

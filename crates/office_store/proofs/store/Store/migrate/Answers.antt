@@ -1,4 +1,4 @@
-use Rattle.std.proofs.Common.{inl, inr, rules, sym, subst}
+use Rattle.std.proofs.Common.{◌≡◌, ◌≢◌, ◌∙◌, inl, inr, pos, rules, sym, subst}
 use Rattle.std.proofs.lemmas.Result.{IfOk-weaker, IfErr-weaker}
 use Rattle.sqlite.specs.Effect.{Database}
 use Rattle.sqlite.specs.Held.{state}
@@ -11,8 +11,24 @@ use Rattle.office_store.proofs.Saved.{over_trees}
 use Rattle.office_store.proofs.MovedRows.{moved_represent, ready_to_move, rest_moved}
 use Rattle.office_store.proofs.store.Store.migrate.Goals as goal
 
-pub returns : goal.returns
-returns g c =
+pub returns-then-version-ne1-clause-moved : goal.returns-then-version-ne1-clause-moved
+returns-then-version-ne1-clause-moved g c = record {
+  faults = tt;
+  clean = search rules;
+  moved = λ s clean holds.
+      let reported : pos c.version.result ≡ pos 1 = c.version.ensures.rest edition.One holds.rest in
+      let one : c.version.result ≡ 1 = cc in
+      let other : c.version.result ≢ 1 = search rules in
+      absurd (other one);
+}
+
+pub returns-clause-same : goal.returns-clause-same
+returns-clause-same g c other =
+    let one : c.version.result ≡ 1 = search rules in
+    absurd (other (sym c.version.ensures.named ∙ one))
+
+pub returns-clause-moved : goal.returns-clause-moved
+returns-clause-moved g c =
     let old = state g.S.Store c.args.self.now in
     let new = state g.S.Store c.migrate_all.new.conn in
     record {
