@@ -3,7 +3,7 @@ use crate::answering::push_refused;
 use crate::written::push;
 use office_days::Day;
 use office_json::{ListFault, ReadFault, read_act, read_acts};
-use office_rules::{Act, NewRecord};
+use office_rules::Act;
 use office_terms::{Code, RecordNo, Target, Text};
 use serde_json::Value;
 use std::io::Write;
@@ -177,31 +177,35 @@ fn report_hold(out: &mut Vec<u8>, code: &Code, reason: &Text, by: &Text) -> Opti
     .ok()
 }
 
-/// Where a new record is filed, and its own class and schedule.
-fn report_filing(out: &mut Vec<u8>, record: &NewRecord) -> Option<()> {
-    let class = code_text(record.class.as_ref());
-    let schedule = code_text(record.schedule.as_ref());
-    write!(
-        out,
-        ", in {}, class {class}, schedule {schedule}, of ",
-        record.aggregation
-    )
-    .ok()
+/// An own class and schedule.
+fn report_plan(out: &mut Vec<u8>, class: Option<&Code>, schedule: Option<&Code>) -> Option<()> {
+    let class = code_text(class);
+    let schedule = code_text(schedule);
+    write!(out, ", class {class}, schedule {schedule}, of ").ok()
 }
 
-/// A new record by its members.
-fn report_record(out: &mut Vec<u8>, record: &NewRecord) -> Option<()> {
-    write!(
-        out,
-        " add-record {}, {}",
-        record.ref_text.text(),
-        record.title.text()
-    )
-    .ok()?;
-    report_filing(out, record)?;
-    push_day(out, record.originated)?;
+/// An act that adds a record, by its members.
+fn report_addition(act: &Act, out: &mut Vec<u8>) -> Option<()> {
+    let Act::AddRecord {
+        day,
+        ref_text,
+        title,
+        originated,
+        aggregation,
+        class,
+        schedule,
+        content,
+    } = act
+    else {
+        return None;
+    };
+    push_day(out, *day)?;
+    let (ref_text, title) = (ref_text.text(), title.text());
+    write!(out, " add-record {ref_text}, {title}, in {aggregation}").ok()?;
+    report_plan(out, class.as_ref(), schedule.as_ref())?;
+    push_day(out, *originated)?;
     push(out, ": ")?;
-    out.extend_from_slice(&record.content).ok()
+    out.extend_from_slice(content.bytes()).ok()
 }
 
 /// An event by its members.
@@ -219,7 +223,7 @@ fn report_act(act: &Act, out: &mut Vec<u8>) -> Option<()> {
             reason,
             by,
         } => push_day(out, *day).and(report_hold(out, code, reason, by)),
-        Act::AddRecord { day, record } => push_day(out, *day).and(report_record(out, record)),
+        Act::AddRecord { .. } => report_addition(act, out),
         Act::HoldOff {
             day,
             hold,

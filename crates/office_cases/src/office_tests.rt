@@ -11,7 +11,7 @@ use office_days::Day;
 use office_json::{due_row_value, due_value, record_value, text_of};
 use office_machine::{DueRows, Machine};
 use office_proof::{Entry, RunNo, entry_line};
-use office_rules::{Act, NewRecord, RecordView};
+use office_rules::{Act, Content, RecordView};
 use office_terms::{RecordNo, Status, Text};
 use serde_json::Value;
 use std::alloc::Global;
@@ -255,7 +255,7 @@ fn report_counted(office: &Machine, out: &mut Vec<u8>) -> Option<()> {
 
 /// The certificate of a run.
 fn report_certificate(office: &Machine, run: RunNo, out: &mut Vec<u8>) -> Option<()> {
-    match office.certificate(*out.allocator(), run) {
+    match office.certificate(run) {
         Ok(Some(text)) => push(out, text.as_str()),
         Ok(None) => push(out, "none"),
         Err(_) => None,
@@ -276,7 +276,7 @@ fn report_entry(office: &Machine, entry: &Entry, out: &mut Vec<u8>) -> Option<()
 
 /// The line of the last entry, or what it would be with no hold in it.
 fn report_last_entry(office: &Machine, is_free: bool, out: &mut Vec<u8>) -> Option<()> {
-    let mut entries = office.entries(*out.allocator()).ok()?;
+    let mut entries = office.entries().ok()?;
     match entries.pop() {
         Some(mut entry) => {
             if is_free {
@@ -307,7 +307,7 @@ fn report_view(
     ended: RecordNo,
     out: &mut Vec<u8>,
 ) -> Option<()> {
-    match office.entry_of(*out.allocator(), ended) {
+    match office.entry_of(ended) {
         Ok(ended) => push_view(view, ended.as_ref(), out),
         Err(_) => None,
     }
@@ -315,7 +315,7 @@ fn report_view(
 
 /// What is reported of a record.
 fn report_record(office: &Machine, record_no: RecordNo, out: &mut Vec<u8>) -> Option<()> {
-    match office.record(*out.allocator(), record_no) {
+    match office.record(record_no) {
         Ok(Some(view)) => report_view(office, &view, record_no, out),
         Ok(None) => push(out, "none"),
         Err(_) => None,
@@ -324,7 +324,7 @@ fn report_record(office: &Machine, record_no: RecordNo, out: &mut Vec<u8>) -> Op
 
 /// What is reported of a record were it ended as record 3, without a due day.
 fn report_ended(office: &Machine, record_no: RecordNo, out: &mut Vec<u8>) -> Option<()> {
-    match office.record(*out.allocator(), record_no) {
+    match office.record(record_no) {
         Ok(Some(mut view)) => {
             view.status = Status::Ended;
             view.due = None;
@@ -347,7 +347,7 @@ fn row_values(alloc: Global, mut rows: DueRows<'_>) -> Result<Vec<Value>, Memory
 
 /// The text of the rows of what is due on a day.
 fn due_text(alloc: Global, office: &Machine, day: Day) -> Result<String, Memory> {
-    let values = row_values(alloc, office.due_rows(alloc, day)?)?;
+    let values = row_values(alloc, office.due_rows(day)?)?;
     text_of(alloc, &due_value(values))
 }
 
@@ -359,10 +359,16 @@ fn report_due(office: &Machine, day: Day, out: &mut Vec<u8>) -> Option<()> {
 
 /// The addition of a record without content to aggregation 1.
 fn addition(alloc: Global, day: Day, name: &str) -> Option<Act> {
-    let ref_text = Text::read(alloc, name).ok()??;
-    let title = Text::read(alloc, name).ok()??;
-    let record = NewRecord::new(ref_text, title, day, 1, None, None, Vec::new(alloc))?;
-    Some(Act::AddRecord { day, record })
+    Some(Act::AddRecord {
+        day,
+        ref_text: Text::read(alloc, name).ok()??,
+        title: Text::read(alloc, name).ok()??,
+        originated: day,
+        aggregation: 1,
+        class: None,
+        schedule: None,
+        content: Content::new(Vec::new(alloc))?,
+    })
 }
 
 /// Adds so many records to aggregation 1, and reports what is answered to the last.

@@ -105,7 +105,7 @@ fn make(office: &mut Machine, change: Change, out: &mut Vec<u8>) -> Option<()>
 
 /// Reports what the office answers to an act, which is done where it is accepted.
 pub(crate) fn perform(office: &mut Machine, act: &Act, out: &mut Vec<u8>) -> Option<()> {
-    match office.decide(*out.allocator(), act) {
+    match office.decide(act) {
         Ok(Decision::Stay(answer)) => push_answer(out, answer),
         Ok(Decision::Go(change)) => make(office, change, out),
         Err(_) => None,

@@ -1,4 +1,4 @@
--- A row of an import as the record that it asks to add. Source: RFC 4180, its fields; the columns are own.
+-- A row of an import as the act that adds its record. Source: RFC 4180, its fields; the columns are own.
 use Rattle.std.specs.Prelude.{◌≡◌, ◌==◌, ◌⊎◌, ◌&&◌, ◌||◌, Bool, if◌then◌else◌, ℕ, ℤ, List, [], ◌∷◌, length, codes, Option, Some, None, Result, Ok, MatchResult, ok_or}
 use Rattle.std.specs.Str.{bytes_eq}
 use Rattle.office_days.specs.Texts.{day_named}
@@ -7,8 +7,8 @@ use Rattle.office_base.specs.declared.refusal.Refusal.{Refusal}
 use Rattle.office_base.specs.declared.refusal.Refusal.TheVariants.{BadText}
 use Rattle.office_terms.specs.Codes.{code_named}
 use Rattle.office_terms.specs.TextForms.{text_named}
-use Rattle.office_rules.specs.declared.new_record.NewRecord.{NewRecord}
-use Rattle.office_json.specs.Acts.{AskedRecord, reported}
+use Rattle.office_rules.specs.declared.act.Act.{Act}
+use Rattle.office_rules.specs.declared.act.Act.TheVariants.{AddRecord}
 use Rattle.office_json.specs.Contents.{content_named, content_of}
 use Rattle.office_json.specs.Parts.{both, fault_of, made}
 use Rattle.office_json.specs.declared.read_fault.ReadFault.{ReadFault}
@@ -65,29 +65,24 @@ day_field field = ok_or (day_named field) BadText
 abbrev pub code_field : List ℕ → Result (Option (List ℕ)) Refusal
 code_field field = if length field == 0 then Ok None else made (λ code. Some code) (ok_or (code_named field) BadText)
 
--- the parts of a new record, in pairs
-abbrev pub asked_record : ((List ℕ × List ℕ) × (ℤ × ℕ)) × ((Option (List ℕ) × Option (List ℕ)) × List ℕ) → AskedRecord
-asked_record p = record {
-  ref_text = p.0.0.0;
-  title = p.0.0.1;
-  originated = p.0.1.0;
-  aggregation = p.0.1.1;
-  class = p.1.0.0;
-  schedule = p.1.0.1;
-  content = p.1.1;
-}
+-- the act that adds a record of these parts, in pairs, on a day
+abbrev pub addition : ℤ → ((List ℕ × List ℕ) × (ℤ × ℕ)) × ((Option (List ℕ) × Option (List ℕ)) × List ℕ) → Act
+addition day p = AddRecord day p.0.0.0 p.0.0.1 p.0.1.0 p.0.1.1 p.1.0.0 p.1.0.1 p.1.1
 
--- the record that a row asks to add; else 2 where a field is not of its form, before 3 where one is out of its range
-unfoldable pub record_asked : Fields → Result AskedRecord Refusal
-record_asked row =
-    made asked_record
-    (both (both (both (words_field row.ref_text) (words_field row.title)) (both (day_field row.originated) (thing_number row.aggregation)))
+-- the act that adds the record of a row on a day; else 2 where a field is not of its form, before 3 where one is out of
+-- its range
+unfoldable pub act_asked : ℤ → Fields → Result Act Refusal
+act_asked day row =
+    made (addition day)
+    (both
+    (both (both (words_field row.ref_text) (words_field row.title))
+    (both (day_field row.originated) (thing_number row.aggregation)))
     (both (both (code_field row.class) (code_field row.schedule)) (content_of (content_named row.content))))
 
--- why no record was read of a row: it is refused, or memory ran out
-abbrev pub IsRowFault : Fields → ReadFault → Type 0
-IsRowFault row fault = (fault ≡ Memory) ⊎ (fault ≡ fault_of (record_asked row))
+-- why no act was read of a row: it is refused, or memory ran out
+abbrev pub IsRowFault : ℤ → Fields → ReadFault → Type 0
+IsRowFault day row fault = (fault ≡ Memory) ⊎ (fault ≡ fault_of (act_asked day row))
 
--- what was read of a row is what it asks to add, or why nothing was
-abbrev pub IsRowRead : Fields → Result NewRecord ReadFault → Type 0
-IsRowRead row read = MatchResult read (λ new. record_asked row ≡ Ok (reported new)) (λ fault. IsRowFault row fault)
+-- what was read of a row is the act that adds its record on a day, or why nothing was
+abbrev pub IsRowRead : ℤ → Fields → Result Act ReadFault → Type 0
+IsRowRead day row read = MatchResult read (λ act. act_asked day row ≡ Ok act) (λ fault. IsRowFault day row fault)

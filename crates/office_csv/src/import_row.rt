@@ -1,14 +1,13 @@
-//! A row of an import as the record that it asks to add.
-ghost use Rattle.std.specs.Prelude.{◌≡◌, ◌≤◌, IfOk, Ok, length};
+//! A row of an import as the act that adds its record.
+ghost use Rattle.std.specs.Prelude.{◌≡◌};
 ghost use Rattle.office_base.specs.ThingNumbers.{thing_number};
-ghost use Rattle.office_json.specs.Acts.{reported};
 ghost use Rattle.office_json.specs.Parts.{IsReadAs};
-ghost use Rattle.office_csv.specs.ImportRows.{IsRowRead, asked_record, code_field, day_field, is_first_column, is_header, named};
+ghost use Rattle.office_csv.specs.ImportRows.{IsRowRead, addition, code_field, day_field, is_first_column, is_header, named};
 
 use office_base::{Refusal, read_thing_number};
 use office_days::Day;
-use office_json::{Content, ReadFault, both, read_code, read_content, read_words};
-use office_rules::NewRecord;
+use office_json::{Content, ReadFault, as_part, both, read_code, read_content, read_words};
+use office_rules::Act;
 use office_terms::{AggNo, Code, Text};
 use std::alloc::Global;
 
@@ -76,42 +75,41 @@ fn code_of(alloc: Global, field: &str) -> Result<Option<Code>, ReadFault>
     }
 }
 
-/// A new record of its parts.
-fn record_of(
-    named: (Text, Text),
-    placed: (Day, AggNo),
-    planned: (Option<Code>, Option<Code>),
-    content: Content,
-) -> NewRecord
-    ensures { reported result ≡ asked_record ((named, placed), (planned, content)) }
+/// The act that adds a record of these parts on the day.
+fn act_of(
+    day: Day,
+    parts: (
+        ((Text, Text), (Day, AggNo)),
+        ((Option<Code>, Option<Code>), Content),
+    ),
+) -> Act
+    ensures { result ≡ addition day parts }
 {
+    let ((named, placed), (planned, content)) = parts;
     let (ref_text, title) = named;
     let (originated, aggregation) = placed;
     let (class, schedule) = planned;
-    let bytes = content.into_bytes();
-    match NewRecord::new(
+    Act::AddRecord {
+        day,
         ref_text,
         title,
         originated,
         aggregation,
         class,
         schedule,
-        bytes,
-    ) {
-        Some(record) => record,
-        None => unreachable!(),
+        content,
     }
 }
 
-/// The new record that a row asks to add. It is refused as `BadText` where a field is not of its
-/// form, else as `BadNumber` where the number of the aggregation or the length of the content is
-/// out of its range. Empty fields for class and schedule are none. `Memory` comes where memory was
-/// refused.
-#[tactic(auto, unfolding(crate::specs::ImportRows::record_asked))]
-pub fn read_import_row(alloc: Global, row: &ImportRow) -> Result<NewRecord, ReadFault>
-    ensures { IsRowRead (named row.now) result }
+/// The act that adds the record of a row on the day. The row is refused as `BadText` where a field
+/// is not of its form, else as `BadNumber` where the number of the aggregation or the length of the
+/// content is out of its range. Empty fields for class and schedule are none. `Memory` comes where
+/// memory was refused.
+#[tactic(auto, unfolding(crate::specs::ImportRows::act_asked))]
+pub fn read_import_row(alloc: Global, day: Day, row: &ImportRow) -> Result<Act, ReadFault>
+    ensures { IsRowRead day (named row.now) result }
 {
-    let content = Content::as_part(read_content(alloc, row.content)?);
+    let content = as_part(read_content(alloc, row.content)?);
     let named = both(
         read_words(alloc, row.ref_text),
         read_words(alloc, row.title),
@@ -119,7 +117,7 @@ pub fn read_import_row(alloc: Global, row: &ImportRow) -> Result<NewRecord, Read
     let placed = both(day_of(row.originated), number_of(row.aggregation));
     let planned = both(code_of(alloc, row.class), code_of(alloc, row.schedule));
     match both(both(named, placed), both(planned, content)) {
-        Ok(((named, placed), (planned, content))) => Ok(record_of(named, placed, planned, content)),
+        Ok(parts) => Ok(act_of(day, parts)),
         Err(fault) => Err(fault),
     }
 }

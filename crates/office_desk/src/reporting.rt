@@ -45,9 +45,7 @@ impl<S: Alter> Desk<S> {
             → record_view self.now.office record_no ≡ None → result ≡ Ok None }
     {
         self.check_open()?;
-        self.machine
-            .record(self.alloc, record_no)
-            .map_err(of_memory)
+        self.machine.record(record_no).map_err(of_memory)
     }
 
     /// The entry that ended the record; `None` where it is not ended or not there, which takes no
@@ -59,9 +57,7 @@ impl<S: Alter> Desk<S> {
             → ending_entry self.now.office record_no ≡ None → result ≡ Ok None }
     {
         self.check_open()?;
-        self.machine
-            .entry_of(self.alloc, record_no)
-            .map_err(of_memory)
+        self.machine.entry_of(record_no).map_err(of_memory)
     }
 
     /// All entries, by run, then record. Faults as of `record`.
@@ -69,7 +65,7 @@ impl<S: Alter> Desk<S> {
         ensures { Reads self.now (λ all. all.items ≡ all_entries_of self.now.office) result }
     {
         self.check_open()?;
-        self.machine.entries(self.alloc).map_err(of_memory)
+        self.machine.entries().map_err(of_memory)
     }
 
     /// The text of the certificate of that run; `None` where it is not closed or not there, which
@@ -82,7 +78,7 @@ impl<S: Alter> Desk<S> {
             → get self.now.office.certificates run ≡ None → result ≡ Ok None }
     {
         self.check_open()?;
-        self.machine.certificate(self.alloc, run).map_err(of_memory)
+        self.machine.certificate(run).map_err(of_memory)
     }
 
     /// The due list of the day: the records that are here and due on it or before it, by due day,
@@ -91,7 +87,7 @@ impl<S: Alter> Desk<S> {
         ensures { Reads self.now (λ list. IsDueList self.now.office.tree day list.items) result }
     {
         self.check_open()?;
-        self.machine.due_list(self.alloc, day).map_err(of_memory)
+        self.machine.due_list(day).map_err(of_memory)
     }
 
     /// What is reported of the records that are due on the day, row by row, in the order of the due
@@ -100,7 +96,7 @@ impl<S: Alter> Desk<S> {
         ensures { Reads self.now (λ rows. AreDueRows self.now.office day rows) result }
     {
         self.check_open()?;
-        self.machine.due_rows(self.alloc, day).map_err(of_memory)
+        self.machine.due_rows(day).map_err(of_memory)
     }
 
     /// What is overdue on the day: the records that are here whose deadline, so many days after the
@@ -111,9 +107,7 @@ impl<S: Alter> Desk<S> {
             result }
     {
         self.check_open()?;
-        self.machine
-            .overdue_list(self.alloc, day, days)
-            .map_err(of_memory)
+        self.machine.overdue_list(day, days).map_err(of_memory)
     }
 
     /// The rows of what is overdue on the day, in the order of that list. Faults as of `record`.
@@ -121,9 +115,7 @@ impl<S: Alter> Desk<S> {
         ensures { Reads self.now (λ rows. AreOverdueRows self.now.office day days rows) result }
     {
         self.check_open()?;
-        self.machine
-            .overdue_rows(self.alloc, day, days)
-            .map_err(of_memory)
+        self.machine.overdue_rows(day, days).map_err(of_memory)
     }
 
     /// What is reported of all entries, row by row, by run, then record. `Reopen` where the desk

@@ -8,7 +8,6 @@ use Rattle.office_base.specs.declared.refusal.Refusal.{Refusal}
 use Rattle.office_base.specs.declared.refusal.Refusal.TheVariants.{BadText}
 use Rattle.office_rules.specs.declared.act.Act.{Act}
 use Rattle.office_rules.specs.declared.act.Act.TheVariants as act
-use Rattle.office_rules.specs.declared.new_record.NewRecord.{NewRecord}
 use Rattle.office_terms.specs.declared.target.Target.{Target}
 use Rattle.office_json.specs.Contents.{content_part}
 use Rattle.office_json.specs.Members.{only}
@@ -18,76 +17,44 @@ use Rattle.office_json.specs.declared.acts.new_record.Heading.{Heading}
 use Rattle.office_json.specs.declared.read_fault.ReadFault.{ReadFault}
 use Rattle.office_json.specs.declared.read_fault.ReadFault.TheVariants.{Refused, Memory}
 
--- a record that is asked to be added, with the bytes of its content as a list
-pub record AskedRecord : Type 0 where
-  pub ref_text : List ℕ
-  pub title : List ℕ
-  pub originated : ℤ
-  pub aggregation : ℕ
-  pub class : Option (List ℕ)
-  pub schedule : Option (List ℕ)
-  pub content : List ℕ
-
--- what is asked: a record to be added on a day, or any other act as it is
-pub data Asked : Type 0 where
-  adds : ℤ → AskedRecord → Asked
-  asks : Act → Asked
-
--- a new record with the bytes of its content as a list
-abbrev pub reported : NewRecord → AskedRecord
-reported new = record {
-  ref_text = new.ref_text;
-  title = new.title;
-  originated = new.originated;
-  aggregation = new.aggregation;
-  class = new.class;
-  schedule = new.schedule;
-  content = new.content.items;
-}
-
--- what an act asks
-unfoldable pub asked : Act → Asked
-asked (act.AddRecord day new) = adds day (reported new)
-asked other = asks other
-
 -- ---- one kind of act each, by its members
 
-unfoldable pub add_schedule_asked : Data → Result Asked Refusal
+unfoldable pub add_schedule_asked : Data → Result Act Refusal
 add_schedule_asked d =
     only
     (codes "act" ∷ codes "day" ∷ codes "code" ∷ codes "trigger" ∷ codes "unit" ∷ codes "count" ∷ codes "offset"
     ∷ codes "action" ∷ []) d
-    (made (λ p. asks (act.AddSchedule p.0.0 p.0.1 p.1.0.0 p.1.0.1 p.1.1.0 p.1.1.1))
+    (made (λ p. act.AddSchedule p.0.0 p.0.1 p.1.0.0 p.1.0.1 p.1.1.0 p.1.1.1)
     (both (both (day_part (get (codes "day") d)) (code_part (get (codes "code") d)))
     (both (both (trigger_part (get (codes "trigger") d)) (period_part (get (codes "unit") d) (get (codes "count") d)))
     (both (offset_part (get (codes "offset") d)) (action_part (get (codes "action") d))))))
 
-unfoldable pub add_class_asked : Data → Result Asked Refusal
+unfoldable pub add_class_asked : Data → Result Act Refusal
 add_class_asked d =
     only (codes "act" ∷ codes "day" ∷ codes "code" ∷ codes "title" ∷ codes "schedule" ∷ []) d
-    (made (λ p. asks (act.AddClass p.0.0 p.0.1 p.1.0 p.1.1))
+    (made (λ p. act.AddClass p.0.0 p.0.1 p.1.0 p.1.1)
     (both (both (day_part (get (codes "day") d)) (code_part (get (codes "code") d)))
     (both (text_part (get (codes "title") d)) (code_part (get (codes "schedule") d)))))
 
-unfoldable pub set_class_schedule_asked : Data → Result Asked Refusal
+unfoldable pub set_class_schedule_asked : Data → Result Act Refusal
 set_class_schedule_asked d =
     only (codes "act" ∷ codes "day" ∷ codes "class" ∷ codes "schedule" ∷ []) d
-    (made (λ p. asks (act.SetClassSchedule p.0 p.1.0 p.1.1))
+    (made (λ p. act.SetClassSchedule p.0 p.1.0 p.1.1)
     (both (day_part (get (codes "day") d))
     (both (code_part (get (codes "class") d)) (code_part (get (codes "schedule") d)))))
 
-unfoldable pub add_aggregation_asked : Data → Result Asked Refusal
+unfoldable pub add_aggregation_asked : Data → Result Act Refusal
 add_aggregation_asked d =
     only (codes "act" ∷ codes "day" ∷ codes "ref" ∷ codes "title" ∷ codes "parent" ∷ codes "class" ∷ []) d
-    (made (λ p. asks (act.AddAggregation p.0 p.1.0.0 p.1.0.1 p.1.1.0 p.1.1.1))
+    (made (λ p. act.AddAggregation p.0 p.1.0.0 p.1.0.1 p.1.1.0 p.1.1.1)
     (both (day_part (get (codes "day") d))
     (both (both (text_part (get (codes "ref") d)) (text_part (get (codes "title") d)))
     (both (optional number_part (get (codes "parent") d)) (optional code_part (get (codes "class") d))))))
 
-unfoldable pub close_aggregation_asked : Data → Result Asked Refusal
+unfoldable pub close_aggregation_asked : Data → Result Act Refusal
 close_aggregation_asked d =
     only (codes "act" ∷ codes "day" ∷ codes "aggregation" ∷ []) d
-    (made (λ p. asks (act.CloseAggregation p.0 p.1))
+    (made (λ p. act.CloseAggregation p.0 p.1)
     (both (day_part (get (codes "day") d)) (number_part (get (codes "aggregation") d))))
 
 -- all of an act that adds a record but the content
@@ -110,42 +77,36 @@ heading_part d =
     (both (day_part (get (codes "originated") d))
     (both (optional code_part (get (codes "class") d)) (optional code_part (get (codes "schedule") d))))))
 
-abbrev pub added : Heading × List ℕ → Asked
-added p = adds p.0.day (record {
-  ref_text = p.0.ref_text;
-  title = p.0.title;
-  originated = p.0.originated;
-  aggregation = p.0.aggregation;
-  class = p.0.class;
-  schedule = p.0.schedule;
-  content = p.1;
-})
+-- the act with this content
+abbrev pub added : Heading × List ℕ → Act
+added p =
+    act.AddRecord p.0.day p.0.ref_text p.0.title p.0.originated p.0.aggregation p.0.class p.0.schedule p.1
 
-unfoldable pub add_record_asked : Data → Result Asked Refusal
+unfoldable pub add_record_asked : Data → Result Act Refusal
 add_record_asked d =
     only
     (codes "act" ∷ codes "day" ∷ codes "ref" ∷ codes "title" ∷ codes "originated" ∷ codes "aggregation"
     ∷ codes "class" ∷ codes "schedule" ∷ codes "content" ∷ []) d
     (made added (both (heading_part d) (content_part (get (codes "content") d))))
 
-unfoldable pub set_record_schedule_asked : Data → Result Asked Refusal
+unfoldable pub set_record_schedule_asked : Data → Result Act Refusal
 set_record_schedule_asked d =
     only (codes "act" ∷ codes "day" ∷ codes "record" ∷ codes "schedule" ∷ []) d
-    (made (λ p. asks (act.SetRecordSchedule p.0 p.1.0 p.1.1))
+    (made (λ p. act.SetRecordSchedule p.0 p.1.0 p.1.1)
     (both (day_part (get (codes "day") d))
     (both (number_part (get (codes "record") d)) (optional code_part (get (codes "schedule") d)))))
 
-unfoldable pub reclassify_asked : Data → Result Asked Refusal
+unfoldable pub reclassify_asked : Data → Result Act Refusal
 reclassify_asked d =
     only (codes "act" ∷ codes "day" ∷ codes "target" ∷ codes "class" ∷ []) d
-    (made (λ p. asks (act.Reclassify p.0 p.1.0 p.1.1))
+    (made (λ p. act.Reclassify p.0 p.1.0 p.1.1)
     (both (day_part (get (codes "day") d))
     (both (classified_part (get (codes "target") d)) (optional code_part (get (codes "class") d)))))
 
-unfoldable pub place_hold_asked : Data → Result Asked Refusal
+unfoldable pub place_hold_asked : Data → Result Act Refusal
 place_hold_asked d =
     only (codes "act" ∷ codes "day" ∷ codes "code" ∷ codes "reason" ∷ codes "by" ∷ []) d
-    (made (λ p. asks (act.PlaceHold p.0.0 p.0.1 p.1.0 p.1.1))
+    (made (λ p. act.PlaceHold p.0.0 p.0.1 p.1.0 p.1.1)
     (both (both (day_part (get (codes "day") d)) (code_part (get (codes "code") d)))
     (both (text_part (get (codes "reason") d)) (text_part (get (codes "by") d)))))
 
@@ -156,60 +117,60 @@ hold_target_part d =
     (both (day_part (get (codes "day") d))
     (both (code_part (get (codes "hold") d)) (target_part (get (codes "target") d))))
 
-unfoldable pub hold_on_asked : Data → Result Asked Refusal
-hold_on_asked d = made (λ p. asks (act.HoldOn p.0 p.1.0 p.1.1)) (hold_target_part d)
+unfoldable pub hold_on_asked : Data → Result Act Refusal
+hold_on_asked d = made (λ p. act.HoldOn p.0 p.1.0 p.1.1) (hold_target_part d)
 
-unfoldable pub hold_off_asked : Data → Result Asked Refusal
-hold_off_asked d = made (λ p. asks (act.HoldOff p.0 p.1.0 p.1.1)) (hold_target_part d)
+unfoldable pub hold_off_asked : Data → Result Act Refusal
+hold_off_asked d = made (λ p. act.HoldOff p.0 p.1.0 p.1.1) (hold_target_part d)
 
-unfoldable pub lift_hold_asked : Data → Result Asked Refusal
+unfoldable pub lift_hold_asked : Data → Result Act Refusal
 lift_hold_asked d =
     only (codes "act" ∷ codes "day" ∷ codes "hold" ∷ []) d
-    (made (λ p. asks (act.LiftHold p.0 p.1))
+    (made (λ p. act.LiftHold p.0 p.1)
     (both (day_part (get (codes "day") d)) (code_part (get (codes "hold") d))))
 
-unfoldable pub confirm_asked : Data → Result Asked Refusal
+unfoldable pub confirm_asked : Data → Result Act Refusal
 confirm_asked d =
     only (codes "act" ∷ codes "day" ∷ codes "record" ∷ codes "action" ∷ codes "by" ∷ []) d
-    (made (λ p. asks (act.Confirm p.0.0 p.0.1 p.1.0 p.1.1))
+    (made (λ p. act.Confirm p.0.0 p.0.1 p.1.0 p.1.1)
     (both (both (day_part (get (codes "day") d)) (number_part (get (codes "record") d)))
     (both (action_part (get (codes "action") d)) (text_part (get (codes "by") d)))))
 
-unfoldable pub review_asked : Data → Result Asked Refusal
+unfoldable pub review_asked : Data → Result Act Refusal
 review_asked d =
     only (codes "act" ∷ codes "day" ∷ codes "record" ∷ codes "schedule" ∷ codes "by" ∷ []) d
-    (made (λ p. asks (act.Review p.0.0 p.0.1 p.1.0 p.1.1))
+    (made (λ p. act.Review p.0.0 p.0.1 p.1.0 p.1.1)
     (both (both (day_part (get (codes "day") d)) (number_part (get (codes "record") d)))
     (both (optional code_part (get (codes "schedule") d)) (text_part (get (codes "by") d)))))
 
-unfoldable pub receipt_asked : Data → Result Asked Refusal
+unfoldable pub receipt_asked : Data → Result Act Refusal
 receipt_asked d =
     only (codes "act" ∷ codes "day" ∷ codes "record" ∷ codes "digest" ∷ codes "by" ∷ []) d
-    (made (λ p. asks (act.Receipt p.0.0 p.0.1 p.1.0 p.1.1))
+    (made (λ p. act.Receipt p.0.0 p.0.1 p.1.0 p.1.1)
     (both (both (day_part (get (codes "day") d)) (number_part (get (codes "record") d)))
     (both (digest_part (get (codes "digest") d)) (text_part (get (codes "by") d)))))
 
-unfoldable pub event_asked : Data → Result Asked Refusal
+unfoldable pub event_asked : Data → Result Act Refusal
 event_asked d =
     only (codes "act" ∷ codes "day" ∷ codes "record" ∷ codes "occurred" ∷ codes "by" ∷ []) d
-    (made (λ p. asks (act.Event p.0.0 p.0.1 p.1.0 p.1.1))
+    (made (λ p. act.Event p.0.0 p.0.1 p.1.0 p.1.1)
     (both (both (day_part (get (codes "day") d)) (number_part (get (codes "record") d)))
     (both (day_part (get (codes "occurred") d)) (text_part (get (codes "by") d)))))
 
-unfoldable pub open_run_asked : Data → Result Asked Refusal
+unfoldable pub open_run_asked : Data → Result Act Refusal
 open_run_asked d =
     only (codes "act" ∷ codes "day" ∷ codes "by" ∷ []) d
-    (made (λ p. asks (act.OpenRun p.0 p.1))
+    (made (λ p. act.OpenRun p.0 p.1)
     (both (day_part (get (codes "day") d)) (text_part (get (codes "by") d))))
 
 -- the one act without a day
-unfoldable pub run_step_asked : Data → Result Asked Refusal
-run_step_asked d = only (codes "act" ∷ []) d (Ok (asks act.RunStep))
+unfoldable pub run_step_asked : Data → Result Act Refusal
+run_step_asked d = only (codes "act" ∷ []) d (Ok act.RunStep)
 
 -- ---- all kinds
 
 -- the act of that word, but for a new record
-unfoldable pub plain_asked : List ℕ → Data → Result Asked Refusal
+unfoldable pub plain_asked : List ℕ → Data → Result Act Refusal
 plain_asked word d =
     if bytes_eq word (codes "add-schedule") then add_schedule_asked d
     else if bytes_eq word (codes "add-class") then add_class_asked d
@@ -231,25 +192,25 @@ plain_asked word d =
     else Err BadText
 
 -- the act of that word
-abbrev pub word_asked : Option (List ℕ) → Data → Result Asked Refusal
+abbrev pub word_asked : Option (List ℕ) → Data → Result Act Refusal
 word_asked None d = Err BadText
 word_asked (Some word) d = if bytes_eq word (codes "add-record") then add_record_asked d else plain_asked word d
 
 -- the act that a value asks for, or why it asks for none
-unfoldable pub asked_by : Data → Result Asked Refusal
+unfoldable pub asked_by : Data → Result Act Refusal
 asked_by d = word_asked (option_and_then as_str (get (codes "act") d)) d
 
 -- ---- what the code answers
 
 -- what was read is the act that is asked, or why nothing was read of it
-abbrev pub IsActRead : Result Asked Refusal → Result Act ReadFault → Type 0
-IsActRead part read = MatchResult read (λ it. part ≡ Ok (asked it)) (λ fault. fault ≡ fault_of part)
+abbrev pub IsActRead : Result Act Refusal → Result Act ReadFault → Type 0
+IsActRead part read = MatchResult read (λ it. part ≡ Ok it) (λ fault. fault ≡ fault_of part)
 
 -- a content is there as a text
 abbrev pub HasContent : Data → Type 0
 HasContent d = IsSome (option_and_then as_str (get (codes "content") d))
 
 -- why nothing was read: the value asks for no act; or memory ran out for what it asks, or to look at a content
-abbrev pub IsReadFault : Data → Result Asked Refusal → ReadFault → Type 0
+abbrev pub IsReadFault : Data → Result Act Refusal → ReadFault → Type 0
 IsReadFault d part (Refused refusal) = part ≡ Err refusal
 IsReadFault d part Memory = IsOk part ⊎ HasContent d

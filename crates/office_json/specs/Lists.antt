@@ -5,7 +5,8 @@ use Rattle.std.specs.Str.{is_utf8}
 use Rattle.serde_json.specs.Data.{Data, null, boolean, number, string, array, object, Items, no_items, item}
 use Rattle.serde_json.specs.Read.{read}
 use Rattle.office_base.specs.declared.refusal.Refusal.{Refusal}
-use Rattle.office_json.specs.Acts.{Asked, asked_by}
+use Rattle.office_json.specs.Acts.{asked_by}
+use Rattle.office_rules.specs.declared.act.Act.{Act}
 use Rattle.office_json.specs.declared.lists.ListFault.{ListFault}
 use Rattle.office_json.specs.declared.lists.ListFault.TheVariants as fault
 
@@ -19,18 +20,18 @@ pub data NoActs : Type 0 where
   bad_act : ℕ → Refusal → NoActs
 
 -- the act of the value at a place, and those of the values after it
-abbrev pub and_act : ℕ → Result Asked Refusal → Result (List Asked) NoActs → Result (List Asked) NoActs
+abbrev pub and_act : ℕ → Result Act Refusal → Result (List Act) NoActs → Result (List Act) NoActs
 and_act place (Ok act) (Ok acts) = Ok (act ∷ acts)
 and_act place (Ok act) (Err why) = Err why
 and_act place (Err refusal) rest = Err (bad_act place refusal)
 
 -- the acts of values, of which the first has that place
-abbrev pub acts_from : ℕ → Items → Result (List Asked) NoActs
+abbrev pub acts_from : ℕ → Items → Result (List Act) NoActs
 acts_from place no_items = Ok []
 acts_from place (item value rest) = and_act place (asked_by value) (acts_from (place + 1) rest)
 
 -- the acts of an array
-abbrev pub array_acts : Option Data → Result (List Asked) NoActs
+abbrev pub array_acts : Option Data → Result (List Act) NoActs
 array_acts None = Err not_json
 array_acts (Some null) = Err not_json
 array_acts (Some (boolean b)) = Err not_json
@@ -40,13 +41,13 @@ array_acts (Some (array values)) = acts_from 0 values
 array_acts (Some (object rest)) = Err not_json
 
 -- the acts that bytes ask for
-unfoldable pub acts_in : List ℕ → Result (List Asked) NoActs
+unfoldable pub acts_in : List ℕ → Result (List Act) NoActs
 acts_in bytes = array_acts (json_of bytes)
 
 -- ---- what the code answers
 
 -- why no acts were read
-abbrev pub IsListFault : Result (List Asked) NoActs → ListFault → Type 0
+abbrev pub IsListFault : Result (List Act) NoActs → ListFault → Type 0
 IsListFault acts fault.NotJson = acts ≡ Err not_json
 IsListFault acts (fault.BadAct place refusal) = acts ≡ Err (bad_act place refusal)
 IsListFault acts fault.Memory = Unit {0}

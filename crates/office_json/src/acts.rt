@@ -1,7 +1,7 @@
 //! Which act a value of JSON asks for.
 ghost use Rattle.std.specs.Prelude.{◌≡◌, IfErr, IfOk, Ok};
 ghost use Rattle.serde_json.specs.View.{view};
-ghost use Rattle.office_json.specs.Acts.{IsActRead, IsReadFault, asked, asked_by, plain_asked};
+ghost use Rattle.office_json.specs.Acts.{IsActRead, IsReadFault, asked_by, plain_asked};
 
 mod aggregations;
 mod holds;
@@ -33,7 +33,7 @@ use std::alloc::Global;
 /// content could not be looked at.
 #[tactic(auto, unfolding(crate::specs::Acts::asked_by))]
 pub fn read_act(alloc: Global, value: &Value) -> Result<Act, ReadFault>
-    ensures ok { IfOk result (λ act. asked_by (view value.now) ≡ Ok (asked act)) }
+    ensures ok { IfOk result (λ act. asked_by (view value.now) ≡ Ok act) }
     ensures err { IfErr result
         (λ fault. IsReadFault (view value.now) (asked_by (view value.now)) fault) }
 {

@@ -1,5 +1,5 @@
 //! The content of a record as a text in base64.
-ghost use Rattle.std.specs.Prelude.{◌≡◌, ◌≤◌, IfOk, IsSome, OnErr, Some, length, option_and_then, option_map};
+ghost use Rattle.std.specs.Prelude.{◌≡◌, IfOk, IsSome, OnErr, Some, option_and_then, option_map};
 ghost use Rattle.serde_json.specs.Find.{as_str, get};
 ghost use Rattle.serde_json.specs.View.{view};
 ghost use Rattle.office_json.specs.Contents.{TakesEncodings, content_named, content_of, content_part};
@@ -10,54 +10,28 @@ use crate::members::text_at;
 use base64::DecodeAllocError;
 use base64::engine::general_purpose::STANDARD;
 use office_base::{Memory, Refusal};
+use office_rules::Content;
 use serde_json::Value;
 use std::alloc::Global;
-use std::marker::Model;
 
-/// The bytes of a record's content, at most 262,144. Contracts see them as a list.
-#[derive(Drop)]
-pub struct Content {
-    bytes: Vec<u8>,
+/// These bytes as a content; `BadNumber` where there are too many.
+fn bounded(bytes: Vec<u8>) -> Result<Content, Refusal>
+    ensures { result ≡ content_of (Some bytes.items) }
+{
+    match Content::new(bytes) {
+        Some(content) => Ok(content),
+        None => Err(Refusal::BadNumber),
+    }
 }
 
-impl Model for Content {
-    ghost use Rattle.std.specs.Prelude.{◌≤◌, List, length, ℕ};
-
-    ghost Value = { List ℕ };
-
-    ghost view = { λ content. content.bytes.items };
-
-    ghost invariant = { λ content. length content.bytes.items ≤ 262_144 };
-}
-
-impl Content {
-    /// These bytes as a content; `BadNumber` where there are too many.
-    fn of(bytes: Vec<u8>) -> Result<Content, Refusal>
-        ensures { result ≡ content_of (Some bytes.items) }
-    {
-        if bytes.len() > 262_144 {
-            return Err(Refusal::BadNumber);
-        }
-        Ok(Content { bytes })
-    }
-
-    /// What [`read_content`] gives once there was memory for it, as the other parts of an act are
-    /// given.
-    pub fn as_part(content: Result<Content, Refusal>) -> Result<Content, ReadFault>
-        ensures { IsReadAs content result }
-    {
-        match content {
-            Ok(content) => Ok(content),
-            Err(refusal) => Err(ReadFault::Refused(refusal)),
-        }
-    }
-
-    /// The bytes themselves.
-    pub fn into_bytes(self) -> Vec<u8>
-        ensures value { result.items ≡ self }
-        ensures few { length result.items ≤ 262_144 }
-    {
-        self.bytes
+/// What [`read_content`] gives once there was memory for it, as the other parts of an act are
+/// given.
+pub fn as_part(content: Result<Content, Refusal>) -> Result<Content, ReadFault>
+    ensures { IsReadAs content result }
+{
+    match content {
+        Ok(content) => Ok(content),
+        Err(refusal) => Err(ReadFault::Refused(refusal)),
     }
 }
 
@@ -80,7 +54,7 @@ pub fn read_content(alloc: Global, text: &str) -> Result<Result<Content, Refusal
     ensures { IfOk result (λ content. content ≡ content_of (content_named text.now)) }
 {
     match decoded(alloc, text)? {
-        Some(bytes) => Ok(Content::of(bytes)),
+        Some(bytes) => Ok(bounded(bytes)),
         None => Ok(Err(Refusal::BadText)),
     }
 }

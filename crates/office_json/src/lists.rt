@@ -1,7 +1,6 @@
 //! The acts that a JSON array asks for.
-ghost use Rattle.std.specs.Prelude.{◌≡◌, IfErr, IfOk, MatchResult, Ok, map, option_map};
+ghost use Rattle.std.specs.Prelude.{◌≡◌, IfErr, IfOk, MatchResult, Ok, option_map};
 ghost use Rattle.serde_json.specs.View.{items_view, view};
-ghost use Rattle.office_json.specs.Acts.{asked};
 ghost use Rattle.office_json.specs.Lists.{IsListFault, acts_from, acts_in, json_of};
 
 use crate::ReadFault;
@@ -37,7 +36,7 @@ fn json_in(alloc: Global, bytes: &[u8]) -> Result<Option<Value>, Memory>
 #[tactic(auto, using(crate::proofs::ListSteps::one_more))]
 fn read_all(alloc: Global, values: &[Value]) -> Result<Vec<Act>, ListFault>
     ensures { MatchResult result
-        (λ acts. acts_from 0 (items_view values.now) ≡ Ok (map asked acts.items))
+        (λ acts. acts_from 0 (items_view values.now) ≡ Ok acts.items)
         (λ fault. IsListFault (acts_from 0 (items_view values.now)) fault) }
 {
     let mut acts = Vec::new(alloc);
@@ -58,7 +57,7 @@ fn read_all(alloc: Global, values: &[Value]) -> Result<Vec<Act>, ListFault>
 /// refusal as [`read_act`] reports it. Lack of memory may be reported of any bytes.
 #[tactic(auto, unfolding(crate::specs::Lists::acts_in))]
 pub fn read_acts(alloc: Global, bytes: &[u8]) -> Result<Vec<Act>, ListFault>
-    ensures ok { IfOk result (λ acts. acts_in bytes.now ≡ Ok (map asked acts.items)) }
+    ensures ok { IfOk result (λ acts. acts_in bytes.now ≡ Ok acts.items) }
     ensures err { IfErr result (λ fault. IsListFault (acts_in bytes.now) fault) }
 {
     match json_in(alloc, bytes) {

@@ -21,7 +21,7 @@ use Rattle.office_rules.specs.Steps.{by_same_record, step_add_record}
 use Rattle.office_rules.specs.Writes.{CanWrite, all_writes, write_office}
 use Rattle.office_rules.specs.declared.answer.Answer.TheVariants.{Number, Refused}
 use Rattle.office_rules.specs.declared.change.Change.{Change}
-use Rattle.office_rules.specs.declared.new_record.NewRecord.{NewRecord}
+use Rattle.office_rules.specs.NewRecords.{NewRecord}
 use Rattle.office_rules.specs.declared.rows.RowWrite.{RowWrite}
 use Rattle.office_rules.specs.declared.rows.RowWrite.TheVariants as row_write
 use Rattle.office_rules.proofs.Accepted.{dated_accepted}
@@ -55,7 +55,7 @@ next_put t r head new next representing is =
 
 pub record_added : (s : Office) (t : TreeState) (day : ℤ) (new : NewRecord) (r : ℕ) (head : Record) (bytes : Vec ℕ Global) (change : Change)
     → t ≡ s.tree → same_record s new ≡ None → first_of (dated s day (conditions_of_add_record t new.ref_text new.aggregation new.class new.schedule)) ≡ None → tree.IsSound t
-    → r ≡ length t.records + 1 → head ≡ new_head day new → bytes.items ≡ new.content.items → change.answer ≡ Number r → change.writes.items ≡ addition_writes s r head bytes day
+    → r ≡ length t.records + 1 → head ≡ new_head day new → bytes.items ≡ new.content → change.answer ≡ Number r → change.writes.items ≡ addition_writes s r head bytes day
     → IsChangeTo s (λ contents. step_add_record (with_contents s contents) day new) change
 record_added s t day new r head bytes change same none table sound next is copied done written =
     let accepted = subst (λ (u : TreeState). first_of (dated s day (conditions_of_add_record u new.ref_text new.aggregation new.class new.schedule)) ≡ None) same table in

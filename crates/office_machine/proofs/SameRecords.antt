@@ -11,7 +11,7 @@ use Rattle.office_terms.specs.Lists.{numbered, Differ}
 use Rattle.office_terms.specs.declared.head.Record.{Record}
 use Rattle.office_terms.proofs.Accepting.{none_at}
 use Rattle.office_rules.specs.Conditions.{is_same_record, number_passing}
-use Rattle.office_rules.specs.declared.new_record.NewRecord.{NewRecord}
+use Rattle.office_rules.specs.NewRecords.{NewRecord}
 
 -- where none passes there is none
 passing_none : {A : Type 0} (test : A → Bool) (n : ℕ) (xs : List A) → ((i : ℕ) (x : A) → slice_get xs i ≡ Some x → test x ≡ false) → number_passing test n xs ≡ None
@@ -47,8 +47,8 @@ first_of_six false b c d e f h = absurd cc
 same_ref : (new : NewRecord) (head : Record) → is_same_record new head ≡ true → new.ref_text ≡ head.ref_text
 same_ref new head same =
     (bytes_eq-Decides new.ref_text head.ref_text).0
-    (first_of_six (bytes_eq new.ref_text head.ref_text) (bytes_eq new.title head.title) (int_eq new.originated head.originated) (new.aggregation == head.aggregation) (length new.content.items == head.length)
-    (bytes_eq (sha256 new.content.items) head.digest) same)
+    (first_of_six (bytes_eq new.ref_text head.ref_text) (bytes_eq new.title head.title) (int_eq new.originated head.originated) (new.aggregation == head.aggregation) (length new.content == head.length)
+    (bytes_eq (sha256 new.content) head.digest) same)
 
 not_true : (b : Bool) → (b ≡ true → ⊥) → b ≡ false
 not_true true h = absurd (h refl)

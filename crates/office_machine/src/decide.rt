@@ -1,9 +1,10 @@
 //! What is decided of each kind of act.
 ghost use Rattle.std.specs.Prelude.{IfOk};
-ghost use Rattle.office_rules.specs.Acts.{IsDecidedTo, IsOnAggregations, IsOnHolds, IsOnRecords, IsOnRuns, IsOnSchedules, step};
+ghost use Rattle.office_rules.specs.Acts.{IsDecidedTo, IsOnAggregations, IsOnHolds, IsOnNewRecord, IsOnRecords, IsOnRuns, IsOnSchedules, step};
 ghost use Rattle.office_rules.specs.Sound.{IsSoundOffice};
 ghost use Rattle.office_rules.specs.State.{with_contents};
 
+use crate::filing::Filing;
 use crate::parts::Parts;
 use crate::{Act, Decision};
 use office_base::Memory;
@@ -25,8 +26,8 @@ impl Parts {
             Act::AddAggregation { .. } | Act::CloseAggregation { .. } | Act::Reclassify { .. } => {
                 self.decide_on_aggregations(alloc, act)
             }
-            Act::AddRecord { .. }
-            | Act::SetRecordSchedule { .. }
+            Act::AddRecord { .. } => self.decide_on_new_record(alloc, act),
+            Act::SetRecordSchedule { .. }
             | Act::Confirm { .. }
             | Act::Review { .. }
             | Act::Receipt { .. }
@@ -109,8 +110,42 @@ impl Parts {
         }
     }
 
-    /// What is decided of a new record, or of a record's own schedule, confirmation, review,
-    /// receipt or event.
+    /// What is decided of an act that adds a record.
+    #[tactic(auto, unfolding(office_rules::specs::Acts::step))]
+    fn decide_on_new_record(&self, alloc: Global, act: &Act) -> Result<Decision, Memory>
+        requires sound { IsSoundOffice self.now }
+        requires kind { IsOnNewRecord act.now }
+        ensures { IfOk result
+            (λ d. IsDecidedTo self.now (λ contents. step (with_contents self.now contents) act.now)
+            d) }
+    {
+        match act {
+            Act::AddRecord {
+                day,
+                ref_text,
+                title,
+                originated,
+                aggregation,
+                class,
+                schedule,
+                content,
+            } => {
+                let new = Filing {
+                    ref_text,
+                    title,
+                    originated: *originated,
+                    aggregation: *aggregation,
+                    class,
+                    schedule,
+                    content,
+                };
+                self.decide_add_record(alloc, *day, &new)
+            }
+            _ => unreachable!(),
+        }
+    }
+
+    /// What is decided of a record's own schedule, confirmation, review, receipt or event.
     #[tactic(auto, unfolding(office_rules::specs::Acts::step))]
     fn decide_on_records(&self, alloc: Global, act: &Act) -> Result<Decision, Memory>
         requires sound { IsSoundOffice self.now }
@@ -120,7 +155,6 @@ impl Parts {
             d) }
     {
         match act {
-            Act::AddRecord { day, record } => self.decide_add_record(alloc, *day, record),
             Act::SetRecordSchedule {
                 day,
                 record_no,

@@ -9,10 +9,12 @@ ghost use Rattle.office_rules.specs.Effects.{new_head};
 ghost use Rattle.office_rules.specs.Sound.{IsSoundOffice};
 ghost use Rattle.office_rules.specs.State.{with_contents};
 ghost use Rattle.office_rules.specs.Steps.{step_add_record, step_confirm, step_event, step_receipt, step_review, step_set_record_schedule};
+ghost use Rattle.office_machine.specs.Filings.{filed};
 
 use crate::deciding::two;
+use crate::filing::Filing;
 use crate::parts::Parts;
-use crate::{Answer, Change, Decision, NewRecord, RowWrite};
+use crate::{Answer, Change, Decision, RowWrite};
 use office_base::Memory;
 use office_days::{Day, DueDay};
 use office_proof::digest_of;
@@ -61,25 +63,25 @@ fn confirmed(
 }
 
 /// Whether the record is the one that is asked for, where its content has that digest.
-fn is_same(new: &NewRecord, digest: [u8; 32], head: &Record) -> bool
-    requires { digest ≡ sha256 new.now.content.items }
-    ensures { result ≡ is_same_record new.now head.now }
+fn is_same(new: &Filing<'_>, digest: [u8; 32], head: &Record) -> bool
+    requires { digest ≡ sha256 (filed new.now).content }
+    ensures { result ≡ is_same_record (filed new.now) head.now }
 {
-    new.ref_text == head.ref_text
-        && new.title == head.title
+    *new.ref_text == head.ref_text
+        && *new.title == head.title
         && new.originated == head.originated
         && new.aggregation == head.aggregation
-        && new.content.len() == head.length as usize
+        && new.content.bytes().len() == head.length as usize
         && digest == head.digest
 }
 
 /// The head of a new record, where its content has that digest.
-fn new_head(alloc: Global, day: Day, new: &NewRecord, digest: [u8; 32]) -> Result<Record, Memory>
-    requires { digest ≡ sha256 new.now.content.items }
-    ensures { IfOk result (λ head. head ≡ new_head day new.now) }
+fn new_head(alloc: Global, day: Day, new: &Filing<'_>, digest: [u8; 32]) -> Result<Record, Memory>
+    requires { digest ≡ sha256 (filed new.now).content }
+    ensures { IfOk result (λ head. head ≡ new_head day (filed new.now)) }
 {
-    let (class, schedule) = copy_plan(alloc, &new.class, &new.schedule)?;
-    let (ref_text, title) = copy_texts(alloc, &new.ref_text, &new.title)?;
+    let (class, schedule) = copy_plan(alloc, new.class, new.schedule)?;
+    let (ref_text, title) = copy_texts(alloc, new.ref_text, new.title)?;
     Ok(Record {
         ref_text,
         title,
@@ -88,7 +90,7 @@ fn new_head(alloc: Global, day: Day, new: &NewRecord, digest: [u8; 32]) -> Resul
         aggregation: new.aggregation,
         class,
         schedule,
-        length: new.content.len() as u32,
+        length: new.content.bytes().len() as u32,
         digest,
         review: None,
         confirmation: None,
@@ -99,12 +101,12 @@ fn new_head(alloc: Global, day: Day, new: &NewRecord, digest: [u8; 32]) -> Resul
 impl Parts {
     /// The record that was added before with all that is asked now, where its content has that
     /// digest.
-    fn same_record(&self, new: &NewRecord, digest: [u8; 32]) -> Option<RecordNo>
+    fn same_record(&self, new: &Filing<'_>, digest: [u8; 32]) -> Option<RecordNo>
         requires sound { IsSoundOffice self.now }
-        requires digest { digest ≡ sha256 new.now.content.items }
-        ensures { result ≡ same_record self.now new.now }
+        requires digest { digest ≡ sha256 (filed new.now).content }
+        ensures { result ≡ same_record self.now (filed new.now) }
     {
-        match self.tree.record_of_ref(&new.ref_text) {
+        match self.tree.record_of_ref(new.ref_text) {
             Some(record_no) => {
                 if is_same(new, digest, self.tree.record(record_no)) {
                     Some(record_no)
@@ -121,14 +123,14 @@ impl Parts {
         &self,
         alloc: Global,
         day: Day,
-        new: &NewRecord,
+        new: &Filing<'_>,
     ) -> Result<Decision, Memory>
         requires { IsSoundOffice self.now }
         ensures { IfOk result
             (λ d. IsDecidedTo self.now
-            (λ contents. step_add_record (with_contents self.now contents) day new.now) d) }
+            (λ contents. step_add_record (with_contents self.now contents) day (filed new.now)) d) }
     {
-        let digest = digest_of(&new.content);
+        let digest = digest_of(new.content.bytes());
         if let Some(record_no) = self.same_record(new, digest) {
             return Ok(Decision::Stay(Answer::Same(record_no)));
         }
@@ -136,12 +138,12 @@ impl Parts {
         let schedule = new.schedule.as_ref();
         let check = self
             .tree
-            .check_add_record(&new.ref_text, new.aggregation, class, schedule);
+            .check_add_record(new.ref_text, new.aggregation, class, schedule);
         if let Some(refusal) = self.dated(day, check) {
             return Ok(Decision::Stay(Answer::Refused(refusal)));
         }
         let number = self.tree.record_count() + 1;
-        let bytes = Vec::from_slice(alloc, &new.content)?;
+        let bytes = Vec::from_slice(alloc, new.content.bytes())?;
         let head = new_head(alloc, day, new, digest)?;
         let write = RowWrite::Record {
             number,

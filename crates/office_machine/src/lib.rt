@@ -17,6 +17,7 @@ mod disposing;
 mod due_list;
 mod due_rows;
 mod entry_rows;
+mod filing;
 mod loading;
 mod machine;
 mod marking;
@@ -34,7 +35,9 @@ pub use due_rows::DueRows;
 pub use entry_rows::EntryRows;
 pub use machine::Machine;
 pub use office_base::Rebuild;
+pub use office_proof::Entry;
 pub use office_rules::{
-    Act, Answer, Change, Decision, Intake, NewRecord, RecordRow, RecordView, Row, RowWrite, Run,
-    Tables,
+    Act, Answer, Change, Content, Decision, DueRow, EntryRow, Intake, RecordRow, RecordView, Row,
+    RowWrite, Run, Tables,
 };
+pub use office_terms::{Aggregation, Class, Event, HoldRow, Schedule, Target};

@@ -57,17 +57,22 @@ impl Machine {
         }
     }
 
+    /// The allocator of what it keeps, with which its answers are made.
+    fn alloc(&self) -> Global {
+        *self.parts.runs.allocator()
+    }
+
     /// What is decided of an act: that it is refused, that its record was added before (`Same`), or
     /// the change that is to be made. The office stays as it is, and the contents of records are
     /// not asked for. `Memory` where there is none for the change.
-    pub fn decide(&self, alloc: Global, act: &Act) -> Result<Decision, Memory>
+    pub fn decide(&self, act: &Act) -> Result<Decision, Memory>
         ensures step { IfOk result (λ d. IsDecidedFor self.now act.now d) }
         ensures reported { IfOk result ReportsItsKind }
         ensures feasible { IfOk result (λ d. IsFeasible self.now d) }
         ensures held { IfOk result (λ d. may_release act.now ≡ false → KeepsHeld self.now d) }
     {
         act.formed();
-        self.parts.decide(alloc, act)
+        self.parts.decide(self.alloc(), act)
     }
 
     /// Makes a change that was decided of this office. Where an allocation is refused, the office
@@ -100,78 +105,73 @@ impl Machine {
     }
 
     /// What is reported of the record; `None` where it is not there, which takes no memory.
-    pub fn record(&self, alloc: Global, record_no: RecordNo) -> Result<Option<RecordView>, Memory>
+    pub fn record(&self, record_no: RecordNo) -> Result<Option<RecordView>, Memory>
         ensures read { IfOk result (λ view. view ≡ record_view self.now record_no) }
         ensures absent { record_view self.now record_no ≡ None → result ≡ Ok None }
     {
-        self.parts.view(alloc, record_no)
+        self.parts.view(self.alloc(), record_no)
     }
 
     /// The entry that ended the record; `None` where it is not ended or not there, which takes no
     /// memory.
-    pub fn entry_of(&self, alloc: Global, record_no: RecordNo) -> Result<Option<Entry>, Memory>
+    pub fn entry_of(&self, record_no: RecordNo) -> Result<Option<Entry>, Memory>
         ensures read { IfOk result (λ entry. entry ≡ ending_entry self.now record_no) }
         ensures absent { ending_entry self.now record_no ≡ None → result ≡ Ok None }
     {
-        self.parts.entry_that_ended(alloc, record_no)
+        self.parts.entry_that_ended(self.alloc(), record_no)
     }
 
     /// All entries, by run, then record.
-    pub fn entries(&self, alloc: Global) -> Result<Vec<Entry>, Memory>
+    pub fn entries(&self) -> Result<Vec<Entry>, Memory>
         ensures { IfOk result (λ all. all.items ≡ all_entries_of self.now) }
     {
-        self.parts.all_entries(alloc)
+        self.parts.all_entries(self.alloc())
     }
 
     /// The text of the certificate of that run; `None` where it is not closed or not there, which
     /// takes no memory.
-    pub fn certificate(&self, alloc: Global, run: RunNo) -> Result<Option<String>, Memory>
+    pub fn certificate(&self, run: RunNo) -> Result<Option<String>, Memory>
         ensures read { IfOk result
             (λ text. option_map (λ it. string_bytes it) text ≡ get self.now.certificates run) }
         ensures absent { get self.now.certificates run ≡ None → result ≡ Ok None }
     {
-        self.parts.certificate(alloc, run)
+        self.parts.certificate(self.alloc(), run)
     }
 
     /// The due list of the day: the records that are here and due on it or before it, by due day,
     /// then number.
-    pub fn due_list(&self, alloc: Global, day: Day) -> Result<Vec<RecordNo>, Memory>
+    pub fn due_list(&self, day: Day) -> Result<Vec<RecordNo>, Memory>
         ensures { IfOk result (λ list. IsDueList self.now.tree day list.items) }
     {
-        due_list(alloc, &self.parts.tree, &Selection::Due(day))
+        due_list(self.alloc(), &self.parts.tree, &Selection::Due(day))
     }
 
     /// What is reported of the records that are due on the day, row by row, in the order of the due
     /// list.
-    pub fn due_rows(&self, alloc: Global, day: Day) -> Result<DueRows<'_>, Memory>
+    pub fn due_rows(&self, day: Day) -> Result<DueRows<'_>, Memory>
         ensures { IfOk result (λ rows. AreDueRows self.now day rows) }
     {
-        self.parts.due_rows(alloc, &Selection::Due(day))
+        self.parts.due_rows(self.alloc(), &Selection::Due(day))
     }
 
     /// What is overdue on the day: the records that are here whose deadline, so many days after the
     /// due day, is before it, and of which no confirmation counts; by deadline, then number.
-    pub fn overdue_list(
-        &self,
-        alloc: Global,
-        day: Day,
-        days: ConfirmDays,
-    ) -> Result<Vec<RecordNo>, Memory>
+    pub fn overdue_list(&self, day: Day, days: ConfirmDays) -> Result<Vec<RecordNo>, Memory>
         ensures { IfOk result (λ list. IsOverdueList self.now.tree day days list.items) }
     {
-        due_list(alloc, &self.parts.tree, &Selection::Overdue(day, days))
+        due_list(
+            self.alloc(),
+            &self.parts.tree,
+            &Selection::Overdue(day, days),
+        )
     }
 
     /// The rows of what is overdue on the day, in the order of that list.
-    pub fn overdue_rows(
-        &self,
-        alloc: Global,
-        day: Day,
-        days: ConfirmDays,
-    ) -> Result<DueRows<'_>, Memory>
+    pub fn overdue_rows(&self, day: Day, days: ConfirmDays) -> Result<DueRows<'_>, Memory>
         ensures { IfOk result (λ rows. AreOverdueRows self.now day days rows) }
     {
-        self.parts.due_rows(alloc, &Selection::Overdue(day, days))
+        self.parts
+            .due_rows(self.alloc(), &Selection::Overdue(day, days))
     }
 
     /// What is reported of all entries, row by row, by run, then record.

@@ -1,5 +1,5 @@
 -- How the performing of acts ends.
-use Rattle.std.proofs.Common.{◌≡◌, ◌∙◌, inl, inr, ℕ, Bool, true, false, List, Option, Some, None, Result, Ok, Err, refl, sym, ap, subst, map, take, if◌then◌else◌}
+use Rattle.std.proofs.Common.{◌≡◌, ◌∙◌, inl, inr, ℕ, Bool, true, false, List, Option, Some, None, Result, Ok, Err, refl, sym, ap, subst, take, if◌then◌else◌}
 use Rattle.std.specs.List.{list_any}
 use Rattle.std.specs.Prelude.{IfErr, IfSome, OnOk}
 use Rattle.std.specs.Io.KnownBytes.{Appends}
@@ -12,7 +12,6 @@ use Rattle.office_rules.specs.State.{State}
 use Rattle.office_rules.specs.declared.act.Act.{Act}
 use Rattle.office_rules.specs.declared.answer.Answer.{Answer}
 use Rattle.office_store.specs.declared.fault.Fault.{Fault}
-use Rattle.office_json.specs.Acts.{asked}
 use Rattle.office_json.specs.Answers.{answer_lines}
 use Rattle.office_json.specs.Lists.{acts_in}
 use Rattle.office_orders.specs.Applying.{AreDone, AreStopped, Applies, ApplyEnds, Performs, TextEnds}
@@ -72,9 +71,9 @@ unreported_performs A B acts new written after (Ok it) given done stopped = λ t
 unreported_performs A B acts new written after (Err f) given done stopped = λ t a b. let stop = stopped t a b in inr (f, stop.0, stop.1)
 
 -- the acts of a text that were performed were applied
-pub performs_applies : (Of : (State → Type 0) → Type 0) (text : List ℕ) (new : FileState) (written after : Option (List ℕ)) (e : Ending) (acts items : List Act) → acts ≡ items → acts_in text ≡ Ok (map asked items)
+pub performs_applies : (Of : (State → Type 0) → Type 0) (text : List ℕ) (new : FileState) (written after : Option (List ℕ)) (e : Ending) (acts items : List Act) → acts ≡ items → acts_in text ≡ Ok items
     → Performs Of acts new written after e → Applies Of text new written after e
-performs_applies Of text new written after e acts items same is_read done = inr (acts, subst (λ (all : List Act). acts_in text ≡ Ok (map asked all)) (sym same) is_read, done)
+performs_applies Of text new written after e acts items same is_read done = inr (acts, subst (λ (all : List Act). acts_in text ≡ Ok all) (sym same) is_read, done)
 
 -- the text that was read is the one that the reader reports
 pub text_applies : {S : Type 0} (g : Ghosts S) (remaining : Option (List ℕ)) (text : List ℕ) (old new : Held S) (written after : Option (List ℕ)) (e : Ending) → IfSome remaining (λ bytes. text ≡ bytes)

@@ -1,5 +1,5 @@
 -- How `apply` ends. Source: own.
-use Rattle.std.specs.Prelude.{◌≡◌, ◌⊎◌, ◌+◌, ◌≤◌, ℕ, Bool, true, false, List, length, map, take, IfSome, Option, Ok, Err}
+use Rattle.std.specs.Prelude.{◌≡◌, ◌⊎◌, ◌+◌, ◌≤◌, ℕ, Bool, true, false, List, length, take, IfSome, Option, Ok, Err}
 use Rattle.std.specs.List.{list_any}
 use Rattle.std.specs.Io.KnownBytes.{Appends}
 use Rattle.sqlite.specs.Held.{Held, state}
@@ -16,7 +16,6 @@ use Rattle.office_store.specs.declared.fault.Fault.TheVariants as fault
 use Rattle.office_desk.specs.Fates.{LeavesFates}
 use Rattle.office_desk.specs.Headline.{AreWellFormed}
 use Rattle.office_desk.specs.Leaving.{LeavesOne, StopsLeaving}
-use Rattle.office_json.specs.Acts.{asked}
 use Rattle.office_json.specs.Answers.{answer_lines}
 use Rattle.office_json.specs.Lists.{acts_in, not_json, bad_act}
 use Rattle.office_orders.specs.declared.ending.Ending.{Ending}
@@ -89,7 +88,7 @@ abbrev pub Applies : ((State → Type 0) → Type 0) → List ℕ → FileState 
     → Type 0
 Applies Of text new written after ending =
     IsUnread text ending × Of (λ t. HoldsRows (rows_of t) new) × (after ≡ written)
-    ⊎ ((acts : List Act) × (acts_in text ≡ Ok (map asked acts)) × Performs Of acts new written after ending)
+    ⊎ ((acts : List Act) × (acts_in text ≡ Ok acts) × Performs Of acts new written after ending)
 
 -- `apply FILE ACTS` where the text of acts was read, by the ending; what else the file has is kept
 abbrev pub TextEnds : List ℕ → FileState → FileState → Option (List ℕ) → Option (List ℕ) → Ending → Type 0

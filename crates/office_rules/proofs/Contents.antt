@@ -12,12 +12,12 @@ use Rattle.office_proof.specs.declared.outcome.Outcome.TheVariants as outcome
 use Rattle.office_rules.specs.Disposing.{outcome_of}
 use Rattle.office_rules.specs.Effects.{with_new_record}
 use Rattle.office_rules.specs.Meanings.{ended_by}
+use Rattle.office_rules.specs.NewRecords.{NewRecord}
 use Rattle.office_rules.specs.Runs.{open_run, next_ready, run_step, step_at, step_of, with_outcomes, contents_with, closed}
 use Rattle.office_rules.specs.State.{State, ByteMap}
 use Rattle.office_rules.specs.Steps.{stepped, step_run_step, answer_in, answer_at}
 use Rattle.office_rules.specs.declared.answer.Answer.{Answer}
 use Rattle.office_rules.specs.declared.answer.Answer.TheVariants as answer
-use Rattle.office_rules.specs.declared.new_record.NewRecord.{NewRecord}
 
 same_test : (r c : ℕ) → eq_by_cmp nat_cmp r c ≡ (c == r)
 same_test r c = elim (cases_eq r c) [
@@ -65,16 +65,16 @@ contents_other contents c r (Some outcome.Destroyed) h = let other : (c == r) �
 contents_other contents c r (Some outcome.Transferred) h = let other : (c == r) ≡ false = grind (arith, nat_tests) in get-removed contents c r outcome.Transferred refl ∙ ap (λ b. cond b None (get contents r)) other
 
 -- a new record's content is under its number
-pub content_added : (s : State) (day : ℤ) (new : NewRecord) → get (with_new_record s day new).contents (suc (length s.office.tree.records)) ≡ Some new.content.items
+pub content_added : (s : State) (day : ℤ) (new : NewRecord) → get (with_new_record s day new).contents (suc (length s.office.tree.records)) ≡ Some new.content
 content_added s day new =
     let n : ℕ = suc (length s.office.tree.records) in
     let same : eq_by_cmp nat_cmp n n ≡ true = grind (arith, nat_tests) in
-    get-insert nat_cmp_total s.contents n new.content.items n ∙ ap (λ b. cond b (Some new.content.items) (get s.contents n)) same
+    get-insert nat_cmp_total s.contents n new.content n ∙ ap (λ b. cond b (Some new.content) (get s.contents n)) same
 
 later_number : (r n : ℕ) → r ≤ n → eq_by_cmp nat_cmp r (suc n) ≡ false
 later_number r n h = grind (arith, nat_tests)
 
 pub content_stays : (s : State) (day : ℤ) (new : NewRecord) (r : ℕ) → r ≤ length s.office.tree.records → get (with_new_record s day new).contents r ≡ get s.contents r
 content_stays s day new r h =
-    get-insert nat_cmp_total s.contents (suc (length s.office.tree.records)) new.content.items r
-    ∙ ap (λ b. cond b (Some new.content.items) (get s.contents r)) (later_number r (length s.office.tree.records) h)
+    get-insert nat_cmp_total s.contents (suc (length s.office.tree.records)) new.content r
+    ∙ ap (λ b. cond b (Some new.content) (get s.contents r)) (later_number r (length s.office.tree.records) h)

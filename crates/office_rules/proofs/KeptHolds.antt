@@ -10,6 +10,7 @@ use Rattle.office_rules.specs.Acts.{may_release, step}
 use Rattle.office_rules.specs.Conditions.{same_record}
 use Rattle.office_rules.specs.Effects.{new_head}
 use Rattle.office_rules.specs.Meanings.{IsHeldIn}
+use Rattle.office_rules.specs.NewRecords.{NewRecord, new_record}
 use Rattle.office_rules.specs.Runs.{open_run, step_of}
 use Rattle.office_rules.specs.Sound.{IsSound}
 use Rattle.office_rules.specs.State.{State}
@@ -17,7 +18,6 @@ use Rattle.office_rules.specs.Steps.{by_refusal, by_same_record}
 use Rattle.office_rules.specs.declared.act.Act.{Act}
 use Rattle.office_rules.specs.declared.act.Act.TheVariants as act
 use Rattle.office_rules.specs.declared.answer.Answer.{Answer}
-use Rattle.office_rules.specs.declared.new_record.NewRecord.{NewRecord}
 use Rattle.office_rules.proofs.Accepted.{tree_sound, dated_accepted, accepted_by_tree, leaves_none}
 use Rattle.office_rules.proofs.HeldSteps.{held-run_step}
 use Rattle.office_rules.proofs.StepSound.{kept_by}
@@ -45,7 +45,9 @@ kept_step s (act.SetClassSchedule day class schedule) held sound keeps h = kept 
 kept_step s (act.AddAggregation day ref_text title parent class) held sound keeps h =
     kept held _ _ _ _ h (λ _. held-add_aggregation s.office.holds s.office.tree ref_text title parent class held (tree_sound s sound) h)
 kept_step s (act.CloseAggregation day a) held sound keeps h = kept held _ _ _ _ h (λ _. held-close_aggregation s.office.holds s.office.tree a day held h)
-kept_step s (act.AddRecord day new) held sound keeps h = kept_add (same_record s.office new) s day new held h
+kept_step s (act.AddRecord day ref_text title originated aggregation class schedule content) held sound keeps h =
+    let new = new_record ref_text title originated aggregation class schedule content in
+    kept_add (same_record s.office new) s day new held h
 kept_step s (act.SetRecordSchedule day r schedule) held sound keeps h = kept held _ _ _ _ h (λ _. held-set_record_schedule s.office.holds s.office.tree r schedule held h)
 kept_step s (act.Reclassify day what class) held sound keeps h =
     kept held _ _ _ _ h (λ accepted. held-reclassify s.office.holds s.office.tree what class held (tree_sound s sound) (accepted_by_tree s.office day what class accepted) (leaves_none s.office day what class accepted) h)

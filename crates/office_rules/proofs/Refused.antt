@@ -8,6 +8,7 @@ use Rattle.office_terms.specs.declared.class.Class.{Class}
 use Rattle.office_terms.proofs.Least.{first_is_least}
 use Rattle.office_rules.specs.Acts.{step, is_of_change}
 use Rattle.office_rules.specs.Conditions.{refusals_of_add_schedule, refusals_of_add_class, refusals_of_set_class_schedule, refusals_of_add_aggregation, refusals_of_close_aggregation, refusals_of_add_record, refusals_of_set_record_schedule, refusals_of_reclassify, refusals_of_place_hold, refusals_of_hold_on, refusals_of_hold_off, refusals_of_lift_hold, refusals_of_confirm, refusals_of_review, refusals_of_open_run, refusals_of_run_step, refusals_of_receipt, refusals_of_event}
+use Rattle.office_rules.specs.NewRecords.{new_record}
 use Rattle.office_rules.specs.Refusals.{IsAnsweredInOrder, asked_again, refusals_of}
 use Rattle.office_rules.specs.Runs.{next_ready, open_run, step_of}
 use Rattle.office_rules.specs.State.{Office, State}
@@ -28,7 +29,8 @@ least s (act.AddClass day code title schedule) =
 least s (act.SetClassSchedule day class schedule) = first_is_least (refusals_of_set_class_schedule s day class schedule) (search rules)
 least s (act.AddAggregation day ref_text title parent class) = first_is_least (refusals_of_add_aggregation s day ref_text parent class) (search rules)
 least s (act.CloseAggregation day a) = first_is_least (refusals_of_close_aggregation s day a) (search rules)
-least s (act.AddRecord day new) = first_is_least (refusals_of_add_record s day new) (search rules)
+least s (act.AddRecord day ref_text title originated aggregation class schedule content) =
+    first_is_least (refusals_of_add_record s day (new_record ref_text title originated aggregation class schedule content)) (search rules)
 least s (act.SetRecordSchedule day r schedule) = first_is_least (refusals_of_set_record_schedule s day r schedule) (search rules)
 least s (act.Reclassify day what class) = first_is_least (refusals_of_reclassify s day what class) (search rules)
 least s (act.Confirm day r named by) = first_is_least (refusals_of_confirm s day r named) (search rules)
@@ -75,11 +77,13 @@ answered s (act.AddClass day code title schedule) = in_order s _ _ _ refl refl r
 answered s (act.SetClassSchedule day class schedule) = in_order s _ _ _ refl refl refl
 answered s (act.AddAggregation day ref_text title parent class) = in_order s _ _ _ refl refl refl
 answered s (act.CloseAggregation day a) = in_order s _ _ _ refl refl refl
-answered s (act.AddRecord day new) = record {
-  again = λ r asked. ap (λ o. by_same_record o s day new) asked;
-  refused = λ refusal none e. ap (λ o. by_same_record o s day new) none ∙ refused_by (refusals_of_add_record s.office day new) s _ _ refusal e;
-  done = λ none e. ap (λ o. is_of_change (by_same_record o s day new).0) none ∙ done_by (refusals_of_add_record s.office day new) s _ _ refl e;
-}
+answered s (act.AddRecord day ref_text title originated aggregation class schedule content) =
+    let new = new_record ref_text title originated aggregation class schedule content in
+    record {
+      again = λ r asked. ap (λ o. by_same_record o s day new) asked;
+      refused = λ refusal none e. ap (λ o. by_same_record o s day new) none ∙ refused_by (refusals_of_add_record s.office day new) s _ _ refusal e;
+      done = λ none e. ap (λ o. is_of_change (by_same_record o s day new).0) none ∙ done_by (refusals_of_add_record s.office day new) s _ _ refl e;
+    }
 answered s (act.SetRecordSchedule day r schedule) = in_order s _ _ _ refl refl refl
 answered s (act.Reclassify day what class) = in_order s _ _ _ refl refl refl
 answered s (act.Confirm day r named by) = in_order s _ _ _ refl refl refl

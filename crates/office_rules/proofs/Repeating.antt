@@ -16,6 +16,7 @@ use Rattle.office_terms.specs.declared.classified.Classified.TheVariants as clas
 use Rattle.office_rules.specs.Acts.{after, answers, step}
 use Rattle.office_rules.specs.Conditions.{is_same_record, number_passing, refusals_of_add_record, same_record}
 use Rattle.office_rules.specs.Effects.{after_reclassify, new_head, with_new_record}
+use Rattle.office_rules.specs.NewRecords.{NewRecord, add_record, new_record}
 use Rattle.office_rules.specs.Runs.{closed, next_ready, open_run, run_step, step_at, step_of, with_outcomes}
 use Rattle.office_rules.specs.State.{State, with_office}
 use Rattle.office_rules.specs.Steps.{by_refusal, by_same_record}
@@ -23,7 +24,6 @@ use Rattle.office_rules.specs.declared.act.Act.{Act}
 use Rattle.office_rules.specs.declared.act.Act.TheVariants as act
 use Rattle.office_rules.specs.declared.answer.Answer.{Answer}
 use Rattle.office_rules.specs.declared.answer.Answer.TheVariants.{Number, Same}
-use Rattle.office_rules.specs.declared.new_record.NewRecord.{NewRecord}
 
 -- who asks for the one record asks for the other
 abbrev Alike : Record → Record → Type 0
@@ -91,8 +91,8 @@ all_true a b c d e f ha hb hc hd he hf = λ i. ha i && hb i && hc i && hd i && h
 -- the head of a new record is what it was asked for with
 same_head : (day : ℤ) (new : NewRecord) → is_same_record new (new_head day new) ≡ true
 same_head day new =
-    let bytes = length new.content.items in
-    let digest = sha256 new.content.items in
+    let bytes = length new.content in
+    let digest = sha256 new.content in
     all_true (bytes_eq new.ref_text new.ref_text) (bytes_eq new.title new.title) (int_eq new.originated new.originated) (new.aggregation == new.aggregation) (bytes == bytes) (bytes_eq digest digest)
     ((bytes_eq-Decides new.ref_text new.ref_text).1 refl) ((bytes_eq-Decides new.title new.title).1 refl) ((Decides-int_eq new.originated new.originated).1 refl)
     (eq-eqb new.aggregation new.aggregation refl) (eq-eqb bytes bytes refl) ((bytes_eq-Decides digest digest).1 refl)
@@ -132,7 +132,9 @@ stay_step s (act.AddClass day code title schedule) = stay_by _ s _ _ (stay_same 
 stay_step s (act.SetClassSchedule day class schedule) = stay_by _ s _ _ (stay_same (records s))
 stay_step s (act.AddAggregation day ref_text title parent class) = stay_by _ s _ _ (stay_same (records s))
 stay_step s (act.CloseAggregation day a) = stay_by _ s _ _ (stay_same (records s))
-stay_step s (act.AddRecord day new) = stay_new (same_record s.office new) s day new
+stay_step s (act.AddRecord day ref_text title originated aggregation class schedule content) =
+    let new = new_record ref_text title originated aggregation class schedule content in
+    stay_new (same_record s.office new) s day new
 stay_step s (act.SetRecordSchedule day r schedule) = stay_by _ s _ _ (stay_edited (records s) r (λ head. record head { schedule = schedule }) (λ x new. refl))
 stay_step s (act.Reclassify day what class) = stay_by _ s _ _ (stay_reclassified s day what class)
 stay_step s (act.Confirm day r named by) = stay_by _ s _ _ (stay_edited (records s) r _ (λ x new. refl))
@@ -162,7 +164,7 @@ added_new (Some r) s day new n e is = absurd cc
 added_new None s day new n e is = added_by (first_of (refusals_of_add_record s.office day new)) s day new n e is
 
 -- a record that was answered by a new number is found under it
-found_new : (s : State) (day : ℤ) (new : NewRecord) (n : ℕ) → (step s (act.AddRecord day new)).0 ≡ Number n → same_record (step s (act.AddRecord day new)).1.office new ≡ Some n
+found_new : (s : State) (day : ℤ) (new : NewRecord) (n : ℕ) → (step s (add_record day new)).0 ≡ Number n → same_record (step s (add_record day new)).1.office new ≡ Some n
 unfolding step
 found_new s day new n is = added_new (same_record s.office new) s day new n refl is
 
@@ -173,39 +175,39 @@ found_after : (s : State) (acts : List Act) (new : NewRecord) (n : ℕ) → same
 found_after s [] new n found = found
 found_after s (a ∷ rest) new n found = found_after (step s a).1 rest new n (found_step s a new n found)
 
-found_in : (s : State) (acts : List Act) (i n : ℕ) (day : ℤ) (new : NewRecord) → slice_get acts i ≡ Some (act.AddRecord day new) → slice_get (answers s acts) i ≡ Some (Number n) → same_record (after s acts).office new ≡ Some n
+found_in : (s : State) (acts : List Act) (i n : ℕ) (day : ℤ) (new : NewRecord) → slice_get acts i ≡ Some (add_record day new) → slice_get (answers s acts) i ≡ Some (Number n) → same_record (after s acts).office new ≡ Some n
 found_in s [] i n day new asked reported = absurd cc
 found_in s (a ∷ rest) zero n day new asked reported =
-    let same : a ≡ act.AddRecord day new = cc in
+    let same : a ≡ add_record day new = cc in
     let answer : (step s a).0 ≡ Number n = cc in
     let found = found_new s day new n (ap (λ (x : Act). (step s x).0) (sym same) ∙ answer) in
     found_after (step s a).1 rest new n (ap (λ (x : Act). same_record (step s x).1.office new) same ∙ found)
 found_in s (a ∷ rest) (suc i) n day new asked reported = found_in (step s a).1 rest i n day new asked reported
 
-found_at : (s : State) (acts : List Act) (k n : ℕ) (day : ℤ) (new : NewRecord) → numbered acts k ≡ Some (act.AddRecord day new) → numbered (answers s acts) k ≡ Some (Number n) → same_record (after s acts).office new ≡ Some n
+found_at : (s : State) (acts : List Act) (k n : ℕ) (day : ℤ) (new : NewRecord) → numbered acts k ≡ Some (add_record day new) → numbered (answers s acts) k ≡ Some (Number n) → same_record (after s acts).office new ≡ Some n
 found_at s acts zero n day new asked reported = absurd cc
 found_at s acts (suc i) n day new asked reported = found_in s acts i n day new asked reported
 
 -- ---- and reported
 
-reported_step : (s : State) (later : ℤ) (new : NewRecord) (n : ℕ) → same_record s.office new ≡ Some n → step s (act.AddRecord later new) ≡ (Same n, s)
+reported_step : (s : State) (later : ℤ) (new : NewRecord) (n : ℕ) → same_record s.office new ≡ Some n → step s (add_record later new) ≡ (Same n, s)
 unfolding step
 reported_step s later new n found = ap (λ o. by_same_record o s later new) found
 
-reported_in : (s : State) (acts : List Act) (i n : ℕ) (later : ℤ) (new : NewRecord) → same_record s.office new ≡ Some n → slice_get acts i ≡ Some (act.AddRecord later new) → slice_get (answers s acts) i ≡ Some (Same n)
+reported_in : (s : State) (acts : List Act) (i n : ℕ) (later : ℤ) (new : NewRecord) → same_record s.office new ≡ Some n → slice_get acts i ≡ Some (add_record later new) → slice_get (answers s acts) i ≡ Some (Same n)
 reported_in s [] i n later new found asked = absurd cc
 reported_in s (a ∷ rest) zero n later new found asked =
-    let same : a ≡ act.AddRecord later new = cc in
+    let same : a ≡ add_record later new = cc in
     ap (λ (x : Act). Some (step s x).0) same ∙ ap (λ (p : Answer × State). Some p.0) (reported_step s later new n found)
 reported_in s (a ∷ rest) (suc i) n later new found asked = reported_in (step s a).1 rest i n later new (found_step s a new n found) asked
 
-pub reported_again : (s : State) (acts more : List Act) (k n : ℕ) (day later : ℤ) (new : NewRecord) → numbered acts k ≡ Some (act.AddRecord day new) → numbered (answers s acts) k ≡ Some (Number n)
-    → step (after (after s acts) more) (act.AddRecord later new) ≡ (Same n, after (after s acts) more)
+pub reported_again : (s : State) (acts more : List Act) (k n : ℕ) (day later : ℤ) (new : NewRecord) → numbered acts k ≡ Some (add_record day new) → numbered (answers s acts) k ≡ Some (Number n)
+    → step (after (after s acts) more) (add_record later new) ≡ (Same n, after (after s acts) more)
 reported_again s acts more k n day later new asked reported =
     reported_step (after (after s acts) more) later new n (found_after (after s acts) more new n (found_at s acts k n day new asked reported))
 
-pub reported_each : (s : State) (acts more others : List Act) (k j n : ℕ) (day later : ℤ) (new : NewRecord) → numbered acts k ≡ Some (act.AddRecord day new) → numbered (answers s acts) k ≡ Some (Number n)
-    → numbered others j ≡ Some (act.AddRecord later new) → numbered (answers (after (after s acts) more) others) j ≡ Some (Same n)
+pub reported_each : (s : State) (acts more others : List Act) (k j n : ℕ) (day later : ℤ) (new : NewRecord) → numbered acts k ≡ Some (add_record day new) → numbered (answers s acts) k ≡ Some (Number n)
+    → numbered others j ≡ Some (add_record later new) → numbered (answers (after (after s acts) more) others) j ≡ Some (Same n)
 reported_each s acts more others k zero n day later new asked reported other = absurd cc
 reported_each s acts more others k (suc j) n day later new asked reported other =
     reported_in (after (after s acts) more) others j n later new (found_after (after s acts) more new n (found_at s acts k n day new asked reported)) other

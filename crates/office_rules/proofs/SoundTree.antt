@@ -21,9 +21,9 @@ use Rattle.office_terms.proofs.Places.{numbered_push, numbered_within}
 use Rattle.office_rules.specs.Conditions.{refusals_of_add_aggregation, refusals_of_close_aggregation, refusals_of_add_record}
 use Rattle.office_rules.specs.Effects.{after_add_aggregation, after_close_aggregation, new_head, with_new_record}
 use Rattle.office_rules.specs.Meanings.{IsAccepted, IsWellFormedNewRecord}
+use Rattle.office_rules.specs.NewRecords.{NewRecord}
 use Rattle.office_rules.specs.Sound.{IsSound, ContentsAgree, DocumentsAgree, EntriesAgree}
 use Rattle.office_rules.specs.State.{State, EntryMap, ByteMap, with_office}
-use Rattle.office_rules.specs.declared.new_record.NewRecord.{NewRecord}
 use Rattle.office_rules.specs.declared.run.Run.{Run}
 use Rattle.office_proof.specs.declared.entry.Entry.{Entry}
 use Rattle.office_proof.proofs.Digests.{IsDigest-sha256}
@@ -85,7 +85,7 @@ head_well_formed day new day_well_formed formed = record {
   class = formed.class;
   schedule = formed.schedule;
   length_few = formed.content_few;
-  digest = IsDigest-sha256 new.content.items;
+  digest = IsDigest-sha256 new.content;
   review = tt;
   confirmation = tt;
   receipt = tt;
@@ -194,7 +194,7 @@ sound_add_record s day new sound day_well_formed formed accepted =
       forest = sound.forest;
       names = names_after s (added_record t head) sound of_tree.names (record { schedules = λ c there. there; classes = λ c there. there; aggregations = as_many (length t.aggregations); records = more_pushed t.records head });
       closed = sound.closed;
-      contents = contents_pushed t.statuses (length t.records) few s.contents new.content.items sound.contents;
+      contents = contents_pushed t.statuses (length t.records) few s.contents new.content sound.contents;
       documents = documents_pushed t.records t.statuses s.office.entries head few tt sound.documents (λ run r e there. (sound.names.of_entries run r e there).record_there.1);
       entries = entries_pushed t.statuses (length t.records) few s.office.runs s.office.entries sound.entries;
       runs = sound.runs;

@@ -8,6 +8,7 @@ use Rattle.office_rules.specs.Acts.{step}
 use Rattle.office_rules.specs.Conditions.{same_record}
 use Rattle.office_rules.specs.Forms.{IsWellFormedAct}
 use Rattle.office_rules.specs.Meanings.{IsWellFormedNewRecord}
+use Rattle.office_rules.specs.NewRecords.{NewRecord, new_record}
 use Rattle.office_rules.specs.Runs.{open_run, step_of}
 use Rattle.office_rules.specs.Sound.{IsSound}
 use Rattle.office_rules.specs.State.{State}
@@ -15,7 +16,6 @@ use Rattle.office_rules.specs.Steps.{by_refusal, by_same_record}
 use Rattle.office_rules.specs.declared.act.Act.{Act}
 use Rattle.office_rules.specs.declared.act.Act.TheVariants as act
 use Rattle.office_rules.specs.declared.answer.Answer.{Answer}
-use Rattle.office_rules.specs.declared.new_record.NewRecord.{NewRecord}
 use Rattle.office_rules.proofs.SoundEvents.{sound_event}
 use Rattle.office_rules.proofs.SoundHeads.{sound_set_record_schedule, sound_reclassify, sound_confirm, sound_review, sound_receipt}
 use Rattle.office_rules.proofs.SoundHolds.{sound_place_hold, sound_hold_on, sound_hold_off, sound_lift_hold}
@@ -49,7 +49,9 @@ sound_step s (act.SetClassSchedule day class schedule) sound formed = kept_by Is
 sound_step s (act.AddAggregation day ref_text title parent class) sound formed =
     kept_by IsSound _ _ _ _ sound (sound_add_aggregation s day ref_text title parent class sound formed.0 formed.1 formed.2 formed.3)
 sound_step s (act.CloseAggregation day a) sound formed = kept_by IsSound _ _ _ _ sound (sound_close_aggregation s day a sound formed)
-sound_step s (act.AddRecord day new) sound formed = sound_add (same_record s.office new) s day new sound formed.0 formed.1
+sound_step s (act.AddRecord day ref_text title originated aggregation class schedule content) sound formed =
+    let new = new_record ref_text title originated aggregation class schedule content in
+    sound_add (same_record s.office new) s day new sound formed.0 formed.1
 sound_step s (act.SetRecordSchedule day r schedule) sound formed = kept_by IsSound _ _ _ _ sound (sound_set_record_schedule s day r schedule sound formed.0 formed.1)
 sound_step s (act.Reclassify day what class) sound formed = kept_by IsSound _ _ _ _ sound (sound_reclassify s day what class sound formed.0 formed.1)
 sound_step s (act.Confirm day r named by) sound formed = kept_by IsSound _ _ _ _ sound (sound_confirm s day r named by sound formed.0 formed.1)

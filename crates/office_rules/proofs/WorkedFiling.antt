@@ -12,9 +12,9 @@ use Rattle.office_terms.specs.Tree.{code_cmp}
 use Rattle.office_rules.specs.Conditions.{dated, refusals_of_add_schedule, refusals_of_add_class, refusals_of_add_aggregation, refusals_of_add_record}
 use Rattle.office_rules.specs.Effects.{with_tree, after_add_record}
 use Rattle.office_rules.specs.Meanings.{IsAccepted}
+use Rattle.office_rules.specs.NewRecords.{NewRecord}
 use Rattle.office_rules.specs.State.{Office, empty_office}
 use Rattle.office_rules.specs.Worked.{AsksFor, filing_day, class_titled, with_yearly, with_class, classed_office, with_root, rooted_office, first_filed, second_filed, with_record}
-use Rattle.office_rules.specs.declared.new_record.NewRecord.{NewRecord}
 use Rattle.office_rules.proofs.WorkedBase.{schedule_there, finance_there, legal_there, one_class}
 use Rattle.office_rules.proofs.WorkedMaps.{no_entries, get_of_entries}
 

@@ -10,11 +10,11 @@ use Rattle.office_terms.specs.Conditions.{first_of, conditions_of_add_record}
 use Rattle.office_terms.specs.declared.head.Record.{Record}
 use Rattle.office_rules.specs.Conditions.{dated, refusals_of_add_record, is_same_record, same_record}
 use Rattle.office_rules.specs.Effects.{with_new_record}
+use Rattle.office_rules.specs.NewRecords.{NewRecord}
 use Rattle.office_rules.specs.State.{Office, State}
 use Rattle.office_rules.specs.Steps.{by_refusal, by_same_record, step_add_record}
 use Rattle.office_rules.specs.Worked.{AsksFor, filing_day, head_with, base_office}
 use Rattle.office_rules.specs.declared.answer.Answer.TheVariants.{Number, Same, Refused}
-use Rattle.office_rules.specs.declared.new_record.NewRecord.{NewRecord}
 use Rattle.office_rules.proofs.WorkedTransfer.{fails}
 
 -- the comparison with a head, reported by what is asked

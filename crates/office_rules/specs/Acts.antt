@@ -1,6 +1,7 @@
 -- One step of the office for an act, and what a decision on it is. Source: own.
 use Rattle.std.specs.Prelude.{◌≡◌, ◌≤◌, ℕ, Bool, true, false, List, [], ◌∷◌, length, zero, suc}
 use Rattle.office_rules.specs.Meanings.{IsHeldIn}
+use Rattle.office_rules.specs.NewRecords.{new_record}
 use Rattle.office_rules.specs.Sound.{IsSoundOffice}
 use Rattle.office_rules.specs.State.{State, Office, ByteMap, with_contents}
 use Rattle.office_rules.specs.Steps.{step_add_schedule, step_add_class, step_set_class_schedule, step_add_aggregation, step_close_aggregation, step_add_record, step_set_record_schedule, step_reclassify, step_place_hold, step_hold_on, step_hold_off, step_lift_hold, step_confirm, step_review, step_open_run, step_run_step, step_receipt, step_event}
@@ -23,7 +24,8 @@ step s (act.AddClass day code title schedule) =
 step s (act.SetClassSchedule day class schedule) = step_set_class_schedule s day class schedule
 step s (act.AddAggregation day ref_text title parent class) = step_add_aggregation s day ref_text title parent class
 step s (act.CloseAggregation day a) = step_close_aggregation s day a
-step s (act.AddRecord day new) = step_add_record s day new
+step s (act.AddRecord day ref_text title originated aggregation class schedule content) =
+    step_add_record s day (new_record ref_text title originated aggregation class schedule content)
 step s (act.SetRecordSchedule day r schedule) = step_set_record_schedule s day r schedule
 step s (act.Reclassify day what class) = step_reclassify s day what class
 step s (act.Confirm day r named by) = step_confirm s day r named by
@@ -130,9 +132,13 @@ IsOnAggregations (act.CloseAggregation day a) = Unit {0}
 IsOnAggregations (act.Reclassify day what class) = Unit {0}
 IsOnAggregations _ = ⊥
 
--- a new record, or an act on a record's own schedule, confirmation, review, receipt or event
+-- an act that adds a record
+abbrev pub IsOnNewRecord : Act → Type 0
+IsOnNewRecord (act.AddRecord day ref_text title originated aggregation class schedule content) = Unit {0}
+IsOnNewRecord _ = ⊥
+
+-- an act on a record's own schedule, confirmation, review, receipt or event
 abbrev pub IsOnRecords : Act → Type 0
-IsOnRecords (act.AddRecord day new) = Unit {0}
 IsOnRecords (act.SetRecordSchedule day r schedule) = Unit {0}
 IsOnRecords (act.Confirm day r named by) = Unit {0}
 IsOnRecords (act.Review day r schedule by) = Unit {0}

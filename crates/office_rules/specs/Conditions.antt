@@ -20,9 +20,9 @@ use Rattle.office_terms.specs.declared.status.Status.{Status}
 use Rattle.office_holds.specs.Conditions.{conditions_of_place_hold, conditions_of_hold_off, conditions_of_lift_hold, holds_target, has_all_targets, is_lifted, would_leave_held_class}
 use Rattle.office_terms.specs.declared.target.Target.{Target}
 use Rattle.office_terms.specs.declared.target.Target.TheVariants as target
+use Rattle.office_rules.specs.NewRecords.{NewRecord}
 use Rattle.office_rules.specs.Runs.{open_run}
 use Rattle.office_rules.specs.State.{Office}
-use Rattle.office_rules.specs.declared.new_record.NewRecord.{NewRecord}
 
 -- of an act with a day: it is before the office's day; and the act's other conditions
 abbrev pub dated : Office → ℤ → List (Refusal × Bool) → List (Refusal × Bool)
@@ -135,8 +135,8 @@ refusals_of_event s day r occurred = dated s day (conditions_of_event s.tree day
 abbrev pub is_same_record : NewRecord → Record → Bool
 is_same_record new head =
     bytes_eq new.ref_text head.ref_text && bytes_eq new.title head.title && int_eq new.originated head.originated
-    && new.aggregation == head.aggregation && length new.content.items == head.length
-    && bytes_eq (sha256 new.content.items) head.digest
+    && new.aggregation == head.aggregation && length new.content == head.length
+    && bytes_eq (sha256 new.content) head.digest
 
 -- the number, counted from another, of the first that passes
 abbrev pub number_passing : {A : Type 0} → (A → Bool) → ℕ → List A → Option ℕ

@@ -13,8 +13,8 @@ use Rattle.office_terms.specs.declared.schedule.Schedule.{Schedule}
 use Rattle.office_holds.specs.Effects.{placed_hold, held_on, held_off, lifted_hold}
 use Rattle.office_holds.specs.Holds.{HoldMap}
 use Rattle.office_terms.specs.declared.target.Target.{Target}
+use Rattle.office_rules.specs.NewRecords.{NewRecord}
 use Rattle.office_rules.specs.State.{Office, State}
-use Rattle.office_rules.specs.declared.new_record.NewRecord.{NewRecord}
 use Rattle.office_rules.specs.declared.run.Run.{Run}
 
 -- an act of that day on the tree, or on the holds
@@ -51,8 +51,8 @@ new_head day new = record {
   aggregation = new.aggregation;
   class = new.class;
   schedule = new.schedule;
-  length = length new.content.items;
-  digest = sha256 new.content.items;
+  length = length new.content;
+  digest = sha256 new.content;
   review = None;
   confirmation = None;
   receipt = None;
@@ -63,7 +63,7 @@ after_add_record s day new = with_tree s day (added_record s.tree (new_head day 
 
 -- and its content under its number
 abbrev pub with_new_record : State → ℤ → NewRecord → State
-with_new_record s day new = record { office = after_add_record s.office day new; contents = insert s.contents (suc (length s.office.tree.records)) new.content.items }
+with_new_record s day new = record { office = after_add_record s.office day new; contents = insert s.contents (suc (length s.office.tree.records)) new.content }
 
 abbrev pub after_set_record_schedule : Office → ℤ → ℕ → Option (List ℕ) → Office
 after_set_record_schedule s day r schedule = with_tree s day (with_record_schedule s.tree r schedule)

@@ -4,6 +4,7 @@ use Rattle.office_days.specs.Limits.{IsDayNumber, longest}
 use Rattle.office_terms.specs.Forms.{IsCode, IsText}
 use Rattle.office_holds.specs.Forms.{IsWellFormedTarget}
 use Rattle.office_rules.specs.Meanings.{IsWellFormedNewRecord}
+use Rattle.office_rules.specs.NewRecords.{new_record}
 use Rattle.office_rules.specs.declared.act.Act.{Act}
 use Rattle.office_rules.specs.declared.act.Act.TheVariants as act
 
@@ -16,7 +17,8 @@ IsWellFormedAct (act.SetClassSchedule day class schedule) = IsDayNumber day × I
 IsWellFormedAct (act.AddAggregation day ref_text title parent class) =
     IsDayNumber day × IsText ref_text × IsText title × IfSome class IsCode
 IsWellFormedAct (act.CloseAggregation day a) = IsDayNumber day
-IsWellFormedAct (act.AddRecord day new) = IsDayNumber day × IsWellFormedNewRecord new
+IsWellFormedAct (act.AddRecord day ref_text title originated aggregation class schedule content) =
+    IsDayNumber day × IsWellFormedNewRecord (new_record ref_text title originated aggregation class schedule content)
 IsWellFormedAct (act.SetRecordSchedule day r schedule) = IsDayNumber day × IfSome schedule IsCode
 IsWellFormedAct (act.Reclassify day what class) = IsDayNumber day × IfSome class IsCode
 IsWellFormedAct (act.Confirm day r named by) = IsDayNumber day × IsText by

@@ -7,6 +7,7 @@ pub mod Forms
 pub mod Loading
 pub mod Giving
 pub mod Meanings
+pub mod NewRecords
 pub mod Readings
 pub mod Refusals
 pub mod Registers

@@ -7,11 +7,11 @@ use Rattle.office_days.specs.Limits.{IsDayNumber}
 use Rattle.office_holds.specs.Holds.{is_held}
 use Rattle.office_proof.specs.declared.outcome.Outcome.TheVariants.{Destroyed, Transferred}
 use Rattle.office_rules.specs.Disposing.{is_ready}
+use Rattle.office_rules.specs.NewRecords.{NewRecord}
 use Rattle.office_rules.specs.Runs.{cursor_of, run_day}
 use Rattle.office_rules.specs.State.{Office}
 use Rattle.office_rules.specs.declared.answer.Answer.{Answer}
 use Rattle.office_rules.specs.declared.answer.Answer.TheVariants.{Step}
-use Rattle.office_rules.specs.declared.new_record.NewRecord.{NewRecord}
 use Rattle.std.specs.Prelude.{IfSome}
 
 -- no condition of an act's table holds
@@ -41,4 +41,4 @@ pub record IsWellFormedNewRecord (new : NewRecord) : Type 0 where
   pub originated : IsDayNumber new.originated
   pub class : IfSome new.class IsCode
   pub schedule : IfSome new.schedule IsCode
-  pub content_few : length new.content.items ≤ 262_144
+  pub content_few : length new.content ≤ 262_144

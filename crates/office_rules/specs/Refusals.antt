@@ -4,6 +4,7 @@ use Rattle.office_base.specs.declared.refusal.Refusal.{Refusal}
 use Rattle.office_terms.specs.Conditions.{first_of}
 use Rattle.office_rules.specs.Acts.{step, is_of_change}
 use Rattle.office_rules.specs.Conditions.{refusals_of_add_schedule, refusals_of_add_class, refusals_of_set_class_schedule, refusals_of_add_aggregation, refusals_of_close_aggregation, refusals_of_add_record, refusals_of_set_record_schedule, refusals_of_reclassify, refusals_of_place_hold, refusals_of_hold_on, refusals_of_hold_off, refusals_of_lift_hold, refusals_of_confirm, refusals_of_review, refusals_of_open_run, refusals_of_run_step, refusals_of_receipt, refusals_of_event, same_record}
+use Rattle.office_rules.specs.NewRecords.{new_record}
 use Rattle.office_rules.specs.State.{State, Office}
 use Rattle.office_rules.specs.declared.act.Act.{Act}
 use Rattle.office_rules.specs.declared.act.Act.TheVariants as act
@@ -18,7 +19,8 @@ refusals_of s (act.SetClassSchedule day class schedule) = refusals_of_set_class_
 refusals_of s (act.AddAggregation day ref_text title parent class) =
     refusals_of_add_aggregation s day ref_text parent class
 refusals_of s (act.CloseAggregation day a) = refusals_of_close_aggregation s day a
-refusals_of s (act.AddRecord day new) = refusals_of_add_record s day new
+refusals_of s (act.AddRecord day ref_text title originated aggregation class schedule content) =
+    refusals_of_add_record s day (new_record ref_text title originated aggregation class schedule content)
 refusals_of s (act.SetRecordSchedule day r schedule) = refusals_of_set_record_schedule s day r schedule
 refusals_of s (act.Reclassify day what class) = refusals_of_reclassify s day what class
 refusals_of s (act.Confirm day r named by) = refusals_of_confirm s day r named
@@ -34,7 +36,8 @@ refusals_of s act.RunStep = refusals_of_run_step s
 
 -- the record that an act asks for again, which is there with all that it asks for
 abbrev pub asked_again : Office → Act → Option ℕ
-asked_again s (act.AddRecord day new) = same_record s new
+asked_again s (act.AddRecord day ref_text title originated aggregation class schedule content) =
+    same_record s (new_record ref_text title originated aggregation class schedule content)
 asked_again s _ = None
 
 -- what an act is answered: the record that is there already, or the first refusal whose condition holds, both without

@@ -16,10 +16,10 @@ use Rattle.office_terms.specs.declared.target.Target.TheVariants as target
 use Rattle.office_proof.specs.declared.entry.Entry.{Entry}
 use Rattle.office_proof.specs.declared.outcome.Outcome.TheVariants.{Destroyed}
 use Rattle.office_rules.specs.Effects.{with_tree, after_add_schedule, after_add_class, after_add_aggregation, after_close_aggregation, after_confirm, after_event, after_set_record_schedule, after_place_hold, after_hold_on, after_hold_off, after_lift_hold}
+use Rattle.office_rules.specs.NewRecords.{NewRecord}
 use Rattle.office_rules.specs.State.{Office, empty_office, empty_state, State}
 use Rattle.office_rules.specs.Steps.{step_open_run, step_run_step}
 use Rattle.office_rules.specs.declared.answer.Answer.{Answer}
-use Rattle.office_rules.specs.declared.new_record.NewRecord.{NewRecord}
 
 -- 2024-01-02, the day of the base office's acts
 abbrev pub filing_day : ℤ
@@ -96,7 +96,7 @@ pub record AsksFor (new : NewRecord) (name words : List ℕ) (container : ℕ) (
   pub aggregation : new.aggregation ≡ container
   pub class : new.class ≡ None
   pub schedule : new.schedule ≡ None
-  pub content : new.content.items ≡ bytes
+  pub content : new.content ≡ bytes
 
 -- the first record is confirmed on its due day
 abbrev pub confirmed_office : Office

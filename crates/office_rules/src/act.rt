@@ -1,5 +1,5 @@
 //! The acts.
-use crate::NewRecord;
+use crate::Content;
 use office_days::{Day, Offset, Period};
 use office_terms::{Action, AggNo, Classified, Code, RecordNo, Target, Text, Trigger};
 
@@ -45,7 +45,13 @@ pub enum Act {
     /// Adds a record with its content, which gets the next number.
     AddRecord {
         day: Day,
-        record: NewRecord,
+        ref_text: Text,
+        title: Text,
+        originated: Day,
+        aggregation: AggNo,
+        class: Option<Code>,
+        schedule: Option<Code>,
+        content: Content,
     },
     /// Gives a record an own schedule, or takes it away.
     SetRecordSchedule {

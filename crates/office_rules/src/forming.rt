@@ -3,11 +3,10 @@
 ghost use Rattle.std.specs.Prelude.{IfSome};
 ghost use Rattle.office_terms.specs.Forms.{IsCode};
 ghost use Rattle.office_holds.specs.Forms.{IsWellFormedTarget};
-ghost use Rattle.office_rules.specs.Acts.{IsOnAggregations, IsOnHolds, IsOnRecords, IsOnRuns, IsOnSchedules};
+ghost use Rattle.office_rules.specs.Acts.{IsOnAggregations, IsOnHolds, IsOnNewRecord, IsOnRecords, IsOnRuns, IsOnSchedules};
 ghost use Rattle.office_rules.specs.Forms.{IsWellFormedAct};
-ghost use Rattle.office_rules.specs.Meanings.{IsWellFormedNewRecord};
 
-use crate::{Act, NewRecord};
+use crate::Act;
 use office_terms::{Code, Target};
 
 /// A code, if there is one, is of its form.
@@ -31,17 +30,6 @@ fn well_formed_target(target: &Target)
     }
 }
 
-/// The members of a new record are of their forms, and its content is not too long.
-fn well_formed_new_record(new: &NewRecord)
-    ensures { IsWellFormedNewRecord new.now }
-{
-    let _ = new.ref_text.text();
-    let _ = new.title.text();
-    let _ = new.originated.number();
-    well_formed_code_or_none(&new.class);
-    well_formed_code_or_none(&new.schedule);
-}
-
 impl Act {
     /// Makes known to proofs that what an act asks for is of its form: a call does nothing.
     pub fn formed(&self)
@@ -54,8 +42,8 @@ impl Act {
             Act::AddAggregation { .. } | Act::CloseAggregation { .. } | Act::Reclassify { .. } => {
                 self.well_formed_on_aggregations()
             }
-            Act::AddRecord { .. }
-            | Act::SetRecordSchedule { .. }
+            Act::AddRecord { .. } => self.well_formed_on_new_record(),
+            Act::SetRecordSchedule { .. }
             | Act::Confirm { .. }
             | Act::Review { .. }
             | Act::Receipt { .. }
@@ -137,16 +125,40 @@ impl Act {
         }
     }
 
-    /// A new record, or an act on a record, is of its form.
+    /// An act that adds a record is of its form, and the content is not too long.
+    fn well_formed_on_new_record(&self)
+        requires { IsOnNewRecord self.now }
+        ensures { IsWellFormedAct self.now }
+    {
+        match self {
+            Act::AddRecord {
+                day,
+                ref_text,
+                title,
+                originated,
+                class,
+                schedule,
+                content,
+                ..
+            } => {
+                let _ = day.number();
+                let _ = ref_text.text();
+                let _ = title.text();
+                let _ = originated.number();
+                well_formed_code_or_none(class);
+                well_formed_code_or_none(schedule);
+                let _ = content.bytes();
+            }
+            _ => unreachable!(),
+        }
+    }
+
+    /// An act on a record is of its form.
     fn well_formed_on_records(&self)
         requires { IsOnRecords self.now }
         ensures { IsWellFormedAct self.now }
     {
         match self {
-            Act::AddRecord { day, record } => {
-                let _ = day.number();
-                well_formed_new_record(record);
-            }
             Act::SetRecordSchedule { day, schedule, .. } => {
                 let _ = day.number();
                 well_formed_code_or_none(schedule);

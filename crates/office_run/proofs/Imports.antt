@@ -46,7 +46,7 @@ all_done g day text refused old desk written after false is h = λ t clean repre
 
 row_cut : {S : Type 0} (g : Ghosts S) (day : ℤ) (u : State) (row : Fields) (f : Fault) (desk : DeskState S) → IsRowStopped g day u row f desk → IsRowCut day u row f (state g desk.held)
 row_cut g day u row f desk (inl it) = inl (it.0, it.1.rows)
-row_cut g day u row f desk (inr it) = inr (it.0, it.1, it.2, it.3, it.4.1)
+row_cut g day u row f desk (inr it) = inr (it.0, it.1, it.2, it.3.1)
 
 cut : {S : Type 0} (g : Ghosts S) (day : ℤ) (text : Option (List ℕ)) (u : State) (rows : List Fields) (f : Fault) (desk : DeskState S)
     → (f ≡ fault.Memory) × ArePrefixRows text rows × IsAt g u desk ⊎ ((row : Fields) × AreSomeRows text (rows ++ row ∷ []) × IsRowStopped g day u row f desk)

@@ -21,7 +21,6 @@ use Rattle.office_desk.specs.Headline.{AreWellFormed}
 use Rattle.office_desk.specs.Leaving.{IsAt, StopsAt, StopsLeaving}
 use Rattle.office_desk.proofs.Found.{after-append}
 use Rattle.office_desk.proofs.StepFates.{after_run, run_steps}
-use Rattle.office_json.specs.Acts.{Asked}
 use Rattle.office_json.specs.Lists.{NoActs, acts_in, bad_act, not_json}
 use Rattle.office_wire.specs.Answering.{AnyAnswer, IsUnreported, PerformsAsked, Resumes, Serves}
 use Rattle.office_wire.specs.Connections.{Turn, Turns}
@@ -76,9 +75,9 @@ module _ (stay : StaySound) (ends : IsEnded) {S : Type 0} (g : Ghosts S) where
   stop_served s v w to_v to_w sv sw fault.Version d stops left = absurd stops
 
   module _ (t : State) (sound : IsSound t) (d : DeskState S) where
-    acts_served : (asked : Result (List Asked) NoActs) → PerformsAsked AnyAnswer g t asked d → ServedAt t d
-    acts_served (Ok all) (done, same, inl it) = inl (after_acts t done, (done, it.formed, refl), it.represents)
-    acts_served (Ok all) (done, same, inr (f, n, it)) =
+    acts_served : (asked : Result (List Act) NoActs) → PerformsAsked AnyAnswer g t asked d → ServedAt t d
+    acts_served (Ok done) (inl it) = inl (after_acts t done, (done, it.formed, refl), it.represents)
+    acts_served (Ok done) (inr (f, n, it)) =
         let sound_at = λ (k : ℕ). sound_acts stay (take k done) t sound (well_formed_prefix k done it.formed) in
         stop_served t (after_acts t (take n done)) (after_acts t (take (n + 1) done)) (prefix_to n t done it.formed) (prefix_to (n + 1) t done it.formed) (sound_at n) (sound_at (n + 1)) f d it.stops it.leaves
     acts_served (Err not_json) it = as_it_was t d it.1

@@ -1,5 +1,5 @@
 -- At which state a word leaves an office, whatever a crash leaves of it.
-use Rattle.std.proofs.Common.{◌≡◌, ◌⊎◌, inl, inr, ℕ, ℤ, zero, suc, ◌+◌, List, [], ◌∷◌, ◌++◌, length, map, take, Option, Some, Result, Ok, Err, refl, sym, ap, subst, ◌∙◌, append-nil, arith}
+use Rattle.std.proofs.Common.{◌≡◌, ◌⊎◌, inl, inr, ℕ, ℤ, zero, suc, ◌+◌, List, [], ◌∷◌, ◌++◌, length, take, Option, Some, Result, Ok, Err, refl, sym, ap, subst, ◌∙◌, append-nil, arith}
 use Rattle.std.proofs.Math.Seq.{take-length}
 use Rattle.std.specs.Prelude.{option_map}
 use Rattle.std.specs.Io.KnownBytes.{Appends}
@@ -28,10 +28,9 @@ use Rattle.office_desk.specs.Headline.{AreWellFormed}
 use Rattle.office_desk.specs.Leaving.{StopsLeaving}
 use Rattle.office_desk.specs.Opening.{RepresentIn}
 use Rattle.office_desk.proofs.RunSteps.{step_run}
-use Rattle.office_json.specs.Acts.{AskedRecord, asked}
 use Rattle.office_json.specs.Answers.{answer_lines}
 use Rattle.office_json.specs.Lists.{acts_in}
-use Rattle.office_csv.specs.ImportRows.{Fields, record_asked}
+use Rattle.office_csv.specs.ImportRows.{Fields, act_asked}
 use Rattle.office_wire.specs.Importing.{ArePrefixRows, AreRowsDone, AreSomeRows, IsAnsweredBy, lines_from}
 use Rattle.office_words.specs.Orders.{Ordered, application_ordered, certificate_ordered, due_day_ordered, exportation_ordered, importation_ordered, init_file_ordered, nothing_ordered, overdue_ordered, plan_file_ordered, resumption_ordered, service_ordered}
 use Rattle.office_words.specs.declared.register.Register.{Register}
@@ -75,13 +74,13 @@ module _ (stay : StaySound) where
   sound_steps zero s sound = sound
   sound_steps (suc n) s sound = sound_steps n _ (subst IsSound (step_run s) (stay s act.RunStep sound tt))
 
-  sound_row : (day : ℤ) (s t : State) (answer : Answer) (x : Result AskedRecord Refusal) → IsAnsweredBy day s x answer t → IsSound s → IsSound t
-  sound_row day s t answer (Ok new) (a, adding, reported, is) sound = subst IsSound (sym is) (stay s a sound adding.0)
-  sound_row day s t answer (Err why) (reported, is) sound = subst IsSound (sym is) sound
+  sound_row : (s t : State) (answer : Answer) (x : Result Act Refusal) → IsAnsweredBy s x answer t → IsSound s → IsSound t
+  sound_row s t answer (Ok a) (formed, reported, is) sound = subst IsSound (sym is) (stay s a sound formed)
+  sound_row s t answer (Err why) (reported, is) sound = subst IsSound (sym is) sound
 
   sound_rows : (day : ℤ) (s t : State) (rows : List Fields) (answers : List Answer) → AreRowsDone day s rows answers t → IsSound s → IsSound t
   sound_rows day s t [] answers (none, is) sound = subst IsSound (sym is) sound
-  sound_rows day s t (row ∷ rows) answers (answer, rest, m, reported, one, all) sound = sound_rows day m t rows rest all (sound_row day s m answer (record_asked row) one sound)
+  sound_rows day s t (row ∷ rows) answers (answer, rest, m, reported, one, all) sound = sound_rows day m t rows rest all (sound_row s m answer (act_asked day row) one sound)
 
 -- ---- what a crash leaves
 
@@ -185,7 +184,7 @@ module _ (one : IsOneDatabase) (stay : StaySound) (ends : IsEnded) (old new : Fi
       abbrev ActsLeft : Ending → State → Type 0
       ActsLeft ending u = IsUntouched written after s u ⊎ AreActsDone text written after ending s u
 
-      module _ (acts : List Act) (read : acts_in text ≡ Ok (map asked acts)) where
+      module _ (acts : List Act) (read : acts_in text ≡ Ok acts) where
         all_left : (ending : Ending) → AreWellFormed acts → HoldsRows (rows_of (after_acts s acts)) new → (ending ≡ how.File) ⊎ Appends written after (answer_lines (answers s acts)) → LeavesAt (ActsLeft ending) new
         all_left ending formed holds reported db may =
             let all : acts ≡ take (length acts) acts = sym (take-length acts) in (
@@ -284,9 +283,9 @@ module _ (one : IsOneDatabase) (stay : StaySound) (ends : IsEnded) (old new : Fi
         }),
         at_rows new u (sound_rows stay day s u fs reported done sound) it.1 db may,
       )
-      cut_row ending fs reported u row f some done lines (inr (new_record, a, is, adding, left)) db may =
+      cut_row ending fs reported u row f some done lines (inr (a, is, formed, left)) db may =
           let sound_u = sound_rows stay day s u fs reported done sound in
-          elim (at_stop new u (step u a).1 f sound_u (stay u a sound_u adding.0) left db may) [
+          elim (at_stop new u (step u a).1 f sound_u (stay u a sound_u formed) left db may) [
             | inl here ↦ (
               u,
               inr (record {
@@ -309,7 +308,7 @@ module _ (one : IsOneDatabase) (stay : StaySound) (ends : IsEnded) (old new : Fi
                 begins = (row ∷ [], inr some);
                 done = done;
                 answered = inr lines;
-                state = inr (row, (step u a).0, (rw is (a, adding, refl, refl)));
+                state = inr (row, (step u a).0, (rw is (formed, refl, refl)));
               }),
               next,
             )

@@ -5,6 +5,7 @@ use Rattle.csv.specs.Reading.{strip_bom}
 use Rattle.csv.specs.declared.parser.State.TheVariants.{StartRecord}
 use Rattle.sqlite.specs.State.{State as FileState}
 use Rattle.office_rules.specs.Acts.{step}
+use Rattle.office_rules.specs.Forms.{IsWellFormedAct}
 use Rattle.office_rules.specs.Rows.{rows_of}
 use Rattle.office_rules.specs.State.{State}
 use Rattle.office_rules.specs.declared.act.Act.{Act}
@@ -13,12 +14,11 @@ use Rattle.office_store.specs.RepresentsRows.{HoldsRows}
 use Rattle.office_store.specs.declared.fault.Fault.{Fault}
 use Rattle.office_store.specs.declared.fault.Fault.TheVariants as fault
 use Rattle.office_desk.specs.Leaving.{StopsLeaving}
-use Rattle.office_json.specs.Acts.{AskedRecord}
-use Rattle.office_csv.specs.ImportRows.{Fields, record_asked}
+use Rattle.office_csv.specs.ImportRows.{Fields, act_asked}
 use Rattle.office_csv.specs.ImportText.{LacksHeader}
 use Rattle.office_wire.specs.declared.importing.ImportStop.{ImportStop}
 use Rattle.office_wire.specs.declared.importing.ImportStop.TheVariants as import
-use Rattle.office_wire.specs.Importing.{IsAdding, AreAllRows, AreLinesOut, ArePrefixRows, AreRowsBeforeBad, AreRowsDone, AreSomeRows, lines_from, refused_count}
+use Rattle.office_wire.specs.Importing.{AreAllRows, AreLinesOut, ArePrefixRows, AreRowsBeforeBad, AreRowsDone, AreSomeRows, lines_from, refused_count}
 use Rattle.office_orders.specs.Opening.{IsNotOpened, IsOfOpened}
 use Rattle.office_orders.specs.declared.ending.Ending.{Ending}
 use Rattle.office_orders.specs.declared.ending.Ending.TheVariants as how
@@ -54,8 +54,7 @@ AreSavedBeforeBad day text number new written after t =
 abbrev pub IsRowCut : ℤ → State → Fields → Fault → FileState → Type 0
 IsRowCut day u row f new =
     ((f ≡ fault.Memory) × HoldsRows (rows_of u) new)
-    ⊎ ((record_read : AskedRecord) × (act : Act) × (record_asked row ≡ Ok record_read) × IsAdding day record_read act
-    × StopsLeaving u (step u act).1 f new)
+    ⊎ ((act : Act) × (act_asked day row ≡ Ok act) × IsWellFormedAct act × StopsLeaving u (step u act).1 f new)
 
 -- a fault stopped the import after some rows: memory ran out for the next one, or that one was cut
 abbrev pub AreCutShort : ℤ → Option (List ℕ) → Fault → FileState → Option (List ℕ) → Option (List ℕ) → State → Type 0

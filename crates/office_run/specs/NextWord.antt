@@ -1,6 +1,6 @@
 -- From one word of the program to the next: at which state a word leaves an office, and what its two files hold then.
 -- Source: own.
-use Rattle.std.specs.Prelude.{◌≡◌, ◌⊎◌, ◌+◌, ◌≤◌, ℕ, ℤ, IsTrue, List, ◌++◌, length, map, take, Option, Ok, Some, option_map}
+use Rattle.std.specs.Prelude.{◌≡◌, ◌⊎◌, ◌+◌, ◌≤◌, ℕ, ℤ, IsTrue, List, ◌++◌, length, take, Option, Ok, Some, option_map}
 use Rattle.std.specs.Io.KnownBytes.{Appends}
 use Rattle.csv.specs.Reading.{strip_bom}
 use Rattle.sqlite_disk.specs.declared.Disk.{Ghosts}
@@ -24,7 +24,6 @@ use Rattle.office_sql.specs.Office.{IsOfficeIn}
 use Rattle.office_store.specs.RepresentsRows.{RepresentsRowsIn}
 use Rattle.office_desk.specs.Headline.{AreWellFormed}
 use Rattle.office_words.specs.Orders.{Ordered, application_ordered, certificate_ordered, due_day_ordered, exportation_ordered, importation_ordered, init_file_ordered, nothing_ordered, overdue_ordered, plan_file_ordered, resumption_ordered, service_ordered}
-use Rattle.office_json.specs.Acts.{asked}
 use Rattle.office_json.specs.Answers.{answer_lines}
 use Rattle.office_json.specs.Lists.{acts_in}
 use Rattle.office_csv.specs.ImportRows.{Fields}
@@ -61,7 +60,7 @@ IsUntouched written after s u = (u ≡ s) × (after ≡ written)
 -- them
 pub record AreActsDone (text : List ℕ) (written after : Option (List ℕ)) (ending : Ending) (s u : State) : Type 0 where
   pub acts : List Act
-  pub read : acts_in text ≡ Ok (map asked acts)
+  pub read : acts_in text ≡ Ok acts
   pub count : ℕ
   pub within : count ≤ length acts
   pub answered : (ending ≡ how.File) ⊎ Appends written after (answer_lines (answers s (take count acts)))

@@ -4,7 +4,6 @@ use Rattle.sqlite_trees.specs.declared.store.Store.{Ghosts}
 use Rattle.office_rules.specs.State.{State}
 use Rattle.office_rules.specs.declared.act.Act.{Act}
 use Rattle.office_desk.specs.Desk.{DeskState}
-use Rattle.office_json.specs.Acts.{Asked}
 use Rattle.office_json.specs.Lists.{NoActs, not_json, bad_act}
 use Rattle.office_http.specs.Replies.{Response}
 use Rattle.office_wire.specs.Answering.{AnyAnswer, ArePerformed, PerformsAsked, Resumes, Serves, RunsOutOfMemory, ReportsCertificate, ReportsContent, ReportsDue, ReportsOverdue, ReportsRecord}
@@ -27,8 +26,8 @@ performed_any Reported g t done desk (inr it) = inr (
   },
 )
 
-asked_any : {S : Type 0} (Reported : Response → Type 0) (g : Ghosts S) (t : State) (asked : Result (List Asked) NoActs) (desk : DeskState S) → PerformsAsked Reported g t asked desk → PerformsAsked AnyAnswer g t asked desk
-asked_any Reported g t (Ok all) desk it = (it.0, it.1, performed_any Reported g t it.0 desk it.2)
+asked_any : {S : Type 0} (Reported : Response → Type 0) (g : Ghosts S) (t : State) (asked : Result (List Act) NoActs) (desk : DeskState S) → PerformsAsked Reported g t asked desk → PerformsAsked AnyAnswer g t asked desk
+asked_any Reported g t (Ok done) desk it = performed_any Reported g t done desk it
 asked_any Reported g t (Err not_json) desk it = (tt, it.1)
 asked_any Reported g t (Err (bad_act place why)) desk it = (tt, it.1)
 

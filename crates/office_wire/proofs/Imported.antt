@@ -18,11 +18,10 @@ use Rattle.office_store.specs.declared.fault.Fault.TheVariants as fault
 use Rattle.office_desk.specs.Calling.{PerformedOne}
 use Rattle.office_desk.specs.Desk.{DeskState}
 use Rattle.office_desk.specs.Leaving.{IsAt, StopsAt}
-use Rattle.office_json.specs.Acts.{AskedRecord, adds, asked}
 use Rattle.office_json.specs.Parts.{fault_of}
 use Rattle.office_json.specs.declared.read_fault.ReadFault.TheVariants.{Refused, Memory}
 use Rattle.office_json.proofs.Appending.{appends_both}
-use Rattle.office_csv.specs.ImportRows.{Fields, fields_in, record_asked}
+use Rattle.office_csv.specs.ImportRows.{Fields, act_asked, fields_in}
 use Rattle.office_csv.specs.ImportText.{AreAtPrefix, HeadsText, TakesNoText}
 use Rattle.office_csv.specs.declared.reading.RowStop.{RowStop}
 use Rattle.office_csv.specs.declared.reading.RowStop.TheVariants as row_stop
@@ -35,16 +34,16 @@ use Rattle.office_wire.proofs.Calls.{called, called_on, not_called}
 
 -- ---- one row
 
--- a record was read, and its act was done or stopped
-pub row_ended : {S : Type 0} (g : Ghosts S) (day : ℤ) (s : State) (row : Fields) (new : AskedRecord) (act : Act) (x : Result Answer Fault) (old desk : DeskState S) (At : Type 0) → record_asked row ≡ Ok new → asked act ≡ adds day new
+-- an act was read, and was done or stopped
+pub row_ended : {S : Type 0} (g : Ghosts S) (day : ℤ) (s : State) (row : Fields) (act : Act) (x : Result Answer Fault) (old desk : DeskState S) (At : Type 0) → act_asked day row ≡ Ok act
     → old.office ≡ s.office → PerformedOne g s act x old desk At → At → EndsRow g day s row x desk
-row_ended g day s row new act (Ok answer) old desk At read is same it at = ((step s act).1, (rw read (act, (it.formed, is), it.ends.answered, refl)), it.ends.represents at)
-row_ended g day s row new act (Err f) old desk At read is same it at = inr (new, act, read, (it.formed, is), (subst (λ (o : Office). StopsAt o f desk) same it.ends.stops, it.ends.left at))
+row_ended g day s row act (Ok answer) old desk At read same it at = ((step s act).1, (rw read (it.formed, it.ends.answered, refl)), it.ends.represents at)
+row_ended g day s row act (Err f) old desk At read same it at = inr (act, read, it.formed, (subst (λ (o : Office). StopsAt o f desk) same it.ends.stops, it.ends.left at))
 
--- no record was read, since a field is not of its form or out of its range
-pub bad_row : (x : Result AskedRecord Refusal) (why : Refusal) → (Refused why ≡ Memory) ⊎ (Refused why ≡ fault_of x) → x ≡ Err why
-bad_row (Ok new) why (inl e) = cc
-bad_row (Ok new) why (inr e) = cc
+-- no act was read, since a field is not of its form or out of its range
+pub bad_row : (x : Result Act Refusal) (why : Refusal) → (Refused why ≡ Memory) ⊎ (Refused why ≡ fault_of x) → x ≡ Err why
+bad_row (Ok act) why (inl e) = cc
+bad_row (Ok act) why (inr e) = cc
 bad_row (Err other) why (inl e) = cc
 bad_row (Err other) why (inr e) = cc
 

@@ -1,11 +1,10 @@
 -- How what was done is answered.
-use Rattle.std.proofs.Common.{◌≡◌, inr, refl, subst, sym, ℕ, List, map, Result, Ok, Err}
+use Rattle.std.proofs.Common.{◌≡◌, inr, refl, subst, sym, ℕ, List, Result, Ok, Err}
 use Rattle.sqlite_trees.specs.declared.store.Store.{Ghosts}
 use Rattle.office_rules.specs.State.{State}
 use Rattle.office_rules.specs.declared.act.Act.{Act}
 use Rattle.office_base.specs.declared.memory.Memory.{Memory}
 use Rattle.office_desk.specs.Desk.{DeskState}
-use Rattle.office_json.specs.Acts.{Asked, asked}
 use Rattle.office_json.specs.Lists.{NoActs, acts_in}
 use Rattle.office_http.specs.Replies.{Response, failure_response}
 use Rattle.office_http.specs.declared.failure.Failure.TheVariants as failure
@@ -39,13 +38,13 @@ pub run_performed : {S : Type 0} (g : Ghosts S) (reply : Result Reply Memory) (o
 run_performed g reply old new it = performed g resumption reply old new tt (λ t served. served) it
 
 -- the acts of a body
-pub body_performed : {S : Type 0} (g : Ghosts S) (body : List ℕ) (seen done : List Act) (reply : Result Reply Memory) (old new : DeskState S) → seen ≡ done → acts_in body ≡ Ok (map asked done)
+pub body_performed : {S : Type 0} (g : Ghosts S) (body : List ℕ) (seen done : List Act) (reply : Result Reply Memory) (old new : DeskState S) → seen ≡ done → acts_in body ≡ Ok done
     → ArePerformedBy g seen reply old new → IsAnswered g (acts body) reply old new
 body_performed g body seen done reply old new same read it =
     performed g (acts body) reply old new tt (λ t served. inr served)
     (answered g old new (λ t. ArePerformed (IsGiven reply) g t seen new) (λ t. Serves (IsGiven reply) g t (acts body) new) _ (IsGiven reply (gone_response (acts body))) (IsGivenUnavailable reply) (IsGivenUnavailable reply) it
-    (λ t is. subst (λ (x : Result (List Asked) NoActs). PerformsAsked (IsGiven reply) g t x new) (sym read) (done, refl, subst (λ (x : List Act). ArePerformed (IsGiven reply) g t x new) same is))
-    (λ gone. subst (λ (x : Result (List Asked) NoActs). IsGiven reply (gone_acts x)) (sym read) gone) (λ reported. reported))
+    (λ t is. subst (λ (x : Result (List Act) NoActs). PerformsAsked (IsGiven reply) g t x new) (sym read) (subst (λ (x : List Act). ArePerformed (IsGiven reply) g t x new) same is))
+    (λ gone. subst (λ (x : Result (List Act) NoActs). IsGiven reply (gone_acts x)) (sym read) gone) (λ reported. reported))
 
 -- memory ran out for the answer, and that is reported
 pub out_of_memory : {S : Type 0} (g : Ghosts S) (wanted : Wanted) (e : Memory) (r : Response) (old new : DeskState S) → r ≡ failure_response failure.Memory → IsAnswered g wanted (Err e) old new → HasReply g wanted r old new

@@ -1,6 +1,6 @@
 -- What is answered to what is asked of the office, and where the desk is then. Source: own.
 use Rattle.std.specs.FinMap.{get}
-use Rattle.std.specs.Prelude.{◌≡◌, ◌≢◌, ◌⊎◌, ◌+◌, ◌≤◌, ℕ, ℤ, suc, IfOk, IsSome, IsTrue, List, MatchResult, [], length, map, take, Option, Some, None, Result, Ok, Err}
+use Rattle.std.specs.Prelude.{◌≡◌, ◌≢◌, ◌⊎◌, ◌+◌, ◌≤◌, ℕ, ℤ, suc, IfOk, IsSome, IsTrue, List, MatchResult, [], length, take, Option, Some, None, Result, Ok, Err}
 use Rattle.sqlite.specs.Held.{state}
 use Rattle.sqlite_trees.specs.declared.store.Store.{Ghosts}
 use Rattle.office_base.specs.declared.refusal.Refusal.TheVariants as refusal
@@ -20,7 +20,6 @@ use Rattle.office_desk.specs.Fates.{LeavesFates, LeavesStepFates}
 use Rattle.office_desk.specs.Headline.{AreWellFormed}
 use Rattle.office_desk.specs.Leaving.{IsContentReported, IsOtherContent, LeavesOne, LeavesRowsOf, IsAt, StopsAt, StopsLeaving}
 use Rattle.office_desk.specs.Resuming.{LeavesMidway}
-use Rattle.office_json.specs.Acts.{Asked, asked}
 use Rattle.office_json.specs.Lists.{NoActs, not_json, bad_act, acts_in}
 use Rattle.office_http.specs.Replies.{Response, check_response, failure_response, response}
 use Rattle.office_http.specs.declared.failure.Failure.{Failure}
@@ -58,10 +57,9 @@ ArePerformed Reported g t done desk =
     AreDone Reported g t done desk ⊎ ((f : Fault) × (n : ℕ) × AreStopped Reported g t done f n desk)
 
 -- what bytes ask for, by what is read of them
-abbrev pub PerformsAsked : {S : Type 0} → (Response → Type 0) → Ghosts S → State → Result (List Asked) NoActs
+abbrev pub PerformsAsked : {S : Type 0} → (Response → Type 0) → Ghosts S → State → Result (List Act) NoActs
     → DeskState S → Type 0
-PerformsAsked Reported g t (Ok all) desk =
-    (done : List Act) × (all ≡ map asked done) × ArePerformed Reported g t done desk
+PerformsAsked Reported g t (Ok done) desk = ArePerformed Reported g t done desk
 PerformsAsked Reported g t (Err not_json) desk = Reported (failure_response failure.Json) × IsAt g t desk
 PerformsAsked Reported g t (Err (bad_act place why)) desk = Reported (bad_act_response place why) × IsAt g t desk
 
@@ -184,7 +182,7 @@ Answers g t wanted response desk = Serves (λ reported. response ≡ reported) g
 -- ---- a poisoned desk
 
 -- acts are stopped before the first one
-abbrev pub gone_acts : Result (List Asked) NoActs → Response
+abbrev pub gone_acts : Result (List Act) NoActs → Response
 gone_acts (Ok all) = stopped_response [] fault.Reopen
 gone_acts (Err not_json) = failure_response failure.Json
 gone_acts (Err (bad_act place why)) = bad_act_response place why

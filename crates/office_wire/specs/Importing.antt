@@ -20,8 +20,7 @@ use Rattle.office_store.specs.declared.fault.Fault.{Fault}
 use Rattle.office_store.specs.declared.fault.Fault.TheVariants as fault
 use Rattle.office_desk.specs.Desk.{DeskState}
 use Rattle.office_desk.specs.Leaving.{IsAt, StopsAt, StopsLeaving}
-use Rattle.office_json.specs.Acts.{AskedRecord, adds, asked}
-use Rattle.office_csv.specs.ImportRows.{Fields, fields_in, record_asked}
+use Rattle.office_csv.specs.ImportRows.{Fields, act_asked, fields_in}
 use Rattle.office_csv.specs.ImportText.{AreAtPrefix, HeadsText, IsBadNext, IsEnded, LacksHeader}
 use Rattle.office_csv.specs.declared.reading.RowStop.{RowStop}
 use Rattle.office_csv.specs.declared.reading.RowStop.TheVariants as row_stop
@@ -31,19 +30,14 @@ use Rattle.office_wire.specs.declared.importing.ImportStop.TheVariants as stop
 
 -- ---- one row
 
--- the act adds this record on the day
-abbrev pub IsAdding : ℤ → AskedRecord → Act → Type 0
-IsAdding day new act = IsWellFormedAct act × (asked act ≡ adds day new)
+-- a row is answered by the step of the act that it asks for, or with its refusal, and then nothing is done
+abbrev pub IsAnsweredBy : State → Result Act Refusal → Answer → State → Type 0
+IsAnsweredBy s (Ok act) answer t = IsWellFormedAct act × (answer ≡ (step s act).0) × (t ≡ (step s act).1)
+IsAnsweredBy s (Err why) answer t = (answer ≡ kind.Refused why) × (t ≡ s)
 
--- a row is answered by the step of the act that adds its record on the day, or with its refusal, and then nothing is
--- done
-abbrev pub IsAnsweredBy : ℤ → State → Result AskedRecord Refusal → Answer → State → Type 0
-IsAnsweredBy day s (Ok new) answer t =
-    (act : Act) × IsAdding day new act × (answer ≡ (step s act).0) × (t ≡ (step s act).1)
-IsAnsweredBy day s (Err why) answer t = (answer ≡ kind.Refused why) × (t ≡ s)
-
+-- the act of a row adds its record on the day
 abbrev pub IsRowDone : ℤ → State → Fields → Answer → State → Type 0
-IsRowDone day s row answer t = IsAnsweredBy day s (record_asked row) answer t
+IsRowDone day s row answer t = IsAnsweredBy s (act_asked day row) answer t
 
 -- a fault stopped an act on the way to the state after it
 abbrev pub IsActStopped : {S : Type 0} → Ghosts S → State → Act → Fault → DeskState S → Type 0
@@ -53,8 +47,7 @@ IsActStopped g s act f desk = StopsAt s.office f desk × StopsLeaving s (step s 
 abbrev pub IsRowStopped : {S : Type 0} → Ghosts S → ℤ → State → Fields → Fault → DeskState S → Type 0
 IsRowStopped g day s row f desk =
     ((f ≡ fault.Memory) × IsAt g s desk)
-    ⊎ ((new : AskedRecord) × (act : Act) × (record_asked row ≡ Ok new) × IsAdding day new act
-    × IsActStopped g s act f desk)
+    ⊎ ((act : Act) × (act_asked day row ≡ Ok act) × IsWellFormedAct act × IsActStopped g s act f desk)
 
 -- a row was answered, or stopped
 abbrev pub EndsRow : {S : Type 0} → Ghosts S → ℤ → State → Fields → Result Answer Fault → DeskState S → Type 0

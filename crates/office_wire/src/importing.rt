@@ -17,7 +17,7 @@ use office_csv::{
 use office_days::Day;
 use office_desk::Desk;
 use office_json::ReadFault;
-use office_rules::{Act, Answer};
+use office_rules::Answer;
 use office_store::Fault;
 use sqlite::Alter;
 use std::alloc::Global;
@@ -46,8 +46,8 @@ fn answer_row<S: Alter>(
     ensures { CalledAt S.Store desk.old desk.new
         (λ s. EndsRow S.Store day s (named row.now) result desk.new) }
 {
-    match read_import_row(alloc, row) {
-        Ok(record) => desk.perform(&Act::AddRecord { day, record }),
+    match read_import_row(alloc, day, row) {
+        Ok(act) => desk.perform(&act),
         Err(ReadFault::Refused(refusal)) => Ok(Answer::Refused(refusal)),
         Err(ReadFault::Memory) => Err(Fault::Memory),
     }

@@ -14,7 +14,7 @@ use serde_json::Value;
 use std::alloc::Global;
 
 /// `add-aggregation`: an aggregation is added.
-#[tactic(auto, unfolding(crate::specs::Acts::add_aggregation_asked, crate::specs::Acts::asked))]
+#[tactic(auto, unfolding(crate::specs::Acts::add_aggregation_asked))]
 pub(crate) fn add_aggregation(alloc: Global, value: &Value) -> Result<Act, ReadFault>
     ensures { IsActRead (add_aggregation_asked (view value.now)) result }
 {
@@ -42,7 +42,7 @@ pub(crate) fn add_aggregation(alloc: Global, value: &Value) -> Result<Act, ReadF
 }
 
 /// `close-aggregation`: an aggregation is closed for good.
-#[tactic(auto, unfolding(crate::specs::Acts::close_aggregation_asked, crate::specs::Acts::asked))]
+#[tactic(auto, unfolding(crate::specs::Acts::close_aggregation_asked))]
 pub(crate) fn close_aggregation(value: &Value) -> Result<Act, ReadFault>
     ensures { IsActRead (close_aggregation_asked (view value.now)) result }
 {
@@ -56,7 +56,7 @@ pub(crate) fn close_aggregation(value: &Value) -> Result<Act, ReadFault>
 }
 
 /// `reclassify`: an aggregation or a record gets an own class, or loses it.
-#[tactic(auto, unfolding(crate::specs::Acts::reclassify_asked, crate::specs::Acts::asked))]
+#[tactic(auto, unfolding(crate::specs::Acts::reclassify_asked))]
 pub(crate) fn reclassify(alloc: Global, value: &Value) -> Result<Act, ReadFault>
     ensures { IsActRead (reclassify_asked (view value.now)) result }
 {

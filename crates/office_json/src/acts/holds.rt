@@ -15,7 +15,7 @@ use serde_json::Value;
 use std::alloc::Global;
 
 /// `place-hold`: a hold is placed under a new code.
-#[tactic(auto, unfolding(crate::specs::Acts::place_hold_asked, crate::specs::Acts::asked))]
+#[tactic(auto, unfolding(crate::specs::Acts::place_hold_asked))]
 pub(crate) fn place_hold(alloc: Global, value: &Value) -> Result<Act, ReadFault>
     ensures { IsActRead (place_hold_asked (view value.now)) result }
 {
@@ -54,7 +54,7 @@ fn hold_target(alloc: Global, value: &Value) -> Result<(Day, (Code, Target)), Re
 }
 
 /// `hold-on`: a target is put on a hold.
-#[tactic(auto, using(crate::proofs::Made::fault_made), unfolding(crate::specs::Acts::hold_on_asked, crate::specs::Acts::asked))]
+#[tactic(auto, using(crate::proofs::Made::fault_made), unfolding(crate::specs::Acts::hold_on_asked))]
 pub(crate) fn hold_on(alloc: Global, value: &Value) -> Result<Act, ReadFault>
     ensures { IsActRead (hold_on_asked (view value.now)) result }
 {
@@ -65,7 +65,7 @@ pub(crate) fn hold_on(alloc: Global, value: &Value) -> Result<Act, ReadFault>
 }
 
 /// `hold-off`: a target is taken off a hold.
-#[tactic(auto, using(crate::proofs::Made::fault_made), unfolding(crate::specs::Acts::hold_off_asked, crate::specs::Acts::asked))]
+#[tactic(auto, using(crate::proofs::Made::fault_made), unfolding(crate::specs::Acts::hold_off_asked))]
 pub(crate) fn hold_off(alloc: Global, value: &Value) -> Result<Act, ReadFault>
     ensures { IsActRead (hold_off_asked (view value.now)) result }
 {
@@ -76,7 +76,7 @@ pub(crate) fn hold_off(alloc: Global, value: &Value) -> Result<Act, ReadFault>
 }
 
 /// `lift-hold`: a hold is lifted for good.
-#[tactic(auto, unfolding(crate::specs::Acts::lift_hold_asked, crate::specs::Acts::asked))]
+#[tactic(auto, unfolding(crate::specs::Acts::lift_hold_asked))]
 pub(crate) fn lift_hold(alloc: Global, value: &Value) -> Result<Act, ReadFault>
     ensures { IsActRead (lift_hold_asked (view value.now)) result }
 {

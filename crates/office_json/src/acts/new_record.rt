@@ -1,16 +1,16 @@
 //! The act that adds a record with its content.
-ghost use Rattle.std.specs.Prelude.{◌≡◌, ◌≤◌, IfErr, IfOk, Ok, length};
+ghost use Rattle.std.specs.Prelude.{◌≡◌, IfErr, IfOk, Ok};
 ghost use Rattle.serde_json.specs.View.{view};
-ghost use Rattle.office_json.specs.Acts.{IsReadFault, add_record_asked, added, asked, heading_part};
+ghost use Rattle.office_json.specs.Acts.{IsReadFault, add_record_asked, added, heading_part};
 ghost use Rattle.office_json.specs.Parts.{IsReadAs};
 
 use crate::ReadFault;
-use crate::content::{Content, content_at};
+use crate::content::{as_part, content_at};
 use crate::members::has_only;
 use crate::parts::{both, day_at, number_at, optional_code_at, words_at};
 use office_base::Refusal;
 use office_days::Day;
-use office_rules::{Act, NewRecord};
+use office_rules::{Act, Content};
 use office_terms::{AggNo, Code, Text};
 use serde_json::Value;
 use std::alloc::Global;
@@ -59,32 +59,25 @@ fn read_heading(alloc: Global, value: &Value) -> Result<Heading, ReadFault>
 }
 
 /// The act of a heading with a content.
-#[tactic(auto, unfolding(crate::specs::Acts::asked))]
 fn act_of(heading: Heading, content: Content) -> Act
-    ensures { asked result ≡ added (heading, content) }
+    ensures { result ≡ added (heading, content) }
 {
-    let record = NewRecord::new(
-        heading.ref_text,
-        heading.title,
-        heading.originated,
-        heading.aggregation,
-        heading.class,
-        heading.schedule,
-        content.into_bytes(),
-    );
-    match record {
-        Some(record) => Act::AddRecord {
-            day: heading.day,
-            record,
-        },
-        None => unreachable!(),
+    Act::AddRecord {
+        day: heading.day,
+        ref_text: heading.ref_text,
+        title: heading.title,
+        originated: heading.originated,
+        aggregation: heading.aggregation,
+        class: heading.class,
+        schedule: heading.schedule,
+        content,
     }
 }
 
 /// `add-record`: a record is added with its content.
 #[tactic(auto, unfolding(crate::specs::Acts::add_record_asked))]
 pub(crate) fn add_record(alloc: Global, value: &Value) -> Result<Act, ReadFault>
-    ensures ok { IfOk result (λ act. add_record_asked (view value.now) ≡ Ok (asked act)) }
+    ensures ok { IfOk result (λ act. add_record_asked (view value.now) ≡ Ok act) }
     ensures err { IfErr result
         (λ fault. IsReadFault (view value.now) (add_record_asked (view value.now)) fault) }
 {
@@ -103,7 +96,7 @@ pub(crate) fn add_record(alloc: Global, value: &Value) -> Result<Act, ReadFault>
         return Err(ReadFault::Refused(Refusal::BadText));
     }
     let content = content_at(alloc, value, "content")?;
-    match both(read_heading(alloc, value), Content::as_part(content)) {
+    match both(read_heading(alloc, value), as_part(content)) {
         Ok((heading, content)) => Ok(act_of(heading, content)),
         Err(fault) => Err(fault),
     }

@@ -1,7 +1,7 @@
 //! The acts on records that are there.
 ghost use Rattle.std.specs.Prelude.{◌≡◌};
 ghost use Rattle.serde_json.specs.View.{view};
-ghost use Rattle.office_json.specs.Acts.{IsActRead, asked, asks, confirm_asked, event_asked, receipt_asked, review_asked, set_record_schedule_asked};
+ghost use Rattle.office_json.specs.Acts.{IsActRead, confirm_asked, event_asked, receipt_asked, review_asked, set_record_schedule_asked};
 
 use crate::ReadFault;
 use crate::members::has_only;
@@ -14,7 +14,7 @@ use serde_json::Value;
 use std::alloc::Global;
 
 /// `set-record-schedule`: a record gets an own schedule, or loses it.
-#[tactic(auto, unfolding(crate::specs::Acts::set_record_schedule_asked, crate::specs::Acts::asked))]
+#[tactic(auto, unfolding(crate::specs::Acts::set_record_schedule_asked))]
 pub(crate) fn set_record_schedule(alloc: Global, value: &Value) -> Result<Act, ReadFault>
     ensures { IsActRead (set_record_schedule_asked (view value.now)) result }
 {
@@ -36,7 +36,7 @@ pub(crate) fn set_record_schedule(alloc: Global, value: &Value) -> Result<Act, R
 }
 
 /// `confirm`: a due record may be disposed of as its plan says.
-#[tactic(auto, unfolding(crate::specs::Acts::confirm_asked, crate::specs::Acts::asked))]
+#[tactic(auto, unfolding(crate::specs::Acts::confirm_asked))]
 pub(crate) fn confirm(alloc: Global, value: &Value) -> Result<Act, ReadFault>
     ensures { IsActRead (confirm_asked (view value.now)) result }
 {
@@ -57,7 +57,7 @@ pub(crate) fn confirm(alloc: Global, value: &Value) -> Result<Act, ReadFault>
 }
 
 /// `review`: a due record was reviewed, and gets an own schedule where one is named.
-#[tactic(auto, unfolding(crate::specs::Acts::review_asked, crate::specs::Acts::asked))]
+#[tactic(auto, unfolding(crate::specs::Acts::review_asked))]
 pub(crate) fn review(alloc: Global, value: &Value) -> Result<Act, ReadFault>
     ensures { IsActRead (review_asked (view value.now)) result }
 {
@@ -81,9 +81,8 @@ pub(crate) fn review(alloc: Global, value: &Value) -> Result<Act, ReadFault>
 }
 
 /// The receipt of these.
-#[tactic(auto, unfolding(crate::specs::Acts::asked))]
 fn receipt_of(which: (Day, RecordNo), how: ([u8; 32], Text)) -> Act
-    ensures { asked result ≡ asks (Act.Receipt which.0 which.1 how.0 how.1) }
+    ensures { result ≡ Act.Receipt which.0 which.1 how.0 how.1 }
 {
     let (day, record_no) = which;
     let (digest, by) = how;
@@ -112,9 +111,8 @@ pub(crate) fn receipt(alloc: Global, value: &Value) -> Result<Act, ReadFault>
 }
 
 /// The event of these.
-#[tactic(auto, unfolding(crate::specs::Acts::asked))]
 fn event_of(which: (Day, RecordNo), how: (Day, Text)) -> Act
-    ensures { asked result ≡ asks (Act.Event which.0 which.1 how.0 how.1) }
+    ensures { result ≡ Act.Event which.0 which.1 how.0 how.1 }
 {
     let (day, record_no) = which;
     let (occurred, by) = how;

@@ -11,7 +11,7 @@ use serde_json::Value;
 use std::alloc::Global;
 
 /// `open-run`: a disposal run is opened.
-#[tactic(auto, unfolding(crate::specs::Acts::open_run_asked, crate::specs::Acts::asked))]
+#[tactic(auto, unfolding(crate::specs::Acts::open_run_asked))]
 pub(crate) fn open_run(alloc: Global, value: &Value) -> Result<Act, ReadFault>
     ensures { IsActRead (open_run_asked (view value.now)) result }
 {
@@ -25,7 +25,7 @@ pub(crate) fn open_run(alloc: Global, value: &Value) -> Result<Act, ReadFault>
 }
 
 /// `run-step`: the open run takes its next record, or closes. It has no day.
-#[tactic(auto, unfolding(crate::specs::Acts::run_step_asked, crate::specs::Acts::asked))]
+#[tactic(auto, unfolding(crate::specs::Acts::run_step_asked))]
 pub(crate) fn run_step(value: &Value) -> Result<Act, ReadFault>
     ensures { IsActRead (run_step_asked (view value.now)) result }
 {

@@ -11,7 +11,7 @@ use serde_json::Value;
 use std::alloc::Global;
 
 /// `add-schedule`: a disposal schedule is added under a new code.
-#[tactic(auto, unfolding(crate::specs::Acts::add_schedule_asked, crate::specs::Acts::asked))]
+#[tactic(auto, unfolding(crate::specs::Acts::add_schedule_asked))]
 pub(crate) fn add_schedule(alloc: Global, value: &Value) -> Result<Act, ReadFault>
     ensures { IsActRead (add_schedule_asked (view value.now)) result }
 {
@@ -40,7 +40,7 @@ pub(crate) fn add_schedule(alloc: Global, value: &Value) -> Result<Act, ReadFaul
 }
 
 /// `add-class`: a class is added under a new code.
-#[tactic(auto, unfolding(crate::specs::Acts::add_class_asked, crate::specs::Acts::asked))]
+#[tactic(auto, unfolding(crate::specs::Acts::add_class_asked))]
 pub(crate) fn add_class(alloc: Global, value: &Value) -> Result<Act, ReadFault>
     ensures { IsActRead (add_class_asked (view value.now)) result }
 {
@@ -64,7 +64,7 @@ pub(crate) fn add_class(alloc: Global, value: &Value) -> Result<Act, ReadFault>
 }
 
 /// `set-class-schedule`: a class gets another schedule.
-#[tactic(auto, unfolding(crate::specs::Acts::set_class_schedule_asked, crate::specs::Acts::asked))]
+#[tactic(auto, unfolding(crate::specs::Acts::set_class_schedule_asked))]
 pub(crate) fn set_class_schedule(alloc: Global, value: &Value) -> Result<Act, ReadFault>
     ensures { IsActRead (set_class_schedule_asked (view value.now)) result }
 {

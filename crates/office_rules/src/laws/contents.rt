@@ -5,9 +5,9 @@ ghost use Rattle.office_terms.specs.Lists.{holds_of};
 ghost use Rattle.office_holds.specs.Holds.{is_held};
 ghost use Rattle.office_rules.specs.Effects.{with_new_record};
 ghost use Rattle.office_rules.specs.Meanings.{ended_by};
+ghost use Rattle.office_rules.specs.NewRecords.{NewRecord};
 ghost use Rattle.office_rules.specs.State.{State};
 ghost use Rattle.office_rules.specs.Steps.{step_run_step};
-ghost use Rattle.office_rules.specs.declared.new_record.NewRecord.{NewRecord};
 ghost use Rattle.std.specs.Prelude.{ℤ};
 
 /// A record that a step ended was not held before the step.
@@ -25,7 +25,7 @@ pub fn law_of_contents()
         else get s.contents r) }
     ensures added { (s : State) (day : ℤ) (new : NewRecord)
         → get (with_new_record s day new).contents (suc (length s.office.tree.records))
-        ≡ Some new.content.items }
+        ≡ Some new.content }
     ensures others { (s : State) (day : ℤ) (new : NewRecord) (r : ℕ)
         → r ≤ length s.office.tree.records
         → get (with_new_record s day new).contents r ≡ get s.contents r }

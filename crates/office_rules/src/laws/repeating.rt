@@ -2,11 +2,10 @@
 ghost use Rattle.std.specs.Prelude.{◌≡◌, ℕ, ℤ, List, Some};
 ghost use Rattle.office_terms.specs.Lists.{numbered};
 ghost use Rattle.office_rules.specs.Acts.{after, answers, step};
+ghost use Rattle.office_rules.specs.NewRecords.{NewRecord, add_record};
 ghost use Rattle.office_rules.specs.State.{State};
 ghost use Rattle.office_rules.specs.declared.act.Act.{Act};
-ghost use Rattle.office_rules.specs.declared.act.Act.TheVariants.{AddRecord};
 ghost use Rattle.office_rules.specs.declared.answer.Answer.TheVariants.{Number, Same};
-ghost use Rattle.office_rules.specs.declared.new_record.NewRecord.{NewRecord};
 
 /// A record that an act of a list added is answered by its number wherever it is asked for again,
 /// on whatever day: after that list and any further acts, also once the record has ended; and
@@ -14,13 +13,13 @@ ghost use Rattle.office_rules.specs.declared.new_record.NewRecord.{NewRecord};
 /// reports of each record that was added that it is there.
 pub fn law_of_repeated_records()
     ensures reported { (s : State) (acts more : List Act) (k n : ℕ) (day later : ℤ)
-        (new : NewRecord) → numbered acts k ≡ Some (AddRecord day new)
+        (new : NewRecord) → numbered acts k ≡ Some (add_record day new)
         → numbered (answers s acts) k ≡ Some (Number n)
-        → step (after (after s acts) more) (AddRecord later new)
+        → step (after (after s acts) more) (add_record later new)
         ≡ (Same n, after (after s acts) more) }
     ensures again { (s : State) (acts more others : List Act) (k j n : ℕ) (day later : ℤ)
-        (new : NewRecord) → numbered acts k ≡ Some (AddRecord day new)
+        (new : NewRecord) → numbered acts k ≡ Some (add_record day new)
         → numbered (answers s acts) k ≡ Some (Number n)
-        → numbered others j ≡ Some (AddRecord later new)
+        → numbered others j ≡ Some (add_record later new)
         → numbered (answers (after (after s acts) more) others) j ≡ Some (Same n) }
 {}

@@ -19,12 +19,12 @@ ghost use Rattle.office_rules.specs.Conditions.{refusals_of_add_schedule, refusa
 ghost use Rattle.office_rules.specs.Disposing.{outcome_of};
 ghost use Rattle.office_rules.specs.Effects.{after_add_record, after_receipt};
 ghost use Rattle.office_rules.specs.Meanings.{IsAccepted, IsHeldIn};
+ghost use Rattle.office_rules.specs.NewRecords.{NewRecord};
 ghost use Rattle.office_rules.specs.Runs.{spent_list};
 ghost use Rattle.office_rules.specs.State.{Office, State, empty_office, first_day};
 ghost use Rattle.office_rules.specs.Steps.{step_add_record};
 ghost use Rattle.office_rules.specs.Worked.{filing_day, filing_due, day_before_due, with_yearly, with_class, class_titled, classed_office, with_root, rooted_office, first_filed, second_filed, base_office, confirmed_office, sent_office, with_record, AsksFor, opening, first_step, second_step, twice_held, once_held, free_again, both_held, one_left, finance_held, ended_office, child_closed, both_closed, ending_entry, twice_added, leap_day, later_day, recording_day, event_due, later_due, day_after_due, event_office, recorded_office, event_confirmed, again_recorded};
 ghost use Rattle.office_rules.specs.declared.answer.Answer.TheVariants.{Number, Same, RunClosed, Refused};
-ghost use Rattle.office_rules.specs.declared.new_record.NewRecord.{NewRecord};
 
 /// A child that is open keeps its parent open. Once both are closed and a run has ended the record
 /// in the child, both are listed in its certificate; a parent that is open is not.

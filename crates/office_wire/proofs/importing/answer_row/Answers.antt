@@ -1,20 +1,17 @@
 use Rattle.std.proofs.Common.{ap, refl, sym}
 use Rattle.office_csv.specs.ImportRows.{named}
-use Rattle.office_json.specs.Acts.{asked}
 use Rattle.office_base.specs.declared.refusal.Refusal.{Refusal}
-use Rattle.office_rules.specs.declared.act.Act.TheVariants.{AddRecord}
 use Rattle.office_rules.specs.declared.answer.Answer.TheVariants.{Refused}
 use Rattle.office_wire.proofs.Calls.{not_called}
 use Rattle.office_wire.proofs.Imported.{bad_row, row_ended}
 use Rattle.office_wire.proofs.importing.answer_row.Goals as goal
 
 pub returns-in-Ok : goal.returns-in-Ok
-unfolding asked
 returns-in-Ok g c =
     let it = c.perform.ensures.called in
     record {
       clean = it.clean;
-      did = λ s clean at. row_ended g.S.Store c.args.day s (named c.args.row.now) _ (AddRecord c.args.day c.in-Ok.record) c.perform.result c.args.desk.now c.perform.new.self _ c.in-Ok.ensures refl at.office
+      did = λ s clean at. row_ended g.S.Store c.args.day s (named c.args.row.now) c.in-Ok.act c.perform.result c.args.desk.now c.perform.new.self _ c.in-Ok.ensures at.office
           (it.did s at.is_open (sym at.office)) (clean, at);
     }
 

@@ -1,10 +1,10 @@
 use Rattle.std.proofs.Common.{◌≡◌, ◌∙◌, rules, sym, true}
-use Rattle.office_json.specs.Acts.{asked, reclassify_asked}
+use Rattle.office_json.specs.Acts.{reclassify_asked}
 use Rattle.office_json.proofs.Faults.{act_fault, act_ok}
 use Rattle.office_json.proofs.acts.aggregations.reclassify.Goals as goal
 
 pub returns-in-Ok : goal.returns-in-Ok
-unfolding asked reclassify_asked
+unfolding reclassify_asked
 returns-in-Ok c =
     let plain : c.has_only.result ≡ true = search rules in
     act_ok _ _ _ _ (sym c.has_only.ensures ∙ plain) (c.in-Ok.ensures _ _ c.day_at.ensures (c.both-what.ensures _ _ c.classified_at.ensures c.optional_code_at.ensures))
