@@ -3,3 +3,4 @@ pub mod Counted
 pub mod Exits
 pub mod Maps
 pub mod Numerals
+pub mod Written

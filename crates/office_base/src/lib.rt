@@ -23,7 +23,7 @@ pub use build::{Rebuild, follows, ordered, push_keyed, push_numbered};
 pub use input::read_whole;
 pub use memory::Memory;
 pub use numeral::read_numeral;
-pub use output::{Io, write_out};
+pub use output::{Io, is_interrupted, put_bytes, put_parts, write_out};
 pub use refusal::Refusal;
 pub use stop::Stop;
 pub use thing_number::read_thing_number;

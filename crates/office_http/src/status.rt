@@ -1,7 +1,7 @@
 //! The status codes of replies (RFC 9110, section 15).
 ghost use Rattle.std.specs.Prelude.{◌≡◌};
 ghost use Rattle.http.specs.StatusCode.{status_text};
-ghost use Rattle.office_http.specs.Replies.{status_number, status_words};
+ghost use Rattle.office_http.specs.Replies.{reason_phrase, status_number, status_words};
 
 use http::StatusCode;
 
@@ -34,6 +34,13 @@ impl Status {
         ensures { result ≡ status_number self }
     {
         self.code().as_u16()
+    }
+
+    /// The reason phrase.
+    pub(crate) fn phrase(self) -> &'static str
+        ensures { result.now ≡ reason_phrase self }
+    {
+        self.code().canonical_reason().unwrap_or("")
     }
 
     /// The status code of the crate `http`, which knows its phrase.

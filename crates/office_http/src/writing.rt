@@ -1,13 +1,15 @@
 //! A reply written part by part, from its status line to its body.
-ghost use Rattle.std.specs.Prelude.{◌≡◌, ◌<◌, ◌^◌, IfOk, OnOk, [], false, length, true};
+ghost use Rattle.std.specs.Prelude.{◌≡◌, ◌<◌, ◌^◌, IfOk, OnErr, OnOk, [], false, length, true};
 ghost use Rattle.std.specs.Io.KnownBytes.{Appends};
+ghost use Rattle.office_base.specs.Output.{AppendsSome};
 ghost use Rattle.httparse.specs.Grammar.{ReadsResponse};
 ghost use Rattle.office_http.specs.Messages.{message_head};
 ghost use Rattle.office_http.specs.Replies.{Response, allow_line, head_end, head_start, head_text, kind_line, response, response_text, status_number};
 
 use crate::reply::{Allow, Kind, Reply};
 use crate::status::Status;
-use office_base::Io;
+use itoa::Buffer;
+use office_base::{Io, put_bytes, put_parts};
 use std::io::Write;
 
 /// The line of the media type.
@@ -35,31 +37,53 @@ fn allow_text(allow: Allow) -> &'static str
 }
 
 /// Writes the first lines of a head: the status, and the kind of the body.
+#[tactic(auto, unfolding(crate::specs::Replies::status_words))]
 fn put_start<W: Write>(writer: &mut W, status: Status, kind: Kind) -> Result<(), Io>
-    ensures { OnOk result
+    ensures ok { OnOk result
         (Appends (W.contents writer.old) (W.contents writer.new) (head_start status kind)) }
+    ensures err { OnErr result
+        (AppendsSome (W.contents writer.old) (W.contents writer.new) (head_start status kind)) }
 {
-    let (code, kind) = (status.code(), kind_text(kind));
-    write!(writer, "HTTP/1.1 {code}\r\n{kind}").or(Err(Io))
+    let mut digits = Buffer::new();
+    put_parts(
+        &[
+            b"HTTP/1.1 ",
+            digits.format(status.number()).as_bytes(),
+            b" ",
+            status.phrase().as_bytes(),
+            b"\r\n",
+            kind_text(kind).as_bytes(),
+        ],
+        writer,
+    )
 }
 
 /// Writes the other lines of a head: the length of the body, the method that is taken, and the end.
 fn put_end<W: Write>(writer: &mut W, size: usize, allow: Allow) -> Result<(), Io>
-    ensures { OnOk result
+    ensures ok { OnOk result
         (Appends (W.contents writer.old) (W.contents writer.new) (head_end size allow)) }
+    ensures err { OnErr result
+        (AppendsSome (W.contents writer.old) (W.contents writer.new) (head_end size allow)) }
 {
-    let allow = allow_text(allow);
-    write!(
+    let mut digits = Buffer::new();
+    put_parts(
+        &[
+            b"Content-Length: ",
+            digits.format(size).as_bytes(),
+            b"\r\n",
+            allow_text(allow).as_bytes(),
+            b"Connection: close\r\n\r\n",
+        ],
         writer,
-        "Content-Length: {size}\r\n{allow}Connection: close\r\n\r\n"
     )
-    .or(Err(Io))
 }
 
 /// Writes the head of an answer whose body has that size.
 #[tactic(auto, using(crate::proofs::Appending::appends_then))]
 fn put_head<W: Write>(writer: &mut W, reply: &Reply, size: usize) -> Result<(), Io>
-    ensures { OnOk result (Appends (W.contents writer.old) (W.contents writer.new)
+    ensures ok { OnOk result (Appends (W.contents writer.old) (W.contents writer.new)
+        (head_text reply.now.status reply.now.kind size reply.now.allow)) }
+    ensures err { OnErr result (AppendsSome (W.contents writer.old) (W.contents writer.new)
         (head_text reply.now.status reply.now.kind size reply.now.allow)) }
 {
     put_start(writer, reply.status, reply.kind)?;
@@ -67,14 +91,17 @@ fn put_head<W: Write>(writer: &mut W, reply: &Reply, size: usize) -> Result<(), 
 }
 
 /// Writes an answer, to HEAD its head alone, flushes the writer, and gives the status code. At an
-/// error some of the bytes may have gone out. The parts of the answer are written one by one, so
-/// give it a buffered writer where a write is dear.
+/// error the first of its bytes, or none, went out. The parts of the answer are written one by one,
+/// so give it a buffered writer where a write is dear.
 #[tactic(auto, using(crate::proofs::Appending::appends_then))]
 pub fn write_reply<W: Write>(reply: &Reply, is_head: bool, writer: &mut W) -> Result<u16, Io>
     ensures bytes { OnOk result
         (Appends (W.contents writer.old) (W.contents writer.new)
         (response_text is_head (response reply.now))) }
     ensures status { IfOk result (λ status. status ≡ status_number reply.now.status) }
+    ensures err { OnErr result
+        (AppendsSome (W.contents writer.old) (W.contents writer.new)
+        (response_text is_head (response reply.now))) }
 {
     put_reply(reply, is_head, writer)?;
     writer.flush().or(Err(Io))?;
@@ -84,8 +111,11 @@ pub fn write_reply<W: Write>(reply: &Reply, is_head: bool, writer: &mut W) -> Re
 /// Writes an answer, to HEAD its head alone.
 #[tactic(auto, using(crate::proofs::Appending::appends_then))]
 fn put_reply<W: Write>(reply: &Reply, is_head: bool, writer: &mut W) -> Result<(), Io>
-    ensures { OnOk result
+    ensures ok { OnOk result
         (Appends (W.contents writer.old) (W.contents writer.new)
+        (response_text is_head (response reply.now))) }
+    ensures err { OnErr result
+        (AppendsSome (W.contents writer.old) (W.contents writer.new)
         (response_text is_head (response reply.now))) }
 {
     let body = reply.body.as_bytes();
@@ -93,7 +123,7 @@ fn put_reply<W: Write>(reply: &Reply, is_head: bool, writer: &mut W) -> Result<(
     if is_head {
         Ok(())
     } else {
-        writer.write_all(body).or(Err(Io))
+        put_bytes(body, writer)
     }
 }
 

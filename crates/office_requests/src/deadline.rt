@@ -5,6 +5,7 @@ ghost use Rattle.std.specs.Io.{ReadsAtMost, WritesAtMost};
 ghost use Rattle.std.specs.Io.KnownBytes.{ReadConsumes, WriteAppends};
 ghost use Rattle.std.specs.IoError.{error_kind};
 
+use office_base::is_interrupted;
 use std::io;
 use std::io::{ErrorKind, Read, Write};
 use std::marker::Model;
@@ -83,13 +84,6 @@ impl<'a, C: OpenStream, K: Clock> Timed<'a, C, K> {
             None => Err(io::Error::from(ErrorKind::TimedOut)),
         }
     }
-}
-
-/// Whether a signal came before the first byte, as one does that lets a stopped process go on.
-pub fn is_interrupted(error: &io::Error) -> bool
-    ensures { IsTrue result ↔ (error_kind error.now ≡ ErrorKind.Interrupted) }
-{
-    error.kind() == ErrorKind::Interrupted
 }
 
 impl<'a, C: Read + OpenStream, K: Clock> Timed<'a, C, K> {

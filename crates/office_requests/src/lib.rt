@@ -11,5 +11,6 @@ mod deadline;
 mod receiving;
 
 pub use body::ActsBody;
-pub use deadline::{LONGEST, Timed, is_interrupted};
+pub use deadline::{LONGEST, Timed};
+pub use office_base::is_interrupted;
 pub use receiving::{Asked, Operation, ReceiveStop, Received, receive};
