@@ -57,7 +57,7 @@ def tell(browser: Browser, proxy: Proxy) -> None:
         )
     says(
         "an answer that nobody knows is not explained",
-        read(browser, proxy, 503, "application/json", '{"error":"busy"}'),
+        read(browser, proxy, 503, "application/json", '{"error":"strange"}'),
         "The server said: 503",
         TEXTS["said"]["strange"],
     )

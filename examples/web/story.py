@@ -70,7 +70,7 @@ class Story:
             ("schedule", "CAM-30", lambda row: row["schedule"] == "CAM-30"),
             ("action", "transfer", lambda row: row["action"] == "transfer"),
             ("held", "*", lambda row: row["held"]),
-            ("held", "-", lambda row: not row["held"]),
+            ("held", "_none", lambda row: not row["held"]),
             ("held", "Q-2020-17", lambda row: row["held"] == "Q-2020-17"),
             ("confirmed", "no", lambda row: not row["confirmed"]),
         ):
@@ -80,7 +80,7 @@ class Story:
             says("due: the caption tells how many", it.seen("#due-caption"), "Records due by 2022-05-02: 22.", f"Shown here: {len(wanted)}.")
             it.press("#due-all")
         it.choose("#due-class", "EVT-PER")
-        it.choose("#due-held", "-")
+        it.choose("#due-held", "_none")
         address, kept = it.driver.current_url, self.due_table()
         it.open(address)
         same("due: its address brings the same rows again, as a bookmark", self.due_table(), kept)
@@ -353,8 +353,9 @@ class Story:
         it.press("#due-mark")
         before = self.told("/due/2024-12-31")
         sent = self.posted()
-        self.office.process.send_signal(19)
+        it.hold_back()
         it.one("#due-submit").click()
+        it.let_go(lambda: self.office.process.send_signal(19))
         time.sleep(1)
         self.proxy.stop()
         self.office.process.send_signal(18)

@@ -1,9 +1,9 @@
 // A list of records that can be confirmed, as Due and Overdue: its address, rows, totals, filters, order and marks.
 import { get } from "../ask.js";
+import { bothDays } from "../clock.js";
 import { onSubmit } from "../fields.js";
 import { asking, byId, failed, made, paragraph, quiet, say } from "../page.js";
-import { today } from "../plain/forms.js";
-import { canBeConfirmed, choices, filtered, sorted, totals } from "../plain/lists.js";
+import { ANY_HOLD, NO_HOLD, canBeConfirmed, choices, filtered, sorted, totals } from "../plain/lists.js";
 import { jsonOf } from "../plain/outcomes.js";
 import { t } from "../texts.js";
 import { confirmMarked } from "./confirmation.js";
@@ -101,7 +101,7 @@ export class RecordList {
     for (const name of this.kind.filters) {
       const values = choices(this.rows, name).filter(([value]) => value !== "");
       const held = this.rows.filter((row) => row.held !== null).length;
-      const more = name === "held" ? [["*", t("due.held"), held], ["-", t("due.free"), this.rows.length - held]] : [];
+      const more = name === "held" ? [[ANY_HOLD, t("due.held"), held], [NO_HOLD, t("due.free"), this.rows.length - held]] : [];
       const found = [...more, ...values.map(([value, count]) => [value, this.#choiceWord(name, value), count])];
       // a filter that no row of this list meets is still told
       const wanted = this.filter[name];
@@ -147,13 +147,14 @@ export class RecordList {
     for (const name of ["totals", "list"]) this.part(name).hidden = !there;
   }
 
-  /** Takes another list in place of the one that is shown, and says where it looks ahead of today. */
-  #take(question, rows) {
+  /** Takes another list in place of the one that is shown, with these marks, and says if it looks ahead of today. */
+  #take(question, rows, marks = []) {
     this.question = question;
     this.rows = rows;
-    this.marks = new Set();
+    this.marks = new Set(marks);
     this.#table.begin((record) => this.marks.has(record));
-    this.part("ahead").textContent = question.day > today() ? t("due.ahead", { today: today() }) : "";
+    const { first } = bothDays();
+    this.part("ahead").textContent = question.day > first ? t("due.ahead", { today: first }) : "";
     this.#tellChoices();
     this.#draw();
     this.#showList(rows.length > 0);
@@ -165,16 +166,30 @@ export class RecordList {
     this.#showList(false);
   }
 
+  /** Asks for a list, and shows nothing of it: the answer, and its rows or null. */
+  async #ask(question) {
+    const answer = await get(this.kind.path(question));
+    const rows = jsonOf(answer);
+    return { answer, rows: answer.status === 200 && Array.isArray(rows) ? rows : null };
+  }
+
+  /** Reads the list that is shown anew, and shows nothing of it: `take` shows it, unless another one is shown by then. */
+  async read() {
+    const { question } = this;
+    const mine = this.#asked;
+    const take = (rows, marks) => mine === this.#asked && this.#take(question, rows, marks);
+    return { ...(await this.#ask(question)), take };
+  }
+
   /** Asks for a list, and shows it; whether it could. */
   async open(question) {
     const mine = ++this.#asked;
     const place = this.part("outcome");
     for (const [name, value] of Object.entries(question)) this.part(name).value = value;
     asking(place);
-    const answer = await get(this.kind.path(question));
+    const { answer, rows } = await this.#ask(question);
     if (mine !== this.#asked) return false;
-    const rows = jsonOf(answer);
-    if (answer.status !== 200 || !Array.isArray(rows)) {
+    if (!rows) {
       failed(place, answer);
       if (!isSame(question, this.question)) this.#forget();
       return false;

@@ -133,7 +133,7 @@ async function saveContent() {
 export function start() {
   byId("record-save").addEventListener("click", saveContent);
   event.start(readAnew);
-  acts.start(readAnew);
+  acts.start(readAnew, () => shown);
   onSubmit(byId("record-form"), (values) => {
     const address = `#record?number=${values["record-number"]}`;
     if (location.hash === address) return open(values["record-number"]);
