@@ -92,7 +92,7 @@ def readable_view(browser, proxy, name, address):
 def live(browser, proxy, name, address):
     """What says something later is known to a screen reader before, though it is empty and has no room."""
     unfolded(browser, proxy.page + address)
-    there = browser.driver.execute_script(f"{LIVE}.filter((it) => !it.closest('[hidden]')).length")
+    there = browser.driver.execute_script(f"{LIVE}.filter((it) => !it.closest('[hidden], :has(> .act[hidden])')).length")
     ax = browser.driver.execute_cdp_cmd("Accessibility.getFullAXTree", {})["nodes"]
     known = [node for node in ax if not node["ignored"] and node["role"]["value"] == "status"]
     same(f"{name}: a screen reader knows each place where something is said later", len(known), there)

@@ -50,8 +50,25 @@ def members(browser: Browser, proxy: Proxy) -> None:
         judge(f"a {status} {word}: and so it looks", wanted in browser.one("#hold-place-outcome").get_attribute("class"))
 
 
+def forbidden(browser: Browser, proxy: Proxy) -> None:
+    """A 403 says by its word which of three things it forbids, and the page says that one alone."""
+    words = ("origin", "name", "future")
+    for word in words:
+        told = read(browser, proxy, 403, "application/json", json.dumps({"error": word, "place": 0}))
+        row = TEXTS["proxy"][f"403 {word}"]
+        says(f"a 403 {word} of the proxy is said in words", told, "The server said: 403", row["meaning"], row["do"])
+        others = [TEXTS["proxy"][f"403 {other}"]["meaning"] for other in words if other != word]
+        judge(f"a 403 {word}: and nothing of the others", not any(other in told for other in others), told)
+    answers(browser, f"{proxy.page}#holds", 403, "application/json", '{"error":"future","place":0}')
+    browser.write(hold_place_code="H-1", hold_place_reason="A lawsuit", hold_place_by="Legal office")
+    browser.press("#hold-place button")
+    told = browser.seen("#hold-place-outcome")
+    judge("an act of a day too far ahead is not told as unknown", TEXTS["holds"]["lostPlace"] not in told, told)
+
+
 def tell(browser: Browser, proxy: Proxy) -> None:
     members(browser, proxy)
+    forbidden(browser, proxy)
     for status in (403, 404, 429, 502, 504):
         row = TEXTS["proxy"][str(status)]
         for kind, body in BODIES:
