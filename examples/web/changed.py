@@ -149,13 +149,14 @@ def again(view: View) -> None:
 
 
 def overdue(view: View) -> None:
-    """The last record of the list Overdue is confirmed by somebody else: then no list is left."""
+    """What is left in the list Overdue is confirmed by somebody else: then no list is left."""
     view.open()
     rows = [row["record"] for row in view.story.told("/overdue/2024-06-30/30") if row["action"] != "review"]
-    same("changed: overdue: one record is left", rows, [8])
+    same("changed: overdue: two records are left", rows, [8, 3])
     view.mark(8)
     other = {"act": "confirm", "action": "destroy", "by": "Another"}
-    view.meanwhile({**other, "record": 8}, {"act": "set-record-schedule", "record": 9, "schedule": "KEEP"})
+    keep = {"act": "set-record-schedule", "record": 9, "schedule": "KEEP"}
+    view.meanwhile({**other, "record": 8}, {**other, "record": 3}, keep)
     same("changed: overdue: nothing is sent", view.press(), 0)
     says("changed: overdue: it says so though no list is left", view.outcome("outcome"),
          WORDS["told"]["one"].format(count=1), WORDS["gone"])

@@ -6,6 +6,7 @@ in place of those that it names.
 import base64
 import contextlib
 import http.client
+import json
 import os
 import pathlib
 import shutil
@@ -81,6 +82,13 @@ class Office:
         conn.request(method, path, body)
         reply = conn.getresponse()
         return reply.status, reply.getheader("Content-Type"), reply.read()
+
+    def reads(self, act):
+        """Whether it reads an act: the act comes first in a list whose last does not read, so that nothing is done."""
+        status, _, body = self.ask("POST", "/acts", json.dumps([act, {"act": "walk"}]))
+        told = json.loads(body)
+        assert status == 400 and told["error"] == "act", told
+        return told["place"] == 1
 
 
 class Proxy:
