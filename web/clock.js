@@ -14,5 +14,8 @@ export function hear(date, at) {
 /** Calls a function whenever an answer said what the server's clock says. */
 export const onHeard = (listener) => listeners.push(listener);
 
+/** What the server's clock says now, in milliseconds. */
+export const serverNow = () => Date.now() + ahead;
+
 /** The days by both clocks, as they are now. */
 export const bothDays = () => daysOf(ahead, Date.now());

@@ -1,7 +1,7 @@
 // Fields and forms: what a field takes, what is wrong in one, and the ticks that a form asks for before anything is sent.
 import { askTime } from "./ask.js";
 import { bothDays } from "./clock.js";
-import { byId, made, paragraph } from "./page.js";
+import { byId, made, paragraph, quiet } from "./page.js";
 import { isCode, isDay, isNumber, isTarget, isText, today } from "./plain/forms.js";
 import { PLAN_KINDS } from "./plain/plan_kinds.js";
 import { t } from "./texts.js";
@@ -155,9 +155,16 @@ function shareBy(name) {
   for (const input of document.querySelectorAll("[data-field=by] input")) if (input.value === "") input.value = name;
 }
 
+/** Takes the answer that something is wrong away once somebody writes anew: it is of what was written before. */
+function forgetWrong(form) {
+  const place = document.getElementById(`${form.id}-outcome`);
+  if (!form.dataset.busy && place?.classList.contains("wrong")) quiet(place);
+}
+
 /** Does something with a form's values once they are right. A form that is at work is not sent a second time. */
 export function onSubmit(form, work) {
   form.noValidate = true;
+  form.addEventListener("input", () => forgetWrong(form));
   form.addEventListener("submit", async (event) => {
     event.preventDefault();
     if (form.dataset.busy) return;

@@ -7,7 +7,8 @@ import pathlib
 
 import layout
 from browser import Browser
-from judging import same
+from judging import judge, same
+from late import CLOCK, after
 from place import Office, Proxy
 from shots import shots
 from story import TEXTS, WHO, Story, says
@@ -103,7 +104,7 @@ def due(view: View) -> None:
         {"act": "set-record-schedule", "record": 6, "schedule": "KEEP"},
     )
     same("changed: nothing is sent", view.press(), 0)
-    says("changed: which is said, with how many", view.outcome(), WORDS["told"]["many"].format(count=4))
+    says("changed: which is said, with how many", view.outcome(), WORDS["unsent"], WORDS["told"]["many"].format(count=4))
     rule, day = COLUMNS["schedule"], COLUMNS["due"]
     wanted = [
         ["2", "r2", rule, "D2", "D3"],
@@ -163,6 +164,48 @@ def overdue(view: View) -> None:
     same("changed: overdue: the other's confirmation stays", view.story.told("/records/8")["confirmed"]["by"], "Another")
 
 
+def away(view: View) -> None:
+    """Another view is looked at meanwhile: the list is read anew, with the marks of what is as it was."""
+    it = view.browser
+    view.open()
+    it.choose("#due-class", "FIN")
+    it.press("#due [data-column=record] button")
+    view.mark(1, 4, 7)
+    it.go("#holds")
+    view.meanwhile({"act": "lift-hold", "hold": "H-1"}, {"act": "hold-off", "hold": "H-2", "target": "record:7"})
+    it.go("#due")
+    rows = [row for row in view.story.told("/due/2024-06-30") if row["class"] == "FIN"]
+    same("changed: away: the list is read anew, with its filter and order", view.story.due_table(),
+         view.story.due_cells(sorted(rows, key=lambda row: row["record"])))
+    same("changed: away: marked is still what is as it was", view.marked(), [1])
+    says("changed: away: what has changed is said", view.outcome(), WORDS["told"]["many"].format(count=2))
+    judge("changed: away: and not that it was not sent", WORDS["unsent"] not in view.outcome(), view.outcome())
+    same("changed: away: with what has", [(row[0], *row[2:]) for row in view.changes()],
+         [("4", COLUMNS["held"], "H-1", NOT_HELD), ("7", COLUMNS["held"], "H-2", NOT_HELD)])
+    same("changed: away: one request confirms what is marked", view.press(), 1)
+    says("changed: away: which is said", view.outcome("answer"), "Confirmed: 1 of 1.")
+    it.go("#holds")
+    it.go("#due")
+    same("changed: away: and no more when another view was looked at", view.outcome("answer"), "")
+
+
+def next_day(view: View) -> None:
+    """The page stays open over midnight: the list of today is that of the new day, and another one stays."""
+    it, day = view.browser, lambda: it.one("#due-day").get_attribute("value")
+    it.open(view.story.proxy.page)
+    same("changed: the view begins with the list of today", day(), after(0))
+    it.go("#holds")
+    it.driver.execute_script(CLOCK, 1)
+    it.go("#due")
+    same("changed: on the next day it is the list of that day", day(), after(1))
+    it.write(due_day="2024-06-30")
+    it.press("#due-form button")
+    it.go("#holds")
+    it.driver.execute_script(CLOCK, 1)
+    it.go("#due")
+    same("changed: but a list that was asked for stays", day(), "2024-06-30")
+
+
 def unread(view: View) -> None:
     """The list cannot be read anew: nothing is sent."""
     view.open()
@@ -218,6 +261,8 @@ def tell(office: Office, proxy: Proxy, browser: Browser, folder: pathlib.Path) -
     due(view)
     layout.words_there(browser, "changed: what was confirmed")
     again(view)
+    review(story, view)
+    away(view)
+    next_day(view)
     overdue(View(story, "overdue", "day=2024-06-30&count=30"))
     unread(view)
-    review(story, view)

@@ -87,8 +87,9 @@ class Office:
         """Whether it reads an act: the act comes first in a list whose last does not read, so that nothing is done."""
         status, _, body = self.ask("POST", "/acts", json.dumps([act, {"act": "walk"}]))
         told = json.loads(body)
-        assert status == 400 and told["error"] == "act", told
-        return told["place"] == 1
+        # half of a character is no JSON
+        assert status == 400 and told["error"] in ("act", "json"), told
+        return told.get("place") == 1
 
 
 class Proxy:

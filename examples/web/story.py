@@ -33,6 +33,11 @@ class Story:
     def told(self, path):
         return json.loads(self.office.ask("GET", path)[2])
 
+    def asked_for(self):
+        """How many requests came to nginx but for a list of what is due, which is read anew at each showing."""
+        time.sleep(0.1)
+        return sum('"GET /due/' not in line for line in (self.folder / "access.log").read_text().splitlines())
+
     def posted(self):
         """How many POSTs came to nginx with the password. (A browser learns only from a first answer, 401, that a path wants it.)"""
         time.sleep(0.1)
@@ -92,7 +97,7 @@ class Story:
     # ---- what is wrong before anything is sent
 
     def wrong_input(self):
-        it, before = self.browser, (self.folder / "access.log").read_text().count("\n")
+        it, before = self.browser, self.asked_for()
         fields, texts = TEXTS["fields"], lambda css: it.text(css)
         for view, form, wrong, word in (
             ("#due", "due-form", {"due_day": "2023-02-29"}, ("due-day", "dayWrong")),
@@ -113,7 +118,7 @@ class Story:
             judge(f"{form}: and the field is told as invalid", it.one(f"#{field}").get_attribute("aria-invalid") == "true")
             first = it.driver.execute_script("return document.activeElement.getAttribute('aria-invalid')")
             same(f"{form}: and the first such field has the focus", first, "true")
-        same("nothing of that was sent", (self.folder / "access.log").read_text().count("\n"), before)
+        same("nothing of that was sent", self.asked_for(), before)
 
     # ---- confirmation
 

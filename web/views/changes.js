@@ -24,19 +24,22 @@ function changesTable(changes) {
   return tableOf(t("changes.caption"), [record, ref, what, shown, there], cells, "changes");
 }
 
-/** Shows the list as it is now, in which what has changed is not marked any more; says what has, and offers to mark it again. */
-function tellChanged(list, marked, changes, { rows, take }) {
+/** The records of marked rows that have not changed. */
+export function unchanged(marked, changes) {
   const records = new Set(changes.map(({ row }) => row.record));
-  const others = marked.map(({ record }) => record).filter((record) => !records.has(record));
-  take(rows, others);
+  return marked.map(({ record }) => record).filter((record) => !records.has(record));
+}
+
+/** Says beside a list as it is now what of the marked rows has changed and is not marked any more; offers to mark it again. */
+export function tellChanged(list, changes, isUnsent = false) {
   const again = changes.map(({ now }) => now).filter((now) => now && canBeConfirmed(now));
-  const place = list.part(rows.length ? "panel-outcome" : "outcome");
+  const place = list.part(list.rows.length ? "panel-outcome" : "outcome");
   const button = made("button", { type: "button", class: "quiet" }, t("changes.again", { count: grouped(again.length) }));
   button.addEventListener("click", () => {
     list.markOnly([...list.marks, ...again.map(({ record }) => record)]);
     list.part("submit").focus();
   });
-  const words = paragraph(plural("changes.told", changes.length));
+  const words = paragraph(`${isUnsent ? `${t("changes.unsent")} ` : ""}${plural("changes.told", changes.length)}`);
   say(place, "wrong", words, changesTable(changes), ...(again.length ? [button] : []));
 }
 
@@ -51,6 +54,8 @@ export async function isAsShown(list, marked) {
     return false;
   }
   const changes = changed(marked, read.rows);
-  if (changes.length) tellChanged(list, marked, changes, read);
-  return changes.length === 0;
+  if (!changes.length) return true;
+  read.take(read.rows, unchanged(marked, changes));
+  tellChanged(list, changes, true);
+  return false;
 }

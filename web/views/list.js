@@ -3,9 +3,10 @@ import { get } from "../ask.js";
 import { bothDays } from "../clock.js";
 import { onSubmit } from "../fields.js";
 import { asking, byId, failed, made, paragraph, quiet, say } from "../page.js";
-import { ANY_HOLD, NO_HOLD, canBeConfirmed, choices, filtered, sorted, totals } from "../plain/lists.js";
+import { ANY_HOLD, NO_HOLD, canBeConfirmed, changed, choices, filtered, sorted, totals } from "../plain/lists.js";
 import { jsonOf } from "../plain/outcomes.js";
 import { t } from "../texts.js";
+import { tellChanged, unchanged } from "./changes.js";
 import { confirmMarked } from "./confirmation.js";
 import { addParts } from "./list_parts.js";
 import { ListTable, recordOf } from "./list_table.js";
@@ -39,6 +40,8 @@ export class RecordList {
   filter = {};
   column = "";
   down = false;
+  /** Whether the list is the one that the view begins with, as that of today. */
+  #isFirst = false;
   #asked = 0;
   #table = null;
 
@@ -181,8 +184,8 @@ export class RecordList {
     return { ...(await this.#ask(question)), take };
   }
 
-  /** Asks for a list, and shows it; whether it could. */
-  async open(question) {
+  /** Asks for a list, and shows it, with the marks of what is as it was if it `isKept`; whether it could. */
+  async open(question, isKept = false) {
     const mine = ++this.#asked;
     const place = this.part("outcome");
     for (const [name, value] of Object.entries(question)) this.part(name).value = value;
@@ -194,9 +197,12 @@ export class RecordList {
       if (!isSame(question, this.question)) this.#forget();
       return false;
     }
-    this.#take(question, rows);
+    const marked = isKept ? this.markedRows() : [];
+    const changes = changed(marked, rows);
+    this.#take(question, rows, unchanged(marked, changes));
     if (rows.length) quiet(place);
     else say(place, "done", paragraph(this.#text("none", { ...question, days: question.count })));
+    if (changes.length) tellChanged(this, changes);
     return true;
   }
 
@@ -247,6 +253,7 @@ export class RecordList {
       return null;
     }
     history.replaceState(null, "", address);
+    this.#isFirst = false;
     return this.open(question);
   }
 
@@ -268,11 +275,24 @@ export class RecordList {
     addEventListener("beforeprint", () => this.#table.finish());
   }
 
-  /** Shows the list that the address names; where it names none the one that is here already, or the first one. */
+  /** Shows the list that is here already, or the first one: that of today is another one by tomorrow. */
+  #showLast() {
+    const first = this.kind.first();
+    if (this.question && (!this.#isFirst || isSame(first, this.question))) {
+      this.keepAddress();
+      return this.open(this.question, true);
+    }
+    this.#isFirst = true;
+    return this.open(first);
+  }
+
+  /** Shows the list that the address names, or else the last one. It is read anew, since it may have changed meanwhile. */
   show(words) {
+    // what was done with the list as it was is told no more; what was refused, or is unknown, is
+    if (this.part("answer").classList.contains("done")) quiet(this.part("answer"));
     const { asks, first } = this.kind;
     const given = Object.keys(asks).filter((name) => words.has(name));
-    if (!given.length) return this.question ? this.keepAddress() : this.open(first());
+    if (!given.length) return this.#showLast();
     const question = { ...first(), ...Object.fromEntries(given.map((name) => [name, words.get(name)])) };
     const wrong = Object.keys(asks).find((name) => !asks[name].takes(question[name]));
     if (wrong) {
@@ -280,8 +300,7 @@ export class RecordList {
       return say(this.part("outcome"), "wrong", paragraph(t(asks[wrong].wrong)));
     }
     this.#readWords(words);
-    if (!isSame(question, this.question)) return this.open(question);
-    this.#tellChoices();
-    return this.#draw();
+    if (!isSame(question, this.question)) this.#isFirst = false;
+    return this.open(question, isSame(question, this.question));
   }
 }
