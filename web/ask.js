@@ -36,6 +36,9 @@ async function ask(path, method, body, more = {}) {
 
 export const get = (path) => ask(path, "GET");
 
+/** Asks for what an act is about to be for: a member of an office on several machines then answers the newest state or none. */
+export const getNewest = (path) => ask(path, "GET", undefined, { "Office-Read": "newest" });
+
 /** Asks for nothing but the answer's Date, which is heard (clock.js). */
 export const askTime = () => ask("web/icon.svg", "HEAD");
 

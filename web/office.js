@@ -45,6 +45,13 @@ function renew() {
   warning.tellClocks();
 }
 
+/** The same on a page that somebody comes back to; a list of today may be that of an earlier day. */
+function comeBack() {
+  renew();
+  const [name] = named(location.hash);
+  VIEWS[name].renew?.();
+}
+
 function show(focus) {
   const [name, words] = named(location.hash);
   for (const other of Object.keys(VIEWS)) byId(other).hidden = other !== name;
@@ -100,7 +107,7 @@ async function begin() {
   offers.start();
   byId("skip").addEventListener("click", skip);
   addEventListener("hashchange", () => show(true));
-  addEventListener("focus", renew);
+  addEventListener("focus", comeBack);
   addEventListener("beforeprint", withoutLinks);
   addEventListener("afterprint", withLinks);
   byId("loading").remove();

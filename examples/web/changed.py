@@ -28,6 +28,15 @@ SCHEDULES = {
 }
 # of the due lists, records 1 to 8: the class of each; record 9 is to be reviewed
 RECORDS = ["FIN", "LEG", "LEG", "FIN", "FIN", "FIN", "FIN", "FIN"]
+# what the page asks for, one after another: the method, and which state
+ASKED = """
+window.asked = [];
+const there = window.fetch;
+window.fetch = (...words) => {
+  window.asked.push(`${words[1].method} ${words[1].headers["Office-Read"] ?? ""}`.trim());
+  return there(...words);
+};
+"""
 
 
 def fill(office: Office) -> None:
@@ -128,6 +137,16 @@ def due(view: View) -> None:
          ["2022-01-02", "2023-01-02", "2022-01-02", "2023-01-02"])
 
 
+def newest(view: View) -> None:
+    """Of an office on several machines the newest state is asked for, before a request that acts."""
+    view.open()
+    view.mark(3)
+    view.browser.driver.execute_script(ASKED)
+    same("changed: one request confirms what is as it was shown", view.press(), 1)
+    same("changed: before it the newest list is asked for, and any list after it",
+         view.browser.driver.execute_script("return window.asked"), ["HEAD", "GET newest", "POST", "GET"])
+
+
 def again(view: View) -> None:
     """What changes once more is asked once more; what only others have changed is not."""
     view.open()
@@ -153,11 +172,11 @@ def overdue(view: View) -> None:
     """What is left in the list Overdue is confirmed by somebody else: then no list is left."""
     view.open()
     rows = [row["record"] for row in view.story.told("/overdue/2024-06-30/30") if row["action"] != "review"]
-    same("changed: overdue: two records are left", rows, [8, 3])
+    same("changed: overdue: one record is left", rows, [8])
     view.mark(8)
     other = {"act": "confirm", "action": "destroy", "by": "Another"}
     keep = {"act": "set-record-schedule", "record": 9, "schedule": "KEEP"}
-    view.meanwhile({**other, "record": 8}, {**other, "record": 3}, keep)
+    view.meanwhile({**other, "record": 8}, keep)
     same("changed: overdue: nothing is sent", view.press(), 0)
     says("changed: overdue: it says so though no list is left", view.outcome("outcome"),
          WORDS["told"]["one"].format(count=1), WORDS["gone"])
@@ -198,6 +217,9 @@ def next_day(view: View) -> None:
     it.driver.execute_script(CLOCK, 1)
     it.go("#due")
     same("changed: on the next day it is the list of that day", day(), after(1))
+    it.driver.execute_script(CLOCK, 1)
+    it.settled()
+    same("changed: and so it is for somebody who comes back to it", day(), after(2))
     it.write(due_day="2024-06-30")
     it.press("#due-form button")
     it.go("#holds")
@@ -260,6 +282,7 @@ def tell(office: Office, proxy: Proxy, browser: Browser, folder: pathlib.Path) -
     view.meanwhile({"act": "set-class-schedule", "class": "LEG", "schedule": "D2"})
     due(view)
     layout.words_there(browser, "changed: what was confirmed")
+    newest(view)
     again(view)
     review(story, view)
     away(view)

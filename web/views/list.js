@@ -1,5 +1,5 @@
 // A list of records that can be confirmed, as Due and Overdue: its address, rows, totals, filters, order and marks.
-import { get } from "../ask.js";
+import { get, getNewest } from "../ask.js";
 import { bothDays } from "../clock.js";
 import { onSubmit } from "../fields.js";
 import { asking, byId, failed, made, paragraph, quiet, say } from "../page.js";
@@ -170,8 +170,8 @@ export class RecordList {
   }
 
   /** Asks for a list, and shows nothing of it: the answer, and its rows or null. */
-  async #ask(question) {
-    const answer = await get(this.kind.path(question));
+  async #ask(question, by = get) {
+    const answer = await by(this.kind.path(question));
     const rows = jsonOf(answer);
     return { answer, rows: answer.status === 200 && Array.isArray(rows) ? rows : null };
   }
@@ -181,7 +181,7 @@ export class RecordList {
     const { question } = this;
     const mine = this.#asked;
     const take = (rows, marks) => mine === this.#asked && this.#take(question, rows, marks);
-    return { ...(await this.#ask(question)), take };
+    return { ...(await this.#ask(question, getNewest)), take };
   }
 
   /** Asks for a list, and shows it, with the marks of what is as it was if it `isKept`; whether it could. */
@@ -284,6 +284,11 @@ export class RecordList {
     }
     this.#isFirst = true;
     return this.open(first);
+  }
+
+  /** Shows the list of today if that of an earlier day is here as today's, on a page that stays open; not while some is marked. */
+  renew() {
+    if (this.#isFirst && this.marks.size === 0 && !isSame(this.kind.first(), this.question)) this.#showLast();
   }
 
   /** Shows the list that the address names, or else the last one. It is read anew, since it may have changed meanwhile. */
