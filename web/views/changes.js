@@ -1,5 +1,5 @@
 // What is not any more as it was shown when somebody is about to act on it: said, with nothing sent, until it is asked for again.
-import { grouped, link, made, paragraph, plural, say, tableOf, told } from "../page.js";
+import { grouped, link, made, paragraph, plural, quiet, say, tableOf, told } from "../page.js";
 import { canBeConfirmed, changed } from "../plain/lists.js";
 import { visible } from "../plain/marks.js";
 import { all, t } from "../texts.js";
@@ -33,6 +33,8 @@ export function unchanged(marked, changes) {
 /** Says beside a list as it is now what of the marked rows has changed and is not marked any more; offers to mark it again. */
 export function tellChanged(list, changes, isUnsent = false) {
   const again = changes.map(({ now }) => now).filter((now) => now && canBeConfirmed(now));
+  // of an empty list nothing is seen but what is said above it
+  quiet(list.part("panel-outcome"));
   const place = list.part(list.rows.length ? "panel-outcome" : "outcome");
   const button = made("button", { type: "button", class: "quiet" }, t("changes.again", { count: grouped(again.length) }));
   button.addEventListener("click", () => {
