@@ -72,10 +72,25 @@ def answers(folder: str) -> None:
     error("more than 1 MiB", post(f"{folder}acts", b" " * 1_048_577), 413, "size")
     page = ask("GET", f"{folder}web/office.js")
     same("a file of the page", (page.status, page.head.get("Content-Type")), (200, "text/javascript"))
-    fields = {"Strict-Transport-Security": "max-age=31536000", "Cache-Control": "no-store",
-              "X-Content-Type-Options": "nosniff"}
-    for it in (first, page, ask("GET", f"{folder}records/1")):
-        same(f"its field lines, of {it.status}", {name: it.head.get(name) for name in fields}, fields)
+    fields = {"Strict-Transport-Security": "max-age=31536000", "X-Content-Type-Options": "nosniff"}
+    for it, kept in ((first, "no-store"), (page, "no-cache"), (ask("GET", f"{folder}records/1"), "no-store")):
+        wanted = {**fields, "Cache-Control": kept}
+        same(f"its field lines, of {it.status}", {name: it.head.get(name) for name in wanted}, wanted)
+
+
+def opening(folder: str) -> None:
+    """To open the page takes one password; its files take none, and a browser that has them asks whether they changed."""
+    error("the page itself takes a password", ask("GET", f"{folder}web/", name=None), 401, "password")
+    web = place.TOP / "web"
+    files = [str(it.relative_to(web)) for it in sorted(web.rglob("*")) if it.is_file()]
+    began = time.monotonic()
+    seen = {name: ask("GET", f"{folder}web/{name}", name=None) for name in files}
+    print(f"    {len(files)} files of the page took {time.monotonic() - began:.1f} seconds")
+    same("its files take none", [name for name, it in seen.items() if it.body != (web / name).read_bytes()], [])
+    fields = {"If-None-Match": seen["office.js"].head["ETag"]}
+    same("one that did not change is not sent again", ask("GET", f"{folder}web/office.js", name=None, fields=fields).status, 304)
+    outside = [f"{folder}web/%2e%2e/records/1", f"{folder}web/..%2frecords/1", f"{folder}catalogue/about.json", f"{folder}records/1"]
+    same("nothing else is without a password", [ask("GET", it, name=None).status for it in outside], [401] * len(outside))
 
 
 def gone(folder: str) -> None:
@@ -115,7 +130,7 @@ def passwords(folder: str) -> None:
     print(f"    guesses in {SECONDS} seconds: {tried} answered 401, {seen.count(429)} answered 429")
     judge("eight guesses in two seconds at most", 0 < tried <= 8 * (SECONDS / 2 + 1), tried)
     same("the others are refused before the password is looked at", set(seen), {401, 429})
-    same("another address is served", set(others), {"404"})
+    same("another address is served", set(others), {"200"})
     run("nft -f /etc/office.nft")
 
 
