@@ -86,11 +86,14 @@ def opening(folder: str) -> None:
     began = time.monotonic()
     seen = {name: ask("GET", f"{folder}web/{name}", name=None) for name in files}
     print(f"    {len(files)} files of the page took {time.monotonic() - began:.1f} seconds")
-    same("its files take none", [name for name, it in seen.items() if it.body != (web / name).read_bytes()], [])
-    fields = {"If-None-Match": seen["office.js"].head["ETag"]}
-    same("one that did not change is not sent again", ask("GET", f"{folder}web/office.js", name=None, fields=fields).status, 304)
-    outside = [f"{folder}web/%2e%2e/records/1", f"{folder}web/..%2frecords/1", f"{folder}catalogue/about.json", f"{folder}records/1"]
-    same("nothing else is without a password", [ask("GET", it, name=None).status for it in outside], [401] * len(outside))
+    other = [name for name, it in seen.items() if it.body != (web / name).read_bytes()]
+    same("its files take none", other, [])
+    known = {"If-None-Match": seen["office.js"].head["ETag"]}
+    again = ask("GET", f"{folder}web/office.js", name=None, fields=known).status
+    same("one that did not change is not sent again", again, 304)
+    outside = ["web/%2e%2e/records/1", "web/..%2frecords/1", "catalogue/about.json", "records/1"]
+    statuses = [ask("GET", folder + it, name=None).status for it in outside]
+    same("nothing else is without a password", statuses, [401] * len(outside))
 
 
 def gone(folder: str) -> None:

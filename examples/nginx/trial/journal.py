@@ -125,7 +125,8 @@ def late(folder: str) -> None:
     """An act whose day is after tomorrow is refused, however it is written, and no act of its list is done."""
     path = f"{folder}acts"
     there = {**HOLD, "code": "T-1"}
-    same("an act of tomorrow is passed on", post(path, [{**lift("none"), "day": day_after(1)}]).body, b'[{"refused":5}]')
+    tomorrow = post(path, [{**lift("none"), "day": day_after(1)}]).body
+    same("an act of tomorrow is passed on", tomorrow, b'[{"refused":5}]')
     for name, body in {
         "the day after tomorrow": json.dumps([there, {**there, "day": day_after(2)}]),
         "the last day of all": json.dumps([there, lift("none", day="2999-12-31")]),
@@ -156,9 +157,11 @@ def left_out(folder: str) -> None:
         ("nothing", b"", "no list, bytes: 0"),
     ):
         same(f"{name}: the line has that", one(f"{folder}acts", acts)["acts"], wanted)
-    same("what is no list of acts is 400, as by the office", post(f"{folder}acts", b"{}")[::2], (400, b'{"error":"json"}'))
+    none = post(f"{folder}acts", b"{}")
+    same("what is no list of acts is 400, as by the office", (none.status, none.body), (400, b'{"error":"json"}'))
     long = base64.b64encode(SECRET * 100).decode()
-    chunks = [json.dumps([{**RECORD, "ref": "r2", "content": long}])[at:at + 100].encode() for at in range(0, 10_000, 100)]
+    body = json.dumps([{**RECORD, "ref": "r2", "content": long}]).encode()
+    chunks = [body[at:at + 100] for at in range(0, 10_000, 100)]
     chunked = ask("POST", f"{folder}acts", (chunk for chunk in chunks if chunk), fields=HERE)
     same("a content in chunks is passed on", (chunked.status, chunked.body[:10]), (200, b'[{"number"'))
     time.sleep(0.5)
@@ -203,7 +206,8 @@ def fails(folder: str, office: place.Office) -> None:
 
 def protected() -> None:
     logs = [JOURNAL, *(pathlib.Path("/var/log/nginx") / name for name in ("office.access.log", "office.error.log"))]
-    same("the journal and nginx's logs of the site are 0640", [stat.S_IMODE(it.stat().st_mode) for it in logs], [0o640] * 3)
+    modes = [stat.S_IMODE(it.stat().st_mode) for it in logs]
+    same("the journal and nginx's logs of the site are 0640", modes, [0o640] * 3)
     for command in (f"truncate -s 0 {JOURNAL}", f"rm -f {JOURNAL}", f"mv {JOURNAL} /run/", f"sed -i d {JOURNAL}"):
         judge(f"root cannot: {command}", run(command).returncode != 0)
 

@@ -15,8 +15,9 @@ SERVED = {
     ("GET", "certificates/1"): "/certificates/1",
     ("GET", "records/1?x=y"): "/records/1?x=y",
 }
-OTHERS = ["", "replica", "acts/1", "records", "records/01", "records/1/content/x", "records/12345678901", "due/today", "due/2025-1-1",
-          "overdue/2025-01-01", "certificates/", "run", "alive/x", "metrics", "records/1%20", "records/1%0a", "acts%0a", "records/1;x"]
+OTHERS = ["", "replica", "acts/1", "records", "records/01", "records/1/content/x", "records/12345678901", "due/today",
+          "due/2025-1-1", "overdue/2025-01-01", "certificates/", "run", "alive/x", "metrics", "records/1%20",
+          "records/1%0a", "acts%0a", "records/1;x"]
 
 
 def passed_on(folder: str, port: int) -> None:
@@ -25,7 +26,8 @@ def passed_on(folder: str, port: int) -> None:
         for (method, path), target in SERVED.items():
             body = b"[]" if path == "acts" else None
             seen = post(folder + path, body or b"").status if method == "POST" else ask("GET", folder + path).status
-            same(f"{method} {folder}{path} comes to the office as {target}", (seen, stand_in.targets[-1:]), (200, [target]))
+            came = seen, stand_in.targets[-1:]
+            same(f"{method} {folder}{path} comes to the office as {target}", came, (200, [target]))
         count = len(stand_in.targets)
         # the address of one office alone goes to its page
         seen = {path: ask("GET", folder + path).status for path in OTHERS if folder != "/" or path}
@@ -33,7 +35,7 @@ def passed_on(folder: str, port: int) -> None:
 
 
 def monitor(folder: str) -> None:
-    """A monitor learns whether the office has a record. Its password reads nothing, and nobody else's is taken there."""
+    """A monitor learns whether the office has a record. Its password reads nothing, and no other is taken there."""
     alive = ask("GET", f"{folder}alive", name="monitor")
     same("a monitor sees that the office has a record", (alive.status, alive.body), (200, b'{"records":true}'))
     for path in ("records/1", "records/1/content", "due/2025-01-01", "overdue/2025-01-01/30", "certificates/1", "web/",
