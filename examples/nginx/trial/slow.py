@@ -151,9 +151,11 @@ def compressed(folder: str, port: int) -> None:
 
 def lists_at_once(folder: str, port: int) -> None:
     """An address has four long answers at once for a name, and more of all else."""
-    with place.StandIn(port, LONG[:20_000_000]):
+    with place.StandIn(port, LONG[:20_000_000]) as stand_in:
         taken = [slow_reader(f"{folder}due/2025-01-03", source="127.0.0.11") for _ in range(4)]
-        time.sleep(3)
+        until = time.monotonic() + 60
+        while len(stand_in.targets) < len(taken) and time.monotonic() < until:
+            time.sleep(0.1)
         for name, path, who, source, status in (
             ("a fifth list is refused", "overdue/2025-01-03/30", "registrar", "127.0.0.11", 429),
             ("a certificate too", "certificates/1", "registrar", "127.0.0.11", 429),
