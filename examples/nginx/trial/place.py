@@ -106,13 +106,13 @@ class Office:
 
 
 class StandIn:
-    """In place of an office: it serves one connection after another too, and answers each with this body.
+    """In place of an office: it serves one connection after another too, and answers each list with this body.
 
     It knows which targets came, and for how many seconds an answer kept it at most.
     """
 
     def __init__(self, port: int, body: bytes, more: bytes = b"") -> None:
-        self.body, self.more = body, more
+        self.lists, self.more = body, more
         self.targets: list[str] = []
         self.longest = 0.0
         self.listening = socket.create_server(("127.0.0.1", port))
@@ -133,13 +133,14 @@ class StandIn:
         with conn.makefile("rb") as asked:
             length = 0
             self.targets.append(asked.readline().decode().split(" ")[1])
+            body = self.lists if "due" in self.targets[-1] else b"[]"
             while (line := asked.readline()) not in (b"\r\n", b""):
                 if line.lower().startswith(b"content-length:"):
                     length = int(line.split(b":")[1])
             asked.read(length)
-            head = b"HTTP/1.1 200 OK\r\nContent-Type: application/json\r\nContent-Length: %d\r\n" % len(self.body)
+            head = b"HTTP/1.1 200 OK\r\nContent-Type: application/json\r\nContent-Length: %d\r\n" % len(body)
             try:
-                conn.sendall(head + self.more + b"Connection: close\r\n\r\n" + self.body)
+                conn.sendall(head + self.more + b"Connection: close\r\n\r\n" + body)
             except OSError:
                 pass  # whoever asked went away
 

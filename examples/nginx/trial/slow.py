@@ -134,7 +134,7 @@ def long_answer(folder: str, port: int) -> None:
     other = run(f"{OTHER}{folder}records/1").stdout
     print(f"    {len(LONG)} bytes to a client that does not read: the office was busy for {stand_in.longest:.1f} "
           f"seconds, another client was answered after {time.monotonic() - began:.1f}")
-    same(f"a client that does not read {len(LONG)} bytes keeps nobody waiting", other, f"200 {len(LONG)}")
+    same(f"a client that does not read {len(LONG)} bytes keeps nobody waiting", other, "200 2")
     slow.close()
     stand_in.end()
 

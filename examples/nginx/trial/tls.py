@@ -1,5 +1,6 @@
 """Which TLS nginx speaks, with a certificate of RSA, whose older ciphers have no forward secrecy."""
 import shutil
+import time
 
 from trial.judging import judge
 from trial.place import run
@@ -17,7 +18,10 @@ def shaken(words: str) -> bool:
 def versions() -> None:
     for end in ("key", "crt"):
         shutil.copy(f"{AT}.{end}", f"{AT}.{end}.before")
-    run(f"{RSA} && nginx -s reload && sleep 1")
+    run(f"{RSA} && nginx -s reload")
+    until = time.monotonic() + 60
+    while not shaken("-tls1_3") and time.monotonic() < until:
+        time.sleep(0.5)  # until new workers have the new certificate
     for words, holds in (
         ("-tls1_3", True),
         ("-tls1_2", True),
