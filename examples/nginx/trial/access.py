@@ -105,9 +105,10 @@ OTHER = ("curl --silent --output /dev/null --write-out '%{http_code}' --max-time
          f'--cacert {place.CERTIFICATE} --user registrar:"$PASSWORD" https://localhost')
 
 
-def guess(path: str, until: float, seen: list[int]) -> None:
+def guess(path: str, began: float, seen: list[int]) -> None:
+    """For eight seconds, and longer on a machine that is so busy that eight were not under way at once."""
     conn = place.connection("127.0.0.7", 30)
-    while time.monotonic() < until:
+    while time.monotonic() < began + SECONDS or (429 not in seen and time.monotonic() < began + 10 * SECONDS):
         conn.request("GET", path, headers=place.authorization(password="wrong"))
         reply = conn.getresponse()
         reply.read()
@@ -119,8 +120,8 @@ def passwords(folder: str) -> None:
     """48 clients of one address guess for eight seconds; who has a password at another address is served meanwhile."""
     run("nft delete table inet office")
     seen: list[int] = []
-    until = time.monotonic() + SECONDS
-    guessing = [threading.Thread(target=guess, args=(f"{folder}records/1", until, seen)) for _ in range(48)]
+    began = time.monotonic()
+    guessing = [threading.Thread(target=guess, args=(f"{folder}records/1", began, seen)) for _ in range(48)]
     for it in guessing:
         it.start()
     others = []
@@ -129,9 +130,9 @@ def passwords(folder: str) -> None:
         others.append(run(f"{OTHER}{folder}records/1").stdout)
     for it in guessing:
         it.join()
-    tried = seen.count(401)
-    print(f"    guesses in {SECONDS} seconds: {tried} answered 401, {seen.count(429)} answered 429")
-    judge("eight guesses in two seconds at most", 0 < tried <= 8 * (SECONDS / 2 + 1), tried)
+    took, tried = time.monotonic() - began, seen.count(401)
+    print(f"    guesses in {took:.0f} seconds: {tried} answered 401, {seen.count(429)} answered 429")
+    judge("eight guesses in two seconds at most", 0 < tried <= 8 * (took / 2 + 1), tried)
     same("the others are refused before the password is looked at", set(seen), {401, 429})
     same("another address is served", set(others), {"200"})
     run("nft -f /etc/office.nft")
