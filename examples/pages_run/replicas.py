@@ -66,6 +66,7 @@ def prepare_nginx(shell: Shell) -> None:
     for command in (
             "mkdir -p /etc/nginx/office /var/log/office /etc/nginx/sites-available",
             "cp examples/nginx/http.conf examples/nginx/server.conf examples/nginx/actors.conf /etc/nginx/office/",
+            "cp examples/nginx/acts.js /etc/nginx/office/",
             "sed 's/8080/8081/' examples/nginx/office.conf > /etc/nginx/sites-available/office",
             "ln -sf ../sites-available/office /etc/nginx/sites-enabled/office",
             "rm -f /etc/nginx/sites-enabled/default",
