@@ -68,7 +68,6 @@ class Served:
             SERVICE / "office-serve", *words, file, self.port]
         self.process = subprocess.Popen([str(it) for it in command], stdin=subprocess.DEVNULL, stdout=subprocess.PIPE,
                                         stderr=subprocess.PIPE if not waits else None, env={**os.environ, "OFFICE": OFFICE})
-        self.seen: set[int] = set()
         if waits:
             line = self.process.stdout.readline()
             assert line == f"listening 127.0.0.1:{self.port}\n".encode(), line

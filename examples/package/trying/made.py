@@ -1,4 +1,5 @@
 """The package as a file: what is in it, what lintian says, and what it is made from."""
+import fnmatch
 import os
 import pathlib
 import re
@@ -110,6 +111,10 @@ def clone(place: pathlib.Path) -> pathlib.Path:
     for name in ("office", "crates.txt", "README.md", "CHANGELOG.md"):
         shutil.copy(TOP / name, top)
     shutil.copy(PROGRAM, out / "office")
+    # the package's version names the last commit
+    history = subprocess.run(["git", "rev-parse", "--absolute-git-dir"], cwd=TOP, check=True, stdout=subprocess.PIPE,
+                             text=True)
+    (top / ".git").write_text(f"gitdir: {history.stdout}")
     sums = subprocess.run(["cksum", "crates.txt"], cwd=top, check=True, stdout=subprocess.PIPE)
     (out / "launcher.sources").write_bytes(sums.stdout)
     return top / "office"
@@ -130,7 +135,8 @@ def judge_launcher(file: pathlib.Path, top: pathlib.Path, place: pathlib.Path) -
     done = run([launcher, "package", here])
     judge("after a change of a source it says to build", done.status == 2
           and done.err == "office: the sources changed since this program was built: run ./office build first\n", done)
-    judge("OPERATING.md names this file", f" ./{file.name}\n" in (TOP / "docs/OPERATING.md").read_text())
+    named = re.search(r"^    apt-get install \./(office_\S+)$", (TOP / "docs/OPERATING.md").read_text(), re.M)
+    judge("OPERATING.md installs this file", named and fnmatch.fnmatch(file.name, named[1]), file.name)
 
 
 def refused(name: str, words: list[object], says: str, **env: str) -> None:

@@ -70,7 +70,7 @@ def judge_used(machine: Machine) -> None:
 def judge_upgraded(machine: Machine, file: pathlib.Path) -> None:
     machine.put(file, "/root/office.deb")
     done = machine.run(f"{SERVICE}{SUMS} >/tmp/before; dpkg -i /root/office.deb && {SUMS} >/tmp/after; {ASKED}")
-    judge("it is upgraded, and says that services go on with the old program", done.status == 0
+    judge("it is upgraded, and says until when services go on with the old program", done.status == 0
           and "systemctl restart 'office@*'" in done.out, done)
     judge("a service that runs answers after it", done.out.endswith("[]"), done)
     says("dpkg has the new version", machine, "dpkg-query -W -f '${Version} ${db:Status-Status}' office",
