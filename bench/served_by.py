@@ -53,6 +53,18 @@ def status_of(answer: bytes) -> int:
     return int(answer[9:12]) if answer.startswith(b"HTTP/1.1 ") else 0
 
 
+def has_ended(pid: int) -> bool:
+    """Returns whether a process has ended, within some seconds; whoever started it may not have seen it yet."""
+    for _ in range(100):
+        try:
+            if pathlib.Path(f"/proc/{pid}/stat").read_text().rpartition(")")[2].split()[0] == "Z":
+                return True
+        except OSError:
+            return True
+        time.sleep(0.1)
+    return False
+
+
 class Served:
     """An office that is served at a port of its own. Used by `with`, whatever runs is killed at the end."""
 
@@ -87,6 +99,11 @@ class Served:
             if children and pathlib.Path(f"/proc/{children[0]}/comm").read_text() != "python3\n":
                 return int(children[0])
             time.sleep(0.05)
+
+    def kill_program(self) -> None:
+        pid = self.program()
+        os.kill(pid, signal.SIGKILL)
+        has_ended(pid)
 
     def is_running(self) -> bool:
         return self.process.poll() is None
