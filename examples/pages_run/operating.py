@@ -32,7 +32,7 @@ def unit_words() -> str:
 def city_serves(shell: Shell) -> None:
     """In place of systemd: what the unit calls, with the office of the city archive."""
     units = [f"/etc/systemd/system/{it}" for it in os.listdir("/etc/systemd/system") if it.startswith("office-")]
-    done = shell.run(f"systemd-analyze verify {' '.join(sorted(units))}")
+    done = shell.run(f"systemd-analyze verify --man=no {' '.join(sorted(units))}")
     judge("systemd-analyze takes the other units", done.status == 0 and len(units) > 1, done.err)
     judge("the unit calls what is run here", unit_words() == SERVES, unit_words())
     os.makedirs(os.path.dirname(CITY), exist_ok=True)
@@ -191,7 +191,7 @@ ROWS = [
     Row("install -m 755 examples/service/office-backup"),
     Row("install -m 755 examples/service/office-compact"),
     Row("install -m 755 examples/service/office-overdue"),
-    Row("systemd-analyze verify /etc/systemd/system/office@.service"),
+    Row("systemd-analyze verify --man=no /etc/systemd/system/office@.service"),
     Row("systemctl restart nginx", skip="without systemd", then=nginx_starts),
     Row("systemctl", skip="without systemd"),
     Row("apt-get install ./office_", skip="examples/package/run installs it"),
