@@ -43,7 +43,8 @@ def get(port: int, path: str) -> bytes:
 def post(port: int, path: str, acts: list[dict]) -> bytes:
     body = json.dumps(acts).encode()
     try:
-        return answer_of(port, f"POST {path} HTTP/1.1\r\nHost: localhost\r\nContent-Length: {len(body)}\r\n\r\n".encode() + body)
+        head = f"POST {path} HTTP/1.1\r\nHost: localhost\r\nContent-Length: {len(body)}\r\n\r\n"
+        return answer_of(port, head.encode() + body)
     except OSError as error:
         return repr(error).encode()
 
@@ -79,7 +80,7 @@ class Served:
         command = [OFFICE, "serve", file, self.port, count] if self.bare else [
             SERVICE / "office-serve", *words, file, self.port]
         self.process = subprocess.Popen([str(it) for it in command], stdin=subprocess.DEVNULL, stdout=subprocess.PIPE,
-                                        stderr=subprocess.PIPE if not waits else None, env={**os.environ, "OFFICE": OFFICE})
+                                        stderr=None if waits else subprocess.PIPE, env={**os.environ, "OFFICE": OFFICE})
         if waits:
             line = self.process.stdout.readline()
             assert line == f"listening 127.0.0.1:{self.port}\n".encode(), line

@@ -33,6 +33,20 @@ def judge_list() -> None:
     judge("each file of the list is there", all(it.exists() for it in sources))
 
 
+def judge_version(place: pathlib.Path) -> None:
+    """A package of later changes has a version of its own, which names the commit."""
+    last = "## 1.0.0 (2026-11-27)\n\n- A change.\n"
+    commit = run(["git", "-C", TOP, "log", "-1", "--format=%h"]).out.strip()
+    for name, text, wanted in (("released", last, r"1\.0\.0"), ("empty", f"## Next\n\n{last}", r"1\.0\.0"),
+                               ("later", f"## Next\n\n- A later one.\n\n{last}", rf"1\.0\.0\+git\d{{8}}\.{commit}")):
+        file = place / f"{name}.md"
+        file.write_text(f"# Changes\n\n{text}")
+        code = (f"import sys; sys.path.insert(0, '{MAKE.parent}'); from making.changelog import versions; "
+                "print(versions()[0].number)")
+        done = run(["python3", "-B", "-c", code], CHANGELOG=str(file))
+        judge(f"the version of a list of changes, {name}", re.fullmatch(wanted, done.out.strip()), done)
+
+
 def judge_lintian(file: pathlib.Path) -> None:
     done = run(["lintian", "--fail-on", "error,warning", "--display-info", file])
     tags = [line for line in done.out.splitlines() if line[:2] in ("E:", "W:", "I:")]
@@ -166,6 +180,7 @@ def judge_made(file: pathlib.Path, place: pathlib.Path) -> None:
     top = place / "unpacked"
     subprocess.run(["dpkg-deb", "-x", file, top], check=True)
     judge_list()
+    judge_version(place)
     judge_lintian(file)
     judge_manual(top)
     judge_completion(top)

@@ -22,10 +22,12 @@ def new_office(folder: str) -> str:
 
 def judge_missing(booted: "Booted") -> None:
     """FILE is missing, alone and beside a log with acts."""
-    for name, before in (("alone", "true"), ("beside a log with acts", f"head -c 5000 /dev/zero >{CITY}/office.db-wal")):
+    log = f"head -c 5000 /dev/zero >{CITY}/office.db-wal"
+    for name, before in (("alone", "true"), ("beside a log with acts", log)):
         booted.run(f"install -d -o office -g office -m 700 {CITY}; {before}")
-        done = booted.run("systemctl start office@city; sleep 5; systemctl is-active office@city; journalctl -u office@city | "
-                          f"grep -c 'restore a backup'; find {CITY} -type f -size +0 -printf '%f %s '")
+        done = booted.run("systemctl start office@city; sleep 5; systemctl is-active office@city; "
+                          "journalctl -u office@city | grep -c 'restore a backup'; "
+                          f"find {CITY} -type f -size +0 -printf '%f %s '")
         said, left = done.out.split("\n")[:2], done.out.split("\n")[2]
         judge(f"systemd: FILE is missing {name}: the unit does not start, and says what to do", said[0] == "failed"
               and int(said[1]) > 0, done)
@@ -115,12 +117,14 @@ def judge_nights(booted: "Booted") -> None:
                       "ls /var/lib/office-catalogues/city/now/about.json.gz")
     judge("systemd: a catalogue makes its folder, which nginx's group may read",
           done.out.startswith("office www-data 2750\n") and done.status == 0, done)
-    booted.run(f"cat >/usr/bin/mail <<'END'\n{MAIL}END\nchmod 755 /usr/bin/mail; mkdir -p /var/lib/office-registers/other; "
+    booted.run(f"cat >/usr/bin/mail <<'END'\n{MAIL}END\nchmod 755 /usr/bin/mail; "
+               "mkdir -p /var/lib/office-registers/other; "
                "printf 'MAIL_TO=records@localhost\\nFAILED_TO=\"a@localhost b@localhost\"\\n' >/etc/office/city.mail")
     done = booted.run("systemctl start office-overdue@city && stat -c '%U %G %a' /var/lib/office-registers/city/*.csv; "
                       "until journalctl -u office-overdue-mail@city | grep -q 'Finished\\|Failed'; do sleep 0.2; done; "
                       "journalctl -o cat -u office-overdue-mail@city")
-    judge("systemd: the register is readable for those who send it", done.out.startswith("office office-mail 640\n"), done)
+    judge("systemd: the register is readable for those who send it",
+          done.out.startswith("office office-mail 640\n"), done)
     judge("systemd: it is mailed, by one who sees no office, no copy and no other register",
           "records@localhost" in done.out and "\nrecord," in done.out and "office.db" not in done.out
           and "other" not in done.out and "Z.db" not in done.out, done)

@@ -37,7 +37,8 @@ def check(file: pathlib.Path) -> None:
 
 def close(program: str, file: pathlib.Path) -> None:
     """Opens and closes FILE, so that FILE alone has every act."""
-    done = subprocess.run([program, "init", str(file)], stdin=subprocess.DEVNULL, stdout=subprocess.DEVNULL, check=False)
+    done = subprocess.run([program, "init", str(file)], stdin=subprocess.DEVNULL, stdout=subprocess.DEVNULL,
+                          check=False)
     if done.returncode or size_of(log_of(file)) > EMPTY_LOG:
         raise Refused(3, f"{file} was not closed (status {done.returncode}): its last acts are in {log_of(file)}, so "
                          "copy both files, or neither")

@@ -112,7 +112,8 @@ class Passing:
         self.request.end()
 
     def finish(self) -> None:
-        """Ends both connections. A client that has a part of an answer is reset, so that it does not take it as whole."""
+        """Ends both connections. A client that has a part of an answer is reset, so that it does not take it as
+        whole."""
         self.link.close()
         is_whole = self.answer.has_ended and not self.answer.waiting
         if self.is_answered() and not is_whole:
@@ -125,9 +126,9 @@ class Passing:
 def reply(client: socket.socket, status: str, word: str) -> None:
     """Answers in the place of the program, which gave no answer."""
     body = f'{{"error":"{word}"}}'
-    head = f"HTTP/1.1 {status}\r\nContent-Type: application/json\r\nContent-Length: {len(body)}\r\nConnection: close\r\n"
+    head = f"HTTP/1.1 {status}\r\nContent-Type: application/json\r\nContent-Length: {len(body)}\r\n"
     try:
-        client.send(f"{head}\r\n{body}".encode())
+        client.send(f"{head}Connection: close\r\n\r\n{body}".encode())
     except OSError:
         pass
 
