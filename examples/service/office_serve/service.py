@@ -28,6 +28,8 @@ class Service:
         """Serves until somebody asks it to stop, and then closes FILE."""
         files.check(self.program.file)
         self.listener = listening.listener(self.port)
+        # a client that went away before it was accepted keeps nobody waiting
+        self.listener.setblocking(False)
         try:
             if self.start():
                 listening.tell("READY=1")
@@ -69,6 +71,8 @@ class Service:
             return None
         try:
             return self.listener.accept()[0]
+        except BlockingIOError:
+            return None
         except OSError as error:
             print(f"office-serve: a connection was not accepted: {error.strerror}", file=sys.stderr)
             time.sleep(TRY_SECONDS)
@@ -110,7 +114,6 @@ class Service:
     def refuse_all(self) -> None:
         """Answers those who wait that the office is closed. Nothing of them came to the program."""
         assert self.listener is not None
-        self.listener.setblocking(False)
         clients = []
         try:
             while True:
@@ -118,5 +121,4 @@ class Service:
                 reply(clients[-1], "503 Service Unavailable", "closed")
         except OSError:
             pass
-        self.listener.setblocking(True)
         linger(clients)
