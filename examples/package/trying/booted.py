@@ -68,7 +68,7 @@ def judge_units(booted: Booted) -> None:
                       f"stat -c '%U %a' {CITY} {CITY}/office.db")
     judge("systemd: service and timers are active, the office is the user's alone",
           done.out == "active\n" * 3 + "office 700\noffice 600\n", done)
-    done = booted.run("systemctl start office-backup@city && ls /var/lib/office-backups | grep -c '^city-.*Z.db$'")
+    done = booted.run("systemctl start office-backup@city && ls /var/lib/office-backups/city | grep -c 'Z.db$'")
     judge("systemd: a backup makes a copy while it serves", done.out == "1\n", done)
     judge_stopping(booted)
     judge_compaction(booted)
@@ -85,7 +85,7 @@ def judge_upgrade(booted: Booted, second: pathlib.Path) -> None:
 def judge_removal(booted: Booted) -> None:
     done = booted.run("dpkg --remove office >&2 && systemctl is-active office@city office-backup@city.timer")
     judge("systemd: removing stops service and timers", done.out == "inactive\ninactive\n", done)
-    done = booted.run(f"ls {CITY} /var/lib/office-backups")
+    done = booted.run(f"ls {CITY} /var/lib/office-backups/city")
     judge("systemd: the office, what was there before, and its copy stay", "office.db\n" in done.out
           and "before" in done.out and "Z.db" in done.out, done)
     done = booted.run("dpkg --purge office >&2; find /etc/systemd/system -name 'office*'")
