@@ -15,7 +15,7 @@ from pages_run.watching import ROWS as WATCHING
 
 PAGE = "docs/OPERATING.md"
 CITY = "/var/lib/office/city/office.db"
-SERVES = f"office serve {CITY} 8081 1000000"
+SERVES = f"office-serve --stop-seconds 60 {CITY} 8081"
 # the records of the city archive
 ALL = {"records": 33}
 
@@ -24,20 +24,31 @@ def unit_words() -> str:
     """How the unit calls the program, for the office city."""
     unit = (TOP / "examples/service/office@.service").read_text()
     words = re.search(r"^ExecStart=/usr/local/bin/(.*)$", unit, re.M)[1].replace("%i", "city")
-    port = re.search(r"^PORT=(\d+)$", (TOP / "examples/service/city.conf").read_text(), re.M)[1]
-    return words.replace("${PORT}", port)
+    for name, value in re.findall(r"^(\w+)=(\w+)$", (TOP / "examples/service/city.conf").read_text(), re.M):
+        words = words.replace(f"${{{name}}}", value)
+    return words
 
 
 def city_serves(shell: Shell) -> None:
     """In place of systemd: what the unit calls, with the office of the city archive."""
     units = [f"/etc/systemd/system/{it}" for it in os.listdir("/etc/systemd/system") if it.startswith("office-")]
-    done = shell.run(f"systemd-analyze verify {' '.join(sorted(units))}")
+    done = shell.run(f"systemd-analyze verify --man=no {' '.join(sorted(units))}")
     judge("systemd-analyze takes the other units", done.status == 0 and len(units) > 1, done.err)
     judge("the unit calls what is run here", unit_words() == SERVES, unit_words())
-    os.makedirs(os.path.dirname(CITY))
+    os.makedirs(os.path.dirname(CITY), exist_ok=True)
+    done = shell.run(SERVES)
+    judge("without FILE the unit's command does not start", done.status == 2 and "office init" in done.err, done.err)
     shell.run(f"office apply {CITY} examples/city_archive/story.json")
     line = shell.serve(SERVES)
     judge("the office of the unit listens", line == "listening 127.0.0.1:8081\n", line)
+
+
+def is_first(shell: Shell) -> None:
+    """The first office is the user's alone; another one, with records, comes in its place."""
+    seen = shell.run(f"stat -c '%U %a' {os.path.dirname(CITY)} {CITY}").out
+    judge("the first office is for the user alone", seen == "office 700\noffice 600\n", seen)
+    shell.run(f"rm {CITY} {CITY}-wal")
+    city_serves(shell)
 
 
 def nginx_starts(shell: Shell) -> None:
@@ -119,8 +130,11 @@ def is_own(shell: Shell) -> None:
 
 
 def is_stopped(shell: Shell) -> None:
-    """In place of systemd: the office of the unit is ended."""
-    shell.end(kill=True)
+    """In place of systemd: the office of the unit is stopped, which closes FILE."""
+    shell.servers[-1].terminate()
+    status = shell.end()
+    size = os.path.getsize(f"{CITY}-wal")
+    judge("a stop closes FILE", (status, size) == (0, 41), f"status {status}, {size} bytes")
 
 
 def is_restored(shell: Shell) -> None:
@@ -166,6 +180,11 @@ ROWS = [
     Row("mkdir -p /etc/office"),
     Row("cp examples/service/city.conf"),
     Row("cp examples/service/office@.service"),
+    Row("cp -r examples/service/office_serve"),
+    Row("install -m 755 examples/service/office-serve"),
+    Row("cp examples/service/office-compact-file@.service"),
+    Row("install -d -o office -g office -m 700 /var/lib/office/city"),
+    Row("runuser -u office -- office init", prints="version 2\n", then=is_first),
     Row("cp examples/service/office-backup@.service"),
     Row("cp examples/service/office-compact@.service"),
     Row("cp examples/service/office-overdue@.service"),
@@ -174,7 +193,7 @@ ROWS = [
     Row("install -m 755 examples/service/office-backup"),
     Row("install -m 755 examples/service/office-compact"),
     Row("install -m 755 examples/service/office-overdue"),
-    Row("systemd-analyze verify /etc/systemd/system/office@.service", then=city_serves),
+    Row("systemd-analyze verify --man=no /etc/systemd/system/office@.service"),
     Row("systemctl restart nginx", skip="without systemd", then=nginx_starts),
     Row("systemctl", skip="without systemd"),
     Row("apt-get install ./office_", skip="examples/package/run installs it"),

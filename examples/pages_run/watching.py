@@ -10,7 +10,7 @@ from pages_run.shell import Shell
 
 EXPORTER = "prometheus-blackbox-exporter"
 MISSING = "" if shutil.which(EXPORTER) else f"without {EXPORTER}"
-BACKUPS = "/var/lib/office-backups"
+BACKUPS = "/var/lib/office-backups/city"
 PROBE = "curl --silent 'http://127.0.0.1:9115/probe?module=office&target=https://localhost/city/alive'"
 RUN = '[{"act":"open-run","day":"2025-11-20","by":"monitor"}]'
 OPEN = "\"SELECT num FROM runs WHERE closed = 0\""
@@ -64,10 +64,19 @@ def asks_alone(shell: Shell) -> None:
 def has_backup(shell: Shell) -> None:
     """In place of the timer: a copy of tonight, and one that is too old."""
     os.makedirs(BACKUPS, exist_ok=True)
-    shell.run(f"cp city.db {BACKUPS}/city-20250102T023000Z.db && touch -d '2 days ago' {BACKUPS}/*.db")
-    done = shell.run(f"find {BACKUPS} -name 'city-*.db' -mmin -1560 | grep .")
+    shell.run(f"cp city.db {BACKUPS}/20250102T023000Z.db && touch -d '2 days ago' {BACKUPS}/*.db")
+    done = shell.run(f"find {BACKUPS} -name '*Z.db' -mmin -1560 | grep .")
     judge("an old copy alone is no backup of today", done.status == 1 and done.out == "", f"{done}")
-    shell.run(f"cp city.db {BACKUPS}/city-20250103T023000Z.db")
+    shell.run(f"cp city.db {BACKUPS}/20250103T023000Z.db")
+
+
+def fewer_are_seen(shell: Shell) -> None:
+    """A copy of a new office after one of the right office."""
+    shell.run(f"office init {BACKUPS}/20250104T023000Z.db; rm -f {BACKUPS}/*-wal")
+    done = shell.run(f"examples/monitor/fewer {BACKUPS}")
+    judge("a copy with fewer records than the one before is told", done.status == 1
+          and done.out.startswith("records: 0 in "), f"{done}")
+    shell.run(f"rm {BACKUPS}/20250104T023000Z.db")
 
 
 def run_is_seen(shell: Shell) -> None:
@@ -79,7 +88,7 @@ def run_is_seen(shell: Shell) -> None:
 
 
 ROWS = [
-    Row("curl --fail --silent --show-error --max-time 60", prints="[]"),
+    Row("curl --fail --silent --show-error --max-time 60", like=r'\{.*"number":1,.*\}'),
     Row("htpasswd -ciB -C 10 /etc/nginx/office/monitor.htpasswd monitor"),
     Row("chgrp www-data /etc/nginx/office/monitor.htpasswd"),
     Row("chmod 640 /etc/nginx/office/monitor.htpasswd", then=asks_alone),
@@ -90,7 +99,9 @@ ROWS = [
     Row("systemctl restart prometheus-blackbox-exporter", skip="without systemd", then=exporter_starts),
     Row("curl --silent 'http://127.0.0.1:9115/probe", skip=MISSING, prints="probe_success 1\n", then=is_probed),
     Row("systemctl is-active", skip="without systemd", then=has_backup),
-    Row("find /var/lib/office-backups -name 'city-*.db' -mmin", like=r"\S+/city-20250103T023000Z\.db\n"),
+    Row("examples/monitor/fewer", prints="", then=fewer_are_seen),
+    Row("find /var/lib/office/city -name '*.before-*'", prints=""),
+    Row("find /var/lib/office-backups/city -name '*Z.db' -mmin", like=r"\S+/city/20250103T023000Z\.db\n"),
     Row("sqlite3 \"file:$(ls -t /var/lib/office-backups", prints="", then=run_is_seen),
     Row("df --output=avail", like=r" *\d+\n"),
 ]
