@@ -11,6 +11,7 @@ from pages_run.expected import Row, run_page
 from pages_run.files import FIRST, alone, judge_alone
 from pages_run.judging import judge
 from pages_run.shell import Shell
+from pages_run.watching import BACKUPS
 from pages_run.watching import ROWS as WATCHING
 
 PAGE = "docs/OPERATING.md"
@@ -143,6 +144,19 @@ def is_restored(shell: Shell) -> None:
     time.sleep(1.1)
 
 
+def has_kept(shell: Shell) -> None:
+    """What is old, in both layouts: the last good copies stay, however old."""
+    judge("what a restore put aside is there", any("before" in it for it in os.listdir(os.path.dirname(CITY))))
+    shell.run(f"mkdir -p {BACKUPS}/city && cp city.db {BACKUPS}/city/20200101T000000Z.db && "
+              f"cp city.db {BACKUPS}/city-20200102T000000Z.db")
+
+
+def has_moved(shell: Shell) -> None:
+    there = sorted(os.listdir(f"{BACKUPS}/city"))
+    judge("the copies of the earlier layout are in the folder, and none was removed",
+          there == ["20200101T000000Z.db", "20200102T000000Z.db"], f"{there}")
+
+
 def is_compact(shell: Shell) -> None:
     judge_alone(shell, "office-compact", CITY, ALL)
     line = shell.serve(SERVES)
@@ -150,8 +164,8 @@ def is_compact(shell: Shell) -> None:
 
 
 def is_shredded(shell: Shell) -> None:
-    left = [it for it in os.listdir(os.path.dirname(CITY)) if "before" in it]
-    judge("no old file is left", not left, f"{left}")
+    left = [it for it in os.listdir(os.path.dirname(CITY)) if re.search(r"before-\w+Z(-wal)?$", it)]
+    judge("no old file is left", not left and os.path.exists(CITY), f"{left}")
 
 
 def killed(shell: Shell) -> None:
@@ -190,9 +204,12 @@ ROWS = [
     Row("cp examples/service/office-overdue@.service"),
     Row("cp examples/service/office-overdue-mail@.service"),
     Row("cp examples/service/office-catalogue@.service"),
+    Row("cp examples/service/office-scrub@.service"),
     Row("install -m 755 examples/service/office-backup"),
     Row("install -m 755 examples/service/office-compact"),
     Row("install -m 755 examples/service/office-overdue"),
+    Row("install -m 755 examples/service/office-since"),
+    Row("install -m 755 examples/service/office-scrub"),
     Row("systemd-analyze verify --man=no /etc/systemd/system/office@.service"),
     Row("systemctl restart nginx", skip="without systemd", then=nginx_starts),
     Row("systemctl", skip="without systemd"),
@@ -226,16 +243,26 @@ ROWS = [
     Row("nft -f /etc/office.nft", skip="these rules would close the port that is asked next"),
     Row("echo 'include \"/etc/office.nft\"' >> /etc/nftables.conf"),
     Row("umask 077", then=own_alone),
-    Row("cp archive.db backup.db", then=is_own),
+    Row("office-backup archive.db backup.db", prints="", then=is_own),
     Row("office-backup /var/lib/office/city/office.db city.db", then=backed_up),
     Row("rsync --archive", then=is_second),
     Row("sqlite3 city.db 'PRAGMA integrity_check'", prints="ok\n"),
     Row("sqlite3 city.db 'SELECT count(*) FROM records'", prints="33\n"),
     Row("office init city.db", prints="version 2\n"),
-    Row("office-restore archive.db backup.db", like=r"what was there: \S+/archive\.db\.before-\w+\n",
-        then=is_stopped),
-    Row(f"office-restore {CITY} city.db", like=r"what was there: \S+\.before-\w+\n",
-        then=is_restored),
+    Row("office-scrub city.db", like=r"copy: city\.db\ncontents compared: \d+\ncertificates compared: \d+\n"),
+    Row("office-restore archive.db backup.db",
+        like=r"what COPY takes back: \S+\.since\nwhat was there: \S+/archive\.db\.before-\w+\n", then=is_stopped),
+    Row(f"office-restore {CITY} city.db",
+        like=r"\d+\truns whose numbers will be used again\n\d+\tcertificates that are saved here\n"
+             r"what COPY takes back: \S+\.since\nwhat was there: \S+\.before-\w+\n", then=is_restored),
+    Row(f"office-restore --since-was-read {CITY} city.db", like=r"(.*\n)?what was there: \S+\.before-\w+\n",
+        then=has_kept),
+    Row("office-since archive.db backup.db compared", prints=""),
+    Row("BACKUP_DAYS=30 office-prune", prints=""),
+    Row("BEFORE_DAYS=30 office-prune", prints=""),
+    Row("install -d -o office -g office -m 700 /var/lib/office-backups/city"),
+    Row("find /var/lib/office-backups -maxdepth 1", then=has_moved),
+    Row("find /var/lib /var/cache", prints=""),
     Row("mkdir -m 700 registers"),
     Row(f"office-overdue {CITY} registers", like=r"registers/overdue-\d{4}-\d\d-\d\d\.csv\n"),
     Row("cp examples/service/city.mail"),
@@ -243,7 +270,7 @@ ROWS = [
     Row("office-catalogue city.db /var/lib/office-catalogues/city", prints=""),
     Row("curl --silent --compressed --cacert /etc/nginx/office/office.crt", like=r'.*"records":33\}\s*\]\}\s*'),
     Row(f"office-compact {CITY}", like=r"(.*\n)?records: 33, the same\n.*", then=is_compact),
-    Row("shred --remove", then=is_shredded),
+    Row("BEFORE_DAYS=0 office-prune", like=r"(removed: \S+\n)+", then=is_shredded),
 ]
 
 
