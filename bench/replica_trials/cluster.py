@@ -139,7 +139,7 @@ class Cluster:
                  "--listen-peer-urls", self.peer_address(machine),
                  "--initial-advertise-peer-urls", self.peer_address(machine),
                  "--initial-cluster", peers, "--initial-cluster-token", self.folder.name,
-                 "--auto-compaction-mode", "revision", "--auto-compaction-retention", "1000",
+                 "--auto-compaction-mode", "periodic", "--auto-compaction-retention", "24h",
                  "--quota-backend-bytes", str(self.quota), "--log-level", "warn",
                  "--logger", "zap"]
         for prefix in ("", "peer-") if self.tls else ():

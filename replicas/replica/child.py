@@ -1,9 +1,9 @@
-"""Runs a command that ends with the process that started it, whatever becomes of that one.
+"""Runs a program that is open already, as a process that ends with the one that started it, whatever becomes of that.
 
-    child.py PARENT COMMAND ..
+    child.py PARENT DESCRIPTOR NAME WORD ..
 
-The command has this process's number. `setpriv --pdeathsig` would do the same, but it asks for
-capabilities, which the unit of a member forbids.
+The program is what DESCRIPTOR reads; NAME is what it is told to be called. It has this process's number.
+`setpriv --pdeathsig` would do the same for the end, but it asks for capabilities, which the unit of a member forbids.
 """
 import ctypes
 import os
@@ -18,7 +18,7 @@ def main() -> None:
         sys.exit("child.py: the kernel does not take it")
     if os.getppid() != int(sys.argv[1]):
         sys.exit("child.py: the parent has ended already")
-    os.execvp(sys.argv[2], sys.argv[2:])
+    os.execve(int(sys.argv[2]), sys.argv[3:], os.environ)
 
 
 if __name__ == "__main__":
