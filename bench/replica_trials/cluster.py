@@ -146,6 +146,7 @@ class Cluster:
             words += [f"--{prefix}cert-file", f"{self.tls}/m{machine}.crt",
                       f"--{prefix}key-file", f"{self.tls}/m{machine}.key",
                       f"--{prefix}trusted-ca-file", f"{self.tls}/ca.crt",
+                      f"--{prefix or 'client-'}crl-file", f"{self.tls}/ca.crl",
                       f"--{prefix}client-cert-auth"]
         self.start(f"etcd{machine}", machine, words)
 

@@ -221,6 +221,35 @@ def secured(cluster: Cluster) -> None:
         cluster.wait_for(machine, cluster.position(1))
     judge("certificates: all members are at one position",
           len({cluster.position(it) for it in range(3)}) == 1)
+    days = (cluster.state(0) or {}).get("certificate_days")
+    judge("certificates: /replica tells the days that are left", isinstance(days, int) and 3640 < days <= 3650, days)
+    stolen(cluster, cluster.tls)
+
+
+def stolen(cluster: Cluster, folder: pathlib.Path) -> None:
+    """The certificate of machine 2 is revoked: by its key nobody reads the log any more. It gets another one."""
+    for end in ("crt", "key"):
+        shutil.copy(folder / f"m2.{end}", folder / f"stolen.{end}")
+    words = ["curl", "-sS", "--max-time", "20", "--cacert", f"{folder}/ca.crt", "--cert", f"{folder}/stolen.crt", "--key",
+             f"{folder}/stolen.key", f"{cluster.etcd_address(0)}/v3/kv/range", "-d", '{"key":"AA=="}']
+    before = subprocess.run(words, capture_output=True, text=True, check=False)
+    cluster.kill("member2", "etcd2")
+    done = subprocess.run([EXAMPLES / "certificates", folder, "revoke", "m2"], capture_output=True, text=True,
+                          check=False)
+    judge("stolen: the script revokes its certificate, and takes its key away",
+          done.stdout == "m2: revoked\n" and not (folder / "m2.key").exists(), done)
+    for machine in (0, 1):
+        cluster.kill(f"etcd{machine}", how=signal.SIGTERM)
+        cluster.start_etcd(machine)
+    reply = posted(cluster, 0, [record(60)])
+    after = subprocess.run(words, capture_output=True, text=True, check=False)
+    judge("stolen: with its key etcd answered before, and does not afterwards",
+          reply.status == 200 and before.returncode == 0 and after.returncode != 0, (before, after))
+    subprocess.run([EXAMPLES / "certificates", folder, "m2=127.0.0.1"], check=True, capture_output=True)
+    cluster.start_etcd(2)
+    cluster.start_member(2)
+    cluster.wait_for(2, cluster.position(0))
+    judge("stolen: with a new key the machine takes acts again", posted(cluster, 2, [record(61)]).status == 200)
 
 
 def units(cluster: Cluster) -> None:

@@ -101,7 +101,7 @@ def gone(cluster: Cluster) -> None:
     posted(cluster, 0, [record(10)])
     cluster.wait_for(1, cluster.position(0))
     cluster.make_snapshot(1)
-    for what in ("the snapshot", "the office"):
+    for times, what in enumerate(("the snapshot", "the office"), 1):
         posted(cluster, 0, [record(11)])
         cluster.wait_for(1, cluster.position(0))
         cluster.file(1).unlink()
@@ -112,7 +112,7 @@ def gone(cluster: Cluster) -> None:
             assert office is not None
             os.kill(office, signal.SIGKILL)
         began = time.monotonic()
-        while cluster.journal("member1").count("is gone, or empty") < 1 and time.monotonic() - began < 60:
+        while cluster.journal("member1").count("is gone, or empty") < times and time.monotonic() - began < 60:
             time.sleep(0.1)
         cluster.wait_for(1, cluster.position(0), 120)
         reply = get(cluster, 1, "/records/1")

@@ -14,7 +14,7 @@ from replica_trials.judging import judge
 from replica_trials.posting import begun, get, halts, post, posted, record
 from replica_trials.verdict import same_rows
 
-SLOW_SECONDS = 8
+SLOW_SECONDS = 20
 
 
 def own_program(cluster: Cluster, name: str = "own-office") -> pathlib.Path:
