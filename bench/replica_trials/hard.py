@@ -230,8 +230,8 @@ def stolen(cluster: Cluster, folder: pathlib.Path) -> None:
     """The certificate of machine 2 is revoked: by its key nobody reads the log any more. It gets another one."""
     for end in ("crt", "key"):
         shutil.copy(folder / f"m2.{end}", folder / f"stolen.{end}")
-    words = ["curl", "-sS", "--max-time", "20", "--cacert", f"{folder}/ca.crt", "--cert", f"{folder}/stolen.crt", "--key",
-             f"{folder}/stolen.key", f"{cluster.etcd_address(0)}/v3/kv/range", "-d", '{"key":"AA=="}']
+    words = ["curl", "-sS", "--max-time", "20", "--cacert", f"{folder}/ca.crt", "--cert", f"{folder}/stolen.crt",
+             "--key", f"{folder}/stolen.key", f"{cluster.etcd_address(0)}/v3/kv/range", "-d", '{"key":"AA=="}']
     before = subprocess.run(words, capture_output=True, text=True, check=False)
     cluster.kill("member2", "etcd2")
     done = subprocess.run([EXAMPLES / "certificates", folder, "revoke", "m2"], capture_output=True, text=True,

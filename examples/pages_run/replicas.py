@@ -209,9 +209,9 @@ def is_copy(shell: Shell) -> None:
 
 
 def member_stops(shell: Shell) -> None:
-    """In place of systemd: the member of archive1 ends; and the script is where docs/OPERATING.md puts it."""
+    """In place of systemd: the member of archive1 ends; and the scripts are where docs/OPERATING.md puts them."""
     HERE.stop_member(1)
-    shell.run("install -m 755 examples/service/office-compact /usr/local/bin/")
+    shell.run("install -m 755 $(ls -d examples/service/office-* | grep -v @) /usr/local/bin/")
 
 
 def member_goes_on(shell: Shell) -> None:
@@ -265,7 +265,8 @@ ROWS = [
     Row("systemctl mask", skip="without systemd"),
     Row("rsync --archive /var/lib/office-member/city/snapshots second/"),
     Row("systemctl enable --now office-member@city", skip="without systemd", then=members_start),
-    Row("runuser -u office -- curl --silent http://127.0.0.1:8181/replica", like=r'\{"answers":true,.*\}', then=prepare_nginx),
+    Row("runuser -u office -- curl --silent http://127.0.0.1:8181/replica", like=r'\{"answers":true,.*\}',
+        then=prepare_nginx),
     Row("cp examples/replicas/nginx.conf"),
     Row("sed -i '$a include"),
     Row("sed -i 's|proxy_pass_request_body"),
@@ -295,6 +296,7 @@ ROWS = [
     Row("sed -i '/^ETCD_INITIAL_CLUSTER=/", then=both_are_new),
     Row("systemctl reload office-member@city", skip="without systemd", then=snapshot_now),
     Row("cp $(ls -d /var/lib/office-member", then=is_copy),
+    Row("office-since", skip="bench/service_scripts tries it"),
     Row("office-etcdctl defrag"),
     Row("office-etcdctl alarm disarm"),
     Row("runuser -u office -- office-compact", like=r".*: the same\n.*the old file.*|.*the same\n.*"),

@@ -10,7 +10,7 @@ import math
 import threading
 import time
 
-from replica.errors import NotTaken, Unclear
+from replica.errors import NotTaken, Unclear, say
 from replica.log import Log
 
 EVERY_SECONDS = 1
@@ -40,6 +40,8 @@ class Freshness:
                 self.confirm()
             except (NotTaken, Unclear):
                 pass
+            except Exception as error:  # without this thread the member would answer no reading any more
+                say(f"the end of the log is not known: {error!r}")
             time.sleep(EVERY_SECONDS)
 
     def confirm(self) -> int:

@@ -42,10 +42,13 @@ class Guard:
         """Looks again and again. Never returns."""
         while True:
             time.sleep(LOOK_SECONDS)
-            self.look()
-            if time.monotonic() - self.asked > min(ASK_SECONDS, self.limit):
-                self.service.ask_if_free()
-                self.asked = time.monotonic()
+            try:
+                self.look()
+                if time.monotonic() - self.asked > min(ASK_SECONDS, self.limit):
+                    self.service.ask_if_free()
+                    self.asked = time.monotonic()
+            except Exception as error:  # without this thread nobody would find an office that hangs
+                say(f"the office is not looked at: {error!r}")
 
     def look(self) -> None:
         """Kills an office for which somebody waits, and which has done nothing for as long as the limit."""

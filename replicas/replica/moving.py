@@ -70,8 +70,12 @@ def put_back(file: pathlib.Path) -> None:
 def rename(old: pathlib.Path, new: pathlib.Path) -> None:
     """Renames FILE and its log, as one that no office opens in between."""
     os.link(old, new)
-    if beside(old, "-wal").exists():
-        os.rename(beside(old, "-wal"), beside(new, "-wal"))
+    try:
+        if beside(old, "-wal").exists():
+            os.rename(beside(old, "-wal"), beside(new, "-wal"))
+    except OSError:
+        os.unlink(new)
+        raise
     os.unlink(old)
     folder = os.open(old.parent, os.O_RDONLY)
     try:
