@@ -16,7 +16,7 @@ from typing import Any, Sequence
 
 from replica.errors import Halt
 
-CHILD = str(pathlib.Path(__file__).with_name("child.py"))
+OPENED = str(pathlib.Path(__file__).with_name("opened.py"))
 PART = 1 << 20
 
 
@@ -48,7 +48,7 @@ class Program:
         if self.hash() != self.digest:
             raise Halt(f"the program {self.path} was written over while this member ran")
         return subprocess.Popen(
-            [sys.executable, "-I", "-S", CHILD, str(os.getpid()), str(self.descriptor), self.path, *words],
+            [sys.executable, "-I", "-S", OPENED, str(os.getpid()), str(self.descriptor), self.path, *words],
             stdin=subprocess.DEVNULL, pass_fds=[self.descriptor], env=self.environment, **more)
 
     def run(self, words: Sequence[str]) -> None:
