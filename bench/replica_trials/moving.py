@@ -17,9 +17,9 @@ from replica_trials.posting import begun, get, halts, posted, record
 from replica_trials.verdict import same_rows
 
 
-def found(cluster: Cluster, machine: int, file: pathlib.Path) -> tuple[int, str]:
-    """The status of `found` over a FILE, and what it said."""
-    done = subprocess.run([sys.executable, TOP / "replicas/found", cluster.home(machine) / "settings.json", file],
+def found(cluster: Cluster, machine: int, *words: str | pathlib.Path) -> tuple[int, str]:
+    """The status of `found` with these words, and what it said."""
+    done = subprocess.run([sys.executable, TOP / "replicas/found", cluster.home(machine) / "settings.json", *words],
                           capture_output=True, text=True, check=False)
     return done.returncode, done.stdout + done.stderr
 
@@ -57,6 +57,11 @@ def moved(cluster: Cluster) -> None:
     judge("moving: where the log is there already, FILE is as it was",
           status == 1 and other.exists() and log_of(other).stat().st_size == log
           and not pathlib.Path(f"{other}.moved").exists(), (status, said))
+    cluster.write_settings(1, log="second")
+    status, said = found(cluster, 1, "--copy", other)
+    judge("moving: another log begins with a copy, which stays as it is",
+          status == 0 and other.exists() and log_of(other).stat().st_size == log, (status, said))
+    cluster.write_settings(1)
     shutil.rmtree(cluster.home(1) / "snapshots", ignore_errors=True)
     for machine in (1, 2):
         shutil.copytree(cluster.home(0) / "snapshots", cluster.home(machine) / "snapshots")

@@ -1,10 +1,11 @@
 """The begin of a log: snapshot 0 at one member, and the log of its name in etcd.
 
     found CONFIG [FILE]
+    found CONFIG --copy COPY
 
 FILE is an office that nobody has open; without it a new office is made. Where the log was begun FILE and its log are
-FILE.moved and FILE.moved-wal afterwards, so that no service goes on with them. Copy the folder `snapshots` to the other
-members before they start. Status 0 where it was done, 1 where there is a log of this name, or snapshots, already, 2 for
+FILE.moved and FILE.moved-wal afterwards, so that no service goes on with them. COPY is a copy of an office, as of a
+backup, and stays as it is. Copy the folder `snapshots` to the other members before they start. Status 0 where it was done, 1 where there is a log of this name, or snapshots, already, 2 for
 wrong settings, 3 where a step failed or FILE is in use.
 """
 from __future__ import annotations
@@ -19,13 +20,13 @@ import uuid
 from replica.errors import Fault, Halt, NotTaken, Unclear
 from replica.etcd import Etcd
 from replica.log import Log
-from replica.moving import NotMoved, put_aside, put_back
+from replica.moving import NotMoved, look_at, put_aside, put_back
 from replica.program import Program
 from replica.settings import Settings, read_settings
 from replica.snapshots import Snapshots
 
 
-def found(settings: Settings, file: pathlib.Path | None) -> int:
+def found(settings: Settings, file: pathlib.Path | None, copy: pathlib.Path | None = None) -> int:
     """Makes both, or neither but for a snapshot that the next call begins with."""
     program = Program(settings.office, settings.disk)
     log = Log(settings, Etcd(settings.etcd, settings.tls()), program.digest)
@@ -35,10 +36,12 @@ def found(settings: Settings, file: pathlib.Path | None) -> int:
         return 1
     try:
         moved = None if file is None else put_aside(file)
+        if copy is not None:
+            look_at(copy)
     except (NotMoved, OSError) as error:
         print(f"not founded: {error}", file=sys.stderr)
         return 3
-    status = begin(settings.log, log, snapshots, moved)
+    status = begin(settings.log, log, snapshots, moved or copy)
     if status is None:
         print(f"perhaps founded, ask etcd for /office/{settings.log}/epoch", file=sys.stderr)
     elif status > 0:
@@ -69,9 +72,11 @@ def begin(name: str, log: Log, snapshots: Snapshots, file: pathlib.Path | None) 
 
 
 def main() -> None:
-    if len(sys.argv) not in (2, 3):
+    is_copy = len(sys.argv) == 4 and sys.argv[2] == "--copy"
+    if len(sys.argv) not in (2, 3) and not is_copy:
         print(__doc__, file=sys.stderr)
         raise SystemExit(2)
     os.umask(0o077)
-    file = pathlib.Path(sys.argv[2]).resolve() if sys.argv[2:] else None
-    raise SystemExit(found(read_settings(sys.argv[1]), file))
+    named = pathlib.Path(sys.argv[-1]).resolve() if sys.argv[2:] else None
+    settings = read_settings(sys.argv[1])
+    raise SystemExit(found(settings, None, named) if is_copy else found(settings, named))

@@ -46,18 +46,23 @@ def beside(file: pathlib.Path, end: str) -> pathlib.Path:
     return pathlib.Path(f"{file}{end}")
 
 
-def put_aside(file: pathlib.Path) -> pathlib.Path:
-    """Gives FILE and its log their other names. NotMoved where FILE is in use, or is none."""
-    moved = beside(file, ".moved")
+def look_at(file: pathlib.Path) -> None:
+    """NotMoved where FILE is in use, or is none."""
     if not has_content(file):
         raise NotMoved(f"there is no office in {file}")
-    for name in (moved, beside(moved, "-wal")):
-        if name.exists():
-            raise NotMoved(f"{name} is there already")
     if file.stat().st_nlink > 1:
         raise NotMoved(f"{file} has another name: a restore or a compaction was stopped in the middle")
     if is_locked(file) or is_open(file):
         raise NotMoved(f"somebody has {file} open: stop the service first, and disable it")
+
+
+def put_aside(file: pathlib.Path) -> pathlib.Path:
+    """Gives FILE and its log their other names. NotMoved where that cannot be."""
+    moved = beside(file, ".moved")
+    look_at(file)
+    for name in (moved, beside(moved, "-wal")):
+        if name.exists():
+            raise NotMoved(f"{name} is there already")
     rename(file, moved)
     return moved
 
