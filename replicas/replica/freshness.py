@@ -2,7 +2,7 @@
 
 A majority tells the end of the log as it was at some moment after it was asked. Once the entries up to there are done
 here, FILE has everything that was answered anywhere before it was asked. The age of a reading counts from that moment,
-by the clock of this machine that is never set.
+by the clock of this machine that is never set, and that goes on while the machine sleeps.
 """
 from __future__ import annotations
 
@@ -18,6 +18,10 @@ EVERY_SECONDS = 1
 LATE_SECONDS = 5
 """after the last answer: then there is no majority to be heard"""
 MOST_WAITING = 1000
+
+
+def now() -> float:
+    return time.clock_gettime(time.CLOCK_BOOTTIME)
 
 
 class Freshness:
@@ -46,7 +50,7 @@ class Freshness:
 
     def confirm(self) -> int:
         """Gives the end of the log, through a majority. NotTaken, Unclear: none answered."""
-        asked = time.monotonic()
+        asked = now()
         tail = self.log.tail()
         with self.lock:
             self.heard = asked if self.heard is None else max(self.heard, asked)
@@ -70,7 +74,7 @@ class Freshness:
             while self.waiting and self.waiting[0][0] <= position:
                 asked = self.waiting.pop(0)[1]
                 self.complete = asked if self.complete is None else max(self.complete, asked)
-            return None if self.complete is None else time.monotonic() - self.complete
+            return None if self.complete is None else now() - self.complete
 
     def is_behind(self, position: int) -> bool:
         """Says whether a reading at this position would be older than the limit."""
@@ -81,7 +85,7 @@ class Freshness:
         """What /replica tells about it, in whole seconds, rounded up."""
         age = self.age(position)
         with self.lock:
-            heard = None if self.heard is None else time.monotonic() - self.heard
+            heard = None if self.heard is None else now() - self.heard
             lag = max(0, self.tail - position)
         return {"age": whole(age), "heard": whole(heard), "lag": lag,
                 "quorum": heard is not None and heard < LATE_SECONDS}
