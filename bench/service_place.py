@@ -90,7 +90,7 @@ class Served:
         self.server.stdout.readline()
 
     def ask(self, method: str, path: str, body: bytes = b"") -> int:
-        conn = http.client.HTTPConnection("127.0.0.1", self.port, timeout=20)
+        conn = http.client.HTTPConnection("127.0.0.1", self.port, timeout=120)
         try:
             conn.request(method, path, body)
             return conn.getresponse().status

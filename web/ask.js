@@ -1,4 +1,6 @@
 // Requests to the paths of the office, which are in the folder above this page. Each is sent once, and no answer is kept.
+import { hear } from "./clock.js";
+import { keyFor, note } from "./plain/keys.js";
 
 /** The address of a path, without the name and password that the page's own address may carry. */
 export function placeOf(path, page = location.href) {
@@ -8,23 +10,48 @@ export function placeOf(path, page = location.href) {
   return place.href;
 }
 
+const NO_ANSWER = { status: 0, type: "", bytes: new Uint8Array(), text: "" };
+
 /** An answer: its status (0 where there came none, or not all of it), media type, bytes and text. */
-async function ask(path, method, body) {
+async function ask(path, method, body, more = {}) {
+  const request = {
+    method,
+    body,
+    headers: body === undefined ? more : { "Content-Type": "application/json", ...more },
+    mode: "same-origin",
+    cache: "no-store",
+    redirect: "error",
+  };
+  let reply, bytes, at;
   try {
-    const reply = await fetch(placeOf(path), {
-      method,
-      body,
-      headers: body === undefined ? {} : { "Content-Type": "application/json" },
-      mode: "same-origin",
-      cache: "no-store",
-      redirect: "error",
-    });
-    const bytes = new Uint8Array(await reply.arrayBuffer());
-    return { status: reply.status, type: reply.headers.get("Content-Type") ?? "", bytes, text: new TextDecoder().decode(bytes) };
+    reply = await fetch(placeOf(path), request);
+    at = Date.now();
+    bytes = new Uint8Array(await reply.arrayBuffer());
   } catch {
-    return { status: 0, type: "", bytes: new Uint8Array(), text: "" };
+    return NO_ANSWER;
   }
+  hear(reply.headers.get("Date"), at);
+  return { status: reply.status, type: reply.headers.get("Content-Type") ?? "", bytes, text: new TextDecoder().decode(bytes) };
 }
 
 export const get = (path) => ask(path, "GET");
-export const post = (path, body) => ask(path, "POST", body);
+
+/** Asks for what an act is about to be for: a member of an office on several machines then answers the newest state or none. */
+export const getNewest = (path) => ask(path, "GET", undefined, { "Office-Read": "newest" });
+
+/** Asks for nothing but the answer's Date, which is heard (clock.js). */
+export const askTime = () => ask("web/icon.svg", "HEAD");
+
+/**
+ * Sends a request that acts, with a key of its own: the same key again if the same is sent after an answer was lost.
+ * @param {string} path
+ * @param {string} [body]
+ * @param {string} [seen] what was shown of what it acts on: if that is another thing by now, so is the request
+ */
+export async function post(path, body, seen = "") {
+  const sent = JSON.stringify([path, body ?? "", seen]);
+  const key = keyFor(sent);
+  const answer = await ask(path, "POST", body, { "Idempotency-Key": key });
+  note(sent, key, answer.status);
+  return answer;
+}

@@ -1,5 +1,7 @@
 // Fields and forms: what a field takes, what is wrong in one, and the ticks that a form asks for before anything is sent.
-import { byId, made, paragraph } from "./page.js";
+import { askTime } from "./ask.js";
+import { bothDays } from "./clock.js";
+import { byId, made, paragraph, quiet } from "./page.js";
 import { isCode, isDay, isNumber, isTarget, isText, today } from "./plain/forms.js";
 import { PLAN_KINDS } from "./plain/plan_kinds.js";
 import { t } from "./texts.js";
@@ -71,24 +73,34 @@ function lateWarning(id, day) {
   const box = made("input", { type: "checkbox", id: `${id}-sure`, "aria-describedby": `${id}-sure-wrong` });
   const label = made("label", { for: box.id }, t("fields.lateSure", { day }));
   const sure = made("div", { class: "sure" }, box, label, made("strong", { class: "wrong", id: `${box.id}-wrong` }));
-  return [paragraph(t("fields.late", { day, today: today() })), sure];
+  const { here, first } = bothDays();
+  const clock = t(first === here ? "fields.clocks.here" : "fields.clocks.there");
+  return [paragraph(t("fields.late", { day, today: first, clock })), sure];
 }
 
-/** Asks for a tick where the day of this field is later than today by the browser's clock. A tick is for one day alone. */
+/** Asks for a tick if the day of this field is later than today by either clock. A tick is for one day alone. */
 function askLate(input) {
   const place = byId(`${input.id}-late`);
   const day = input.value.trim();
-  const late = isDay(day) && day > today() ? day : "";
+  const late = isDay(day) && day > bothDays().first ? day : "";
   if (late === (place.dataset.day ?? "")) return;
   place.dataset.day = late;
   place.replaceChildren(...(late ? lateWarning(input.id, late) : []));
 }
 
+const daysIn = (part) => part.querySelectorAll("[data-field=day] > input");
+
+/** Asks for a tick at each day of an act that is late by now, as once the server's clock is known. */
+export function askAllLate() {
+  for (const input of daysIn(document)) askLate(input);
+}
+
 /** Lets the days that nobody wrote be today again, on a page that stays open over midnight. */
 export function renewDays() {
-  for (const input of document.querySelectorAll("[data-field=day] > input")) {
+  for (const input of daysIn(document)) {
     if (input.value === input.dataset.today) input.dataset.today = input.value = today();
   }
+  askAllLate();
 }
 
 /** Takes the ticks of a form away, once they were used: each act asks for its own. */
@@ -127,7 +139,7 @@ function wrongOf(input) {
 function valuesOf(form) {
   for (const input of form.querySelectorAll("input[type=text]")) input.value = input.value.trim();
   // a day may have been written without an event, as by a script
-  for (const input of form.querySelectorAll("[data-field=day] > input")) askLate(input);
+  for (const input of daysIn(form)) askLate(input);
   const inputs = [...form.querySelectorAll("input")];
   for (const input of inputs) mark(input, wrongOf(input));
   const first = inputs.find((input) => input.hasAttribute("aria-invalid"));
@@ -143,18 +155,30 @@ function shareBy(name) {
   for (const input of document.querySelectorAll("[data-field=by] input")) if (input.value === "") input.value = name;
 }
 
+/** Takes the answer that something is wrong away once somebody writes anew: it is of what was written before. */
+function forgetWrong(form) {
+  const place = document.getElementById(`${form.id}-outcome`);
+  if (!form.dataset.busy && place?.classList.contains("wrong")) quiet(place);
+}
+
 /** Does something with a form's values once they are right. A form that is at work is not sent a second time. */
 export function onSubmit(form, work) {
   form.noValidate = true;
+  form.addEventListener("input", () => forgetWrong(form));
   form.addEventListener("submit", async (event) => {
     event.preventDefault();
     if (form.dataset.busy) return;
-    const values = valuesOf(form);
+    let values = valuesOf(form);
     if (!values) return;
     form.dataset.busy = "yes";
     form.setAttribute("aria-busy", "true");
     try {
-      await work(values);
+      if (daysIn(form).length) {
+        // either clock may have been set since the last answer
+        await askTime();
+        values = valuesOf(form);
+      }
+      if (values) await work(values);
     } finally {
       delete form.dataset.busy;
       form.removeAttribute("aria-busy");

@@ -1,4 +1,5 @@
 // The page: it reads its words, starts its views, and shows the one that the address names, as #record?number=8.
+import * as warning from "./clock_warning.js";
 import { field, renewDays } from "./fields.js";
 import * as offers from "./offers.js";
 import { byId, made, translate } from "./page.js";
@@ -38,6 +39,19 @@ function named(hash) {
   return [Object.hasOwn(VIEWS, name) ? name : "due", new URLSearchParams(words)];
 }
 
+/** What is said of days is said anew: the day may be another one by now. */
+function renew() {
+  renewDays();
+  warning.tellClocks();
+}
+
+/** The same on a page that somebody comes back to; a list of today may be that of an earlier day. */
+function comeBack() {
+  renew();
+  const [name] = named(location.hash);
+  VIEWS[name].renew?.();
+}
+
 function show(focus) {
   const [name, words] = named(location.hash);
   for (const other of Object.keys(VIEWS)) byId(other).hidden = other !== name;
@@ -45,7 +59,7 @@ function show(focus) {
     if (link.hash === `#${name}`) link.setAttribute("aria-current", "page");
     else link.removeAttribute("aria-current");
   }
-  renewDays();
+  renew();
   document.title = t("page.title", { view: t(`${name}.title`) });
   VIEWS[name].show(words);
   if (!focus) return;
@@ -89,10 +103,11 @@ async function begin() {
   translate(document);
   // the views come first, so that a list is whole before its links are left out
   for (const view of Object.values(VIEWS)) view.start();
+  warning.start();
   offers.start();
   byId("skip").addEventListener("click", skip);
   addEventListener("hashchange", () => show(true));
-  addEventListener("focus", renewDays);
+  addEventListener("focus", comeBack);
   addEventListener("beforeprint", withoutLinks);
   addEventListener("afterprint", withLinks);
   byId("loading").remove();

@@ -139,13 +139,14 @@ class Cluster:
                  "--listen-peer-urls", self.peer_address(machine),
                  "--initial-advertise-peer-urls", self.peer_address(machine),
                  "--initial-cluster", peers, "--initial-cluster-token", self.folder.name,
-                 "--auto-compaction-mode", "revision", "--auto-compaction-retention", "1000",
+                 "--auto-compaction-mode", "periodic", "--auto-compaction-retention", "24h",
                  "--quota-backend-bytes", str(self.quota), "--log-level", "warn",
                  "--logger", "zap"]
         for prefix in ("", "peer-") if self.tls else ():
             words += [f"--{prefix}cert-file", f"{self.tls}/m{machine}.crt",
                       f"--{prefix}key-file", f"{self.tls}/m{machine}.key",
                       f"--{prefix}trusted-ca-file", f"{self.tls}/ca.crt",
+                      f"--{prefix or 'client-'}crl-file", f"{self.tls}/ca.crl",
                       f"--{prefix}client-cert-auth"]
         self.start(f"etcd{machine}", machine, words)
 
@@ -227,7 +228,7 @@ class Cluster:
             children = pathlib.Path(f"/proc/{process.pid}/task/{process.pid}/children").read_text()
             for child in children.split():
                 words = pathlib.Path(f"/proc/{child}/cmdline").read_bytes().split(b"\0")
-                if b"serve" in words and not any(it.endswith(b"child.py") for it in words):
+                if b"serve" in words and not any(it.endswith(b"opened.py") for it in words):
                     return int(child)
         except OSError:
             pass

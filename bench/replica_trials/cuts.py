@@ -18,6 +18,7 @@ NETWORKS = ["n0", "n1", "n2"]
 WAYS = {"what it sends is lost": ["output"], "what it should get is lost": ["input"],
         "both are lost": ["output", "input"]}
 GOING_ON_SECONDS = 60
+AGE_LIMIT = 8
 
 
 def timed(cluster: Cluster, machine: int, method: str, path: str,
@@ -29,6 +30,19 @@ def timed(cluster: Cluster, machine: int, method: str, path: str,
         return ask(cluster.place(machine), method, path, body, key), time.time() - began
     except FAULTS:
         return None, time.time() - began
+
+
+def is_behind(cluster: Cluster, machine: int) -> bool:
+    """Whether a plain GET is 503 behind within some seconds after its limit, and none before was older."""
+    began = time.time()
+    while time.time() - began < AGE_LIMIT + 15:
+        reply, _ = timed(cluster, machine, "GET", "/records/1")
+        if reply is None or reply.status == 503:
+            return reply is not None and reply.body == b'{"error":"behind"}'
+        if int(reply.lines["office-age"]) > AGE_LIMIT + 1:
+            return False
+        time.sleep(0.3)
+    return False
 
 
 def one_cut(cluster: Cluster, traffic: Traffic, machine: int, way: str) -> None:
@@ -53,9 +67,11 @@ def one_cut(cluster: Cluster, traffic: Traffic, machine: int, way: str) -> None:
           all(it == (503, b'{"error":"quorum"}') for it in told), told)
     judge(f"{name}: the slowest of five took less than a second",
           max(it for _, it in replies) < 1, f"{max(it for _, it in replies):.2f} s", always=True)
-    reply, _ = timed(cluster, machine, "GET", "/records/1")
-    judge(f"{name}: it goes on answering GETs", reply is not None and reply.status in (200, 404),
-          reply)
+    judge(f"{name}: it stops answering plain GETs before they are older than its limit", is_behind(cluster, machine),
+          cluster.state(machine))
+    reply = ask(cluster.place(machine), "GET", "/records/1", None, {"Office-Read": "any"})
+    judge(f"{name}: it goes on answering those that take any age",
+          reply.status in (200, 404) and int(reply.lines["office-age"]) > AGE_LIMIT, reply)
     networks.cut(NETWORKS[machine], [])
     healed = time.time()
     seconds_away = traffic.entry_at(machine, healed)
@@ -65,7 +81,7 @@ def one_cut(cluster: Cluster, traffic: Traffic, machine: int, way: str) -> None:
 
 def run(folder: pathlib.Path, kills: int) -> None:
     networks.make(NETWORKS, "10.77.0.")
-    cluster = Cluster(folder / "cuts", 23000, networks=NETWORKS)
+    cluster = Cluster(folder / "cuts", 23000, networks=NETWORKS, age_limit=AGE_LIMIT)
     try:
         cluster.start_all()
         source, log, traffic = random.Random(2), Archivist(cluster), Traffic(cluster, 2)

@@ -1,7 +1,6 @@
 """What a member cannot do or cannot use: each time it stops answering, and comes back by itself."""
 from __future__ import annotations
 
-import json
 import pathlib
 import random
 import resource
@@ -82,8 +81,6 @@ def full_etcd(cluster: Cluster) -> None:
             cluster.make_snapshot(machine)
         time.sleep(1)
     judge("full etcd: once it was struck off, new snapshots drop the log", log.number("first") > 1)
-    told = json.loads(cluster.etcdctl(0, "get", "/office/city/tail", "-w", "json").stdout)
-    cluster.etcdctl(0, "compact", str(told["header"]["revision"]))
     reply = posted(cluster, 0, [record(5000)])
     judge("full etcd: without that member there is room again", reply.status == 200, reply)
     same_rows(cluster, "full etcd", [0, 1])

@@ -11,9 +11,9 @@ import threading
 import time
 import uuid
 
-from replica_trials import faults, requests
+from replica_trials import age, faults, history, moving, programs, requests
 from replica_trials.checks import Archivist
-from replica_trials.cluster import OFFICE, TOP, Cluster, ask
+from replica_trials.cluster import TOP, Cluster, ask
 from replica_trials.judging import judge
 from replica_trials.posting import begun, get, halts, post, posted, record
 from replica_trials.verdict import same_rows
@@ -23,7 +23,9 @@ EXAMPLES = TOP / "examples/replicas"
 
 
 def no_quorum(cluster: Cluster) -> None:
-    """Two of three etcd are gone: POST is 503 at once, GETs go on, also after a new start."""
+    """Two of three etcd are gone: POST is 503 at once, GETs go on without a limit of their age, also after
+    a new start."""
+    cluster.settings.update(age_limit=0)
     begun(cluster)
     posted(cluster, 2, [record(it) for it in range(10, 30)])
     cluster.kill("etcd1", "etcd2")
@@ -139,16 +141,6 @@ def away(cluster: Cluster) -> None:
     same_rows(cluster, "away", [0, 1, 2, 3])
 
 
-def another_program(cluster: Cluster) -> pathlib.Path:
-    """A copy of the office's program that works as it does, and has another digest."""
-    path = cluster.folder / "next-office"
-    shutil.copy(OFFICE, path)
-    with open(path, "ab") as file:
-        file.write(b"\n# the next program\n")
-    os.chmod(path, 0o755)
-    return path
-
-
 def upgrade(cluster: Cluster) -> None:
     """All at one position, snapshots, stop, the next program, start."""
     begun(cluster)
@@ -159,7 +151,7 @@ def upgrade(cluster: Cluster) -> None:
         cluster.wait_for(machine, tail)
         cluster.make_snapshot(machine)
     cluster.kill("member0", "member1", "member2", how=signal.SIGTERM)
-    program = another_program(cluster)
+    program = programs.another_program(cluster)
     cluster.office = str(program)
     for machine in (0, 1):
         cluster.write_settings(machine)
@@ -229,6 +221,35 @@ def secured(cluster: Cluster) -> None:
         cluster.wait_for(machine, cluster.position(1))
     judge("certificates: all members are at one position",
           len({cluster.position(it) for it in range(3)}) == 1)
+    days = (cluster.state(0) or {}).get("certificate_days")
+    judge("certificates: /replica tells the days that are left", isinstance(days, int) and 3640 < days <= 3650, days)
+    stolen(cluster, cluster.tls)
+
+
+def stolen(cluster: Cluster, folder: pathlib.Path) -> None:
+    """The certificate of machine 2 is revoked: by its key nobody reads the log any more. It gets another one."""
+    for end in ("crt", "key"):
+        shutil.copy(folder / f"m2.{end}", folder / f"stolen.{end}")
+    words = ["curl", "-sS", "--max-time", "20", "--cacert", f"{folder}/ca.crt", "--cert", f"{folder}/stolen.crt",
+             "--key", f"{folder}/stolen.key", f"{cluster.etcd_address(0)}/v3/kv/range", "-d", '{"key":"AA=="}']
+    before = subprocess.run(words, capture_output=True, text=True, check=False)
+    cluster.kill("member2", "etcd2")
+    done = subprocess.run([EXAMPLES / "certificates", folder, "revoke", "m2"], capture_output=True, text=True,
+                          check=False)
+    judge("stolen: the script revokes its certificate, and takes its key away",
+          done.stdout == "m2: revoked\n" and not (folder / "m2.key").exists(), done)
+    for machine in (0, 1):
+        cluster.kill(f"etcd{machine}", how=signal.SIGTERM)
+        cluster.start_etcd(machine)
+    reply = posted(cluster, 0, [record(60)])
+    after = subprocess.run(words, capture_output=True, text=True, check=False)
+    judge("stolen: with its key etcd answered before, and does not afterwards",
+          reply.status == 200 and before.returncode == 0 and after.returncode != 0, (before, after))
+    subprocess.run([EXAMPLES / "certificates", folder, "m2=127.0.0.1"], check=True, capture_output=True)
+    cluster.start_etcd(2)
+    cluster.start_member(2)
+    cluster.wait_for(2, cluster.position(0))
+    judge("stolen: with a new key the machine takes acts again", posted(cluster, 2, [record(61)]).status == 200)
 
 
 def units(cluster: Cluster) -> None:
@@ -251,7 +272,11 @@ TRIALS = {"no_quorum": no_quorum, "same_answers": same_answers, "full_disk": fau
           "full_etcd": faults.full_etcd, "no_memory": faults.no_memory,
           "damaged_file": faults.damaged_file,
           "flipped_byte": faults.flipped_byte, "away": away, "upgrade": upgrade,
-          "wrong_file": wrong_file, "secured": secured, "units": units}
+          "wrong_file": wrong_file, "secured": secured, "units": units,
+          "isolated": age.isolated, "hanging": age.hanging, "replaced": programs.replaced,
+          "assumed_disk": programs.assumed_disk, "slow_snapshot": programs.slow_snapshot,
+          "undoable": programs.undoable, "moved": moving.moved, "one_name": moving.one_name,
+          "gone": moving.gone, "history": history.history, "at_rest": history.at_rest}
 
 
 def run(folder: pathlib.Path, kills: int) -> None:

@@ -34,8 +34,8 @@ CASES += [("POST", "/acts", body, {}) for body in NOT_ACTS]
 
 
 def plain(reply: Reply) -> tuple[int, dict[str, str], bytes]:
-    """An answer without the two lines that a member adds."""
-    added = ("office-position", "idempotency-key")
+    """An answer without the lines that a member adds."""
+    added = ("office-position", "office-age", "idempotency-key")
     return (reply.status, {it: value for it, value in reply.lines.items() if it not in added},
             reply.body)
 
@@ -120,7 +120,8 @@ WRONG: list[tuple[dict[str, Any], str]] = [
     ({"name": None}, "name is missing"), ({"listen": "8081"}, "listen is no whole number"),
     ({"listen": True}, "listen is no whole number"), ({"folder": ""}, "folder is no text"),
     ({"lissten": 1}, "lissten is none of name, log, folder"), ({"log": "a/b"}, "log has other characters"),
-    ({"snapshot_every": 0}, "snapshot_every is 0"), ({"ca": "x"}, "go together")]
+    ({"snapshot_every": 0}, "snapshot_every is 0"), ({"ca": "x"}, "go together"),
+    ({"reading_limit": 0}, "reading_limit is 0"), ({"disk": "best"}, "disk is none of any, powersafe")]
 
 
 def run_member(word: str, path: pathlib.Path) -> tuple[int, str]:

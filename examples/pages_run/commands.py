@@ -6,7 +6,7 @@ from typing import NamedTuple
 TOP = pathlib.Path(__file__).resolve().parent.parent.parent
 # what a block of commands begins with, beside the office's own programs; other blocks show a file or an output
 PROGRAMS = {
-    "adduser", "apt-get", "cd", "chattr", "chgrp", "chmod", "chown", "cp", "curl", "echo", "grep", "head", "htpasswd",
+    "adduser", "apt-get", "cd", "chattr", "chgrp", "chmod", "chown", "cp", "curl", "echo", "find", "grep", "head", "htpasswd",
     "install", "journalctl", "ln", "mkdir", "mv", "nft", "nginx", "openssl", "printf", "rm", "rsync", "rt", "runuser",
     "sed", "setfacl", "sha256sum", "shred", "sqlite3", "systemctl", "systemd-analyze", "tail", "umask",
 }
@@ -39,7 +39,7 @@ def joined(lines: list[str]) -> list[str]:
 
 def is_program(word: str) -> bool:
     """Whether a block whose first word is this has commands."""
-    return word in PROGRAMS or re.fullmatch(r"(\./)?(examples/\S+|replicas/\S+|office(-[a-z]+)?)", word) is not None
+    return word in PROGRAMS or re.fullmatch(r"[A-Z_]+=\d+|(\./)?(examples/\S+|replicas/\S+|office(-[a-z]+)?)", word) is not None
 
 
 def commands(page: str) -> list[Command]:

@@ -37,8 +37,9 @@ def wait_until(holds: Callable[[], bool]) -> bool:
 
 
 def asked(number: int, path: str, body: bytes | None = None) -> Told:
-    """What the member of a machine answers; status 0 where it does not."""
-    words = ["curl", "--silent", "--max-time", "60", "--write-out", "\n%{http_code}", f"http://127.0.0.1:8081{path}"]
+    """What the member of a machine answers, at whatever age; status 0 where it does not."""
+    words = ["curl", "--silent", "--max-time", "60", "--write-out", "\n%{http_code}", "--header", "Office-Read: any",
+             f"http://127.0.0.1:8181{path}"]
     if body is not None:
         words += ["--header", f"Idempotency-Key: {uuid.uuid4().hex}", "--data-binary", "@-"]
     done = subprocess.run([*prefix(number), *words], input=body or b"", stdout=subprocess.PIPE, check=False)
@@ -136,6 +137,12 @@ class Machines:
         return self.shell.run(
             f"ETCDCTL_API=3 {' '.join(prefix(number))} etcdctl --endpoints https://127.0.0.1:2379 "
             f"--cacert {files}/ca.crt --cert {files}/{name}.crt --key {files}/{name}.key endpoint health").status == 0
+
+    def stop_member(self, number: int) -> None:
+        """Its member ends as systemd ends it."""
+        process = self.running.pop(f"member{number}")
+        process.send_signal(signal.SIGTERM)
+        process.wait(WAIT)
 
     def signal(self, number: int, what: int) -> None:
         self.running[f"member{number}"].send_signal(what)

@@ -11,11 +11,12 @@ from pages_run.expected import Row, run_page
 from pages_run.files import FIRST, alone, judge_alone
 from pages_run.judging import judge
 from pages_run.shell import Shell
+from pages_run.watching import BACKUPS
 from pages_run.watching import ROWS as WATCHING
 
 PAGE = "docs/OPERATING.md"
 CITY = "/var/lib/office/city/office.db"
-SERVES = f"office serve {CITY} 8081 1000000"
+SERVES = f"office-serve --stop-seconds 60 {CITY} 8081"
 # the records of the city archive
 ALL = {"records": 33}
 
@@ -24,20 +25,31 @@ def unit_words() -> str:
     """How the unit calls the program, for the office city."""
     unit = (TOP / "examples/service/office@.service").read_text()
     words = re.search(r"^ExecStart=/usr/local/bin/(.*)$", unit, re.M)[1].replace("%i", "city")
-    port = re.search(r"^PORT=(\d+)$", (TOP / "examples/service/city.conf").read_text(), re.M)[1]
-    return words.replace("${PORT}", port)
+    for name, value in re.findall(r"^(\w+)=(\w+)$", (TOP / "examples/service/city.conf").read_text(), re.M):
+        words = words.replace(f"${{{name}}}", value)
+    return words
 
 
 def city_serves(shell: Shell) -> None:
     """In place of systemd: what the unit calls, with the office of the city archive."""
     units = [f"/etc/systemd/system/{it}" for it in os.listdir("/etc/systemd/system") if it.startswith("office-")]
-    done = shell.run(f"systemd-analyze verify {' '.join(sorted(units))}")
+    done = shell.run(f"systemd-analyze verify --man=no {' '.join(sorted(units))}")
     judge("systemd-analyze takes the other units", done.status == 0 and len(units) > 1, done.err)
     judge("the unit calls what is run here", unit_words() == SERVES, unit_words())
-    os.makedirs(os.path.dirname(CITY))
+    os.makedirs(os.path.dirname(CITY), exist_ok=True)
+    done = shell.run(SERVES)
+    judge("without FILE the unit's command does not start", done.status == 2 and "office init" in done.err, done.err)
     shell.run(f"office apply {CITY} examples/city_archive/story.json")
     line = shell.serve(SERVES)
     judge("the office of the unit listens", line == "listening 127.0.0.1:8081\n", line)
+
+
+def is_first(shell: Shell) -> None:
+    """The first office is the user's alone; another one, with records, comes in its place."""
+    seen = shell.run(f"stat -c '%U %a' {os.path.dirname(CITY)} {CITY}").out
+    judge("the first office is for the user alone", seen == "office 700\noffice 600\n", seen)
+    shell.run(f"rm {CITY} {CITY}-wal")
+    city_serves(shell)
 
 
 def nginx_starts(shell: Shell) -> None:
@@ -61,6 +73,8 @@ PROXIED = [
     ("", "city/web/", "401"),
     ('--user "registrar:$PASSWORD"', "city/web/", "200"),
     ('--user "registrar:$PASSWORD"', "court/web/texts/en.json", "200"),
+    ("", "court/web/texts/en.json", "200"),
+    ('--user "registrar:$PASSWORD"', "city/replica", "404"),
     ('--user "registrar:$PASSWORD" --data-binary "[]"', "city/acts", "403"),
     ('--user "registrar:$PASSWORD" --data-binary "[]" --header "Origin: https://elsewhere"', "city/acts", "403"),
 ]
@@ -117,14 +131,30 @@ def is_own(shell: Shell) -> None:
 
 
 def is_stopped(shell: Shell) -> None:
-    """In place of systemd: the office of the unit is ended."""
-    shell.end(kill=True)
+    """In place of systemd: the office of the unit is stopped, which closes FILE."""
+    shell.servers[-1].terminate()
+    status = shell.end()
+    size = os.path.getsize(f"{CITY}-wal")
+    judge("a stop closes FILE", (status, size) == (0, 41), f"status {status}, {size} bytes")
 
 
 def is_restored(shell: Shell) -> None:
     judge_alone(shell, "office-restore", CITY, ALL)
     # the name of what was there has the second in it, and is not given twice
     time.sleep(1.1)
+
+
+def has_kept(shell: Shell) -> None:
+    """What is old, in both layouts: the last good copies stay, however old."""
+    judge("what a restore put aside is there", any("before" in it for it in os.listdir(os.path.dirname(CITY))))
+    shell.run(f"mkdir -p {BACKUPS}/city && cp city.db {BACKUPS}/city/20200101T000000Z.db && "
+              f"cp city.db {BACKUPS}/city-20200102T000000Z.db")
+
+
+def has_moved(shell: Shell) -> None:
+    there = sorted(os.listdir(f"{BACKUPS}/city"))
+    judge("the copies of the earlier layout are in the folder, and none was removed",
+          there == ["20200101T000000Z.db", "20200102T000000Z.db"], f"{there}")
 
 
 def is_compact(shell: Shell) -> None:
@@ -134,8 +164,8 @@ def is_compact(shell: Shell) -> None:
 
 
 def is_shredded(shell: Shell) -> None:
-    left = [it for it in os.listdir(os.path.dirname(CITY)) if "before" in it]
-    judge("no old file is left", not left, f"{left}")
+    left = [it for it in os.listdir(os.path.dirname(CITY)) if re.search(r"before-\w+Z(-wal)?$", it)]
+    judge("no old file is left", not left and os.path.exists(CITY), f"{left}")
 
 
 def killed(shell: Shell) -> None:
@@ -164,15 +194,23 @@ ROWS = [
     Row("mkdir -p /etc/office"),
     Row("cp examples/service/city.conf"),
     Row("cp examples/service/office@.service"),
+    Row("cp -r examples/service/office_serve"),
+    Row("install -m 755 examples/service/office-serve"),
+    Row("cp examples/service/office-compact-file@.service"),
+    Row("install -d -o office -g office -m 700 /var/lib/office/city"),
+    Row("runuser -u office -- office init", prints="version 2\n", then=is_first),
     Row("cp examples/service/office-backup@.service"),
     Row("cp examples/service/office-compact@.service"),
     Row("cp examples/service/office-overdue@.service"),
     Row("cp examples/service/office-overdue-mail@.service"),
     Row("cp examples/service/office-catalogue@.service"),
+    Row("cp examples/service/office-scrub@.service"),
     Row("install -m 755 examples/service/office-backup"),
     Row("install -m 755 examples/service/office-compact"),
     Row("install -m 755 examples/service/office-overdue"),
-    Row("systemd-analyze verify /etc/systemd/system/office@.service", then=city_serves),
+    Row("install -m 755 examples/service/office-since"),
+    Row("install -m 755 examples/service/office-scrub"),
+    Row("systemd-analyze verify --man=no /etc/systemd/system/office@.service"),
     Row("systemctl restart nginx", skip="without systemd", then=nginx_starts),
     Row("systemctl", skip="without systemd"),
     Row("apt-get install ./office_", skip="examples/package/run installs it"),
@@ -180,6 +218,7 @@ ROWS = [
     Row("mkdir -p /etc/nginx/office"),
     Row("cp -r web /usr/local/share/office/"),
     Row("cp examples/nginx/http.conf examples/nginx/server.conf examples/nginx/actors.conf"),
+    Row("cp examples/nginx/acts.js"),
     Row("cp examples/nginx/offices.conf"),
     Row("ln -sf ../sites-available/office"),
     Row("rm -f /etc/nginx/sites-enabled/default"),
@@ -190,29 +229,40 @@ ROWS = [
     Row("sed -i 's/worker_connections"),
     Row("cp examples/nginx/limits.conf"),
     Row("install -d -m 755 /var/log/office"),
+    Row("install -m 640 -o www-data -g adm /dev/null /var/log/nginx/office.access.log"),
+    Row("install -m 640 -o www-data -g adm /dev/null /var/log/nginx/office.error.log"),
     Row("install -m 640 -o www-data -g adm /dev/null /var/log/office/acts.log"),
     Row("chattr +a /var/log/office/acts.log"),
     Row("cp examples/nginx/office-acts"),
     Row("nginx -t"),
-    Row("curl --silent --show-error --cacert /etc/nginx/office/office.crt --user \"registrar:$PASSWORD\" https:",
+    Row("curl --silent --show-error --cacert /etc/nginx/office/office.crt --config - https:",
         like=r"\[\{.*\}\]", then=is_due_list),
-    Row("curl --silent --show-error --cacert /etc/nginx/office/office.crt --user \"registrar:$PASSWORD\" --header",
-        prints="[]"),
+    Row("curl --silent --show-error --cacert /etc/nginx/office/office.crt --config - --header", prints="[]"),
     Row("cp examples/nginx/office.nft"),
     # examples/nginx/try looks what the rules do
     Row("nft -f /etc/office.nft", skip="these rules would close the port that is asked next"),
     Row("echo 'include \"/etc/office.nft\"' >> /etc/nftables.conf"),
     Row("umask 077", then=own_alone),
-    Row("cp archive.db backup.db", then=is_own),
+    Row("office-backup archive.db backup.db", prints="", then=is_own),
     Row("office-backup /var/lib/office/city/office.db city.db", then=backed_up),
     Row("rsync --archive", then=is_second),
     Row("sqlite3 city.db 'PRAGMA integrity_check'", prints="ok\n"),
     Row("sqlite3 city.db 'SELECT count(*) FROM records'", prints="33\n"),
     Row("office init city.db", prints="version 2\n"),
-    Row("office-restore archive.db backup.db", like=r"what was there: \S+/archive\.db\.before-\w+\n",
-        then=is_stopped),
-    Row(f"office-restore {CITY} city.db", like=r"what was there: \S+\.before-\w+\n",
-        then=is_restored),
+    Row("office-scrub city.db", like=r"copy: city\.db\ncontents compared: \d+\ncertificates compared: \d+\n"),
+    Row("office-restore archive.db backup.db",
+        like=r"what COPY takes back: \S+\.since\nwhat was there: \S+/archive\.db\.before-\w+\n", then=is_stopped),
+    Row(f"office-restore {CITY} city.db",
+        like=r"\d+\truns whose numbers will be used again\n\d+\tcertificates that are saved here\n"
+             r"what COPY takes back: \S+\.since\nwhat was there: \S+\.before-\w+\n", then=is_restored),
+    Row(f"office-restore --since-was-read {CITY} city.db", like=r"(.*\n)?what was there: \S+\.before-\w+\n",
+        then=has_kept),
+    Row("office-since archive.db backup.db compared", prints=""),
+    Row("BACKUP_DAYS=30 office-prune", prints=""),
+    Row("BEFORE_DAYS=30 office-prune", prints=""),
+    Row("install -d -o office -g office -m 700 /var/lib/office-backups/city"),
+    Row("find /var/lib/office-backups -maxdepth 1", then=has_moved),
+    Row("find /var/lib /var/cache", prints=""),
     Row("mkdir -m 700 registers"),
     Row(f"office-overdue {CITY} registers", like=r"registers/overdue-\d{4}-\d\d-\d\d\.csv\n"),
     Row("cp examples/service/city.mail"),
@@ -220,7 +270,7 @@ ROWS = [
     Row("office-catalogue city.db /var/lib/office-catalogues/city", prints=""),
     Row("curl --silent --compressed --cacert /etc/nginx/office/office.crt", like=r'.*"records":33\}\s*\]\}\s*'),
     Row(f"office-compact {CITY}", like=r"(.*\n)?records: 33, the same\n.*", then=is_compact),
-    Row("shred --remove", then=is_shredded),
+    Row("BEFORE_DAYS=0 office-prune", like=r"(removed: \S+\n)+", then=is_shredded),
 ]
 
 

@@ -66,7 +66,8 @@ def prepare_nginx(shell: Shell) -> None:
     for command in (
             "mkdir -p /etc/nginx/office /var/log/office /etc/nginx/sites-available",
             "cp examples/nginx/http.conf examples/nginx/server.conf examples/nginx/actors.conf /etc/nginx/office/",
-            "sed 's/8080/8081/' examples/nginx/office.conf > /etc/nginx/sites-available/office",
+            "cp examples/nginx/acts.js /etc/nginx/office/",
+            "sed 's/8080/8181/' examples/nginx/office.conf > /etc/nginx/sites-available/office",
             "ln -sf ../sites-available/office /etc/nginx/sites-enabled/office",
             "rm -f /etc/nginx/sites-enabled/default",
             "openssl req -x509 -newkey ec -pkeyopt ec_paramgen_curve:P-256 -nodes -days 9 -subj /CN=localhost "
@@ -103,6 +104,21 @@ def third_is_new(shell: Shell) -> None:
     said = "ETCD_INITIAL_CLUSTER_STATE=existing" in open("/etc/office/etcd.conf").read().splitlines()
     HERE.start_etcd(3, "existing")
     judge(f"{PAGE}: the new machine's etcd joins", said and wait_until(lambda: HERE.is_healthy(3)),
+          shell.path("etcd3.log").read_text()[-500:])
+
+
+def third_was_stolen(shell: Shell) -> None:
+    """In place of systemd: etcd of archive1 starts anew with the list. The new machine archive3 gets a new key."""
+    HERE.kill(1)
+    HERE.start_etcd(1)
+    HERE.start_member(1)
+    listed = shell.run("openssl crl -in /etc/office/etcd/ca.crl -noout -text")
+    judge(f"{PAGE}: the list has one certificate", listed.out.count("Serial Number") == 1, listed.out)
+    done = shell.run("examples/replicas/certificates certificates archive3=192.0.2.13")
+    judge(f"{PAGE}: archive3 gets a new key", done.out == "archive3: made\n", done.out + done.err)
+    HERE.kill(3)
+    HERE.start_etcd(3, "existing")
+    judge(f"{PAGE}: with it etcd of archive3 joins", wait_until(lambda: HERE.is_healthy(1) and HERE.is_healthy(3)),
           shell.path("etcd3.log").read_text()[-500:])
 
 
@@ -193,6 +209,20 @@ def is_copy(shell: Shell) -> None:
     judge(f"{PAGE}: the copy is an office, with its certificate", done.out == "version 2\nCERTIFICATE 1\n", f"{done}")
 
 
+def member_stops(shell: Shell) -> None:
+    """In place of systemd: the member of archive1 ends; and the scripts are where docs/OPERATING.md puts them."""
+    HERE.stop_member(1)
+    shell.run("install -m 755 $(ls -d examples/service/office-* | grep -v @) /usr/local/bin/")
+
+
+def member_goes_on(shell: Shell) -> None:
+    """In place of systemd, after the compaction, or where it is the one that is left."""
+    HERE.start_member(1)
+    judge(f"{PAGE}: the member answers with the FILE that was written anew",
+          HERE.answers(1) and "opened at" in shell.path("member1.log").read_text().splitlines()[-2],
+          shell.path("member1.log").read_text()[-500:])
+
+
 def is_step_once(shell: Shell) -> None:
     """The first look: the last answer is the one that another machine gave."""
     judge(f"{PAGE}: the step was done once",
@@ -216,21 +246,28 @@ ROWS = [
     Row("mkdir -p /etc/office/etcd"),
     Row("cp -r replicas/member"),
     Row("cp examples/replicas/office-etcd.service"),
+    Row("cp examples/replicas/office-etcd-defrag.service"),
     Row("cp examples/replicas/etcd.conf"),
     Row("install -m 755 examples/replicas/office-etcdctl"),
     Row("install -d -o office -g office -m 700"),
     Row("systemd-analyze verify"),
+    Row("examples/replicas/certificates certificates revoke", prints="archive3: revoked\n"),
     Row("examples/replicas/certificates certificates", prints="archive1: made\narchive2: made\narchive3: made\n"),
     Row("install -m 644 certificates/ca.crt"),
+    Row("install -m 644 certificates/ca.crl"),
     Row("install -m 644 certificates/archive1.crt"),
     Row("install -m 640 -g office-etcd certificates/archive1.key"),
     Row("systemctl daemon-reload", skip="without systemd"),
     Row("systemctl enable --now office-etcd", skip="without systemd", then=etcd_starts),
     Row("office-etcdctl endpoint health"),
-    Row("runuser -u office --", prints="founded city\n"),
+    Row("runuser -u office -- /usr/local/lib/office-replicas/found /etc/office/city.json /var",
+        skip="the log begins with a new office here"),
+    Row("runuser -u office -- /usr/local/lib/office-replicas/found", prints="founded city\n"),
+    Row("systemctl mask", skip="without systemd"),
     Row("rsync --archive /var/lib/office-member/city/snapshots second/"),
     Row("systemctl enable --now office-member@city", skip="without systemd", then=members_start),
-    Row("curl --silent http://127.0.0.1:8081/replica", like=r'\{"answers":true,.*\}', then=prepare_nginx),
+    Row("runuser -u office -- curl --silent http://127.0.0.1:8181/replica", like=r'\{"answers":true,.*\}',
+        then=prepare_nginx),
     Row("cp examples/replicas/nginx.conf"),
     Row("sed -i '$a include"),
     Row("sed -i 's|proxy_pass_request_body"),
@@ -246,18 +283,25 @@ ROWS = [
     Row("office-etcdctl member remove", like=r"Member \w+ removed from cluster \w+\n"),
     Row("office-etcdctl member add archive3"),
     Row("sed -i 's/^ETCD_INITIAL_CLUSTER_STATE=new/", then=third_is_new),
+    Row("systemctl restart office-etcd.service", skip="without systemd", then=third_was_stolen),
+    Row("systemctl restart office-etcd office-member@city", skip="without systemd"),
     Row("rsync --archive $(ls -d", then=third_joins),
+    Row("systemctl stop office-member@city.service", skip="without systemd", then=member_stops),
     Row("systemctl stop office-member@city", skip="without systemd", then=two_burn),
     Row("echo ETCD_FORCE_NEW_CLUSTER=true"),
     Row("systemctl restart office-etcd", skip="without systemd", then=etcd_restarts),
     Row("sed -i /ETCD_FORCE_NEW_CLUSTER/d"),
+    Row("systemctl start office-member@city.service", skip="without systemd", then=member_goes_on),
     Row("systemctl start office-member@city", skip="without systemd", then=one_goes_on),
     Row("office-etcdctl member add archive2", then=acts_wait),
     Row("sed -i '/^ETCD_INITIAL_CLUSTER=/", then=both_are_new),
     Row("systemctl reload office-member@city", skip="without systemd", then=snapshot_now),
     Row("cp $(ls -d /var/lib/office-member", then=is_copy),
+    Row("office-since", skip="bench/service_scripts tries it"),
     Row("office-etcdctl defrag"),
     Row("office-etcdctl alarm disarm"),
+    Row("runuser -u office -- office-compact", like=r".*: the same\n.*the old file.*|.*the same\n.*"),
+    Row("find /var/lib/office-member/city/work -name 'office.db.before-*' -delete"),
 ]
 
 

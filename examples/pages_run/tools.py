@@ -1,4 +1,4 @@
-"""The programs that the pages call, and the packages of Debian that have them."""
+"""The programs that the pages call, a module of nginx, and the packages of Debian that have them."""
 import os
 import shutil
 
@@ -23,6 +23,7 @@ PACKAGES = {
     "systemd-analyze": "systemd",
     "unshare": "util-linux",
 }
+MODULE, ITS_PACKAGE = "/usr/lib/nginx/modules/ngx_http_js_module.so", "libnginx-mod-http-js"
 
 
 def advice() -> str:
@@ -30,7 +31,9 @@ def advice() -> str:
     if os.geteuid() != 0:
         return "run it as root"
     missing = sorted(tool for tool in PACKAGES if shutil.which(tool) is None)
+    packages = sorted({PACKAGES[tool] for tool in missing})
+    if not os.path.exists(MODULE):
+        missing, packages = [*missing, MODULE], [*packages, ITS_PACKAGE]
     if not missing:
         return ""
-    packages = sorted({PACKAGES[tool] for tool in missing})
     return f"missing here: {', '.join(missing)}; on Debian: apt-get install {' '.join(packages)}"

@@ -10,6 +10,14 @@ from selenium.webdriver.support.ui import Select
 
 from place import NAME, PASSWORD
 
+# a request that acts waits until it is let go
+HELD_BACK = """
+const there = window.fetch;
+window.fetch = async (...words) => {
+  if (words[1]?.method === "POST") await new Promise((go) => (window.letGo = go));
+  return there(...words);
+};
+"""
 # a program that is compiled with checks takes half a minute for a MiB of contents
 WAIT = 300
 
@@ -93,6 +101,26 @@ class Browser:
         self.one(css).click()
         time.sleep(0.05)
         self.settled()
+
+    def hold_back(self):
+        """Lets the page's next request that acts wait for `let_go`."""
+        self.driver.execute_script(HELD_BACK)
+
+    def let_go(self, before):
+        """Once a request that acts is to be sent, does something before it is."""
+        self.wait(lambda: self.driver.execute_script("return Boolean(window.letGo)"), "nothing is to be sent")
+        before()
+        self.driver.execute_script("window.letGo()")
+
+    @contextlib.contextmanager
+    def before_each_page(self, script):
+        """Each page that is opened meanwhile begins with this script."""
+        name = "Page.addScriptToEvaluateOnNewDocument"
+        it = self.driver.execute_cdp_cmd(name, {"source": script})
+        try:
+            yield
+        finally:
+            self.driver.execute_cdp_cmd("Page.removeScriptToEvaluateOnNewDocument", it)
 
     def table(self, css):
         """The rows of a table as their cells' texts."""

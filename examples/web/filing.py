@@ -267,7 +267,10 @@ def manifest(view: View, files: list[pathlib.Path]) -> None:
     same("then it is asked where the file is kept", view.focus(), "file-all-place")
     same("and it can be left out again", (buttons(), view.totals()["ready"]), ([WORDS["leave"], WORDS["off"]], 1))
     it.write(file_all_place="//server/scans/")
+    same("while it is to be filed no file is said to be left out", it.text("#file-large"), "")
     same("the manifest is filed", (view.file(), view.counts()), (1, {"added": "1"}))
+    words = FILING["manifestAdded"].split("{")[0]
+    judge("its row says that the manifest is, and not the file", view.answers()[0].startswith(words), view.answers()[0])
     number = int(digits(view.answers()[0]))
     digest = hashlib.sha256(large.read_bytes()).hexdigest()
     wanted = f"SHA256 {digest}\nLENGTH {MOST + 1}\nPLACE //server/scans/{large.name}\n"

@@ -58,7 +58,7 @@ RECORDS = {
     "due-confirm": 1,
     "overdue-confirm": 5,
 }
-LATE = TEXTS["fields"]["late"]
+LATE, CLOCKS = TEXTS["fields"]["late"], TEXTS["fields"]["clocks"]
 # a day is written in one step, as by a script that tells nobody, or as by pasting it
 WRITE = "const it = document.getElementById(arguments[0]); it.value = arguments[1];"
 PASTE = WRITE + "it.dispatchEvent(new InputEvent('input', { bubbles: true }));"
@@ -67,6 +67,7 @@ CLOCK = """
 const Real = Date, more = 86400000 * arguments[0];
 window.Date = class extends Real {
   constructor(...words) { words.length ? super(...words) : super(Real.now() + more); }
+  static now() { return Real.now() + more; }
 };
 dispatchEvent(new Event("focus"));
 """
@@ -185,7 +186,7 @@ def asked(story: Story, name: str, late: str) -> None:
     says(
         f"{name}: of a later day it says what that means",
         it.seen(f"#{form.day}-late"),
-        LATE.format(day=late, today=after(0)),
+        LATE.format(day=late, today=after(0), clock=CLOCKS["here"]),
     )
     same(f"{name}: without the tick nothing is sent", form.press(), 0)
     same(f"{name}: which is said at the tick", it.text(f"#{form.day}-sure-wrong"), TEXTS["fields"]["sureWrong"])
@@ -252,7 +253,8 @@ def clock(story: Story) -> None:
     it.write(run_open_day=after(1))
     same("and the new day is not late", it.text("#run-open-day-late"), "")
     it.write(run_open_day=after(2))
-    says("but the one after it is", it.text("#run-open-day-late"), LATE.format(day=after(2), today=after(1)))
+    words = LATE.format(day=after(2), today=after(1), clock=CLOCKS["here"])
+    says("but the one after it is", it.text("#run-open-day-late"), words)
     it.driver.execute_script("dispatchEvent(new Event('focus'))")
     same("and a day that somebody wrote stays", it.one("#run-open-day").get_attribute("value"), after(2))
 

@@ -57,6 +57,8 @@ return Array.from(document.querySelectorAll("section:not([hidden]) :is(input, se
   .filter((node) => node.checkVisibility()).filter((node) => { const it = node.getBoundingClientRect(); return it.width && (it.height < 24 || it.width < 24); }).map((node) => node.outerHTML)
 """
 WIDE = "return [document.documentElement.scrollWidth, innerWidth]"
+# the places of the view that is shown at which something is said later
+LIVE = "return Array.from(document.querySelectorAll('section:not([hidden]) [role=status], #clocks'))"
 # what is behind a summary is looked at too
 UNFOLD = "for (const it of document.querySelectorAll('section:not([hidden]) details')) it.open = true"
 
@@ -87,9 +89,21 @@ def readable_view(browser, proxy, name, address):
     same(f"{name}: one heading of the first level is seen", len([it for it in browser.all("h1") if it.is_displayed()]), 1)
 
 
+def live(browser, proxy, name, address):
+    """What says something later is known to a screen reader before, though it is empty and has no room."""
+    unfolded(browser, proxy.page + address)
+    there = browser.driver.execute_script(f"{LIVE}.filter((it) => !it.closest('[hidden], :has(> .act[hidden])')).length")
+    ax = browser.driver.execute_cdp_cmd("Accessibility.getFullAXTree", {})["nodes"]
+    known = [node for node in ax if not node["ignored"] and node["role"]["value"] == "status"]
+    same(f"{name}: a screen reader knows each place where something is said later", len(known), there)
+    high = f"{LIVE}.filter((it) => it.matches('.outcome:empty') && it.offsetHeight > 0).map((it) => it.id)"
+    same(f"{name}: and an empty one takes no room", browser.driver.execute_script(high), [])
+
+
 def readable(browser, proxy):
     for name, address in VIEWS.items():
         readable_view(browser, proxy, name, address)
+        live(browser, proxy, name, address)
     browser.width(400)
     browser.open(proxy.page + VIEWS["due"])
     # rows that are far from what is seen are not drawn

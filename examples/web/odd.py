@@ -100,6 +100,41 @@ def shown(story: Story) -> None:
     judge("the run: who opened it", SHOWN[BY] in it.seen("#run-outcome"), it.seen("#run-outcome"))
 
 
+def dash(story: Story) -> None:
+    """A hold whose code is `-`, on the record that the run left: in the list, its filter, and the next certificate."""
+    it, day = story.browser, {"day": DAY}
+    at_once = {"trigger": "added", "unit": "days", "count": 0, "offset": "none", "action": "destroy"}
+    free = {"ref": "free", "title": "Not held", "originated": DAY, "aggregation": 2, "content": "YWJj"}
+    acts = [
+        {"act": "lift-hold", **day, "hold": "Q-2020-17"},
+        {"act": "place-hold", **day, "code": "-", "reason": "A lawsuit", "by": BY},
+        {"act": "hold-on", **day, "hold": "-", "target": "record:3"},
+        {"act": "add-schedule", **day, "code": "D0", **at_once},
+        {"act": "add-record", **day, **free, "schedule": "D0"},
+        {"act": "open-run", **day, "by": "A clerk"},
+    ]
+    assert story.office.ask("POST", "/acts", json.dumps(acts))[0] == 200
+    assert story.office.ask("POST", "/run/resume")[0] == 200
+    it.open(f"{story.proxy.page}#due?day={DAY}")
+    held = lambda: sorted((row[1], row[7]) for row in story.due_table())
+    choice = lambda value: it.one(f"#due-held option[value='{value}']").text
+    same("a hold of the code -: the choices of the filter", [choice(value) for value in ("*", "_none", "-")],
+         ["held (1)", "not held (1)", "- (1)"])
+    it.choose("#due-held", "-")
+    same("a hold of the code -: the filter shows what it covers", held(), [("3", "-")])
+    it.open(it.driver.current_url)
+    same("a hold of the code -: and so does the address", held(), [("3", "-")])
+    it.choose("#due-held", "_none")
+    same("a hold of the code -: what is not held is another choice", held(), [("11", "")])
+    it.open(it.driver.current_url)
+    same("a hold of the code -: with an address of its own", held(), [("11", "")])
+    it.open(f"{story.proxy.page}#certificate?number=2")
+    row = it.table("#certificate-tables .entries")[0]
+    same("a hold of the code -: the certificate names it", (row[0], row[1], row[6]), ("3", "skipped", "-"))
+    link = it.one("#certificate-tables .entries td:nth-child(7) a").get_attribute("hash")
+    same("a hold of the code -: and leads to it", link, "#holds?code=-")
+
+
 def tell(office: Office, proxy: Proxy, browser: Browser, folder: pathlib.Path) -> None:
     fill(office)
     story = Story(office, proxy, browser, folder)
@@ -124,3 +159,4 @@ def tell(office: Office, proxy: Proxy, browser: Browser, folder: pathlib.Path) -
         "a certificate with a ref of 200 letters",
         dates,
     )
+    dash(story)

@@ -162,7 +162,7 @@ def listed(view: View) -> None:
         ("schedule", "SEND-1", lambda row: row["schedule"] == "SEND-1"),
         ("action", "review", lambda row: row["action"] == "review"),
         ("held", "H-1", lambda row: row["held"] == "H-1"),
-        ("held", "-", lambda row: not row["held"]),
+        ("held", "_none", lambda row: not row["held"]),
     ):
         it.choose(f"#overdue-{name}", value)
         wanted = cells([row for row in rows if takes(row)])

@@ -6,6 +6,7 @@ in place of those that it names.
 import base64
 import contextlib
 import http.client
+import json
 import os
 import pathlib
 import shutil
@@ -19,7 +20,8 @@ OFFICE = os.environ.get("OFFICE", str(TOP / "office"))
 NAME, PASSWORD = "registrar", "a long one"
 NGINX = TOP / "examples/nginx"
 # in place of Debian's nginx.conf
-MAIN = """user www-data;
+MAIN = """load_module modules/ngx_http_js_module.so;
+user www-data;
 worker_processes 1;
 pid {folder}/nginx.pid;
 daemon off;
@@ -82,6 +84,14 @@ class Office:
         reply = conn.getresponse()
         return reply.status, reply.getheader("Content-Type"), reply.read()
 
+    def reads(self, act):
+        """Whether it reads an act: the act comes first in a list whose last does not read, so that nothing is done."""
+        status, _, body = self.ask("POST", "/acts", json.dumps([act, {"act": "walk"}]))
+        told = json.loads(body)
+        # half of a character is no JSON
+        assert status == 400 and told["error"] in ("act", "json"), told
+        return told.get("place") == 1
+
 
 class Proxy:
     """nginx, with a key, a name and a password of its own."""
@@ -104,9 +114,12 @@ class Proxy:
 
     def configured(self, text, office_port):
         self.web = self.folder / "web"
+        shutil.copy(NGINX / "acts.js", self.folder)
         for name in ("http.conf", "server.conf", "actors.conf"):
             text = replaced(text, f"include /etc/nginx/office/{name};", (NGINX / name).read_text())
         for old, new in [
+            # what the page does with a day that has not come is tried too
+            ("js_var $days_ahead 1;", "js_var $days_ahead 400000;"),
             ("listen 443 ssl default_server;", f"listen 127.0.0.1:{self.port} ssl default_server;"),
             ("listen 443 ssl;", f"listen 127.0.0.1:{self.port} ssl;"),
             ("listen 80;", f"listen 127.0.0.1:{free_port()};"),

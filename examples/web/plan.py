@@ -1,11 +1,11 @@
 """The view Plan: a city's filing plan made from nothing by the page alone, and the due days of its example."""
 import json
 import pathlib
-import random
 import sqlite3
 import subprocess
 
 from browser import Browser
+from due_days import by_plan, cases, office_due
 from interface import city
 from judging import judge, same
 from place import OFFICE, TOP, Office, Proxy
@@ -13,8 +13,6 @@ from shots import shots
 from story import TEXTS, Story, says
 
 WORDS = TEXTS["plan"]
-UNITS = {"days": 182500, "weeks": 26000, "months": 6000, "years": 500}
-OFFSETS = ["none", "month", "quarter", *(f"from-month-{month}" for month in range(1, 13))]
 # the form of each kind of act, and the members that its fields have, but for the day
 FORMS = {
     "add-schedule": ("plan-schedule", ("code", "trigger", "count", "unit", "offset", "action")),
@@ -224,14 +222,6 @@ def wrong(plan: Plan) -> None:
     same("plan: nothing of that was sent", plan.story.posted(), before)
 
 
-def office_due(unit: str, count: int, offset: str, start: str) -> str:
-    return (
-        subprocess.run([OFFICE, "due", unit, str(count), offset, start], check=True, stdout=subprocess.PIPE)
-        .stdout.decode()
-        .strip()
-    )
-
-
 def example(plan: Plan) -> None:
     """The example of the schedule that is being written says the due day that `office due` says."""
     it, said = plan.browser, lambda: it.text("#plan-example")
@@ -259,31 +249,6 @@ def example(plan: Plan) -> None:
     same("example: what is kept has no due day", said(), WORDS["example"]["keep"])
 
 
-def cases(count: int) -> list[tuple[str, int, str, str]]:
-    """Periods, offsets and days by chance, with the ends of months, leap days and the limits among them."""
-    chance = random.Random(49)
-    found = []
-    for _ in range(count):
-        unit = chance.choice(list(UNITS))
-        most = UNITS[unit]
-        year, month = chance.randint(1, 2999), chance.randint(1, 12)
-        length = (
-            29
-            if month == 2 and year % 4 == 0 and (year % 100 or year % 400 == 0)
-            else [31, 28, 31, 30, 31, 30, 31, 31, 30, 31, 30, 31][month - 1]
-        )
-        day = chance.choice([1, length, chance.randint(1, length)])
-        found.append(
-            (
-                unit,
-                chance.choice([0, 1, most, chance.randint(0, most), chance.randint(0, 40)]),
-                chance.choice(OFFSETS),
-                f"{year:04}-{month:02}-{day:02}",
-            )
-        )
-    return found
-
-
 def counted(plan: Plan, singly: int = 2000, planned: int = 20000) -> None:
     """The page's module gives the program's due days: of `office due` one by one, of `office plan` many at once."""
     these = cases(singly)
@@ -293,18 +258,7 @@ def counted(plan: Plan, singly: int = 2000, planned: int = 20000) -> None:
         (case, mine, theirs) for case, mine in zip(these, there, strict=True) if mine != (theirs := office_due(*case))
     ]
     judge(f"days: {singly} due days are those of `office due`", not other, str(other[:5]))
-    these = cases(planned)
-    rules = sorted({case[:3] for case in these[:1000]})
-    these = [(*rules[number % len(rules)], case[3]) for number, case in enumerate(these)]
-    lines = [
-        f"schedule S{number} origin {unit} {count} {offset} destroy"
-        for number, (unit, count, offset) in enumerate(rules)
-    ]
-    lines += ["class C S0", "aggregation C -"]
-    lines += [f"record 1 - S{number % len(rules)} {case[3]} 2999-12-31" for number, case in enumerate(these)]
-    file = plan.story.folder / "many.plan"
-    file.write_text("\n".join(lines) + "\n")
-    told = subprocess.run([OFFICE, "plan", file], check=True, stdout=subprocess.PIPE).stdout.decode().split()[1::2]
+    these, told = by_plan(plan.story.folder / "many.plan", planned)
     there = due(these)
     other = [(case, mine, theirs) for case, mine, theirs in zip(these, there, told, strict=True) if mine != theirs]
     judge(f"days: {planned} more are those of `office plan`", not other, str(other[:5]))

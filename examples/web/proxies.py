@@ -1,4 +1,6 @@
-"""Answers of a proxy, whatever body they have, in words; and the office's own that name what is missing."""
+"""Answers of a proxy, whatever body they have, in words; those of a member; and the office's own that name what is missing."""
+import json
+
 from browser import Browser
 from judging import judge, same
 from place import Proxy
@@ -32,7 +34,41 @@ def read(browser: Browser, proxy: Proxy, status: int, kind: str, body: str) -> s
     return browser.text("#record-outcome")
 
 
+def members(browser: Browser, proxy: Proxy) -> None:
+    """What a member of an office on several machines answers by itself; by four words, and by one key, it did nothing."""
+    undone = {"quorum", "recovering", "busy", "full", "key", "header"}
+    for row in TEXTS["members"]:
+        status, word = int(row["status"]), json.loads(row["body"])["error"]
+        answers(browser, f"{proxy.page}#holds", status, "application/json", row["body"])
+        browser.write(hold_place_code="H-1", hold_place_reason="A lawsuit", hold_place_by="Legal office")
+        browser.press("#hold-place button")
+        told = browser.seen("#hold-place-outcome")
+        says(f"a {status} {word} of a member is said in words", told, "The office said:", row["meaning"], row["do"])
+        same(f"a {status} {word}: whether it is told as unknown", TEXTS["holds"]["lostPlace"] in told, word not in undone)
+        same(f"a {status} {word}: whether it is told that nothing was done", "nothing was done" in told, word in undone)
+        wanted = "wrong" if word in undone else "unknown"
+        judge(f"a {status} {word}: and so it looks", wanted in browser.one("#hold-place-outcome").get_attribute("class"))
+
+
+def forbidden(browser: Browser, proxy: Proxy) -> None:
+    """A 403 says by its word which of three things it forbids, and the page says that one alone."""
+    words = ("origin", "name", "future")
+    for word in words:
+        told = read(browser, proxy, 403, "application/json", json.dumps({"error": word, "place": 0}))
+        row = TEXTS["proxy"][f"403 {word}"]
+        says(f"a 403 {word} of the proxy is said in words", told, "The server said: 403", row["meaning"], row["do"])
+        others = [TEXTS["proxy"][f"403 {other}"]["meaning"] for other in words if other != word]
+        judge(f"a 403 {word}: and nothing of the others", not any(other in told for other in others), told)
+    answers(browser, f"{proxy.page}#holds", 403, "application/json", '{"error":"future","place":0}')
+    browser.write(hold_place_code="H-1", hold_place_reason="A lawsuit", hold_place_by="Legal office")
+    browser.press("#hold-place button")
+    told = browser.seen("#hold-place-outcome")
+    judge("an act of a day too far ahead is not told as unknown", TEXTS["holds"]["lostPlace"] not in told, told)
+
+
 def tell(browser: Browser, proxy: Proxy) -> None:
+    members(browser, proxy)
+    forbidden(browser, proxy)
     for status in (403, 404, 429, 502, 504):
         row = TEXTS["proxy"][str(status)]
         for kind, body in BODIES:
@@ -57,7 +93,7 @@ def tell(browser: Browser, proxy: Proxy) -> None:
         )
     says(
         "an answer that nobody knows is not explained",
-        read(browser, proxy, 503, "application/json", '{"error":"busy"}'),
+        read(browser, proxy, 503, "application/json", '{"error":"strange"}'),
         "The server said: 503",
         TEXTS["said"]["strange"],
     )

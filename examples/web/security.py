@@ -64,7 +64,8 @@ def heads(proxy):
         proxy.ask("GET", path)
         policy = proxy.head.get("Content-Security-Policy", "")
         judge(f"{path}: what it may load", policy.startswith("default-src 'self'") and "frame-ancestors 'none'" in policy, policy)
-        same(f"{path}: it is not kept", proxy.head.get("Cache-Control"), "no-store")
+        kept = "no-cache" if path.startswith("/web/") and path != "/web/" else "no-store"
+        same(f"{path}: what is kept of it", proxy.head.get("Cache-Control"), kept)
         same(f"{path}: and taken for what it is called", proxy.head.get("X-Content-Type-Options"), "nosniff")
         same(f"{path}: no other site may have it", proxy.head.get("Cross-Origin-Resource-Policy"), "same-origin")
 

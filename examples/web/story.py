@@ -33,6 +33,11 @@ class Story:
     def told(self, path):
         return json.loads(self.office.ask("GET", path)[2])
 
+    def asked_for(self):
+        """How many requests came to nginx but for a list of what is due, which is read anew at each showing."""
+        time.sleep(0.1)
+        return sum('"GET /due/' not in line for line in (self.folder / "access.log").read_text().splitlines())
+
     def posted(self):
         """How many POSTs came to nginx with the password. (A browser learns only from a first answer, 401, that a path wants it.)"""
         time.sleep(0.1)
@@ -70,7 +75,7 @@ class Story:
             ("schedule", "CAM-30", lambda row: row["schedule"] == "CAM-30"),
             ("action", "transfer", lambda row: row["action"] == "transfer"),
             ("held", "*", lambda row: row["held"]),
-            ("held", "-", lambda row: not row["held"]),
+            ("held", "_none", lambda row: not row["held"]),
             ("held", "Q-2020-17", lambda row: row["held"] == "Q-2020-17"),
             ("confirmed", "no", lambda row: not row["confirmed"]),
         ):
@@ -80,7 +85,7 @@ class Story:
             says("due: the caption tells how many", it.seen("#due-caption"), "Records due by 2022-05-02: 22.", f"Shown here: {len(wanted)}.")
             it.press("#due-all")
         it.choose("#due-class", "EVT-PER")
-        it.choose("#due-held", "-")
+        it.choose("#due-held", "_none")
         address, kept = it.driver.current_url, self.due_table()
         it.open(address)
         same("due: its address brings the same rows again, as a bookmark", self.due_table(), kept)
@@ -92,7 +97,7 @@ class Story:
     # ---- what is wrong before anything is sent
 
     def wrong_input(self):
-        it, before = self.browser, (self.folder / "access.log").read_text().count("\n")
+        it, before = self.browser, self.asked_for()
         fields, texts = TEXTS["fields"], lambda css: it.text(css)
         for view, form, wrong, word in (
             ("#due", "due-form", {"due_day": "2023-02-29"}, ("due-day", "dayWrong")),
@@ -113,7 +118,7 @@ class Story:
             judge(f"{form}: and the field is told as invalid", it.one(f"#{field}").get_attribute("aria-invalid") == "true")
             first = it.driver.execute_script("return document.activeElement.getAttribute('aria-invalid')")
             same(f"{form}: and the first such field has the focus", first, "true")
-        same("nothing of that was sent", (self.folder / "access.log").read_text().count("\n"), before)
+        same("nothing of that was sent", self.asked_for(), before)
 
     # ---- confirmation
 
@@ -353,8 +358,9 @@ class Story:
         it.press("#due-mark")
         before = self.told("/due/2024-12-31")
         sent = self.posted()
-        self.office.process.send_signal(19)
+        it.hold_back()
         it.one("#due-submit").click()
+        it.let_go(lambda: self.office.process.send_signal(19))
         time.sleep(1)
         self.proxy.stop()
         self.office.process.send_signal(18)

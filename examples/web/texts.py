@@ -14,8 +14,11 @@ TABLES = {
     "refusals": ("Refusals", ["name", "meaning", "do"]),
     "faults": ("Faults", ["meaning", "do"]),
     "statuses": ("Statuses of HTTP", ["status", "body", "meaning", "do"]),
+    "members": ("Answers of a member", ["status", "body", "meaning", "do"]),
     "proxy": ("Answers of the proxy", ["meaning", "do"]),
 }
+# those of which several rows have the same status
+LISTS = ("statuses", "members")
 
 
 def plain(cell):
@@ -33,13 +36,13 @@ def table(page, heading):
 def shared(page, name):
     heading, columns = TABLES[name]
     rows = table(page, heading)
-    if name == "statuses":
+    if name in LISTS:
         return [dict(zip(columns, row, strict=True)) for row in rows]
     return {row[0]: dict(zip(columns, row[1:], strict=True)) for row in rows}
 
 
 # what the page finds a row by, or what the office itself says: the same in each language
-FIXED = re.compile(r"refusals\.\d+\.name|statuses\.\d+\.status")
+FIXED = re.compile(r"refusals\.\d+\.name|(statuses|members)\.\d+\.status")
 
 
 def flat(part, before=""):

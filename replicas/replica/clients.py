@@ -13,7 +13,7 @@ import socketserver
 import uuid
 from typing import Any
 
-from replica.service import Answer, Service
+from replica.service import ANY, NEWEST, Answer, Service
 
 KINDS = {"/acts": "acts", "/run/resume": "resume"}
 LONGEST_BODY = 1_048_576
@@ -58,13 +58,15 @@ class Handler(http.server.BaseHTTPRequestHandler):
             self.answer(Answer(None, "head"))
 
     def answer(self, answer: Answer, key: str | None = None) -> None:
-        """The office's bytes, with one or two lines more in their head, or an error."""
+        """The office's bytes, with some lines more in their head, or an error."""
         content = answer.content
         if isinstance(content, str):
             content = error_message(content)
         more = b""
         if answer.position is not None:
             more += b"Office-Position: %d\r\n" % answer.position
+        if answer.age is not None:
+            more += b"Office-Age: %s\r\n" % answer.age.encode()
         if key is not None:
             more += b"Idempotency-Key: %s\r\n" % key.encode()
         self.close_connection = True
@@ -124,15 +126,21 @@ class Handler(http.server.BaseHTTPRequestHandler):
         if not self.has_host():
             return self.answer(Answer(None, "host"))
         after = self.headers.get("Office-After", "0")
-        if not re.fullmatch("[0-9]{1,15}", after):
+        wanted = self.headers.get("Office-Read")
+        if not re.fullmatch("[0-9]{1,15}", after) or wanted not in (None, NEWEST, ANY):
             return self.answer(Answer(None, "header"))
-        is_newest = self.headers.get("Office-Read") == "newest"
-        self.answer(self.server.service.read(method, self.target(), is_newest, int(after)))
+        self.answer(self.server.service.read(method, self.target(), wanted, int(after)))
 
     def do_GET(self) -> None:
         if self.target() == "/replica":
-            return self.answer(Answer(None, message("200 OK", self.server.service.state())))
+            return self.tell_state()
         self.pass_on("GET")
+
+    def tell_state(self) -> None:
+        """Of this member, with status 503 where it does not answer plain readings."""
+        state = self.server.service.state()
+        status = "200 OK" if state["answers"] else "503 Service Unavailable"
+        self.answer(Answer(None, message(status, state)))
 
     def do_HEAD(self) -> None:
         self.pass_on("HEAD")

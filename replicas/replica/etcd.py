@@ -83,6 +83,8 @@ class Etcd:
     def __init__(self, place: str, tls: ssl.SSLContext | None) -> None:
         self.place, self.tls = place, tls
         self.idle: list[http.client.HTTPConnection] = []
+        self.certificate_ends: float | None = None
+        """when the certificate that this etcd showed last ends, in seconds since 1970"""
 
     def connected(self, seconds: float) -> http.client.HTTPConnection:
         """A new connection; NotTaken where there is none."""
@@ -94,6 +96,10 @@ class Etcd:
             link.connect()
         except OSError as error:
             raise NotTaken(f"etcd: {error}") from error
+        if isinstance(link.sock, ssl.SSLSocket):
+            shown = link.sock.getpeercert() or {}
+            if "notAfter" in shown:
+                self.certificate_ends = ssl.cert_time_to_seconds(str(shown["notAfter"]))
         return link
 
     def free_link(self) -> http.client.HTTPConnection:
@@ -143,6 +149,19 @@ class Etcd:
         return (answer.get("succeeded", False),
                 [rows_of(response) for response in answer.get("responses", ())])
 
+    def change(self, conditions: Sequence[Part], done: Sequence[Part]) -> int:
+        """The revision of a transaction that was done, or 0 where a condition did not hold."""
+        answer = self.call("/v3/kv/txn", {"compare": conditions, "success": done}, False)
+        return int(answer["header"]["revision"]) if answer.get("succeeded", False) else 0
+
+    def compact(self, revision: int) -> None:
+        """Drops what was taken away or written over before a revision: no question gets it any more."""
+        try:
+            self.call("/v3/kv/compaction", {"revision": str(revision)}, False)
+        except Unclear as error:
+            if "has been compacted" not in str(error):
+                raise
+
     def size_in_use(self) -> int:
         """The bytes of this etcd's database that are in use."""
         answer = self.call("/v3/maintenance/status", {}, True)
@@ -156,8 +175,10 @@ class Etcd:
                 what = {"create_request": {"key": encoded(key)}}
                 link.request("POST", "/v3/watch", json.dumps(what))
                 response = link.getresponse()
-                while response.readline():
+                while line := response.readline():
                     changed.set()
+                    if b'"canceled":true' in line:
+                        break
             except (NotTaken, OSError, http.client.HTTPException):
                 pass
             time.sleep(0.2)

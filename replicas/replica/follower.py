@@ -18,11 +18,13 @@ import threading
 import time
 from typing import Iterator
 
+from replica.blocked import Blocked
 from replica.comparison import Comparison
 from replica.errors import Fault, Halt, NotTaken, Unclear, say
 from replica.log import Entry, Log
 from replica.memo import Memo
-from replica.office import Office, follows_from_log
+from replica.office import Office, follows_from_log, has_content
+from replica.regular import Regular
 from replica.settings import Settings
 from replica.snapshots import Snapshots
 
@@ -48,6 +50,8 @@ class Follower:
         self.moved = threading.Condition()
         """notified whenever one of the next three changes"""
         self.is_answering = False
+        self.is_before = False
+        """it answers readings alone, of the state before an entry that it cannot do"""
         self.position = 0
         self.why = "it has not started yet"
         self.highest = 0
@@ -55,6 +59,9 @@ class Follower:
         self.changed, self.stopping = threading.Event(), threading.Event()
         self.wants_snapshot = False
         self.halting: str | None = None
+        self.blocked, self.regular = Blocked(), Regular(settings.snapshot_seconds, settings.name)
+        self.is_claimed = False
+        self.restores = 0
         self.pause = 0.2
         self.looked = 0.0
 
@@ -84,10 +91,17 @@ class Follower:
         self.wants_snapshot = True
         self.changed.set()
 
+    def ask_to_halt(self, why: str) -> None:
+        """Nobody is answered from now on, and the member halts as soon as it can."""
+        self.halting = why
+        self.set_answering(False)
+        self.changed.set()
+
     def close(self) -> None:
         """Nobody is answered any more, and no office runs."""
         with self.office.lock:
             self.set_answering(False)
+            self.set_before(False)
             self.office.stop()
         if self.memo is not None:
             self.memo.close()
@@ -101,6 +115,7 @@ class Follower:
         memo = self.settled_memo()
         was_settled = memo is not None
         if memo is None:
+            self.restores += 1
             self.snapshots.restore()
             memo = Memo(self.snapshots.work / "memo.db")
         self.memo, self.position, self.reported = memo, memo.position, None
@@ -134,13 +149,12 @@ class Follower:
         goal: int | None = None
         last, size, is_due = time.monotonic(), 0, False
         while not self.stopping.is_set():
-            if self.halting is not None:
-                raise Halt(self.halting)
+            self.look_for_halt()
             with self.office.lock:
                 self.office.restart_if_ended()
             if goal is None:
                 goal = self.end_of_log(memo)
-            entries = self.next_entries()
+            entries = self.blocked.before(self.next_entries())
             for entry in entries:
                 self.do(memo, entry)
                 comparison.note(entry.position, memo.chain)
@@ -148,11 +162,9 @@ class Follower:
                 is_due = is_due or size > SNAPSHOT_BYTES or self.is_snapshot_at(entry.position)
                 if is_due and self.is_answering or self.stopping.is_set():
                     break
-            # a member that recovers answers first, and copies then
-            if self.is_answering and (is_due or self.wants_snapshot):
-                self.wants_snapshot, size, is_due = False, 0, False
+            if self.is_snapshot_now(is_due):
+                size, is_due = 0, False
                 self.snapshots.take(self.position, self.at_rest(memo))
-                self.reported = None
             self.report(memo, comparison)
             self.decide(goal, comparison.is_split)
             if not entries:
@@ -161,6 +173,12 @@ class Follower:
                 self.changed.wait(LOOK_SECONDS)
                 self.changed.clear()
         memo.settle(True)
+
+    def look_for_halt(self) -> None:
+        """Halt where a client's thread or a snapshot's has found a reason."""
+        why = self.halting or self.snapshots.halting
+        if why is not None:
+            raise Halt(why)
 
     def end_of_log(self, memo: Memo) -> int | None:
         """Where the log ends now; None where this machine does not know yet.
@@ -201,19 +219,23 @@ class Follower:
             raise Halt(f"entry {entry.position} is of an unknown kind: {entry.kind}")
         memo.settle(False)
         with self.office.lock:
+            self.set_before(False)
             try:
                 answer = self.ask(entry)
                 if not follows_from_log(answer):
                     raise Fault(f"entry {entry.position}: {answer[-100:]!r}")
                 chain = hashlib.sha256(memo.chain.encode() + answer).hexdigest()
                 memo.advance(entry.position, entry.key, answer, chain)
-            except BaseException:
+            except BaseException as error:
                 self.set_answering(False)
+                self.blocked.failed(entry.position, str(error))
                 raise
             with self.moved:
                 self.position = entry.position
                 self.highest = max(self.highest, self.position)
                 self.moved.notify_all()
+        self.blocked.done(entry.position)
+        self.regular.note(entry)
 
     def ask(self, entry: Entry) -> bytes:
         """What the office answers to an entry. An office that ended before is started first."""
@@ -233,6 +255,22 @@ class Follower:
     def is_snapshot_at(self, position: int) -> bool:
         return (position - self.settings.snapshot_at) % self.settings.snapshot_every == 0
 
+    def is_snapshot_now(self, is_due: bool) -> bool:
+        """Whether one begins now: by the entries, by SIGHUP or by the time. A member that recovers
+        answers first, and one that makes a snapshot begins no other."""
+        if not self.is_answering or self.snapshots.is_under_way():
+            return False
+        if not is_due and not self.wants_snapshot:
+            if not self.regular.is_due():
+                return False
+            if self.position <= max(self.snapshots.positions(), default=0):
+                if self.regular.may_ask():
+                    self.log.go_on(self.position)
+                return False
+        self.wants_snapshot = False
+        self.regular.taken()
+        return True
+
     @contextlib.contextmanager
     def at_rest(self, memo: Memo) -> Iterator[None]:
         """Within it nobody changes the files of `work`."""
@@ -242,6 +280,9 @@ class Follower:
     def report(self, memo: Memo, comparison: Comparison) -> None:
         """Reports answers and snapshots to the others, as far as etcd takes it now."""
         try:
+            if not self.is_claimed:
+                self.log.claim()
+                self.is_claimed = True
             comparison.look()
             oldest = self.snapshots.positions()[-1]
             if oldest != self.reported:
@@ -261,16 +302,26 @@ class Follower:
 
     # ---- answering
 
+    @property
+    def is_reading(self) -> bool:
+        """Whether readings are answered; acts are only while `is_answering`."""
+        return self.is_answering or self.is_before
+
     def decide(self, goal: int | None, is_split: bool) -> None:
         """A member answers where it has done all that was in the log as it opened FILE, and all
         that it ever answered, and its answers are not in question."""
         is_there = goal is not None and self.position >= max(goal, self.highest)
-        if self.is_answering != (is_there and not is_split):
-            if is_there and not is_split:
-                self.pause, self.why = 0.2, ""
-            else:
-                self.why = "the members' answers differ" if is_split else "it follows the log"
-            self.set_answering(not self.is_answering)
+        is_before = self.blocked.is_next(self.position) and self.position >= self.highest
+        if is_split:
+            self.why = "the members' answers differ"
+        elif is_before:
+            self.why = self.blocked.why()
+        elif not is_there:
+            self.why = "it follows the log"
+        else:
+            self.pause, self.why = 0.2, ""
+        self.set_answering(is_there and not is_before and not is_split)
+        self.set_before(is_before and not is_split)
 
     def set_answering(self, is_answering: bool) -> None:
         with self.moved:
@@ -279,11 +330,19 @@ class Follower:
                 say(f"{'answers from' if is_answering else 'stops answering at'} {self.position}")
             self.moved.notify_all()
 
-    def reaches(self, position: int, seconds: float) -> bool:
-        """Waits until this member answers and has done the entry at a position."""
+    def set_before(self, is_before: bool) -> None:
+        with self.moved:
+            if self.is_before != is_before:
+                self.is_before = is_before
+                say(f"{'reads the state at' if is_before else 'no longer reads at'} {self.position}")
+            self.moved.notify_all()
+
+    def reaches(self, position: int, seconds: float, reading: bool = False) -> bool:
+        """Waits until this member answers, or at least readings, and has done the entry at a position."""
         with self.moved:
             return self.moved.wait_for(
-                lambda: self.is_answering and self.position >= position, seconds)
+                lambda: (self.is_reading if reading else self.is_answering)
+                and self.position >= position, seconds)
 
     def answer(self, position: int, key: str) -> bytes | None:
         """What the entry was answered here, if that is remembered."""
@@ -293,23 +352,7 @@ class Follower:
         except sqlite3.Error:
             return None
 
-    def read(self, method: str, path: str) -> tuple[int, bytes] | None:
-        """The office's answer to what changes nothing, and the position of that; None where this
-        member does not answer."""
-        with self.office.lock:
-            if not self.is_answering:
-                return None
-            try:
-                return self.position, self.office.ask(method, path)
-            except OSError:
-                return None
-
 
 def work_file(folder: pathlib.Path) -> pathlib.Path:
     """FILE of the member in a folder."""
     return folder / "work" / "office.db"
-
-
-def has_content(file: pathlib.Path) -> bool:
-    """Whether the file is there with a byte in it. Of any other the office would make a new one."""
-    return file.is_file() and file.stat().st_size > 0

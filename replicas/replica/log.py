@@ -8,21 +8,28 @@ Below /office/LOG/ etcd has
     log/POSITION        an entry: a line of JSON with its head, then the body of the request
     keys/KEY            the position of the entry with this key, and what it asked for
     members/NAME        the older snapshot of each member
+    machines/NAME       the machine and folder that have this name
     chain/POSITION/NAME a hash over all answers of a member up to there
+
+What is dropped is compacted too, so that etcd gives no earlier revision of it either.
 """
 from __future__ import annotations
 
 import hashlib
 import json
+import pathlib
+import socket
 import threading
 import time
 from typing import NamedTuple, Sequence
 
 from replica.errors import Halt, NotTaken, Unclear, say
-from replica.etcd import CALL_SECONDS, Etcd, absent, drop, get, has, put
+from replica.etcd import CALL_SECONDS, Etcd, Part, Row, absent, drop, get, has, put
 from replica.settings import Settings
 
 READ_AT_ONCE = 32
+NO_ACTS = b"[]"
+MACHINE_ID = pathlib.Path("/etc/machine-id")
 
 
 class Entry(NamedTuple):
@@ -63,6 +70,13 @@ def entry_at(key: str, value: bytes) -> Entry:
         raise Halt(f"{key} is no entry: {error!r}") from error
 
 
+def machine_of(folder: pathlib.Path) -> str:
+    """The machine and the folder of a member, as no other member has them. The machine's id is not told."""
+    own = MACHINE_ID.read_text("ascii") if MACHINE_ID.exists() else socket.gethostname()
+    digest = hashlib.sha256(b"office-member " + own.encode()).hexdigest()
+    return f"{digest[:16]} {folder.resolve()}"
+
+
 class Log:
     """The log of one office, as one member uses it."""
 
@@ -71,6 +85,7 @@ class Log:
         self.top = f"/office/{settings.log}/"
         self.quota = settings.etcd_quota
         self.appending, self.last, self.is_full = threading.Lock(), 0, False
+        self.machine, self.dropped = machine_of(settings.folder), 0
 
     def entry_key(self, position: int) -> str:
         return f"{self.top}log/{position:016d}"
@@ -126,6 +141,14 @@ class Log:
             raise NotTaken(f"there is no log {self.top} in etcd")
         self.last = int(rows[0][0][1])
         return False, rows[1][0][1].decode() if rows[1] else ""
+
+    def go_on(self, position: int) -> None:
+        """Puts an entry of no acts after a position, once; nothing where somebody appends just now."""
+        if self.appending.acquire(blocking=False):
+            try:
+                self.append(f"snapshot-{self.member}-{position}", "acts", NO_ACTS)
+            finally:
+                self.appending.release()
 
     def tail(self) -> int:
         """The last position at this moment, through the quorum."""
@@ -185,22 +208,46 @@ class Log:
             [put(top + "epoch", epoch), put(top + "tail", "0"), put(top + "first", "1")])
         return done
 
+    def claim(self) -> None:
+        """Takes the own name. Halt where another machine has it, and was not struck off."""
+        machine, member = self.top + "machines/" + self.member, self.top + "members/" + self.member
+        is_mine, rows = self.etcd.transact([has(machine, self.machine)], [], [get(machine), get(member)])
+        if is_mine:
+            return
+        holder = rows[0][0][1].decode() if rows[0] else None
+        if holder is not None and rows[1]:
+            raise Halt(f"another member has the name {self.member}: {holder}; this one is {self.machine}")
+        seen = [absent(machine)] if holder is None else [has(machine, holder), absent(member)]
+        if not self.etcd.transact(seen, [put(machine, self.machine)])[0]:
+            raise NotTaken(f"somebody takes the name {self.member} just now")
+
+    def reported(self, operations: Sequence[Part]) -> list[list[Row]]:
+        """What these operations read, done under the own name."""
+        is_mine, rows = self.etcd.transact(
+            [has(self.top + "machines/" + self.member, self.machine)], operations)
+        if not is_mine:
+            self.claim()
+            raise NotTaken(f"the name {self.member} was not this member's any more")
+        return rows
+
     def report_snapshot(self, position: int) -> int:
         """Reports the own older snapshot, and drops what every member has in its older one.
 
         Gives the least position of all members' older snapshots.
         """
         top = self.top
-        _, rows = self.etcd.transact(
-            [], [put(top + "members/" + self.member, str(position)),
-                 get(top + "members/", top + "members0"), get(top + "first")])
+        rows = self.reported([put(top + "members/" + self.member, str(position)),
+                              get(top + "members/", top + "members0"), get(top + "first")])
         least, first = min(int(value) for _, value in rows[1]), int(rows[2][0][1])
         if least >= first:
-            self.etcd.transact(
+            self.dropped = self.etcd.change(
                 [has(top + "first", str(first))],
                 [put(top + "first", str(least + 1)),
                  drop(self.entry_key(0), self.entry_key(least + 1)),
                  drop(top + "chain/", self.chain_key(least))])
+        if self.dropped:
+            self.etcd.compact(self.dropped)
+            self.dropped = 0
         return least
 
     def drop_keys(self, keys: Sequence[str]) -> None:
@@ -211,7 +258,6 @@ class Log:
         """Reports the hash over the own answers; gives those of all members there, and how many
         members there are."""
         here = self.chain_key(position)
-        _, rows = self.etcd.transact(
-            [], [put(f"{here}/{self.member}", chain), get(here + "/", here + "0"),
-                 get(self.top + "members/", self.top + "members0")])
+        rows = self.reported([put(f"{here}/{self.member}", chain), get(here + "/", here + "0"),
+                              get(self.top + "members/", self.top + "members0")])
         return [value.decode() for _, value in rows[1]], len(rows[2])

@@ -13,13 +13,17 @@ import os
 import signal
 import sys
 import threading
+from typing import Callable
 
 from replica.clients import Server
 from replica.errors import Halt, say
 from replica.etcd import Etcd
 from replica.follower import Follower, work_file
+from replica.freshness import Freshness
+from replica.guard import Guard
 from replica.log import Log
-from replica.office import Office, digest_of_program
+from replica.office import Office
+from replica.program import Program
 from replica.service import Service
 from replica.settings import Settings, read_settings
 from replica.snapshots import Snapshots
@@ -29,10 +33,10 @@ HALTED = 5
 
 def made(settings: Settings) -> tuple[Log, Follower]:
     """The parts of a member, none of them started."""
-    log = Log(settings, Etcd(settings.etcd, settings.tls()), digest_of_program(settings.office))
-    office = Office(settings.office, work_file(settings.folder), settings.office_port)
-    snapshots = Snapshots(settings.folder, settings.office)
-    return log, Follower(settings, log, office, snapshots)
+    program = Program(settings.office, settings.disk)
+    log = Log(settings, Etcd(settings.etcd, settings.tls()), program.digest)
+    office = Office(program, work_file(settings.folder), settings.office_port)
+    return log, Follower(settings, log, office, Snapshots(settings.folder, program))
 
 
 def locked(settings: Settings) -> object:
@@ -52,14 +56,19 @@ def start(settings: Settings) -> int:
     signal.signal(signal.SIGTERM, lambda *_: follower.ask_to_stop())
     signal.signal(signal.SIGINT, lambda *_: follower.ask_to_stop())
     signal.signal(signal.SIGHUP, lambda *_: follower.ask_for_snapshot())
+    freshness = Freshness(log, settings.age_limit)
+    service = Service(log, follower, freshness)
     try:
         lock = locked(settings)
-        server = Server(settings.listen, Service(log, follower))
+        server = Server(settings.listen, service)
     except OSError as error:
         say(f"the folder {settings.folder} or the port {settings.listen} is taken: {error}")
         return 3
-    threading.Thread(target=server.serve_forever, daemon=True).start()
-    threading.Thread(target=log.watch, args=(follower.changed,), daemon=True).start()
+    guard = Guard(service, settings.reading_limit)
+    threads: list[Callable[[], None]] = [server.serve_forever, freshness.run, guard.run,
+                                         lambda: log.watch(follower.changed)]
+    for thread in threads:
+        threading.Thread(target=thread, daemon=True).start()
     try:
         follower.run()
     except Halt as error:

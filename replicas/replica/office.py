@@ -4,22 +4,20 @@
 """
 from __future__ import annotations
 
-import hashlib
-import os
 import pathlib
 import re
-import shutil
 import socket
 import subprocess
-import sys
 import threading
+import time
+from typing import Iterator
 
 from replica.errors import Fault
+from replica.program import Program
 
 ANSWER_SECONDS = 600
-"""without a byte from the office: then it hangs"""
+"""without a byte of an answer to an entry: then the office hangs"""
 CONNECTIONS = "1000000"
-CHILD = str(pathlib.Path(__file__).with_name("child.py"))
 
 
 def status_of(answer: bytes, is_bodiless: bool = False) -> int | None:
@@ -42,33 +40,49 @@ def follows_from_log(answer: bytes) -> bool:
     return status in (200, 409)
 
 
-def digest_of_program(program: str) -> str:
-    """The SHA-256 of the program's file. Another one may give other answers."""
-    found = shutil.which(program)
-    if found is None:
-        raise SystemExit(f"office-member: there is no program {program}")
-    with open(found, "rb") as file:
-        return hashlib.file_digest(file, "sha256").hexdigest()
+def has_content(file: pathlib.Path) -> bool:
+    """Whether the file is there with a byte in it. Of any other the office would make a new one."""
+    return file.is_file() and file.stat().st_size > 0
+
+
+def parts_of(link: socket.socket, until: float) -> Iterator[bytes]:
+    """What comes on a connection to its end. TimeoutError: it has not ended until then."""
+    while True:
+        left = until - time.monotonic()
+        if left <= 0:
+            raise TimeoutError("the office did not answer in time")
+        link.settimeout(min(left, ANSWER_SECONDS))
+        part = link.recv(65536)
+        if not part:
+            return
+        yield part
 
 
 class Office:
     """An office that serves FILE at a port of its own, for this process alone."""
 
-    def __init__(self, program: str, file: pathlib.Path, port: int) -> None:
-        self.words = [program, "serve", str(file), str(port), CONNECTIONS]
-        self.port = port
+    def __init__(self, program: Program, file: pathlib.Path, port: int) -> None:
+        self.program, self.file, self.port = program, file, port
         self.lock = threading.Lock()
         self.process: subprocess.Popen[bytes] | None = None
+        self.owes: float | None = None
+        """since when an answer is awaited, or the line that says that it serves"""
+        self.is_starting = False
 
     def start(self) -> None:
-        """Opens FILE, by a new process that ends with this thread. Fault where it does not."""
+        """Opens FILE, by a new process that ends with this thread. Fault where it does not, or there is no FILE."""
         self.stop()
-        self.process = subprocess.Popen(
-            [sys.executable, "-I", "-S", CHILD, str(os.getpid()), *self.words],
-            stdout=subprocess.PIPE, stdin=subprocess.DEVNULL)
-        assert self.process.stdout is not None
-        if not self.process.stdout.readline().startswith(b"listening"):
-            raise Fault(f"the office did not start: status {self.process.wait()}")
+        if not has_content(self.file):
+            raise Fault(f"{self.file} is gone, or empty")
+        self.owes, self.is_starting = time.monotonic(), True
+        try:
+            self.process = self.program.start(["serve", str(self.file), str(self.port), CONNECTIONS],
+                                              stdout=subprocess.PIPE)
+            assert self.process.stdout is not None
+            if not self.process.stdout.readline().startswith(b"listening"):
+                raise Fault(f"the office did not start: status {self.process.wait()}")
+        finally:
+            self.owes, self.is_starting = None, False
 
     def stop(self) -> None:
         """Ends the process. FILE and its log then have every act that was answered."""
@@ -79,15 +93,35 @@ class Office:
                 self.process.stdout.close()
             self.process = None
 
+    def kill(self) -> None:
+        """Ends the process from any thread, whatever it does. Who waits for its answer gets none."""
+        process = self.process
+        if process is not None:
+            process.kill()
+
     def restart_if_ended(self) -> None:
         """An office that ended while nothing was asked of it has all that it answered."""
         if self.process is None or self.process.poll() is not None:
             self.start()
 
-    def ask(self, method: str, path: str, body: bytes | None = None) -> bytes:
-        """All bytes that the office answers."""
-        with socket.create_connection(("127.0.0.1", self.port), ANSWER_SECONDS) as link:
-            size = "" if body is None else f"Content-Length: {len(body)}\r\n"
-            head = f"{method} {path} HTTP/1.1\r\nHost: office\r\n{size}\r\n"
-            link.sendall(head.encode("latin-1") + (body or b""))
-            return b"".join(iter(lambda: link.recv(65536), b""))
+    def ask(self, method: str, path: str, body: bytes | None = None, seconds: float = float("inf")) -> bytes:
+        """All bytes that the office answers. TimeoutError: not within these seconds."""
+        self.owes = time.monotonic()
+        until = self.owes + seconds
+        try:
+            with socket.create_connection(("127.0.0.1", self.port), min(seconds, ANSWER_SECONDS)) as link:
+                size = "" if body is None else f"Content-Length: {len(body)}\r\n"
+                head = f"{method} {path} HTTP/1.1\r\nHost: office\r\n{size}\r\n"
+                link.sendall(head.encode("latin-1") + (body or b""))
+                return b"".join(parts_of(link, until))
+        finally:
+            self.owes = None
+
+    def trouble(self, limit: float) -> str:
+        """Why it may not answer a reading now, or nothing: somebody has waited longer than the limit."""
+        owes = self.owes
+        if self.is_starting:
+            return "the office is being started"
+        if owes is not None and time.monotonic() - owes > limit:
+            return f"the office has not answered for more than {limit:.0f} seconds"
+        return ""

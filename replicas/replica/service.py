@@ -1,30 +1,37 @@
 """What clients are answered: a request becomes an entry and waits for its answer; a reading waits
-for the position that it asks for."""
+for the position that it asks for, and is not given where it may be too old."""
 from __future__ import annotations
 
+import time
 from typing import NamedTuple
 
-from replica.errors import NotTaken, Unclear
+from replica.errors import NotTaken, Unclear, say
 from replica.follower import Follower
+from replica.freshness import Freshness, whole
 from replica.log import Appended, Log
 from replica.office import status_of
 
 WAIT_SECONDS = 30
 """of a client, for its turn and for its entry"""
+NEWEST, ANY = "newest", "any"
+"""what a reading may ask for: all that was answered before it, or whatever this machine has"""
 
 
 class Answer(NamedTuple):
-    """The bytes of the office, or the name of an error; and the position that they belong to."""
+    """The bytes of the office, or the name of an error; the position that they belong to; and the
+    age of a reading, in seconds or `unknown`."""
 
     position: int | None
     content: bytes | str
+    age: str | None = None
 
 
 class Service:
     """The answers of one member, for any number of threads."""
 
-    def __init__(self, log: Log, follower: Follower) -> None:
-        self.log, self.follower = log, follower
+    def __init__(self, log: Log, follower: Follower, freshness: Freshness) -> None:
+        self.log, self.follower, self.freshness = log, follower, freshness
+        self.limit: float = follower.settings.reading_limit
 
     def post(self, key: str, kind: str, body: bytes) -> Answer:
         """The answer to a request that may change the office.
@@ -55,36 +62,83 @@ class Service:
 
         Then the member halts, and nobody is answered of it.
         """
-        follower = self.follower
         if appended.is_new and appended.position is not None and appended.position <= before:
-            follower.halting = (f"entry {appended.position} is new in etcd, and another was done "
-                                "here: an older log was put back")
-            follower.set_answering(False)
-            follower.changed.set()
+            self.follower.ask_to_halt(f"entry {appended.position} is new in etcd, and another was "
+                                      "done here: an older log was put back")
 
-    def read(self, method: str, path: str, is_newest: bool, after: int) -> Answer:
+    def read(self, method: str, path: str, wanted: str | None, after: int) -> Answer:
         """The answer to a request that changes nothing, from the own office.
 
-        It is at least at the position `after`; with `is_newest` at least where the log ended as
-        the request came.
+        It is at least at the position `after`; with NEWEST at least where the log ended as the
+        request came. `behind`: it would not be there in time, or would be older than the limit.
         """
-        if is_newest:
+        if wanted == NEWEST:
             try:
-                after = max(after, self.log.tail())
+                after = max(after, self.freshness.confirm())
             except (NotTaken, Unclear):
                 return Answer(None, "quorum")
-        if not self.follower.is_answering:
+        if not self.follower.is_reading:
             return Answer(None, "recovering")
-        if after > 0 and not self.follower.reaches(after, WAIT_SECONDS):
-            return Answer(None, "behind" if self.follower.is_answering else "recovering")
-        found = self.follower.read(method, path)
-        if found is None or status_of(found[1], method == "HEAD") is None:
+        if after > 0 and not self.follower.reaches(after, WAIT_SECONDS, reading=True):
+            return Answer(None, "behind" if self.follower.is_reading else "recovering")
+        if not self.follower.office.lock.acquire(timeout=self.limit):
+            return Answer(None, "busy")
+        try:
+            return self.asked(method, path, wanted != ANY)
+        finally:
+            self.follower.office.lock.release()
+
+    def asked(self, method: str, path: str, is_limited: bool) -> Answer:
+        """What the office answers now, to one who has its lock."""
+        position, office = self.follower.position, self.follower.office
+        if not self.follower.is_reading:
             return Answer(None, "recovering")
-        return Answer(*found)
+        if is_limited and self.freshness.is_behind(position):
+            return Answer(None, "behind")
+        try:
+            content = office.ask(method, path, seconds=self.limit)
+        except TimeoutError:
+            say(f"the office gave no answer to {method} {path} in {self.limit:.0f} seconds: it is started again")
+            office.kill()
+            self.follower.changed.set()
+            return Answer(None, "recovering")
+        except OSError:
+            return Answer(None, "recovering")
+        if status_of(content, method == "HEAD") is None:
+            return Answer(None, "recovering")
+        age = whole(self.freshness.age(position))
+        return Answer(position, content, "unknown" if age is None else str(age))
+
+    def ask_if_free(self) -> None:
+        """Asks the office something, unless somebody else does just now: so a hanging one is found."""
+        follower = self.follower
+        if follower.is_reading and follower.office.lock.acquire(blocking=False):
+            try:
+                self.asked("GET", "/nothing", False)
+            finally:
+                follower.office.lock.release()
+
+    def trouble(self) -> str:
+        """Why plain readings are not answered now, or nothing."""
+        it, freshness = self.follower, self.freshness
+        if not it.is_answering:
+            return it.why or "it follows the log"
+        if freshness.is_behind(it.position):
+            age = freshness.age(it.position)
+            return ("no majority has told where the log ends since the start" if age is None else
+                    f"it may lack what was answered in the last {whole(age)} seconds")
+        return it.office.trouble(self.limit)
 
     def state(self) -> dict[str, object]:
         """What /replica tells."""
-        it, memo = self.follower, self.follower.memo
-        return {"answers": it.is_answering, "chain": "" if memo is None else memo.chain,
-                "full": self.log.is_full, "member": self.log.member, "position": it.position,
-                "program": self.log.program, "snapshot": it.reported, "why": it.why}
+        it, memo, why = self.follower, self.follower.memo, self.trouble()
+        return {"answers": not why, "why": why, **self.freshness.state(it.position),
+                "certificate_days": self.certificate_days(),
+                "chain": "" if memo is None else memo.chain, "full": self.log.is_full,
+                "member": self.log.member, "position": it.position, "program": self.log.program,
+                "restores": it.restores, "snapshot": it.reported}
+
+    def certificate_days(self) -> int | None:
+        """The days until etcd's certificate ends, by the clock of this machine; None without one."""
+        ends = self.log.etcd.certificate_ends
+        return None if ends is None else int((ends - time.time()) // 86_400)

@@ -40,6 +40,14 @@ class Settings:
     """entries for which a request that is sent again gets its first answer"""
     etcd_quota: int = 8 * 1024**3
     """the bytes of etcd's --quota-backend-bytes: from three quarters on no entry is taken"""
+    age_limit: int = 30
+    """seconds: a reading that may be older is not given, unless the client takes any; 0: no limit"""
+    reading_limit: int = 30
+    """seconds that a reading may take; an office that takes longer is started again"""
+    snapshot_seconds: int = 43_200
+    """the longest from one snapshot to the next while the log has what could be dropped; 0: none"""
+    disk: str | None = None
+    """OFFICE_DISK of the office, in place of the environment's"""
 
     def tls(self) -> ssl.SSLContext | None:
         """What connections to etcd are secured with, or None."""
@@ -51,7 +59,8 @@ class Settings:
 
 
 NEEDED = ("name", "log", "folder", "office", "office_port", "listen", "etcd")
-TEXTS = ("name", "log", "folder", "office", "etcd", "ca", "certificate", "key")
+TEXTS = ("name", "log", "folder", "office", "etcd", "ca", "certificate", "key", "disk")
+DISKS = ("any", "powersafe")
 
 
 def fault_of(values: dict[str, object]) -> str | None:
@@ -71,9 +80,11 @@ def fault_of(values: dict[str, object]) -> str | None:
         if not all(letter.isascii() and (letter.isalnum() or letter in "-_")
                    for letter in str(values[name])):
             return f"{name} has other characters than letters, digits, - and _"
-    for name in ("snapshot_every", "compare_every"):
+    for name in ("snapshot_every", "compare_every", "reading_limit"):
         if values.get(name, 1) == 0:
             return f"{name} is 0"
+    if values.get("disk", "any") not in DISKS:
+        return f"disk is none of {', '.join(DISKS)}"
     if len({"ca", "certificate", "key"} & set(values)) not in (0, 3):
         return "ca, certificate and key go together"
     return None

@@ -3,20 +3,23 @@
     snapshots/POSITION/     office.db, memo.db, sums (as `sha256sum --check sums` reads it)
 
 The last two are kept. A snapshot is only ever made under another name and renamed, so one that is
-there is whole; one whose sums do not agree was damaged later, and is passed over.
+there is whole; one whose sums do not agree was damaged later, and is passed over. Nothing is done with
+the office while the files are copied; the rest has a thread of its own.
 """
 from __future__ import annotations
 
-import contextlib
 import hashlib
 import os
 import pathlib
 import shutil
 import subprocess
+import threading
 from typing import ContextManager
 
-from replica.errors import Fault, say
+from replica.errors import Fault, Halt, say
 from replica.memo import Memo
+from replica.office import has_content
+from replica.program import Program
 
 KEPT = 2
 
@@ -29,6 +32,14 @@ def sync(folder: pathlib.Path) -> None:
 def copy(files: list[pathlib.Path], folder: pathlib.Path) -> None:
     """Copies files, sharing their blocks where the file system can."""
     subprocess.run(["cp", "--reflink=auto", "--", *files, folder], check=True)
+
+
+def files_of(file: pathlib.Path) -> list[pathlib.Path]:
+    """FILE, and its log where there is one; nothing else that is beside them. Fault where there is no FILE."""
+    if not has_content(file):
+        raise Fault(f"{file} is gone, or empty")
+    log = pathlib.Path(f"{file}-wal")
+    return [file, log] if log.exists() else [file]
 
 
 def sum_of(file: pathlib.Path) -> str:
@@ -50,8 +61,13 @@ def has_sums(folder: pathlib.Path) -> bool:
 class Snapshots:
     """The snapshots of one member, and the work folder that is made of them."""
 
-    def __init__(self, folder: pathlib.Path, program: str) -> None:
+    def __init__(self, folder: pathlib.Path, program: Program) -> None:
         self.folder, self.work, self.program = folder / "snapshots", folder / "work", program
+        self.lock = threading.Lock()
+        """held by who reads a whole snapshot, or gives and takes one its name"""
+        self.thread: threading.Thread | None = None
+        self.halting: str | None = None
+        """why the member has to halt, where a snapshot showed that"""
 
     def place(self, position: int) -> pathlib.Path:
         return self.folder / f"{position:016d}"
@@ -67,37 +83,53 @@ class Snapshots:
         Fault where there is none. A stop in the middle leaves a `work` whose memo is not settled,
         or none, so that the next start restores again.
         """
-        for position in self.positions():
-            place = self.place(position)
-            if has_sums(place):
-                shutil.rmtree(self.work, ignore_errors=True)
-                self.work.mkdir(mode=0o700)
-                files = [it for it in place.iterdir() if it.name != "sums"]
-                copy([it for it in files if it.name != "memo.db"], self.work)
-                copy([place / "memo.db"], self.work)
-                return sync(self.work)
-            say(f"damaged: {place}")
-            place.rename(f"{place}.damaged")
+        with self.lock:
+            for position in self.positions():
+                place = self.place(position)
+                if has_sums(place):
+                    shutil.rmtree(self.work, ignore_errors=True)
+                    self.work.mkdir(mode=0o700)
+                    copy(files_of(place / "office.db"), self.work)
+                    copy([place / "memo.db"], self.work)
+                    return sync(self.work)
+                say(f"damaged: {place}")
+                place.rename(f"{place}.damaged")
         raise Fault(f"there is no snapshot in {self.folder}")
 
-    def take(self, position: int, at_rest: ContextManager[None]) -> None:
-        """Makes the snapshot of `work`, whose files nobody changes within `at_rest`.
+    def is_under_way(self) -> bool:
+        return self.thread is not None and self.thread.is_alive()
 
-        The office's program opens the copy once, so it is an office. Where a step fails there is no
-        new snapshot, and the others stay.
+    def take(self, position: int, at_rest: ContextManager[None]) -> None:
+        """Copies `work`, whose files nobody changes within `at_rest`; a thread completes the snapshot.
+
+        Where a step fails there is no new snapshot, and the others stay. Fault where FILE is gone.
         """
         new = self.folder / "new"
         try:
             shutil.rmtree(new, ignore_errors=True)
             new.mkdir(mode=0o700)
             with at_rest:
-                copy([*self.work.glob("office.db*"), self.work / "memo.db"], new)
-            self.finish(new, position)
-            for old in self.positions()[KEPT:]:
-                shutil.rmtree(self.place(old))
+                copy([*files_of(self.work / "office.db"), self.work / "memo.db"], new)
         except (OSError, subprocess.CalledProcessError) as error:
-            say(f"no snapshot at {position}: {error}")
-            shutil.rmtree(new, ignore_errors=True)
+            return self.give_up(position, error)
+        self.thread = threading.Thread(target=self.complete, args=(new, position), daemon=True)
+        self.thread.start()
+
+    def give_up(self, position: int, error: Exception) -> None:
+        say(f"no snapshot at {position}: {error}")
+        shutil.rmtree(self.folder / "new", ignore_errors=True)
+
+    def complete(self, new: pathlib.Path, position: int) -> None:
+        """Finishes a copy, and drops what is older than the last two."""
+        try:
+            self.finish(new, position)
+            with self.lock:
+                for old in self.positions()[KEPT:]:
+                    shutil.rmtree(self.place(old))
+        except Halt as error:
+            self.halting = str(error)
+        except (OSError, subprocess.CalledProcessError) as error:
+            self.give_up(position, error)
 
     def make_first(self, file: pathlib.Path | None, epoch: str) -> None:
         """Snapshot 0: of FILE, which nobody has open, or of a new office."""
@@ -105,22 +137,20 @@ class Snapshots:
         shutil.rmtree(new, ignore_errors=True)
         new.mkdir(mode=0o700, parents=True)
         if file is not None:
-            logs = [pathlib.Path(f"{file}-wal")]
-            copy([file, *(it for it in logs if it.exists())], new)
-            for name in (file.name, f"{file.name}-wal"):
-                with contextlib.suppress(FileNotFoundError):
-                    (new / name).rename(new / name.replace(file.name, "office.db"))
+            for it in files_of(file):
+                copy([it], new)
+                (new / it.name).rename(new / f"office.db{it.name[len(file.name):]}")
         Memo.make(new / "memo.db", epoch)
         self.finish(new, 0)
 
     def finish(self, new: pathlib.Path, position: int) -> None:
-        """Opens the office in a folder once, writes the sums, and gives the folder its name."""
-        subprocess.run([self.program, "init", new / "office.db"], check=True,
-                       stdout=subprocess.DEVNULL)
+        """Opens the office in a folder once, so it is one; writes the sums, and gives the folder its name."""
+        self.program.run(["init", str(new / "office.db")])
         names = sorted(it.name for it in new.iterdir())
         lines = [f"{sum_of(new / name)}  {name}\n" for name in names]
         (new / "sums").write_text("".join(lines), encoding="utf-8")
         sync(new)
-        shutil.rmtree(self.place(position), ignore_errors=True)
-        new.rename(self.place(position))
+        with self.lock:
+            shutil.rmtree(self.place(position), ignore_errors=True)
+            new.rename(self.place(position))
         sync(self.folder)

@@ -31,9 +31,11 @@ export async function judged(bytes) {
   return { verdict: computed === seal.written ? "agrees" : "differs", written: seal.written, computed };
 }
 
+/** An entry. What was skipped always names a hold, so `-` is its code there, and nowhere else. */
 function entryOf(words) {
-  const [, record, outcome, ref, code, schedule, due, hold, by, length, digest] = words;
-  return { record, outcome, ref, class: code, schedule, due, hold: hold === "-" ? null : hold, by, length, digest };
+  const [, record, outcome, ref, code, schedule, due, word, by, length, digest] = words;
+  const hold = word === "-" && outcome !== "skipped" ? null : word;
+  return { record, outcome, ref, class: code, schedule, due, hold, by, length, digest };
 }
 
 function isEntry(words) {

@@ -15,6 +15,10 @@ export const OVERDUE = {
   totals: ["count", "destroy", "transfer", "review", "held", "shown"],
 };
 
+/** What the filter for holds may ask for beside a hold: no code of a hold has such letters. */
+export const ANY_HOLD = "*";
+export const NO_HOLD = "_none";
+
 /** The word of a row for a column: a hold's code or none, yes or no, else the member itself. */
 export function valueOf(row, name) {
   if (name === "held") return row.held ?? "";
@@ -25,8 +29,8 @@ export function valueOf(row, name) {
 /** Whether a filter takes a row. An empty one takes all. */
 function takes(row, name, wanted) {
   if (wanted === "") return true;
-  if (name === "held" && wanted === "*") return row.held !== null;
-  if (name === "held" && wanted === "-") return row.held === null;
+  if (name === "held" && wanted === ANY_HOLD) return row.held !== null;
+  if (name === "held" && wanted === NO_HOLD) return row.held === null;
   return valueOf(row, name) === wanted;
 }
 
@@ -66,6 +70,23 @@ export function totals(rows) {
 
 /** Whether a row may be confirmed: what is to be reviewed is not. */
 export const canBeConfirmed = (row) => row.action !== "review";
+
+/** What a confirmation is given for, as the list shows it. */
+export const CONFIRMED_FOR = ["class", "schedule", "action", "due", "held"];
+
+/**
+ * How rows differ from those that are there by now.
+ * @param {object[]} rows as they were shown
+ * @param {object[]} others all rows of the same list, as they are now
+ * @returns {{ row: object, now: object | null, names: string[] }[]} each row that differs, with the one that is there by
+ *   now, or null if there is none, and the names of what differs
+ */
+export function changed(rows, others) {
+  const there = new Map(others.map((row) => [row.record, row]));
+  const differences = (row, now) => (now ? CONFIRMED_FOR.filter((name) => row[name] !== now[name]) : []);
+  const compare = (row) => ({ row, now: there.get(row.record) ?? null, names: differences(row, there.get(row.record)) });
+  return rows.map(compare).filter(({ now, names }) => now === null || names.length > 0);
+}
 
 /** How many rows of the due list of a day are overdue: unconfirmed, and due more than so many days before that day. */
 export function overdueAmong(rows, day, count) {

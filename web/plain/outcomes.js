@@ -10,9 +10,10 @@ export function jsonOf(answer) {
   }
 }
 
-/** The row of the table of statuses for a status and a word of its body. */
+/** The row for a status and a word of its body: of the office's own answers, else of those of a member of several machines. */
 export function statusRow(texts, status, word) {
-  return texts.statuses.find((row) => row.status.split(", ").includes(status) && row.body.includes(word));
+  const fits = (row) => row.status.split(", ").includes(status) && row.body.includes(word);
+  return [...texts.statuses, ...texts.members].find(fits);
 }
 
 const refusal = (texts, number) => ({ key: "said.refusal", number, ...texts.refusals[number] });
@@ -41,11 +42,17 @@ const isSuccess = (answer) => answer.status >= 200 && answer.status < 300;
 /** Whether this answer is the office's own, and not one of the proxy in front of it, whatever body that has. */
 export const isOfOffice = (texts, answer) => isSuccess(answer) || explainedOffice(texts, answer).length > 0;
 
+/** The explanation of an answer of the proxy: by the word of its body if there is one for that, else by its status. */
+function explainedProxy(texts, answer) {
+  const word = jsonOf(answer)?.error;
+  return texts.proxy[`${answer.status} ${word}`] ?? texts.proxy[answer.status];
+}
+
 /** The explanations of an answer, each with a meaning and with what to do; none where nothing is known of it. */
 export function explained(texts, answer) {
   if (answer.status === 0) return [statusRow(texts, "none", "")];
   const rows = explainedOffice(texts, answer);
-  return rows.length || isSuccess(answer) ? rows : [texts.proxy[answer.status]].filter(Boolean);
+  return rows.length || isSuccess(answer) ? rows : [explainedProxy(texts, answer)].filter(Boolean);
 }
 
 /** Whether the office says that there is no such thing: a `record`, a `content` or a `certificate`. */
@@ -61,8 +68,13 @@ export function fatesOf(answer, count) {
   return { answers, refused, end: whole ? "answered" : nothingDone(answer, body) ? "undone" : "unknown" };
 }
 
+/** With these words a member of an office on several machines says that it put nothing into the log. */
+const NOTHING_IN_LOG = ["quorum", "recovering", "busy", "full"];
+
 /** Whether this answer says that no act was done. */
 function nothingDone(answer, body) {
+  if (answer.status === 503) return NOTHING_IN_LOG.includes(body?.error);
+  if (answer.status === 422) return body?.error === "key";
   if ([400, 404, 405, 411, 501].includes(answer.status)) return typeof body?.error === "string";
   return [401, 403, 413, 429].includes(answer.status);
 }

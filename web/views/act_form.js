@@ -13,6 +13,8 @@ import { t } from "../texts.js";
  * @property {Object<string, string>} fields the kind of each field, by its name
  * @property {function(Object<string, any>): object} act the act of these values; a field that was left empty is null
  * @property {string[]} [clears] the fields that are empty again once the act is done
+ * @property {function(object, HTMLElement): Promise<string | null>} [before] what was shown of what the act is for, as a
+ *   text; null if that has changed, which it says at this place, and then nothing is sent
  * @property {function(object, string): Promise<void>} [after] is called with the act and its fate
  */
 
@@ -42,12 +44,14 @@ function sayFate(place, words, act, answer) {
 }
 
 async function ask(description, values) {
-  const { id, words, clears = [], after } = description;
+  const { id, words, clears = [], before, after } = description;
   const place = byId(`${id}-outcome`);
   const act = description.act(named(description, values));
   asking(place);
+  const seen = before ? await before(act, place) : "";
+  if (seen === null) return;
   untick(byId(id));
-  const fate = sayFate(place, words, act, await post("acts", bodyOf([act])));
+  const fate = sayFate(place, words, act, await post("acts", bodyOf([act]), seen));
   if (fate === "done") for (const name of clears) clear(byId(`${id}-${name}`));
   await after?.(act, fate);
 }

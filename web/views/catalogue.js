@@ -1,5 +1,6 @@
 // The catalogue: records and aggregations, searched as one types; classes, schedules, holds and runs as lists.
 import { aboutIt, aggregations, lastAnswer, part, records, refresh, tree } from "../catalogue.js";
+import { serverNow } from "../clock.js";
 import { asking, byId, failed, grouped, link, made, paragraph, quiet, say } from "../page.js";
 import { STATUSES, search } from "../plain/catalogue.js";
 import { today } from "../plain/forms.js";
@@ -39,10 +40,10 @@ function clockOf(moment) {
   return `${today(at)} ${at.toTimeString().slice(0, 5)}`;
 }
 
-/** Says of which moment the catalogue is, and how old that is. */
+/** Says of which moment the catalogue is, and how old that is by the server's clock, which the moment is of too. */
 function tellMoment() {
   const { moment, day } = aboutIt();
-  const minutes = Math.max(0, Math.round((Date.now() - Date.parse(moment)) / 60000));
+  const minutes = Math.max(0, Math.round((serverNow() - Date.parse(moment)) / 60000));
   const hours = Math.round(minutes / 60);
   const age = minutes < 120 ? t("catalogue.minutes", { count: minutes }) : t("catalogue.hours", { count: hours });
   const time = made("time", { datetime: moment }, t("catalogue.moment", { moment: clockOf(moment), age }));

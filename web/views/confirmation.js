@@ -3,8 +3,10 @@ import { post } from "../ask.js";
 import { untick } from "../fields.js";
 import { asking, failed, link, made, paragraph, quiet, say, tableOf, told } from "../page.js";
 import { MOST_BYTES, bodyOf, bytesOf, confirm, fitting } from "../plain/acts.js";
+import { CONFIRMED_FOR } from "../plain/lists.js";
 import { fatesOf, jsonOf } from "../plain/outcomes.js";
 import { all, t } from "../texts.js";
+import { isAsShown } from "./changes.js";
 
 /** Says that more is marked than one request takes, and offers to keep what fits. */
 function tellTooLong(list, acts, body) {
@@ -49,17 +51,26 @@ function tellFate(place, answer, acts) {
   say(place, "unknown", ...told(answer), paragraph(words), ...table);
 }
 
-/** Confirms what is marked in a list, in one request, says what came of it, and has the list read anew. */
+/** What was shown of rows that are confirmed, as a text: once one differs, the same acts are another request. */
+const seenOf = (rows) => JSON.stringify(rows.map((row) => CONFIRMED_FOR.map((name) => row[name])));
+
+/**
+ * Confirms what is marked in a list, in one request, if all of it is as it is shown; says what came of it, and has the list
+ * read anew.
+ */
 export async function confirmMarked(list, values) {
   const place = list.part("panel-outcome");
   const [day, by] = ["confirm-day", "confirm-by"].map((name) => values[list.part(name).id]);
-  const acts = list.markedRows().map((row) => confirm(row, day, by));
+  const marked = list.markedRows();
+  const acts = marked.map((row) => confirm(row, day, by));
   if (!acts.length) return say(place, "wrong", paragraph(t("due.nothingMarked")));
   const body = bodyOf(acts);
   if (bytesOf(body) > MOST_BYTES) return tellTooLong(list, acts, body);
+  asking(place);
+  if (!(await isAsShown(list, marked))) return;
   asking(place, t("due.wait", { count: acts.length }));
   untick(list.part("confirm"));
-  const answer = await post("acts", body);
+  const answer = await post("acts", body, seenOf(marked));
   quiet(place);
   tellFate(list.part("answer"), answer, acts);
   list.part("answer").focus();

@@ -66,3 +66,4 @@ export function start() {
 }
 
 export const show = (words) => list.show(words);
+export const renew = () => list.renew();

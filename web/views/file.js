@@ -48,10 +48,10 @@ function showTotals() {
   if (!isSending) byId("file-submit").textContent = t(key, { count: grouped(ready.length) });
   byId("file-off-filed").hidden = filed === 0;
   byId("file-place").hidden = !entries.some((entry) => entry.hasManifest);
-  showLarge(large);
+  showLarge(entries.filter(isLeftOut).length);
 }
 
-/** Says how many files are too large, and what to do: once, so that a screen reader does not hear it at each letter. */
+/** Says how many files are left out since they are too large, and what to do: once, so that a screen reader does not hear it at each letter. */
 function showLarge(count) {
   const place = byId("file-large");
   if (place.dataset.count === String(count)) return;

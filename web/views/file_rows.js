@@ -62,7 +62,7 @@ export const isLarge = (entry) => entry.file.size > MOST_CONTENT;
 export const isLeftOut = (entry) => isLarge(entry) && !entry.hasManifest;
 
 function words(entry) {
-  if (entry.fate) return fateWords(entry.fate);
+  if (entry.fate) return fateWords(entry.fate, entry.hasManifest);
   if (isLeftOut(entry)) return made("strong", { class: "wrong" }, t("file.large"));
   return made("span", { class: "hint" }, t(entry.hasManifest ? "file.manifestReady" : "file.ready"));
 }

@@ -7,10 +7,10 @@ import { all, t } from "../texts.js";
 
 const LOOKS = { added: "done", same: "done", refused: "wrong", unread: "wrong", unknown: "unknown", left: "unknown" };
 
-/** What became of one act, in words. */
-export function fateWords(fate) {
+/** What became of one act, in words; what was filed may be the manifest of a file. */
+export function fateWords(fate, isManifest = false) {
   const record = fate.number === undefined ? "" : link(`#record?number=${fate.number}`, fate.number);
-  const words = sentence(`filing.${fate.kind}`, { record });
+  const words = sentence(isManifest && fate.kind === "added" ? "filing.manifestAdded" : `filing.${fate.kind}`, { record });
   if (fate.kind !== "refused") return made("span", { class: `fate ${LOOKS[fate.kind]}` }, ...words);
   const row = all().refusals[fate.refusal] ?? { name: "", meaning: "", do: "" };
   const refusal = t("said.refusal", { number: fate.refusal, name: row.name });

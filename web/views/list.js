@@ -1,11 +1,12 @@
 // A list of records that can be confirmed, as Due and Overdue: its address, rows, totals, filters, order and marks.
-import { get } from "../ask.js";
+import { get, getNewest } from "../ask.js";
+import { bothDays } from "../clock.js";
 import { onSubmit } from "../fields.js";
 import { asking, byId, failed, made, paragraph, quiet, say } from "../page.js";
-import { today } from "../plain/forms.js";
-import { canBeConfirmed, choices, filtered, sorted, totals } from "../plain/lists.js";
+import { ANY_HOLD, NO_HOLD, canBeConfirmed, changed, choices, filtered, sorted, totals } from "../plain/lists.js";
 import { jsonOf } from "../plain/outcomes.js";
 import { t } from "../texts.js";
+import { tellChanged, unchanged } from "./changes.js";
 import { confirmMarked } from "./confirmation.js";
 import { addParts } from "./list_parts.js";
 import { ListTable, recordOf } from "./list_table.js";
@@ -39,6 +40,8 @@ export class RecordList {
   filter = {};
   column = "";
   down = false;
+  /** Whether the list is the one that the view begins with, as that of today. */
+  #isFirst = false;
   #asked = 0;
   #table = null;
 
@@ -101,7 +104,7 @@ export class RecordList {
     for (const name of this.kind.filters) {
       const values = choices(this.rows, name).filter(([value]) => value !== "");
       const held = this.rows.filter((row) => row.held !== null).length;
-      const more = name === "held" ? [["*", t("due.held"), held], ["-", t("due.free"), this.rows.length - held]] : [];
+      const more = name === "held" ? [[ANY_HOLD, t("due.held"), held], [NO_HOLD, t("due.free"), this.rows.length - held]] : [];
       const found = [...more, ...values.map(([value, count]) => [value, this.#choiceWord(name, value), count])];
       // a filter that no row of this list meets is still told
       const wanted = this.filter[name];
@@ -147,13 +150,14 @@ export class RecordList {
     for (const name of ["totals", "list"]) this.part(name).hidden = !there;
   }
 
-  /** Takes another list in place of the one that is shown, and says where it looks ahead of today. */
-  #take(question, rows) {
+  /** Takes another list in place of the one that is shown, with these marks, and says if it looks ahead of today. */
+  #take(question, rows, marks = []) {
     this.question = question;
     this.rows = rows;
-    this.marks = new Set();
+    this.marks = new Set(marks);
     this.#table.begin((record) => this.marks.has(record));
-    this.part("ahead").textContent = question.day > today() ? t("due.ahead", { today: today() }) : "";
+    const { first } = bothDays();
+    this.part("ahead").textContent = question.day > first ? t("due.ahead", { today: first }) : "";
     this.#tellChoices();
     this.#draw();
     this.#showList(rows.length > 0);
@@ -165,23 +169,40 @@ export class RecordList {
     this.#showList(false);
   }
 
-  /** Asks for a list, and shows it; whether it could. */
-  async open(question) {
+  /** Asks for a list, and shows nothing of it: the answer, and its rows or null. */
+  async #ask(question, by = get) {
+    const answer = await by(this.kind.path(question));
+    const rows = jsonOf(answer);
+    return { answer, rows: answer.status === 200 && Array.isArray(rows) ? rows : null };
+  }
+
+  /** Reads the list that is shown anew, and shows nothing of it: `take` shows it, unless another one is shown by then. */
+  async read() {
+    const { question } = this;
+    const mine = this.#asked;
+    const take = (rows, marks) => mine === this.#asked && this.#take(question, rows, marks);
+    return { ...(await this.#ask(question, getNewest)), take };
+  }
+
+  /** Asks for a list, and shows it, with the marks of what is as it was if it `isKept`; whether it could. */
+  async open(question, isKept = false) {
     const mine = ++this.#asked;
     const place = this.part("outcome");
     for (const [name, value] of Object.entries(question)) this.part(name).value = value;
     asking(place);
-    const answer = await get(this.kind.path(question));
+    const { answer, rows } = await this.#ask(question);
     if (mine !== this.#asked) return false;
-    const rows = jsonOf(answer);
-    if (answer.status !== 200 || !Array.isArray(rows)) {
+    if (!rows) {
       failed(place, answer);
       if (!isSame(question, this.question)) this.#forget();
       return false;
     }
-    this.#take(question, rows);
+    const marked = isKept ? this.markedRows() : [];
+    const changes = changed(marked, rows);
+    this.#take(question, rows, unchanged(marked, changes));
     if (rows.length) quiet(place);
     else say(place, "done", paragraph(this.#text("none", { ...question, days: question.count })));
+    if (changes.length) tellChanged(this, changes);
     return true;
   }
 
@@ -232,6 +253,7 @@ export class RecordList {
       return null;
     }
     history.replaceState(null, "", address);
+    this.#isFirst = false;
     return this.open(question);
   }
 
@@ -253,11 +275,29 @@ export class RecordList {
     addEventListener("beforeprint", () => this.#table.finish());
   }
 
-  /** Shows the list that the address names; where it names none the one that is here already, or the first one. */
+  /** Shows the list that is here already, or the first one: that of today is another one by tomorrow. */
+  #showLast() {
+    const first = this.kind.first();
+    if (this.question && (!this.#isFirst || isSame(first, this.question))) {
+      this.keepAddress();
+      return this.open(this.question, true);
+    }
+    this.#isFirst = true;
+    return this.open(first);
+  }
+
+  /** Shows the list of today if that of an earlier day is here as today's, on a page that stays open; not while some is marked. */
+  renew() {
+    if (this.#isFirst && this.marks.size === 0 && !isSame(this.kind.first(), this.question)) this.#showLast();
+  }
+
+  /** Shows the list that the address names, or else the last one. It is read anew, since it may have changed meanwhile. */
   show(words) {
+    // what was done with the list as it was is told no more; what was refused, or is unknown, is
+    if (this.part("answer").classList.contains("done")) quiet(this.part("answer"));
     const { asks, first } = this.kind;
     const given = Object.keys(asks).filter((name) => words.has(name));
-    if (!given.length) return this.question ? this.keepAddress() : this.open(first());
+    if (!given.length) return this.#showLast();
     const question = { ...first(), ...Object.fromEntries(given.map((name) => [name, words.get(name)])) };
     const wrong = Object.keys(asks).find((name) => !asks[name].takes(question[name]));
     if (wrong) {
@@ -265,8 +305,7 @@ export class RecordList {
       return say(this.part("outcome"), "wrong", paragraph(t(asks[wrong].wrong)));
     }
     this.#readWords(words);
-    if (!isSame(question, this.question)) return this.open(question);
-    this.#tellChoices();
-    return this.#draw();
+    if (!isSame(question, this.question)) this.#isFirst = false;
+    return this.open(question, isSame(question, this.question));
   }
 }

@@ -19,3 +19,4 @@ const list = new RecordList({
 
 export const start = () => list.start();
 export const show = (words) => list.show(words);
+export const renew = () => list.renew();

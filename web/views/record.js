@@ -1,5 +1,5 @@
 // One record, by its number: what is reported of it in sentences and in facts, its content to save, and what can be recorded of it.
-import { get } from "../ask.js";
+import { get, getNewest } from "../ask.js";
 import { schedule } from "../catalogue.js";
 import { onSubmit } from "../fields.js";
 import {
@@ -102,7 +102,7 @@ async function open(number) {
 /** Reads the record that is shown once more, in its place: what is said of its due day then, or null where it could not be read. */
 async function readAnew() {
   const mine = ++asked;
-  const answer = await get(`records/${shown.number}`);
+  const answer = await getNewest(`records/${shown.number}`);
   const record = jsonOf(answer);
   const isRead = answer.status === 200 && record;
   const rule = isRead ? await ruleOf(record) : null;
@@ -133,7 +133,7 @@ async function saveContent() {
 export function start() {
   byId("record-save").addEventListener("click", saveContent);
   event.start(readAnew);
-  acts.start(readAnew);
+  acts.start(readAnew, () => shown);
   onSubmit(byId("record-form"), (values) => {
     const address = `#record?number=${values["record-number"]}`;
     if (location.hash === address) return open(values["record-number"]);

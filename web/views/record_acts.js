@@ -1,8 +1,9 @@
 // What else is recorded of a record beside its event: a review, a receipt, a schedule or a class of its own.
 import { clear } from "../fields.js";
-import { byId, made, paragraph, quiet, translate } from "../page.js";
-import { t } from "../texts.js";
+import { byId, made, paragraph, quiet, say, tableOf, translate } from "../page.js";
+import { all, t } from "../texts.js";
 import { begin, partsOf } from "./act_form.js";
+import { differences } from "./changes.js";
 
 /** The record that the forms are for, by its number. */
 let subject = null;
@@ -16,6 +17,7 @@ const FORMS = [
     act: ({ day, schedule, by }) => ({ act: "review", day, record: subject, schedule, by }),
     status: "here",
     clears: ["schedule"],
+    isCompared: true,
   },
   {
     id: "record-schedule",
@@ -67,11 +69,34 @@ export function offer({ number, status }) {
   }
 }
 
+/** What a review is given for, as the view shows it. */
+const REVIEWED_FOR = ["class", "schedule", "due", "held"];
+
+/**
+ * Reads the record anew and compares it with what was shown: that as a text, or null if it has changed or could not be
+ * read, which is said at this place.
+ */
+async function seenOf(act, place, { readAnew, shown }) {
+  const before = shown();
+  const due = await readAnew();
+  // another record is shown by now
+  if (subject !== act.record) return null;
+  const now = shown();
+  const names = REVIEWED_FOR.filter((name) => before[name] !== now[name]);
+  if (due === null) say(place, "wrong", paragraph(t("changes.unread")));
+  else if (names.length) {
+    const { what, shown: then, now: there } = all().changes.columns;
+    const table = tableOf(t("changes.caption"), [what, then, there], differences(before, now, names), "changes");
+    say(place, "wrong", paragraph(t("changes.record")), table);
+  } else return JSON.stringify(REVIEWED_FOR.map((name) => now[name]));
+  return null;
+}
+
 /**
  * Starts the forms. `readAnew` reads the record that is shown once more: what is said of its due day, or null where it
- * could not be read.
+ * could not be read; `shown` is that record.
  */
-export function start(readAnew) {
+export function start(readAnew, shown) {
   byId("record-acts").append(...FORMS.map(partOf));
   for (const description of FORMS) {
     const { id } = description;
@@ -84,6 +109,7 @@ export function start(readAnew) {
       if (due === null) place.append(paragraph(t("event.stale")));
       else if (fate === "done") place.firstChild?.after(...due);
     };
-    begin({ ...description, after });
+    const before = (act, place) => seenOf(act, place, { readAnew, shown });
+    begin({ ...description, ...(description.isCompared && { before }), after });
   }
 }

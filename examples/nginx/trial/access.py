@@ -72,10 +72,28 @@ def answers(folder: str) -> None:
     error("more than 1 MiB", post(f"{folder}acts", b" " * 1_048_577), 413, "size")
     page = ask("GET", f"{folder}web/office.js")
     same("a file of the page", (page.status, page.head.get("Content-Type")), (200, "text/javascript"))
-    fields = {"Strict-Transport-Security": "max-age=31536000", "Cache-Control": "no-store",
-              "X-Content-Type-Options": "nosniff"}
-    for it in (first, page, ask("GET", f"{folder}records/1")):
-        same(f"its field lines, of {it.status}", {name: it.head.get(name) for name in fields}, fields)
+    fields = {"Strict-Transport-Security": "max-age=31536000", "X-Content-Type-Options": "nosniff"}
+    for it, kept in ((first, "no-store"), (page, "no-cache"), (ask("GET", f"{folder}records/1"), "no-store")):
+        wanted = {**fields, "Cache-Control": kept}
+        same(f"its field lines, of {it.status}", {name: it.head.get(name) for name in wanted}, wanted)
+
+
+def opening(folder: str) -> None:
+    """To open the page takes one password; its files take none, and a browser that has them asks whether they changed."""
+    error("the page itself takes a password", ask("GET", f"{folder}web/", name=None), 401, "password")
+    web = place.TOP / "web"
+    files = [str(it.relative_to(web)) for it in sorted(web.rglob("*")) if it.is_file()]
+    began = time.monotonic()
+    seen = {name: ask("GET", f"{folder}web/{name}", name=None) for name in files}
+    print(f"    {len(files)} files of the page took {time.monotonic() - began:.1f} seconds")
+    other = [name for name, it in seen.items() if it.body != (web / name).read_bytes()]
+    same("its files take none", other, [])
+    known = {"If-None-Match": seen["office.js"].head["ETag"]}
+    again = ask("GET", f"{folder}web/office.js", name=None, fields=known).status
+    same("one that did not change is not sent again", again, 304)
+    outside = ["web/%2e%2e/records/1", "web/..%2frecords/1", "catalogue/about.json", "records/1"]
+    statuses = [ask("GET", folder + it, name=None).status for it in outside]
+    same("nothing else is without a password", statuses, [401] * len(outside))
 
 
 def gone(folder: str) -> None:
@@ -87,9 +105,10 @@ OTHER = ("curl --silent --output /dev/null --write-out '%{http_code}' --max-time
          f'--cacert {place.CERTIFICATE} --user registrar:"$PASSWORD" https://localhost')
 
 
-def guess(path: str, until: float, seen: list[int]) -> None:
+def guess(path: str, began: float, seen: list[int]) -> None:
+    """For eight seconds, and longer on a machine that is so busy that eight were not under way at once."""
     conn = place.connection("127.0.0.7", 30)
-    while time.monotonic() < until:
+    while time.monotonic() < began + SECONDS or (429 not in seen and time.monotonic() < began + 10 * SECONDS):
         conn.request("GET", path, headers=place.authorization(password="wrong"))
         reply = conn.getresponse()
         reply.read()
@@ -101,8 +120,8 @@ def passwords(folder: str) -> None:
     """48 clients of one address guess for eight seconds; who has a password at another address is served meanwhile."""
     run("nft delete table inet office")
     seen: list[int] = []
-    until = time.monotonic() + SECONDS
-    guessing = [threading.Thread(target=guess, args=(f"{folder}records/1", until, seen)) for _ in range(48)]
+    began = time.monotonic()
+    guessing = [threading.Thread(target=guess, args=(f"{folder}records/1", began, seen)) for _ in range(48)]
     for it in guessing:
         it.start()
     others = []
@@ -111,11 +130,11 @@ def passwords(folder: str) -> None:
         others.append(run(f"{OTHER}{folder}records/1").stdout)
     for it in guessing:
         it.join()
-    tried = seen.count(401)
-    print(f"    guesses in {SECONDS} seconds: {tried} answered 401, {seen.count(429)} answered 429")
-    judge("eight guesses in two seconds at most", 0 < tried <= 8 * (SECONDS / 2 + 1), tried)
+    took, tried = time.monotonic() - began, seen.count(401)
+    print(f"    guesses in {took:.0f} seconds: {tried} answered 401, {seen.count(429)} answered 429")
+    judge("eight guesses in two seconds at most", 0 < tried <= 8 * (took / 2 + 1), tried)
     same("the others are refused before the password is looked at", set(seen), {401, 429})
-    same("another address is served", set(others), {"404"})
+    same("another address is served", set(others), {"200"})
     run("nft -f /etc/office.nft")
 
 

@@ -19,6 +19,7 @@ TOP = pathlib.Path(__file__).resolve().parent.parent.parent.parent
 OFFICE = pathlib.Path(os.environ.get("OFFICE", TOP / "crates/office/out/office")).resolve()
 PASSWORD = "a long one"
 NAMES = "/etc/nginx/office/office.htpasswd"
+MONITOR = "/etc/nginx/office/monitor.htpasswd"
 CERTIFICATE = "/etc/nginx/office/office.crt"
 JOURNAL = pathlib.Path("/var/log/office/acts.log")
 HERE = {"Origin": "https://localhost"}
@@ -46,7 +47,7 @@ def commands() -> list[str]:
 
 
 def install(site: str) -> None:
-    """Runs these commands, with the site of one office or of several, and those of a reader."""
+    """Runs these commands, with the site of one office or of several, and adds a reader and a monitor."""
     run("adduser --system --group --no-create-home --home /nonexistent office")
     for command in commands():
         if command.startswith(NOT_HERE):
@@ -55,6 +56,7 @@ def install(site: str) -> None:
         done = run(call)
         judge(f"{site}: {call}", done.returncode == 0, done.stdout)
     run(f"htpasswd -iB -C 10 {NAMES} reader <<< \"$PASSWORD\"")
+    run(f"htpasswd -ciB -C 10 {MONITOR} monitor <<< \"$PASSWORD\" && chgrp www-data {MONITOR} && chmod 640 {MONITOR}")
 
 
 def start() -> None:
@@ -104,10 +106,15 @@ class Office:
 
 
 class StandIn:
-    """In place of an office: it serves one connection after another too, and answers each with this body."""
+    """In place of an office: it serves one connection after another too, and answers each list with this body.
 
-    def __init__(self, port: int, body: bytes) -> None:
-        self.body = body
+    It knows which targets came, and for how many seconds an answer kept it at most.
+    """
+
+    def __init__(self, port: int, body: bytes, more: bytes = b"") -> None:
+        self.lists, self.more = body, more
+        self.targets: list[str] = []
+        self.longest = 0.0
         self.listening = socket.create_server(("127.0.0.1", port))
         threading.Thread(target=self.serve, daemon=True).start()
 
@@ -117,14 +124,25 @@ class StandIn:
                 conn, _ = self.listening.accept()
             except OSError:
                 return
-            with conn, conn.makefile("rb") as asked:
-                length = 0
-                while (line := asked.readline()) not in (b"\r\n", b""):
-                    if line.lower().startswith(b"content-length:"):
-                        length = int(line.split(b":")[1])
-                asked.read(length)
-                head = b"HTTP/1.1 200 OK\r\nContent-Length: %d\r\nConnection: close\r\n\r\n" % len(self.body)
-                conn.sendall(head + self.body)
+            began = time.monotonic()
+            with conn:
+                self.answer(conn)
+            self.longest = max(self.longest, time.monotonic() - began)
+
+    def answer(self, conn: socket.socket) -> None:
+        with conn.makefile("rb") as asked:
+            length = 0
+            self.targets.append(asked.readline().decode().split(" ")[1])
+            body = self.lists if "due" in self.targets[-1] else b"[]"
+            while (line := asked.readline()) not in (b"\r\n", b""):
+                if line.lower().startswith(b"content-length:"):
+                    length = int(line.split(b":")[1])
+            asked.read(length)
+            head = b"HTTP/1.1 200 OK\r\nContent-Type: application/json\r\nContent-Length: %d\r\n" % len(body)
+            try:
+                conn.sendall(head + self.more + b"Connection: close\r\n\r\n" + body)
+            except OSError:
+                pass  # whoever asked went away
 
     def __enter__(self) -> "StandIn":
         return self

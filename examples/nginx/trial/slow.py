@@ -1,4 +1,5 @@
 """Slow clients: of heads, of answers, and very many connections of one address."""
+import hashlib
 import multiprocessing
 import socket
 import ssl
@@ -105,23 +106,63 @@ def connections() -> None:
         it.close()
 
 
-# more than the sockets of both sides take, and less than nginx does
-LONG = b"x" * 20_000_000
-OTHER = ("curl --silent --output /dev/null --write-out '%{http_code} %{size_download}' --max-time 10 "
+# as long as the list of 200,000 due records with refs of 200 bytes
+LONG = b'{"action":"destroy","class":"PER-APP","confirmed":false,"due":"2019-01-30","ref":"' + b"r" * 200 + b'"},\n'
+LONG = LONG * (66_000_000 // len(LONG))
+OTHER = ("curl --silent --output /dev/null --write-out '%{http_code} %{size_download}' --max-time 30 "
          f'--cacert {place.CERTIFICATE} --user registrar:"$PASSWORD" https://localhost')
+
+
+def slow_reader(path: str, name: str = "registrar", source: str = "127.0.0.1") -> ssl.SSLSocket:
+    """A client that asks and does not read."""
+    conn = socket.socket()
+    conn.setsockopt(socket.SOL_SOCKET, socket.SO_RCVBUF, 4096)
+    conn.bind((source, 0))
+    conn.connect(("127.0.0.1", 443))
+    slow = context().wrap_socket(conn, server_hostname="localhost")
+    who = "\r\n".join(f"{field}: {value}" for field, value in place.authorization(name).items())
+    slow.sendall(f"GET {path} HTTP/1.1\r\nHost: localhost\r\n{who}\r\n\r\n".encode())
+    return slow
 
 
 def long_answer(folder: str, port: int) -> None:
     """A long answer to a client that does not read keeps nobody waiting, and needs no file of nginx."""
     stand_in = place.StandIn(port, LONG)
-    conn = socket.socket()
-    conn.setsockopt(socket.SOL_SOCKET, socket.SO_RCVBUF, 4096)
-    conn.connect(("127.0.0.1", 443))
-    slow = context().wrap_socket(conn, server_hostname="localhost")
-    who = "\r\n".join(f"{name}: {value}" for name, value in place.authorization().items())
-    slow.sendall(f"GET {folder}due/2025-01-03 HTTP/1.1\r\nHost: localhost\r\n{who}\r\n\r\n".encode())
+    slow = slow_reader(f"{folder}due/2025-01-03")
     time.sleep(1)
+    began = time.monotonic()
     other = run(f"{OTHER}{folder}records/1").stdout
-    same("a client that does not read 20 MB keeps nobody waiting", other, f"200 {len(LONG)}")
+    print(f"    {len(LONG)} bytes to a client that does not read: the office was busy for {stand_in.longest:.1f} "
+          f"seconds, another client was answered after {time.monotonic() - began:.1f}")
+    same(f"a client that does not read {len(LONG)} bytes keeps nobody waiting", other, "200 2")
     slow.close()
     stand_in.end()
+
+
+def compressed(folder: str, port: int) -> None:
+    """A list is sent compressed to a reader that takes that, and is the same."""
+    with place.StandIn(port, LONG[:1_000_000]):
+        call = (f"curl --silent --compressed --dump-header /run/head --cacert {place.CERTIFICATE} "
+                f"--user registrar:\"$PASSWORD\" https://localhost{folder}due/2025-01-03 | sha256sum")
+        seen, head = run(call).stdout, run("cat /run/head").stdout
+    same("a list is compressed, and is the same", ("Content-Encoding: gzip" in head, seen[:64]),
+         (True, hashlib.sha256(LONG[:1_000_000]).hexdigest()))
+
+
+def lists_at_once(folder: str, port: int) -> None:
+    """An address has four long answers at once for a name, and more of all else."""
+    with place.StandIn(port, LONG[:20_000_000]) as stand_in:
+        taken = [slow_reader(f"{folder}due/2025-01-03", source="127.0.0.11") for _ in range(4)]
+        until = time.monotonic() + 60
+        while len(stand_in.targets) < len(taken) and time.monotonic() < until:
+            time.sleep(0.1)
+        for name, path, who, source, status in (
+            ("a fifth list is refused", "overdue/2025-01-03/30", "registrar", "127.0.0.11", 429),
+            ("a certificate too", "certificates/1", "registrar", "127.0.0.11", 429),
+            ("a record is not", "records/1", "registrar", "127.0.0.11", 200),
+            ("nor a list for another name", "due/2025-01-03", "reader", "127.0.0.11", 200),
+            ("nor one at another address", "due/2025-01-03", "registrar", "127.0.0.12", 200),
+        ):
+            same(name, ask("GET", folder + path, name=who, source=source).status, status)
+        for it in taken:
+            it.close()

@@ -1,5 +1,6 @@
 """Which TLS nginx speaks, with a certificate of RSA, whose older ciphers have no forward secrecy."""
 import shutil
+import time
 
 from trial.judging import judge
 from trial.place import run
@@ -14,10 +15,19 @@ def shaken(words: str) -> bool:
     return run(f"{call} {words}").returncode == 0
 
 
+def reload() -> None:
+    """Lets nginx take the certificate that is there, and waits until its workers have it."""
+    run("nginx -s reload")
+    until = time.monotonic() + 60
+    while not shaken("-tls1_3") and time.monotonic() < until:
+        time.sleep(0.5)
+
+
 def versions() -> None:
     for end in ("key", "crt"):
         shutil.copy(f"{AT}.{end}", f"{AT}.{end}.before")
-    run(f"{RSA} && nginx -s reload && sleep 1")
+    run(RSA)
+    reload()
     for words, holds in (
         ("-tls1_3", True),
         ("-tls1_2", True),
@@ -31,4 +41,4 @@ def versions() -> None:
         judge(f"openssl s_client {words} is {'served' if holds else 'refused'}", shaken(words) == holds)
     for end in ("key", "crt"):
         shutil.move(f"{AT}.{end}.before", f"{AT}.{end}")
-    run("nginx -s reload && sleep 1")
+    reload()

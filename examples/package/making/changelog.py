@@ -3,6 +3,7 @@ import datetime
 import os
 import pathlib
 import re
+import subprocess
 import textwrap
 from typing import NamedTuple
 
@@ -10,6 +11,7 @@ from making.failing import fail
 from making.words import TOP
 
 HEADING = re.compile(r"^## (\d+\.\d+\.\d+) \((\d{4}-\d\d-\d\d)\)$", re.M)
+NEXT = re.compile(r"^## Next\n(.*?)(?=^## )", re.M | re.S)
 
 
 class Version(NamedTuple):
@@ -26,17 +28,35 @@ class Version(NamedTuple):
         return int(start.timestamp())
 
 
+def changes_in(text: str) -> list[str]:
+    return [" ".join(it.split()) for it in re.findall(r"^- (.*(?:\n  .*)*)", text, re.M)]
+
+
+def last_commit() -> tuple[datetime.date, str]:
+    """The day and the name of the last commit, so that two packages of different sources have different versions."""
+    done = subprocess.run(["git", "log", "-1", "--format=%cs %h"], cwd=TOP, stdout=subprocess.PIPE,
+                          stderr=subprocess.DEVNULL, text=True, check=False)
+    if done.returncode:
+        fail("CHANGELOG.md has changes under 'Next', and there is no git to name their commit: give them a version")
+    day, name = done.stdout.split()
+    return datetime.date.fromisoformat(day), name
+
+
 def versions() -> list[Version]:
-    """The versions that have a number, the last one first. CHANGELOG names another file, for trials."""
+    """The versions, the last one first: the changes under Next are one that names its commit. CHANGELOG names another
+    file, for trials."""
     text = pathlib.Path(os.environ.get("CHANGELOG", TOP / "CHANGELOG.md")).read_text()
     pieces = HEADING.split(text)
     found = []
     for number, day, below in zip(pieces[1::3], pieces[2::3], pieces[3::3]):
         below = re.split(r"^## ", below, flags=re.M)[0]
-        changes = [" ".join(it.split()) for it in re.findall(r"^- (.*(?:\n  .*)*)", below, re.M)]
-        found.append(Version(number, datetime.date.fromisoformat(day), changes))
+        found.append(Version(number, datetime.date.fromisoformat(day), changes_in(below)))
     if not found:
         fail("CHANGELOG.md has no heading as '## 1.0.0 (2026-11-27)'")
+    later = NEXT.search(text)
+    if later and changes_in(later[1]):
+        day, name = last_commit()
+        found.insert(0, Version(f"{found[0].number}+git{day:%Y%m%d}.{name}", day, changes_in(later[1])))
     return found
 
 

@@ -4,7 +4,7 @@ import re
 from making.words import Word, notes, table
 
 FILES = [
-    ("/etc/office/NAME.conf", "the port of the office NAME"),
+    ("/etc/office/NAME.conf", "the port of the office NAME, and its settings"),
     ("/var/lib/office/NAME/office.db", "the office NAME of the service office@NAME, with its log, office.db-wal"),
     ("/var/lib/office-backups/", "copies of the offices, made each night by office-backup@NAME.timer"),
     ("/usr/share/office/web/", "the page for a browser, which a proxy serves"),

@@ -6,6 +6,7 @@ import time
 
 from trying.judging import judge
 from trying.machine import Done, Machine, run
+from trying.stopping import ASK_FILE, judge_compaction, judge_missing, judge_stopping
 
 CITY = "/var/lib/office/city"
 # asks the service, for half a minute at most: the body of an answer is its last line
@@ -59,6 +60,7 @@ def judge_units(booted: Booted) -> None:
                       "cp /usr/share/doc/office/examples/service/city.conf /etc/office/ && "
                       "systemctl list-units --all --plain --no-legend 'office*'")
     judge("systemd: after the installation nothing runs", done.status == 0 and "office@" not in done.out, done)
+    judge_missing(booted)
     done = booted.run("systemctl enable --now office@city office-backup@city.timer office-compact@city.timer && "
                       + ASKED)
     judge("systemd: the service starts, and answers", done.out == "[]", done)
@@ -66,10 +68,10 @@ def judge_units(booted: Booted) -> None:
                       f"stat -c '%U %a' {CITY} {CITY}/office.db")
     judge("systemd: service and timers are active, the office is the user's alone",
           done.out == "active\n" * 3 + "office 700\noffice 600\n", done)
-    done = booted.run("systemctl start office-backup@city && ls /var/lib/office-backups | grep -c '^city-.*Z.db$'")
+    done = booted.run("systemctl start office-backup@city && ls /var/lib/office-backups/city | grep -c 'Z.db$'")
     judge("systemd: a backup makes a copy while it serves", done.out == "1\n", done)
-    done = booted.run(f"systemctl start office-compact@city && ls {CITY} | grep -c before && " + ASKED)
-    judge("systemd: a compaction stops it, and starts it again", done.out == "1\n[]", done)
+    judge_stopping(booted)
+    judge_compaction(booted)
 
 
 def judge_upgrade(booted: Booted, second: pathlib.Path) -> None:
@@ -83,7 +85,7 @@ def judge_upgrade(booted: Booted, second: pathlib.Path) -> None:
 def judge_removal(booted: Booted) -> None:
     done = booted.run("dpkg --remove office >&2 && systemctl is-active office@city office-backup@city.timer")
     judge("systemd: removing stops service and timers", done.out == "inactive\ninactive\n", done)
-    done = booted.run(f"ls {CITY} /var/lib/office-backups")
+    done = booted.run(f"ls {CITY} /var/lib/office-backups/city")
     judge("systemd: the office, what was there before, and its copy stay", "office.db\n" in done.out
           and "before" in done.out and "Z.db" in done.out, done)
     done = booted.run("dpkg --purge office >&2; find /etc/systemd/system -name 'office*'")
@@ -97,6 +99,7 @@ def judge_booted(machine: Machine, first: pathlib.Path, second: pathlib.Path) ->
         return
     machine.put(first, "/root/office.deb")
     machine.put(second, "/root/second.deb")
+    machine.put(ASK_FILE, "/root/ask.py")
     with Booted(machine) as booted:
         if not booted.is_up():
             print("not run here, since systemd-nspawn cannot boot on this machine: units under systemd")

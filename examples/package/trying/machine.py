@@ -6,7 +6,7 @@ import subprocess
 from typing import NamedTuple
 
 # what an administrator's machine has, and the office needs: see the package's fields
-PACKAGES = "adduser,sqlite3,systemd"
+PACKAGES = "adduser,python3,sqlite3,systemd"
 # processes, network and mounts of its own
 SPACE = ["unshare", "--mount", "--net", "--pid", "--fork", "--kill-child", "--mount-proc"]
 # a busy machine packs a program in minutes

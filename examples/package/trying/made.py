@@ -1,4 +1,5 @@
 """The package as a file: what is in it, what lintian says, and what it is made from."""
+import fnmatch
 import os
 import pathlib
 import re
@@ -30,6 +31,20 @@ def judge_list() -> None:
     missing = [it.name for it in sorted((TOP / "examples/service").iterdir()) if it.is_file() and it not in sources]
     judge("the list has each file of examples/service", not missing, missing)
     judge("each file of the list is there", all(it.exists() for it in sources))
+
+
+def judge_version(place: pathlib.Path) -> None:
+    """A package of later changes has a version of its own, which names the commit."""
+    last = "## 1.0.0 (2026-11-27)\n\n- A change.\n"
+    commit = run(["git", "-C", TOP, "log", "-1", "--format=%h"]).out.strip()
+    for name, text, wanted in (("released", last, r"1\.0\.0"), ("empty", f"## Next\n\n{last}", r"1\.0\.0"),
+                               ("later", f"## Next\n\n- A later one.\n\n{last}", rf"1\.0\.0\+git\d{{8}}\.{commit}")):
+        file = place / f"{name}.md"
+        file.write_text(f"# Changes\n\n{text}")
+        code = (f"import sys; sys.path.insert(0, '{MAKE.parent}'); from making.changelog import versions; "
+                "print(versions()[0].number)")
+        done = run(["python3", "-B", "-c", code], CHANGELOG=str(file))
+        judge(f"the version of a list of changes, {name}", re.fullmatch(wanted, done.out.strip()), done)
 
 
 def judge_lintian(file: pathlib.Path) -> None:
@@ -110,6 +125,10 @@ def clone(place: pathlib.Path) -> pathlib.Path:
     for name in ("office", "crates.txt", "README.md", "CHANGELOG.md"):
         shutil.copy(TOP / name, top)
     shutil.copy(PROGRAM, out / "office")
+    # the package's version names the last commit
+    history = subprocess.run(["git", "rev-parse", "--absolute-git-dir"], cwd=TOP, check=True, stdout=subprocess.PIPE,
+                             text=True)
+    (top / ".git").write_text(f"gitdir: {history.stdout}")
     sums = subprocess.run(["cksum", "crates.txt"], cwd=top, check=True, stdout=subprocess.PIPE)
     (out / "launcher.sources").write_bytes(sums.stdout)
     return top / "office"
@@ -130,7 +149,8 @@ def judge_launcher(file: pathlib.Path, top: pathlib.Path, place: pathlib.Path) -
     done = run([launcher, "package", here])
     judge("after a change of a source it says to build", done.status == 2
           and done.err == "office: the sources changed since this program was built: run ./office build first\n", done)
-    judge("OPERATING.md names this file", f" ./{file.name}\n" in (TOP / "docs/OPERATING.md").read_text())
+    named = re.search(r"^    apt-get install \./(office_\S+)$", (TOP / "docs/OPERATING.md").read_text(), re.M)
+    judge("OPERATING.md installs this file", named and fnmatch.fnmatch(file.name, named[1]), file.name)
 
 
 def refused(name: str, words: list[object], says: str, **env: str) -> None:
@@ -160,6 +180,7 @@ def judge_made(file: pathlib.Path, place: pathlib.Path) -> None:
     top = place / "unpacked"
     subprocess.run(["dpkg-deb", "-x", file, top], check=True)
     judge_list()
+    judge_version(place)
     judge_lintian(file)
     judge_manual(top)
     judge_completion(top)

@@ -14,6 +14,8 @@ AS_OFFICE = "setpriv --reuid office --regid office --clear-groups --no-new-privs
 SERVICE = (f"rm -f /tmp/line; {AS_OFFICE} office serve {CITY} 8081 100 >/tmp/line & "
            "until grep -qs listening /tmp/line; do sleep 0.1; done; ")
 ASKED = ("exec 3<>/dev/tcp/127.0.0.1/8081; printf 'GET /due/0001-01-01 HTTP/1.0\\r\\n\\r\\n' >&3; tail -n 1 <&3; ")
+STAYS = ("/var/lib/office", "/var/lib/office-backups", "/var/lib/office-registers", "/var/lib/office-catalogues",
+         "/var/cache/office-catalogue", "/etc/office")
 SUMS = "find /var/lib/office /var/lib/office-backups /etc/office -type f -exec sha256sum {} + | sort"
 UNIT = "/etc/systemd/system/multi-user.target.wants/office@city.service"
 
@@ -35,8 +37,12 @@ def sums(machine: Machine) -> dict[str, str]:
 
 def judge_installed(machine: Machine, file: pathlib.Path) -> None:
     machine.put(file, "/root/office.deb")
-    done = machine.run("dpkg -i /root/office.deb")
-    judge("it is installed", done.status == 0, done)
+    done = machine.run("useradd --uid 1500 office; dpkg -i /root/office.deb")
+    judge("it is not installed where a person has the name office, and says what to do", done.status != 0
+          and "usermod --login NAME office" in done.err, done)
+    done = machine.run("usermod --login clerk office && groupmod --new-name clerk office && dpkg --configure office")
+    judge("once that person has another name it is installed", done.status == 0, done)
+    machine.run("userdel clerk")
     says("dpkg finds each file as it was packed", machine, "dpkg --verify office", "")
     says("the user office is there, without a home or a shell", machine, "getent passwd office | cut -d: -f6-",
          "/nonexistent:/usr/sbin/nologin\n")
@@ -63,6 +69,7 @@ def judge_used(machine: Machine) -> None:
     done = machine.run(f"office-restore {CITY} /var/lib/office-backups/city.db && office-compact {CITY} >/dev/null && "
                        f"stat -c '%U %a' {CITY} && sqlite3 {CITY} 'SELECT count(*) FROM records'")
     judge("it is restored and compacted", done.status == 0 and done.out.endswith("office 600\n33\n"), done)
+    machine.run(f"mkdir -p {' '.join(STAYS)}")
     machine.run("systemctl enable office@city office-backup@city.timer")
     judge("a service can be enabled", machine.path(UNIT).is_symlink())
 
@@ -70,7 +77,7 @@ def judge_used(machine: Machine) -> None:
 def judge_upgraded(machine: Machine, file: pathlib.Path) -> None:
     machine.put(file, "/root/office.deb")
     done = machine.run(f"{SERVICE}{SUMS} >/tmp/before; dpkg -i /root/office.deb && {SUMS} >/tmp/after; {ASKED}")
-    judge("it is upgraded, and says that services go on with the old program", done.status == 0
+    judge("it is upgraded, and says until when services go on with the old program", done.status == 0
           and "systemctl restart 'office@*'" in done.out, done)
     judge("a service that runs answers after it", done.out.endswith("[]"), done)
     says("dpkg has the new version", machine, "dpkg-query -W -f '${Version} ${db:Status-Status}' office",
@@ -85,7 +92,8 @@ def judge_removed(machine: Machine, files: list[str], word: str) -> None:
     before = sums(machine)
     done = machine.run(f"dpkg --{word} office")
     judge(f"{word}: done", done.status == 0, done)
-    judge(f"{word}: it says that /var/lib/office stays", "office: /var/lib/office stays" in done.out, done.out)
+    silent = [it for it in STAYS if f"office: {it} stays" not in done.out]
+    judge(f"{word}: it names each folder that stays", not silent, done.out)
     judge(f"{word}: each office, each copy and each configuration is as it was", sums(machine) == before, sums(machine))
     left = [it for it in files if machine.path(it).is_file()]
     judge(f"{word}: no file of the package is left", not left, left)

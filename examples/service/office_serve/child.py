@@ -3,7 +3,7 @@
     child.py PARENT COMMAND ..
 
 The command has this process's number. `setpriv --pdeathsig` would do the same, but it asks for
-capabilities, which the unit of a member forbids.
+capabilities, which the unit forbids.
 """
 import ctypes
 import os

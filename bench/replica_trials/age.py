@@ -1,0 +1,115 @@
+"""How old a reading may be, and an office that hangs: a member says so, and stops answering in time."""
+from __future__ import annotations
+
+import os
+import signal
+import time
+
+from replica_trials.cluster import FAULTS, Cluster, Reply, ask
+from replica_trials.judging import judge
+from replica_trials.posting import begun, get, post, posted, record
+from replica_trials.verdict import same_rows
+
+LIMIT = 30
+"""the usual value of `age_limit` and of `reading_limit`"""
+
+
+def age_of(reply: Reply) -> int:
+    """The age that an answer tells, or a number that is too great where it tells none."""
+    told = reply.lines.get("office-age", "")
+    return int(told) if told.isdigit() else 10**9
+
+
+def until_silent(cluster: Cluster, machine: int, seconds: float) -> tuple[list[Reply], float]:
+    """The plain readings that a member answers until one is 503, or until so many seconds, and how long it took."""
+    answered, began = [], time.monotonic()
+    while time.monotonic() - began < seconds:
+        reply = get(cluster, machine, "/records/1")
+        if reply.status == 503:
+            break
+        answered.append(reply)
+        time.sleep(0.5)
+    return answered, time.monotonic() - began
+
+
+def isolated(cluster: Cluster) -> None:
+    """Etcd of machine 2 is stopped: its member has old readings for a while, and says how old; then none."""
+    begun(cluster)
+    posted(cluster, 2, [record(5)])
+    time.sleep(2)
+    ages = [age_of(get(cluster, it, "/records/1")) for it in range(3)]
+    judge("age: members that hear from each other tell an age of seconds", max(ages) <= 5, ages, always=True)
+    reply = get(cluster, 2, "/records/1", Office_Read="Newest")
+    judge("age: an Office-Read that is none of the two is 400 header", reply.status == 400, reply)
+    cluster.signal("etcd2", signal.SIGSTOP)
+    posted(cluster, 0, [record(6)])
+    answered, took = until_silent(cluster, 2, LIMIT + 30)
+    judge(f"age: readings of a member that is cut off end within {LIMIT} seconds and some", took < LIMIT + 15,
+          f"after {took:.0f} s", always=True)
+    judge("age: each that it answered before told an age within the limit",
+          len(answered) > 0 and all(age_of(it) <= LIMIT + 1 for it in answered), answered[-1:])
+    reply = get(cluster, 2, "/records/1")
+    judge("age: from then on a plain reading is 503 behind", reply[::2] == (503, b'{"error":"behind"}'), reply)
+    reply, told = ask(cluster.place(2), "GET", "/replica"), cluster.state(2) or {}
+    judge("age: /replica has status 503, and says why",
+          reply.status == 503 and told.get("answers") is False and told.get("quorum") is False
+          and int(told.get("heard") or 0) >= LIMIT and "may lack" in str(told.get("why")), (reply.status, told))
+    reply = get(cluster, 2, "/records/1", Office_Read="any")
+    judge("age: a client that takes any age gets the old state, and its age",
+          reply.status == 200 and LIMIT < age_of(reply) < LIMIT + 60, reply)
+    judge("age: the others go on", all(get(cluster, it, "/records/1").status == 200 for it in (0, 1)))
+    cluster.signal("etcd2", signal.SIGCONT)
+    cluster.wait_for(2, cluster.position(0), 120)
+    reply = get(cluster, 2, "/records/3")
+    judge("age: once it hears again it has what was answered meanwhile, and says 200",
+          reply.status == 200 and age_of(reply) <= 5 and ask(cluster.place(2), "GET", "/replica").status == 200, reply)
+    same_rows(cluster, "age")
+
+
+def seconds_until(cluster: Cluster, machine: int, answers: bool, seconds: float) -> float:
+    """The seconds until /replica says so, or as many as it is waited for."""
+    began = time.monotonic()
+    while time.monotonic() - began < seconds:
+        try:
+            if (ask(cluster.place(machine), "GET", "/replica", timeout=5).status == 200) == answers:
+                break
+        except FAULTS:
+            pass
+        time.sleep(0.2)
+    return time.monotonic() - began
+
+
+def hanging(cluster: Cluster) -> None:
+    """Offices that are stopped: one that nobody asks, one in a reading, one in an entry."""
+    begun(cluster)
+    for machine in range(3):
+        cluster.wait_for(machine, cluster.position(0))
+    office = cluster.office_process(2)
+    if not judge("hang: member 2 has an office", office is not None) or office is None:
+        return
+    os.kill(office, signal.SIGSTOP)
+    took = seconds_until(cluster, 2, False, LIMIT + 60)
+    judge("hang: /replica says so, though no client asks", took < LIMIT + 30, f"{took:.0f} s", always=True)
+    took = seconds_until(cluster, 2, True, 120)
+    judge("hang: the office is started again", took < 120 and cluster.office_process(2) not in (None, office),
+          f"{took:.0f} s", always=True)
+    reply = get(cluster, 2, "/records/1")
+    judge("hang: and answers", reply.status == 200, reply)
+    office = cluster.office_process(1)
+    assert office is not None
+    os.kill(office, signal.SIGSTOP)
+    began = time.monotonic()
+    reply = get(cluster, 1, "/records/1")
+    took = time.monotonic() - began
+    judge("hang: a reading is 503 within the limit", reply.status == 503 and took < LIMIT + 5,
+          f"{reply.body!r} after {took:.0f} s", always=True)
+    cluster.wait_for(1, cluster.position(0), 120)
+    office = cluster.office_process(0)
+    assert office is not None
+    os.kill(office, signal.SIGSTOP)
+    reply = post(cluster, 0, [record(7)], "hang-1")
+    judge("hang: an entry is 503 unknown", reply.body == b'{"error":"unknown"}', reply)
+    reply = posted(cluster, 0, [record(7)], "hang-1")
+    judge("hang: the member kills that office, goes back, and does the entry once",
+          reply.status == 200 and cluster.office_process(0) != office, reply)
+    same_rows(cluster, "hang")

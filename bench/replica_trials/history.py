@@ -1,0 +1,70 @@
+"""What leaves the log: nobody gets it from etcd any more, not from its earlier revisions, not in an office at rest."""
+from __future__ import annotations
+
+import json
+import time
+
+from replica_trials.checks import Archivist
+from replica_trials.cluster import Cluster
+from replica_trials.judging import judge
+from replica_trials.posting import begun, posted, record
+from replica_trials.verdict import same_rows
+
+SECRET = b"a content that a run destroys, and that nobody is to read afterwards"
+
+
+def filed(cluster: Cluster) -> tuple[str, int]:
+    """Files a record with the secret; the key of its entry, and the revision at which etcd has it."""
+    position = posted(cluster, 0, [record(900, SECRET)]).position
+    key = f"/office/city/log/{position:016d}"
+    found = json.loads(cluster.etcdctl(0, "get", key, "-w", "json").stdout)
+    return key, int(found["kvs"][0]["mod_revision"])
+
+
+def asked(cluster: Cluster, key: str, revision: int) -> list[str]:
+    """What each etcd says of an earlier revision of a key."""
+    told = [cluster.etcdctl(it, "get", f"--rev={revision}", key) for it in range(3)]
+    return [it.stdout + it.stderr for it in told]
+
+
+def until_dropped(cluster: Cluster, key: str, seconds: float) -> float:
+    """The seconds until the log begins after an entry."""
+    log, began = Archivist(cluster), time.monotonic()
+    while log.number("first") <= int(key[-16:]) and time.monotonic() - began < seconds:
+        time.sleep(0.3)
+    return time.monotonic() - began
+
+
+def history(cluster: Cluster) -> None:
+    """Two snapshots of each member drop an entry, and its earlier revisions."""
+    begun(cluster)
+    key, revision = filed(cluster)
+    judge("history: etcd has the entry at its revision", all(key in it for it in asked(cluster, key, revision)))
+    for number in (1, 2):
+        posted(cluster, number, [record(900 + number)])
+        for machine in range(3):
+            cluster.wait_for(machine, cluster.position(0))
+            cluster.make_snapshot(machine)
+    took = until_dropped(cluster, key, 120)
+    time.sleep(2)
+    said = asked(cluster, key, revision)
+    judge("history: after two snapshots of each member no etcd gives it at any revision",
+          took < 120 and all("compacted" in it and key not in it for it in said), said)
+    same_rows(cluster, "history")
+
+
+def at_rest(cluster: Cluster) -> None:
+    """An office in which nothing is done any more: its members make the snapshots that are owed by themselves."""
+    cluster.settings.update(snapshot_seconds=6)
+    begun(cluster)
+    key, revision = filed(cluster)
+    took = until_dropped(cluster, key, 300)
+    time.sleep(2)
+    said = asked(cluster, key, revision)
+    judge("at rest: the log is dropped though nobody does anything, and no etcd gives it at any revision",
+          took < 300 and all("compacted" in it and key not in it for it in said), (took, said))
+    tail = cluster.position(0)
+    time.sleep(20)
+    more = cluster.position(0) - tail
+    judge("at rest: entries of no acts come to an end", more <= 6, f"{more} more in 20 s", always=True)
+    same_rows(cluster, "at rest")

@@ -1,0 +1,158 @@
+"""The program of the office: replaced under a member that runs, slow at a snapshot, unable to do an entry."""
+from __future__ import annotations
+
+import hashlib
+import os
+import pathlib
+import random
+import shutil
+import signal
+import time
+
+from replica_trials.cluster import OFFICE, Cluster, ask
+from replica_trials.judging import judge
+from replica_trials.posting import begun, get, halts, post, posted, record
+from replica_trials.verdict import same_rows
+
+SLOW_SECONDS = 20
+
+
+def own_program(cluster: Cluster, name: str = "own-office") -> pathlib.Path:
+    """A copy of the office's program that a trial may replace."""
+    path = cluster.folder / name
+    shutil.copy(OFFICE, path)
+    os.chmod(path, 0o755)
+    return path
+
+
+def another_program(cluster: Cluster, name: str = "next-office") -> pathlib.Path:
+    """A copy of the office's program that works as it does, and has another digest."""
+    path = own_program(cluster, name)
+    with open(path, "ab") as file:
+        file.write(b"\n# the next program\n")
+    return path
+
+
+def wrapped(cluster: Cluster, before: str) -> None:
+    """The office's program of this trial does something first."""
+    path = cluster.folder / "wrapped-office"
+    path.write_text(f'#!/bin/sh\n{before}\nexec "{OFFICE}" "$@"\n')
+    path.chmod(0o755)
+    cluster.office = str(path)
+
+
+def running(cluster: Cluster, machine: int) -> str:
+    """The digest of what the office of a member runs."""
+    process = cluster.office_process(machine)
+    if process is None:
+        return "none"
+    return hashlib.sha256(pathlib.Path(f"/proc/{process}/exe").read_bytes()).hexdigest()
+
+
+def new_office(cluster: Cluster, machine: int) -> None:
+    """The office of a member is killed; afterwards another process serves."""
+    old = cluster.office_process(machine)
+    assert old is not None
+    os.kill(old, signal.SIGKILL)
+    began = time.monotonic()
+    while cluster.office_process(machine) in (None, old) and time.monotonic() - began < 120:
+        time.sleep(0.1)
+
+
+def replaced(cluster: Cluster) -> None:
+    """Another program comes to the name, as an upgrade brings it; then one is written over the file."""
+    own = own_program(cluster)
+    cluster.office = str(own)
+    begun(cluster)
+    told = str((cluster.state(1) or {})["program"])
+    judge("program: what runs is what /replica names", running(cluster, 1) == told)
+    os.replace(another_program(cluster), own)
+    new_office(cluster, 1)
+    posted(cluster, 1, [record(10)])
+    judge("program: after the file was replaced, a new process of the office still runs the program of before",
+          running(cluster, 1) == told, (running(cluster, 1), told))
+    before = len(cluster.snapshots(1))
+    cluster.make_snapshot(1)
+    judge("program: and a snapshot is made", len(cluster.snapshots(1)) > before)
+    cluster.kill("member2", how=signal.SIGTERM)
+    mine = own_program(cluster, "office-of-2")
+    cluster.write_settings(2, office=str(mine))
+    cluster.start_member(2)
+    cluster.wait_for(2, cluster.position(0))
+    office = cluster.office_process(2)
+    assert office is not None
+    cluster.signal("member2", signal.SIGSTOP)
+    os.kill(office, signal.SIGKILL)
+    time.sleep(1)
+    with open(mine, "ab") as file:
+        file.write(b"\n# written over\n")
+    cluster.signal("member2", signal.SIGCONT)
+    judge("program: a member whose program was written over halts, and runs nothing more", halts(cluster, 2) == 5,
+          cluster.journal("member2")[-300:])
+    own_program(cluster, "office-of-2")
+    (cluster.home(2) / "halted").unlink()
+    cluster.start_member(2)
+    cluster.wait_for(2, cluster.position(0))
+    same_rows(cluster, "program")
+
+
+def assumed_disk(cluster: Cluster) -> None:
+    """The office runs with the disk that the settings name."""
+    cluster.settings.update(disk="powersafe")
+    begun(cluster)
+    office = cluster.office_process(0)
+    seen = pathlib.Path(f"/proc/{office}/environ").read_bytes().split(b"\0")
+    judge("disk: the office has OFFICE_DISK of the settings", b"OFFICE_DISK=powersafe" in seen, seen)
+    judge("disk: and does acts", posted(cluster, 1, [record(5)]).status == 200)
+
+
+def slow_snapshot(cluster: Cluster) -> None:
+    """A snapshot that takes long to examine: acts and readings go on meanwhile."""
+    wrapped(cluster, f'[ "$1" != init ] || sleep {SLOW_SECONDS}')
+    begun(cluster)
+    posted(cluster, 0, [record(10)])
+    place = cluster.home(0) / "snapshots" / f"{cluster.position(0):016d}"
+    cluster.signal("member0", signal.SIGHUP)
+    time.sleep(1)
+    slowest, began = 0.0, time.monotonic()
+    number = 20
+    while not place.is_dir() and time.monotonic() - began < 120:
+        at, number = time.monotonic(), number + 1
+        posted(cluster, 0, [record(number)])
+        get(cluster, 0, "/records/1")
+        slowest = max(slowest, time.monotonic() - at)
+    took = time.monotonic() - began
+    judge("slow snapshot: it is made", place.is_dir(), f"{took:.1f} s", always=True)
+    judge("slow snapshot: acts and readings at its member go on meanwhile",
+          number > 21 and slowest < SLOW_SECONDS / 2, f"{number - 20} acts, slowest {slowest:.1f} s", always=True)
+    same_rows(cluster, "slow snapshot")
+
+
+def undoable(cluster: Cluster) -> None:
+    """An entry for which no machine has the room: the state before it is read, and it is done once there is room."""
+    blocks = cluster.folder / "blocks"
+    blocks.write_text("1200\n")
+    wrapped(cluster, f'ulimit -f "$(cat {blocks})"')
+    begun(cluster)
+    source, position = random.Random(8), cluster.position(0)
+    acts = [record(10 + it, source.randbytes(250_000)) for it in range(3)]
+    reply = post(cluster, 0, acts, "undoable-1")
+    judge("undoable: a list for which there is no room is 503 unknown", reply.body == b'{"error":"unknown"}', reply)
+    began = time.monotonic()
+    while time.monotonic() - began < 240 and not all(
+            "not done in" in str((cluster.state(it) or {}).get("why")) for it in range(3)):
+        time.sleep(0.3)
+    replies = [get(cluster, it, "/records/1", Office_Read="any") for it in range(3)]
+    judge("undoable: after some failures each member reads the state before it, and says why",
+          all(it.status == 200 and it.position == position for it in replies), [cluster.state(it) for it in range(3)])
+    replies = [ask(cluster.place(it), "GET", "/replica") for it in range(3)]
+    judge("undoable: /replica has status 503", all(it.status == 503 for it in replies), replies)
+    reply = post(cluster, 1, [record(5)])
+    judge("undoable: acts are 503 recovering", reply.body == b'{"error":"recovering"}', reply)
+    blocks.write_text("unlimited\n")
+    for machine in range(3):
+        cluster.wait_for(machine, position + 1, 300)
+    reply = posted(cluster, 2, acts, "undoable-1")
+    judge("undoable: with room it is done, once, by itself",
+          reply.status == 200 and reply.position == position + 1 and b"same" not in reply.body, reply)
+    same_rows(cluster, "undoable")

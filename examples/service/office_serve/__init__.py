@@ -1,0 +1,1 @@
+"""The parts of office-serve, which stands between the clients of an office and the program `office serve`."""

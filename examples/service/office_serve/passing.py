@@ -1,0 +1,157 @@
+"""One connection: what the client sends goes to the program, and the answer goes back, byte for byte."""
+import select
+import socket
+import struct
+import time
+
+from office_serve.stopping import Stop
+
+BLOCK = 65536
+ANSWER_SECONDS = 60
+"""a client has as long for the whole answer as the program gives it"""
+LINGER_SECONDS = 0.1
+"""what a client still sends after its answer is read for so long: unread bytes would reset the connection"""
+
+
+class Way:
+    """What was read from one socket and not yet written to the other."""
+
+    def __init__(self, source: socket.socket, sink: socket.socket) -> None:
+        self.source, self.sink = source, sink
+        self.waiting = b""
+        self.beginning = b""
+        self.has_ended = False
+        self.is_open = True
+
+    def can_read(self) -> bool:
+        return not self.has_ended and not self.waiting
+
+    def read(self) -> None:
+        try:
+            block = self.source.recv(BLOCK)
+        except BlockingIOError:
+            return
+        except OSError:
+            block = b""
+        self.beginning = (self.beginning + block)[:16]
+        self.has_ended = not block
+        # what nobody takes any more is read to its end nevertheless
+        self.waiting = block if self.is_open else b""
+
+    def write(self) -> None:
+        try:
+            self.waiting = self.waiting[self.sink.send(self.waiting):]
+        except BlockingIOError:
+            pass
+        except OSError:
+            self.waiting, self.is_open = b"", False
+
+    def end(self) -> None:
+        """Tells the sink that nothing more comes, once it has all."""
+        if self.has_ended and not self.waiting and self.is_open:
+            self.is_open = False
+            try:
+                self.sink.shutdown(socket.SHUT_WR)
+            except OSError:
+                pass
+
+
+class Passing:
+    """Passes one connection to its end. Used once."""
+
+    def __init__(self, client: socket.socket, link: socket.socket) -> None:
+        self.client, self.link = client, link
+        self.request, self.answer = Way(client, link), Way(link, client)
+        self.answer_ends: float | None = None
+        for it in (client, link):
+            it.setblocking(False)
+
+    def is_answered(self) -> bool:
+        return bool(self.answer.beginning)
+
+    def status(self) -> bytes:
+        return self.answer.beginning[9:12]
+
+    def run(self, stop: Stop) -> bool:
+        """Passes all. Returns whether it came to its end: not if the time to stop was over before."""
+        while not (self.answer.has_ended and not self.answer.waiting):
+            seconds = self.seconds_left(stop)
+            if seconds is not None and seconds <= 0:
+                break
+            self.step(stop, seconds)
+        else:
+            return True
+        return not (stop.is_asked() and stop.left() == 0)
+
+    def seconds_left(self, stop: Stop) -> float | None:
+        """Returns how long may be waited: for the client's reading, and for the end."""
+        if self.is_answered() and self.answer_ends is None:
+            self.answer_ends = time.monotonic() + ANSWER_SECONDS
+        of_client = None if self.answer_ends is None else self.answer_ends - time.monotonic()
+        both = [it for it in (of_client, stop.left()) if it is not None]
+        return min(both) if both else None
+
+    def step(self, stop: Stop, seconds: float | None) -> None:
+        """Waits until something can be passed, and passes it."""
+        wanted = {stop.fileno(): select.POLLIN}
+        for way in (self.request, self.answer):
+            if way.can_read():
+                wanted[way.source.fileno()] = wanted.get(way.source.fileno(), 0) | select.POLLIN
+            if way.waiting:
+                wanted[way.sink.fileno()] = wanted.get(way.sink.fileno(), 0) | select.POLLOUT
+        poll = select.poll()
+        for number, events in wanted.items():
+            poll.register(number, events)
+        ready = {number for number, _ in poll.poll(None if seconds is None else 1000 * seconds + 1)}
+        stop.clear()
+        for way in (self.request, self.answer):
+            if way.can_read() and way.source.fileno() in ready:
+                way.read()
+            if way.waiting:
+                way.write()
+        self.request.end()
+
+    def finish(self) -> None:
+        """Ends both connections. A client that has a part of an answer is reset, so that it does not take it as
+        whole."""
+        self.link.close()
+        is_whole = self.answer.has_ended and not self.answer.waiting
+        if self.is_answered() and not is_whole:
+            self.client.setsockopt(socket.SOL_SOCKET, socket.SO_LINGER, struct.pack("ii", 1, 0))
+        elif not self.is_answered() and self.request.beginning:
+            reply(self.client, "502 Bad Gateway", "unknown")
+        linger([self.client])
+
+
+def reply(client: socket.socket, status: str, word: str) -> None:
+    """Answers in the place of the program, which gave no answer."""
+    body = f'{{"error":"{word}"}}'
+    head = f"HTTP/1.1 {status}\r\nContent-Type: application/json\r\nContent-Length: {len(body)}\r\n"
+    try:
+        client.send(f"{head}Connection: close\r\n\r\n{body}".encode())
+    except OSError:
+        pass
+
+
+def linger(clients: list[socket.socket]) -> None:
+    """Closes connections that have their answer, after what their clients still send."""
+    left = []
+    for it in clients:
+        it.setblocking(False)
+        try:
+            it.shutdown(socket.SHUT_WR)
+            left.append(it)
+        except OSError:
+            it.close()
+    ends = time.monotonic() + LINGER_SECONDS
+    while left and (seconds := ends - time.monotonic()) > 0:
+        for it in select.select(left, [], [], seconds)[0]:
+            try:
+                block = it.recv(BLOCK)
+            except OSError:
+                block = b""
+            if not block:
+                left.remove(it)
+                it.close()
+    for it in left:
+        it.close()

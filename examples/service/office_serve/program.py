@@ -1,0 +1,96 @@
+"""The process of `office serve`: its start, a connection to it, its end."""
+import os
+import pathlib
+import select
+import socket
+import subprocess
+import sys
+
+from office_serve.errors import Refused
+from office_serve.stopping import Stop
+
+CHILD = str(pathlib.Path(__file__).with_name("child.py"))
+END_SECONDS = 30
+"""a program that accepts nothing more closes FILE and ends within this time"""
+
+
+def free_port() -> int:
+    """Finds a port that nobody has. In the unit's own network no other process takes it meanwhile."""
+    with socket.create_server(("127.0.0.1", 0)) as held:
+        return held.getsockname()[1]
+
+
+class Program:
+    """The office's program over FILE, at a port of its own. It ends with office-serve."""
+
+    def __init__(self, path: str, file: pathlib.Path, count: int) -> None:
+        self.path = path
+        self.file = file
+        self.count = count
+        self.left = 0
+        self.port = 0
+        self.process: subprocess.Popen[bytes] | None = None
+
+    def start(self, stop: Stop) -> bool:
+        """Opens FILE by a new process. Returns whether it listens; if not, somebody asked to stop meanwhile."""
+        self.port, self.left = free_port(), self.count
+        words = [self.path, "serve", str(self.file), str(self.port), str(self.count)]
+        self.process = subprocess.Popen([sys.executable, "-I", "-S", CHILD, str(os.getpid()), *words],
+                                        stdin=subprocess.DEVNULL, stdout=subprocess.PIPE)
+        out = self.process.stdout
+        assert out is not None
+        while not select.select([out, stop], [], [], None)[0] == [out]:
+            if stop.is_asked():
+                return False
+        line = out.readline()
+        out.close()
+        if not line.startswith(b"listening"):
+            raise Refused(3, f"the office in {self.file} does not open: status {self.process.wait()}")
+        return True
+
+    def pidfd(self) -> int:
+        """Returns a descriptor that is readable once the process has ended."""
+        assert self.process is not None
+        return os.pidfd_open(self.process.pid)
+
+    def has_ended(self) -> bool:
+        return self.process is None or self.process.poll() is not None
+
+    def connect(self) -> socket.socket | None:
+        """Connects to the program; None if it has ended, and then it got nothing."""
+        link = socket.socket()
+        try:
+            link.connect(("127.0.0.1", self.port))
+        except OSError:
+            link.close()
+            self.wait()
+            return None
+        self.left -= 1
+        return link
+
+    def is_alive(self) -> bool:
+        """Asks the program for an empty list. Returns whether it answers, since one that a fault closed ends."""
+        link = self.connect()
+        if link is None:
+            return False
+        with link:
+            try:
+                link.sendall(b"GET /due/0001-01-01 HTTP/1.1\r\nHost: office\r\n\r\n")
+                answer = b"".join(iter(lambda: link.recv(65536), b""))
+            except OSError:
+                answer = b""
+        return bool(answer)
+
+    def wait(self) -> None:
+        """Waits for a process that ends by itself, and kills it if it does not."""
+        assert self.process is not None
+        try:
+            self.process.wait(END_SECONDS)
+        except subprocess.TimeoutExpired:
+            self.kill()
+
+    def kill(self) -> None:
+        """Ends the process. FILE and its log then have every act that was answered."""
+        if self.process is not None:
+            self.process.kill()
+            self.process.wait()

@@ -1,0 +1,58 @@
+"""The office's program: what is run is what was hashed.
+
+The file is opened once, at the start of the member, and stays open. Every process of the office, also the one that
+examines a snapshot, is started from that descriptor, and its bytes are hashed before. So a file that comes to the name
+later, as an upgrade brings it, is never run by a member that answers by the old one.
+"""
+from __future__ import annotations
+
+import hashlib
+import os
+import pathlib
+import shutil
+import subprocess
+import sys
+from typing import Any, Sequence
+
+from replica.errors import Halt
+
+OPENED = str(pathlib.Path(__file__).with_name("opened.py"))
+PART = 1 << 20
+
+
+class Program:
+    """The program in a file, for any number of threads."""
+
+    def __init__(self, name: str, disk: str | None = None) -> None:
+        """Opens and hashes it. `disk` is OFFICE_DISK of what is run, unless the environment's is taken."""
+        found = shutil.which(name)
+        if found is None:
+            raise SystemExit(f"office-member: there is no program {name}")
+        self.path = found
+        self.descriptor = os.open(found, os.O_RDONLY | os.O_CLOEXEC)
+        self.digest = self.hash()
+        self.environment = dict(os.environ)
+        if disk is not None:
+            self.environment["OFFICE_DISK"] = disk
+
+    def hash(self) -> str:
+        """Gives the SHA-256 of what the descriptor reads now."""
+        total, at = hashlib.sha256(), 0
+        while part := os.pread(self.descriptor, PART, at):
+            total.update(part)
+            at += len(part)
+        return total.hexdigest()
+
+    def start(self, words: Sequence[str], **more: Any) -> subprocess.Popen[bytes]:
+        """Starts the program; its process ends with this thread. Halt where its file was written over."""
+        if self.hash() != self.digest:
+            raise Halt(f"the program {self.path} was written over while this member ran")
+        return subprocess.Popen(
+            [sys.executable, "-I", "-S", OPENED, str(os.getpid()), str(self.descriptor), self.path, *words],
+            stdin=subprocess.DEVNULL, pass_fds=[self.descriptor], env=self.environment, **more)
+
+    def run(self, words: Sequence[str]) -> None:
+        """Runs it to its end. CalledProcessError where that is not status 0."""
+        status = self.start(words, stdout=subprocess.DEVNULL).wait()
+        if status != 0:
+            raise subprocess.CalledProcessError(status, [self.path, *words])
