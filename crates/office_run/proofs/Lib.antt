@@ -1,5 +1,7 @@
+pub mod Closings
 pub mod Exports
 pub mod Imports
+pub mod LeftTables
 pub mod NextFiles
 pub mod NextService
 pub mod NextStates

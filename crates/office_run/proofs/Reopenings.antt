@@ -9,21 +9,20 @@ use Rattle.sqlite_trees.specs.Tree.{Trees}
 use Rattle.sqlite_wal.specs.Files.{outcomes}
 use Rattle.sqlite_wal.specs.Reads.{AreClean}
 use Rattle.sqlite_wal.specs.Recovery.{Image}
-use Rattle.sqlite.specs.Closing.{IsCopied}
 use Rattle.sqlite.specs.Files.{HoldsDatabase, file_state, image_of}
 use Rattle.sqlite.specs.Held.{AreDatabases, Held}
 use Rattle.sqlite.proofs.Theorems.{opens_again}
 use Rattle.office_sql.specs.declared.editions.Edition.{Edition}
 use Rattle.office_sql.specs.Office.{IsOfficeIn}
-use Rattle.office_run.specs.Files.{HeldOffice, LeavesAnOffice}
+use Rattle.office_run.specs.Files.{HeldOffice, IsClosedCopy, LeavesAnOffice}
 
 module _ {D : Type 0} {g : Ghosts D} (last : Held (FileStore D g)) where
-  module _ (it : Files D) (ed : Edition) (copied : AreClean g it.log it.db → IsCopied last it) (clean : AreClean g it.log it.db) (office : IsOfficeIn ed (file_state last).committed.trees) where
+  module _ (it : Files D) (ed : Edition) (copied : AreClean g it.log it.db → IsClosedCopy last it) (clean : AreClean g it.log it.db) (office : IsOfficeIn ed (file_state last).committed.trees) where
     pub held_closed : HeldOffice ed (image_of g it) (file_state last).committed.trees
-    held_closed = record { held = (copied clean).seen.both; office = office }
+    held_closed = record { held = (copied clean).copied.seen.both; office = office }
 
     pub held_later : (image : Image) → outcomes g it.log it.db image → HeldOffice ed image (file_state last).committed.trees
-    held_later image may = record { held = ((copied clean).left image may).both; office = office }
+    held_later image may = record { held = ((copied clean).copied.left image may).both; office = office }
 
   -- each database that a crash may leave is sound
   are_databases : LeavesAnOffice (file_state last) → AreDatabases (recovers last.store)

@@ -1,12 +1,16 @@
 -- What is done with the office in a file, by what its two files held as they were opened. Source: own.
-use Rattle.std.specs.Prelude.{◌≡◌, ◌⊎◌, ℕ, IsTrue, List, Option}
+use Rattle.std.specs.Prelude.{◌≡◌, ◌⊎◌, ℕ, IfSome, IsTrue, List, Option}
 use Rattle.sqlite_disk.specs.declared.Disk.{Ghosts}
+use Rattle.sqlite_disk.specs.declared.Files.{Files}
+use Rattle.sqlite_store.specs.FileStore.{view}
 use Rattle.sqlite_store.specs.declared.store.FileStore.{FileStore}
 use Rattle.sqlite_trees.specs.Tree.{Trees}
+use Rattle.sqlite_trees.specs.View.{IsClean}
+use Rattle.sqlite_wal.specs.Files.{outcomes}
 use Rattle.sqlite_wal.specs.Reads.{AreClean}
 use Rattle.sqlite_wal.specs.Recovery.{Image}
 use Rattle.sqlite.specs.Closing.{IsCopied}
-use Rattle.sqlite.specs.Files.{AreFoundIn, HoldsDatabase, IsClosed, IsEmpty, file_state, over_files}
+use Rattle.sqlite.specs.Files.{AreFoundIn, HoldsDatabase, IsClosed, IsEmpty, file_state, image_of, over_files}
 use Rattle.sqlite.specs.Held.{Held}
 use Rattle.sqlite.specs.State.{State as FileState, HasCleanDisk}
 use Rattle.office_sql.specs.declared.editions.Edition.{Edition}
@@ -15,6 +19,7 @@ use Rattle.office_store.specs.declared.fault.Fault.TheVariants as fault
 use Rattle.office_words.specs.Orders.{Ordered}
 use Rattle.office_run.specs.Running.{RunEnds}
 use Rattle.office_run.specs.Serving.{ServiceEnds}
+use Rattle.office_run.specs.Tables.{HoldsTables, SparesTables}
 use Rattle.office_orders.specs.declared.ending.Ending.{Ending}
 use Rattle.office_orders.specs.declared.ending.Ending.TheVariants as how
 use Rattle.office_run.specs.declared.opening.FilesLeft.{FilesLeft}
@@ -46,19 +51,36 @@ pub record EndsOver {D : Type 0} {g : Ghosts D} (image : Image)
   pub ends : Ends was last
   pub stays : IsTrue (file_state last).is_open → (file_state last).may_leave (file_state last).committed.trees
 
--- what a connection leaves of its files as it is closed: its last commit, in the database file alone; or, where that
--- failed, no more than what a crash left before
+-- what a closing copies: the last commit, into the database file alone; and the two files hold it, as they read now and
+-- after any crash
+pub record IsClosedCopy {D : Type 0} {g : Ghosts D} (last : Held (FileStore D g)) (it : Files D) : Type 0 where
+  pub copied : IsCopied last it
+  pub now : ∥ HoldsTables (image_of g it) (file_state last).committed.trees ∥₁
+  pub left : (image : Image) → outcomes g it.log it.db image → ∥ HoldsTables image (file_state last).committed.trees ∥₁
+
+-- what a closing that failed leaves: no more than what a crash left before; and the store is numbered, where it is open
+pub record IsUnclosed {D : Type 0} {g : Ghosts D} (last : Held (FileStore D g)) (store : FileStore D g) : Type 0 where
+  pub closed : IsClosed last store
+  pub numbered : IsClean (view store) → IsTrue (view store).is_open → IsTrue (view store).is_numbered
+
+-- what a connection leaves of its files as it is closed
 abbrev pub IsLeftOf : {D : Type 0} {g : Ghosts D} → Held (FileStore D g) → FilesLeft D g → Type 0
-IsLeftOf last files.Unopened = ⊥
-IsLeftOf {g = g} last (files.Closed it) = AreClean g it.log it.db → IsCopied last it
-IsLeftOf last (files.Unclosed store) = IsClosed last store
+IsLeftOf last (files.Unopened left) = ⊥
+IsLeftOf {g = g} last (files.Closed it) = AreClean g it.log it.db → IsClosedCopy last it
+IsLeftOf last (files.Unclosed store) = IsUnclosed last store
+
+-- files that held this were not opened, and what is left of them keeps it; where the system refused them, there is none
+abbrev pub IsUnopenedLeft : {D : Type 0} {g : Ghosts D} → Image → FilesLeft D g → Type 0
+IsUnopenedLeft image (files.Unopened left) = IfSome left (λ it. SparesTables image it)
+IsUnopenedLeft image (files.Closed it) = ⊥
+IsUnopenedLeft image (files.Unclosed store) = ⊥
 
 -- files that held this were not opened, which is fault 31, with nothing written; or so it ended over their connection,
 -- which was closed
 abbrev pub EndsInFiles : {D : Type 0} {g : Ghosts D} → FilesLeft D g → Image
     → (Held (FileStore D g) → Held (FileStore D g) → Type 0) → Option (List ℕ) → Option (List ℕ) → Ending → Type 0
 EndsInFiles {D} {g} left image Ends written after ending =
-    ((ending ≡ how.Fault fault.Store) × (left ≡ files.Unopened) × (after ≡ written))
+    ((ending ≡ how.Fault fault.Store) × IsUnopenedLeft image left × (after ≡ written))
     ⊎ ((last : Held (FileStore D g)) × EndsOver image Ends last × IsLeftOf last left)
 
 -- an order on the office in files that held this, where the reader reports the text that it reads

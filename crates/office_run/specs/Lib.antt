@@ -5,3 +5,4 @@ pub mod NextWord
 pub mod Reopening
 pub mod Running
 pub mod Serving
+pub mod Tables

@@ -1,10 +1,11 @@
 -- From one word of the program to the next: at which state a word leaves an office, and what its two files hold then.
 -- Source: own.
-use Rattle.std.specs.Prelude.{◌≡◌, ◌⊎◌, ◌+◌, ◌≤◌, ℕ, ℤ, IsTrue, List, ◌++◌, length, take, Option, Ok, Some, option_map}
+use Rattle.std.specs.Prelude.{◌≡◌, ◌⊎◌, ◌+◌, ◌≤◌, ℕ, ℤ, IfSome, IsTrue, List, ◌++◌, length, take, Option, Ok, Some, option_map}
 use Rattle.std.specs.Io.KnownBytes.{Appends}
 use Rattle.csv.specs.Reading.{strip_bom}
 use Rattle.sqlite_disk.specs.declared.Disk.{Ghosts}
-use Rattle.sqlite_store.specs.FileStore.{state as store_state, view}
+use Rattle.sqlite_store.specs.FileStore.{recovers, state as store_state, view}
+use Rattle.sqlite_store.specs.Unopened.{state_of as unopened_state}
 use Rattle.sqlite_trees.specs.Tree.{Trees}
 use Rattle.sqlite_trees.specs.View.{IsClean}
 use Rattle.sqlite_wal.specs.Files.{outcomes}
@@ -12,6 +13,8 @@ use Rattle.sqlite_wal.specs.Reads.{AreClean}
 use Rattle.sqlite_wal.specs.Recovery.{Image}
 use Rattle.sqlite.specs.Files.{HoldsDatabase, image_of}
 use Rattle.sqlite.specs.State.{State as FileState}
+use Rattle.sqlite.specs.declared.file.Leftover.{Leftover}
+use Rattle.sqlite.specs.declared.file.Leftover.TheVariants as leftover
 use Rattle.office_rules.specs.Acts.{after as after_acts, answers}
 use Rattle.office_rules.specs.Rows.{rows_of}
 use Rattle.office_rules.specs.Runs.{after_steps, open_run, whole}
@@ -30,6 +33,7 @@ use Rattle.office_csv.specs.ImportRows.{Fields}
 use Rattle.office_wire.specs.Importing.{ArePrefixRows, AreRowsDone, IsRowDone, lines_from}
 use Rattle.office_orders.specs.declared.ending.Ending.{Ending}
 use Rattle.office_orders.specs.declared.ending.Ending.TheVariants as how
+use Rattle.office_run.specs.Tables.{HoldsTables}
 use Rattle.office_run.specs.declared.opening.FilesLeft.{FilesLeft}
 use Rattle.office_run.specs.declared.opening.FilesLeft.TheVariants as files
 
@@ -44,6 +48,12 @@ pub record IsOfficeAt (tables : Trees) (u : State) : Type 0 where
 pub record HoldsOfficeAt (image : Image) (u : State) : Type 0 where
   pub trees : Trees
   pub held : ∥ HoldsDatabase image trees ∥₁
+  pub office : IsOfficeAt trees u
+
+-- and where the file has sums, each page has its sum
+pub record HoldsWholeOffice (image : Image) (u : State) : Type 0 where
+  pub trees : Trees
+  pub held : ∥ HoldsTables image trees ∥₁
   pub office : IsOfficeAt trees u
 
 -- whatever a crash leaves, it is an office at a state of this kind
@@ -106,14 +116,25 @@ IsServedTo s u = (done : List Act) × AreWellFormed done × (u ≡ after_acts s 
 
 -- ---- what the two files hold then
 
--- closed, they hold an office at a state of this kind as they read now and after any crash; not closed, after any
--- crash; what was not opened was not written
-abbrev pub LeavesFilesAt : {D : Type 0} {g : Ghosts D} → (State → Type 0) → FilesLeft D g → Type 0
-LeavesFilesAt Is files.Unopened = Unit {0}
-LeavesFilesAt {g = g} Is (files.Closed it) =
+-- files that were not opened hold the office after any crash; a store of which the tables were not read stands for it
+abbrev pub StaysOffice : {D : Type 0} {g : Ghosts D} → State → Leftover D g → Type 0
+StaysOffice {g = g} s (leftover.Files it) =
+    AreClean g it.log it.db → (image : Image) → outcomes g it.log it.db image → HoldsWholeOffice image s
+StaysOffice s (leftover.Unopened it) =
+    IsTrue (unopened_state it).is_clean → (image : Image) → (unopened_state it).may_leave image
+    → HoldsWholeOffice image s
+StaysOffice s (leftover.Store it) =
+    IsTrue (view it).is_clean → (trees : Trees) → recovers it trees → IsOfficeAt trees s
+
+-- of files that held an office at a state: not opened, they keep it, where each page had its sum; closed, they hold one at
+-- a state of this kind as they read now and after any crash; not closed, after any crash, unless the closing shut a store
+-- whose numbers are not known
+abbrev pub LeavesFilesAt : {D : Type 0} {g : Ghosts D} → Image → State → (State → Type 0) → FilesLeft D g → Type 0
+LeavesFilesAt old s Is (files.Unopened left) = HoldsWholeOffice old s → IfSome left (λ it. StaysOffice s it)
+LeavesFilesAt {g = g} old s Is (files.Closed it) =
     AreClean g it.log it.db
-    → (u : State) × Is u × HoldsOfficeAt (image_of g it) u
-    × ((image : Image) → outcomes g it.log it.db image → HoldsOfficeAt image u)
-LeavesFilesAt Is (files.Unclosed store) =
-    IsClean (view store) → IsTrue (view store).is_numbered → (image : Image) → (store_state store).may_leave image
-    → ∥ ((u : State) × Is u × HoldsOfficeAt image u) ∥₁
+    → (u : State) × Is u × HoldsWholeOffice (image_of g it) u
+    × ((image : Image) → outcomes g it.log it.db image → HoldsWholeOffice image u)
+LeavesFilesAt old s Is (files.Unclosed store) =
+    IsClean (view store) → IsTrue (view store).is_open ⊎ IsTrue (view store).is_numbered
+    → (image : Image) → (store_state store).may_leave image → ∥ ((u : State) × Is u × HoldsWholeOffice image u) ∥₁

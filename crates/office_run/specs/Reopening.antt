@@ -1,8 +1,8 @@
 -- What the laws say from one run of the program over an office's files to the next. Source: own.
-use Rattle.std.specs.Prelude.{ℕ, IsTrue, List, Option, Some}
+use Rattle.std.specs.Prelude.{ℕ, List, Option, Some}
 use Rattle.sqlite_disk.specs.declared.Disk.{Ghosts}
 use Rattle.sqlite_disk.specs.declared.Files.{Files}
-use Rattle.sqlite_store.specs.FileStore.{state as store_state, view}
+use Rattle.sqlite_store.specs.FileStore.{state as store_state}
 use Rattle.sqlite_store.specs.declared.store.FileStore.{FileStore}
 use Rattle.sqlite_trees.specs.Tree.{Trees}
 use Rattle.sqlite_wal.specs.Files.{outcomes}
@@ -15,7 +15,7 @@ use Rattle.office_sql.specs.Office.{IsOfficeIn}
 use Rattle.office_rules.specs.State.{State}
 use Rattle.office_words.specs.Orders.{Ordered}
 use Rattle.office_run.specs.Files.{HeldOffice, IsLeftOf, LeavesAnOffice, RunsInFiles, ServesInFiles}
-use Rattle.office_run.specs.NextWord.{HoldsOfficeAt, IsLeftBy, IsServedTo, LeavesFilesAt}
+use Rattle.office_run.specs.NextWord.{HoldsOfficeAt, HoldsWholeOffice, IsLeftBy, IsServedTo, LeavesFilesAt}
 use Rattle.office_orders.specs.declared.ending.Ending.{Ending}
 use Rattle.office_run.specs.declared.opening.FilesLeft.{FilesLeft}
 use Rattle.office_run.specs.declared.opening.FilesLeft.TheVariants as files
@@ -34,10 +34,9 @@ ClosedFilesKeepOffice {D} g =
 
 -- the process ended with a connection of which a crash leaves an office, whatever it leaves: the files hold one of
 -- those offices
-abbrev pub CrashedFilesHoldOffice : {D : Type 0} → Ghosts D → Type 0
-CrashedFilesHoldOffice {D} g =
-    (last : Held (FileStore D g)) → IsTrue (view last.store).is_numbered → LeavesAnOffice (file_state last)
-    → (left : Image) → (store_state last.store).may_leave left
+abbrev pub CrashHoldsOffice : {D : Type 0} {g : Ghosts D} → Held (FileStore D g) → Type 0
+CrashHoldsOffice last =
+    LeavesAnOffice (file_state last) → (left : Image) → (store_state last.store).may_leave left
     → ∥ ((trees : Trees) × (ed : Edition) × (file_state last).may_leave trees × HeldOffice ed left trees) ∥₁
 
 -- over files that hold an office at a state a word was run: they hold one at a state at which the word leaves it
@@ -46,7 +45,7 @@ WordLeavesOffice {D} g =
     (image : Image) (s : State) (order : Ordered) (text : List ℕ) (written after : Option (List ℕ)) (ending : Ending)
     (left : FilesLeft D g)
     → HoldsOfficeAt image s → RunsInFiles left image order (Some text) written after ending
-    → LeavesFilesAt (IsLeftBy order text written after ending s) left
+    → LeavesFilesAt image s (IsLeftBy order text written after ending s) left
 
 -- the same of a service, which leaves the office after some acts
 abbrev pub ServiceLeavesOffice : {D : Type 0} → Ghosts D → Type 0
@@ -54,4 +53,8 @@ ServiceLeavesOffice {D} g =
     (image : Image) (s : State) (port count : ℕ) (written after : Option (List ℕ)) (ending : Ending)
     (left : FilesLeft D g)
     → HoldsOfficeAt image s → ServesInFiles left image port count written after ending
-    → LeavesFilesAt (IsServedTo s) left
+    → LeavesFilesAt image s (IsServedTo s) left
+
+-- an office of which each page has its sum, if the file has sums, is one
+abbrev pub WholeIsOffice : Type 0
+WholeIsOffice = (image : Image) (s : State) → HoldsWholeOffice image s → HoldsOfficeAt image s

@@ -18,6 +18,6 @@ mod serving;
 pub use office_orders::{Ending, report};
 pub use office_wire::Routes;
 pub use opening::{FilesLeft, open_and_run};
-pub use reopening::{law_of_each_word, law_of_the_next_word};
+pub use reopening::{law_of_a_killed_word, law_of_each_word, law_of_the_next_word};
 pub use running::{report_listening, run_on};
 pub use serving::open_and_serve;

@@ -11,14 +11,16 @@ use crate::running::run_on;
 use office_orders::{Ending, report};
 use office_store::Fault;
 use office_words::Order;
-use sqlite::{Alter, Connection, FileFrom, FileStore, Files, Start};
+use sqlite::{Alter, Connection, FileFrom, FileStore, Files, Leftover, Start};
 use sqlite_disk::Disk;
+use sqlite_trees::store::Store;
 use std::io::{Read, Write};
 
 /// What is left of an office's two files, the database file and its log, once a word is done.
 pub enum FilesLeft<D: Disk> {
-    /// Nothing, since they were not opened.
-    Unopened,
+    /// What the database gave back, since they were not opened; nothing where the system refused
+    /// them.
+    Unopened(Option<Leftover<D>>),
     /// The two files: the last commit is in the database file, whatever becomes of the log.
     Closed(Files<D>),
     /// The store over them: the log was not copied into the database file, so both are needed.
@@ -29,7 +31,7 @@ pub enum FilesLeft<D: Disk> {
 impl<D: Disk + Drop> Drop for FilesLeft<D> {
     fn drop(self) {
         match self {
-            FilesLeft::Unopened => {}
+            FilesLeft::Unopened(_left) => {}
             FilesLeft::Closed(_files) => {}
             FilesLeft::Unclosed(_store) => {}
         }
@@ -46,24 +48,28 @@ pub(crate) fn law_of_the_last_commit<S: Alter>(conn: &Connection<S>)
     conn.schema();
 }
 
-/// Closes a connection, so that the database file alone has every commit.
+/// Closes a connection, so that the database file alone has every commit: the calls of the kit's
+/// `close_files`, one by one, so that what each says of the store is known here.
 pub(crate) fn close<D: Disk + Drop>(conn: Connection<FileStore<D>>) -> FilesLeft<D>
     ensures { IsLeftOf conn result }
 {
-    match conn.close_files() {
-        Ok(files) => FilesLeft::Closed(files),
-        Err((_, store)) => FilesLeft::Unclosed(store),
+    law_of_the_last_commit(&conn);
+    let mut store = conn.into_store();
+    store.rollback();
+    match store.checkpoint() {
+        Ok(()) => FilesLeft::Closed(store.close()),
+        Err(_) => FilesLeft::Unclosed(store),
     }
 }
 
 /// Opens the office's file, which is made where there is none, carries out an order on the office
 /// in it, as [`run_on`] does, and closes the file. It gives the exit status, and what is left of
 /// the file, which is shut when that is dropped. A file that is not opened, as one that is no
-/// database's, is fault 31, and nothing goes to `out`.
+/// database's, is fault 31, and nothing goes to `out`; what is left of it holds what it held
+/// (`IsUnopenedLeft`). Of a file that the system refused to open no clause speaks.
 ///
 /// `start` names what the two files held, and how a crash is read; the promise holds whatever that
-/// was, where nothing else writes them. Which file is opened no clause says, nor what becomes of
-/// one that is not opened.
+/// was, where nothing else writes them. Which file is opened no clause says.
 pub fn open_and_run<S: Start, R: Read, W: Write, E: Write>(
     rt: &HostRuntime,
     file: &str,
@@ -84,10 +90,10 @@ pub fn open_and_run<S: Start, R: Read, W: Write, E: Write>(
             law_of_the_last_commit(&conn);
             (status, close(conn))
         }
-        Err(_) => {
+        Err((_, left)) => {
             let ending = Ending::Fault(Fault::Store);
             let _ = report(ending, err);
-            (ending.status(), FilesLeft::Unopened)
+            (ending.status(), FilesLeft::Unopened(left))
         }
     }
 }

@@ -93,6 +93,6 @@ where
             law_of_the_last_commit(&conn);
             (ending, close(conn))
         }
-        Err(_) => (Ending::Fault(Fault::Store), FilesLeft::Unopened),
+        Err((_, left)) => (Ending::Fault(Fault::Store), FilesLeft::Unopened(left)),
     }
 }
