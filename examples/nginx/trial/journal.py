@@ -125,8 +125,10 @@ def late(folder: str) -> None:
     """An act whose day is after tomorrow is refused, however it is written, and no act of its list is done."""
     path = f"{folder}acts"
     there = {**HOLD, "code": "T-1"}
+    before = len(lines())
     tomorrow = post(path, [{**lift("none"), "day": day_after(1)}]).body
     same("an act of tomorrow is passed on", tomorrow, b'[{"refused":5}]')
+    added(1, before)
     for name, body in {
         "the day after tomorrow": json.dumps([there, {**there, "day": day_after(2)}]),
         "the last day of all": json.dumps([there, lift("none", day="2999-12-31")]),
