@@ -84,7 +84,12 @@ fn filing(alloc: Global, tree: &mut Tree, day: Day) -> Option<()> {
     }
     let head = head(alloc, day)?;
     if tree
-        .check_add_record(&head.ref_text, 1, head.class.as_ref(), head.schedule.as_ref())
+        .check_add_record(
+            &head.ref_text,
+            1,
+            head.class.as_ref(),
+            head.schedule.as_ref(),
+        )
         .is_none()
     {
         tree.apply_add_record(head).ok()?;
@@ -172,11 +177,16 @@ fn holds(alloc: Global, tree: &Tree, day: Day) -> Option<()> {
         holds.cover(&name, target).ok()?;
     }
     let class = code(alloc, "FIN");
-    let refusal: Option<Refusal> =
-        holds.check_reclassify(tree, Classified::Record(1), class.as_ref());
+    let refusal: Option<Refusal> = holds.check_reclassify(
+        tree,
+        Classified::Record(1),
+        class.as_ref(),
+    );
     if tree.has_record(1) {
-        let (is_held, covering): (bool, Option<&Code>) =
-            (holds.held(tree, 1), holds.covering(tree, 1));
+        let (is_held, covering): (bool, Option<&Code>) = (
+            holds.held(tree, 1),
+            holds.covering(tree, 1),
+        );
         if !is_held || covering.is_none() || refusal.is_some() {
             return None;
         }

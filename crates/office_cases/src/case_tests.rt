@@ -4,7 +4,9 @@ use crate::hold_tests::{COVERED, LEAVING, LIFTED, STAYING, TREE};
 use crate::office_tests::{BASE, EVENTS, FEW_OF_MANY, HELD, HERE, NOTHING_TO_DO, RUN, SPENDING};
 use crate::request_tests::{BODIES, HEADS};
 use crate::rows::{Subject, must_hold};
-use crate::{answer_tests, calls, due_tests, machine_calls, plan_tests, proof_tests, reply_tests, word_tests};
+use crate::{
+    answer_tests, calls, due_tests, machine_calls, plan_tests, proof_tests, reply_tests, word_tests,
+};
 use std::alloc::Global;
 use std::test::Fail;
 
