@@ -224,7 +224,8 @@ def refused_while_open(shell: Shell) -> None:
     """What the page says of a member that runs: nothing is written anew."""
     compact = "runuser -u office -- office-compact /var/lib/office-member/city/work/office.db"
     done = shell.run(compact)
-    judge(f"{PAGE}: while the member runs: {compact}", done.status == 1 and "office.db open: stop" in done.err, f"{done}")
+    refused = done.status == 1 and "office.db open: stop" in done.err
+    judge(f"{PAGE}: while the member runs: {compact}", refused, f"{done}")
 
 
 def member_stops(shell: Shell) -> None:
