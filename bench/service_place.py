@@ -47,7 +47,7 @@ def first_acts() -> list[dict]:
     acts = [{"act": "add-schedule", "code": "D1", "trigger": "added", "unit": "years", "count": 1, "offset": "none",
              "action": "destroy"},
             {"act": "add-class", "code": "FIN", "title": "Finance", "schedule": "D1"},
-            {"act": "add-aggregation", "ref": "A", "title": "A", "class": "FIN"}]
+            {"act": "add-aggregation", "ref": "2020", "title": "A", "class": "FIN"}]
     acts += [{"act": "add-record", "ref": f"r{n}", "title": f"r{n}", "originated": FIRST, "aggregation": 1,
               "content": base64.b64encode(text_of(n)).decode()} for n in range(1, 2 * RECORDS + 1)]
     return [{**it, **base} for it in acts]

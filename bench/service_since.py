@@ -73,6 +73,8 @@ def since(folder: pathlib.Path) -> None:
     told = sections(text)
     for title, rows in TOLD.items():
         judge(f"a restore tells {title}", told.get(title) == rows, told.get(title))
+    judge("and nothing that COPY has and FILE lacks, though the ref of an aggregation is a number",
+          "things that NEW has and OLD lacks" not in text, text)
     gone = [it.split("\t") for it in told.get("records to destroy or transfer again", [])]
     digests = run("sqlite3", f"file:{copy}?immutable=1",
                   f"SELECT digest FROM records WHERE num <= {RECORDS}")[1].split()

@@ -21,6 +21,7 @@ founded city
 cp -r three/m1/snapshots three/m2/
 cp -r three/m1/snapshots three/m3/
 """
+HOLD = b'[{"act":"place-hold","day":"2030-01-02","code":"H-1","reason":"A lawsuit","by":"counsel"}]'
 HERE = Machines()
 
 
@@ -192,11 +193,12 @@ def both_are_new(shell: Shell) -> None:
     judge(f"{PAGE}: three machines take acts again", all(it.status in (200, 409) for it in told), f"{told}")
 
 
-def snapshot_now(_: Shell) -> None:
-    """In place of systemd: what ExecReload= of the unit does."""
+def snapshot_now(_: Shell, acts: bytes = b"[]") -> None:
+    """In place of systemd: what ExecReload= of the unit does, after these acts."""
     folder = "/var/lib/office-member/city/snapshots"
     before = sorted(os.listdir(folder))[-1]
-    act(1, b"[]")
+    told = act(1, acts)
+    judge(f"{PAGE}: before the snapshot acts are done", told.status == 200, f"{told}")
     HERE.signal(1, signal.SIGHUP)
     judge(f"{PAGE}: SIGHUP makes a snapshot", wait_until(lambda: max(
         it for it in os.listdir(folder) if it.isdigit()) > before), f"{os.listdir(folder)}")
@@ -207,12 +209,29 @@ def snapshot_now(_: Shell) -> None:
 def is_copy(shell: Shell) -> None:
     done = shell.run("office init copies/city.db && office certificate copies/city.db 1 | head -1")
     judge(f"{PAGE}: the copy is an office, with its certificate", done.out == "version 2\nCERTIFICATE 1\n", f"{done}")
+    snapshot_now(shell, HOLD)
+    # the scripts are where docs/OPERATING.md puts them
+    shell.run("install -m 755 $(ls -d examples/service/office-* | grep -v @) /usr/local/bin/")
+
+
+def is_compared(shell: Shell) -> None:
+    """The file that the page names has the hold that was placed after the copy."""
+    text = shell.path("compared.since").read_text()
+    judge(f"{PAGE}: compared.since has the hold", "\nplace-hold\tH-1\tA lawsuit (counsel)\t2030-01-02\n" in text, text)
+
+
+def refused_while_open(shell: Shell) -> None:
+    """What the page says of a member that runs: nothing is written anew."""
+    compact = "runuser -u office -- office-compact /var/lib/office-member/city/work/office.db"
+    done = shell.run(compact)
+    refused = done.status == 1 and "office.db open: stop" in done.err
+    judge(f"{PAGE}: while the member runs: {compact}", refused, f"{done}")
 
 
 def member_stops(shell: Shell) -> None:
-    """In place of systemd: the member of archive1 ends; and the scripts are where docs/OPERATING.md puts them."""
+    """In place of systemd: the member of archive1 ends."""
+    refused_while_open(shell)
     HERE.stop_member(1)
-    shell.run("install -m 755 $(ls -d examples/service/office-* | grep -v @) /usr/local/bin/")
 
 
 def member_goes_on(shell: Shell) -> None:
@@ -297,7 +316,7 @@ ROWS = [
     Row("sed -i '/^ETCD_INITIAL_CLUSTER=/", then=both_are_new),
     Row("systemctl reload office-member@city", skip="without systemd", then=snapshot_now),
     Row("cp $(ls -d /var/lib/office-member", then=is_copy),
-    Row("office-since", skip="bench/service_scripts tries it"),
+    Row("office-since", prints="1\tholds to place again, and targets to put on again\n", status=1, then=is_compared),
     Row("office-etcdctl defrag"),
     Row("office-etcdctl alarm disarm"),
     Row("runuser -u office -- office-compact", like=r".*: the same\n.*the old file.*|.*the same\n.*"),
