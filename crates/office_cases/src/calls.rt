@@ -62,9 +62,9 @@ fn head(alloc: Global, day: Day) -> Option<Record> {
 
 /// `office_tree`: the acts by which a tree grows.
 fn filing(alloc: Global, tree: &mut Tree, day: Day) -> Option<()> {
-    let name = code(alloc, "D1")?;
+    let (name, schedule) = (code(alloc, "D1")?, schedule()?);
     if tree.check_add_schedule(&name).is_none() {
-        tree.apply_add_schedule(name, schedule()?).ok()?;
+        tree.apply_add_schedule(name, schedule).ok()?;
     }
     let name = code(alloc, "FIN")?;
     let class = Class {
@@ -116,23 +116,21 @@ fn planning(alloc: Global, tree: &mut Tree) -> Option<()> {
 
 /// `office_tree`: the acts on a record that is due, sent or waits for its event.
 fn deciding(alloc: Global, tree: &mut Tree, day: Day) -> Option<()> {
+    let (plan, by) = (code(alloc, "D1"), text(alloc, "registrar")?);
     if tree.check_confirm(day, 1, Action::Destroy).is_none() {
-        tree.apply_confirm(day, 1, Action::Destroy, text(alloc, "registrar")?)
-            .ok()?;
+        tree.apply_confirm(day, 1, Action::Destroy, by).ok()?;
     }
-    let plan = code(alloc, "D1");
+    let by = text(alloc, "registrar")?;
     if tree.check_review(day, 1, plan.as_ref()).is_none() {
-        tree.apply_review(day, 1, plan, text(alloc, "registrar")?)
-            .ok()?;
+        tree.apply_review(day, 1, plan, by).ok()?;
     }
-    let digest: [u8; 32] = digest_of("abc".as_bytes());
+    let (digest, by): ([u8; 32], Text) = (digest_of("abc".as_bytes()), text(alloc, "registrar")?);
     if tree.check_receipt(1, digest).is_none() {
-        tree.apply_receipt(day, 1, digest, text(alloc, "registrar")?)
-            .ok()?;
+        tree.apply_receipt(day, 1, digest, by).ok()?;
     }
+    let by = text(alloc, "registrar")?;
     if tree.check_event(day, 1, day).is_none() {
-        tree.apply_event(day, 1, day, text(alloc, "registrar")?)
-            .ok()?;
+        tree.apply_event(day, 1, day, by).ok()?;
     }
     if tree.check_close_aggregation(1).is_none() {
         tree.apply_close_aggregation(1, day).ok()?;
@@ -167,10 +165,9 @@ fn reading(tree: &Tree) -> Option<DueDay> {
 fn holds(alloc: Global, tree: &Tree, day: Day) -> Option<()> {
     let mut holds = Holds::new(alloc);
     let name = code(alloc, "H-1")?;
+    let (reason, by) = (text(alloc, "court")?, text(alloc, "registrar")?);
     if holds.check_place(&name).is_none() {
-        holds
-            .place(name, day, text(alloc, "court")?, text(alloc, "registrar")?)
-            .ok()?;
+        holds.place(name, day, reason, by).ok()?;
     }
     let (name, target) = (code(alloc, "H-1")?, Target::Record(1));
     if holds.check_cover(&name, &target).is_none() {
