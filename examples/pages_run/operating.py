@@ -17,6 +17,8 @@ from pages_run.watching import ROWS as WATCHING
 PAGE = "docs/OPERATING.md"
 CITY = "/var/lib/office/city/office.db"
 SERVES = f"office-serve --stop-seconds 60 {CITY} 8081"
+# as the unit does
+AS_OFFICE = "setpriv --reuid=office --regid=office --init-groups --"
 LEFT = "find /var/lib /var/cache"
 # the records of the city archive
 ALL = {"records": 33}
@@ -40,8 +42,8 @@ def city_serves(shell: Shell) -> None:
     os.makedirs(os.path.dirname(CITY), exist_ok=True)
     done = shell.run(SERVES)
     judge("without FILE the unit's command does not start", done.status == 2 and "office init" in done.err, done.err)
-    shell.run(f"office apply {CITY} examples/city_archive/story.json")
-    line = shell.serve(SERVES)
+    shell.run(f"office apply {CITY} examples/city_archive/story.json && chown office: {CITY} {CITY}-wal")
+    line = shell.serve(f"{AS_OFFICE} {SERVES}")
     judge("the office of the unit listens", line == "listening 127.0.0.1:8081\n", line)
 
 
@@ -170,7 +172,7 @@ def left_is_seen(shell: Shell) -> None:
 
 def is_compact(shell: Shell) -> None:
     judge_alone(shell, "office-compact", CITY, ALL)
-    line = shell.serve(SERVES)
+    line = shell.serve(f"{AS_OFFICE} {SERVES}")
     judge("the office listens after it", line == "listening 127.0.0.1:8081\n", line)
 
 
