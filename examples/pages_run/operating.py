@@ -42,7 +42,7 @@ def city_serves(shell: Shell) -> None:
     os.makedirs(os.path.dirname(CITY), exist_ok=True)
     done = shell.run(SERVES)
     judge("without FILE the unit's command does not start", done.status == 2 and "office init" in done.err, done.err)
-    shell.run(f"office apply {CITY} examples/city_archive/story.json && chown office: {CITY} {CITY}-wal")
+    shell.run(f"office apply {CITY} examples/city_archive/story.json; chown office: {CITY} {CITY}-wal")
     line = shell.serve(f"{AS_OFFICE} {SERVES}")
     judge("the office of the unit listens", line == "listening 127.0.0.1:8081\n", line)
 
