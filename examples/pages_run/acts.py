@@ -23,7 +23,7 @@ def is_late(shell: Shell) -> None:
 ROWS = [
     Row("examples/acts/check examples/first/acts.json"),
     Row("examples/acts/check --late examples/first/acts.json"),
-    Row("cp first.db copy.db"),
+    Row("OFFICE=./office examples/service/office-backup first.db copy.db", prints=""),
     Row("sqlite3 copy.db", then=is_late),
 ]
 

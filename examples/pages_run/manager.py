@@ -16,7 +16,6 @@ ROWS = [
     Row("./office import manager.db 2024-01-12 examples/manager/03-records.csv"),
     Row("./office export manager.db"),
     Row("OFFICE=./office examples/service/office-backup manager.db", prints=""),
-    Row("cp manager.db copy.db"),
     Row("./office resume manager.db"),
     Row("./office overdue manager.db"),
     Row("./office certificate manager.db"),

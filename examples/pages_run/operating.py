@@ -6,7 +6,7 @@ import re
 import subprocess
 import time
 
-from pages_run.commands import TOP
+from pages_run.commands import TOP, commands
 from pages_run.expected import Row, run_page
 from pages_run.files import FIRST, alone, judge_alone
 from pages_run.judging import judge
@@ -17,6 +17,9 @@ from pages_run.watching import ROWS as WATCHING
 PAGE = "docs/OPERATING.md"
 CITY = "/var/lib/office/city/office.db"
 SERVES = f"office-serve --stop-seconds 60 {CITY} 8081"
+# as the unit does
+AS_OFFICE = "setpriv --reuid=office --regid=office --init-groups --"
+LEFT = "find /var/lib /var/cache"
 # the records of the city archive
 ALL = {"records": 33}
 
@@ -39,8 +42,8 @@ def city_serves(shell: Shell) -> None:
     os.makedirs(os.path.dirname(CITY), exist_ok=True)
     done = shell.run(SERVES)
     judge("without FILE the unit's command does not start", done.status == 2 and "office init" in done.err, done.err)
-    shell.run(f"office apply {CITY} examples/city_archive/story.json")
-    line = shell.serve(SERVES)
+    shell.run(f"office apply {CITY} examples/city_archive/story.json; chown office: {CITY} {CITY}-wal")
+    line = shell.serve(f"{AS_OFFICE} {SERVES}")
     judge("the office of the unit listens", line == "listening 127.0.0.1:8081\n", line)
 
 
@@ -147,19 +150,29 @@ def is_restored(shell: Shell) -> None:
 def has_kept(shell: Shell) -> None:
     """What is old, in both layouts: the last good copies stay, however old."""
     judge("what a restore put aside is there", any("before" in it for it in os.listdir(os.path.dirname(CITY))))
-    shell.run(f"mkdir -p {BACKUPS}/city && cp city.db {BACKUPS}/city/20200101T000000Z.db && "
-              f"cp city.db {BACKUPS}/city-20200102T000000Z.db")
+    shell.run(f"mkdir -p {BACKUPS} && cp city.db {BACKUPS}/20200101T000000Z.db && "
+              f"cp city.db {BACKUPS}-20200102T000000Z.db")
 
 
 def has_moved(shell: Shell) -> None:
-    there = sorted(os.listdir(f"{BACKUPS}/city"))
+    there = sorted(os.listdir(BACKUPS))
     judge("the copies of the earlier layout are in the folder, and none was removed",
           there == ["20200101T000000Z.db", "20200102T000000Z.db"], f"{there}")
 
 
+def left_is_seen(shell: Shell) -> None:
+    """What was cut off is listed, as this and earlier versions name it; an office with a dot in its name is not."""
+    left = [f"{BACKUPS}/.office-backup.abcdef", f"{BACKUPS}-20200102T000000Z.db.abcdef"]
+    other = "/var/lib/office/town.office"
+    shell.run(f"mkdir -p {' '.join(left)} {other} && touch -d '2 days ago' {' '.join(left)} {other}")
+    listed = shell.run(next(it.line for it in commands(PAGE) if it.line.startswith(LEFT))).out.split()
+    shell.run(f"rmdir {' '.join(left)} {other}")
+    judge("what was cut off is listed, and no office", sorted(listed) == sorted(left), f"{listed}")
+
+
 def is_compact(shell: Shell) -> None:
     judge_alone(shell, "office-compact", CITY, ALL)
-    line = shell.serve(SERVES)
+    line = shell.serve(f"{AS_OFFICE} {SERVES}")
     judge("the office listens after it", line == "listening 127.0.0.1:8081\n", line)
 
 
@@ -262,7 +275,7 @@ ROWS = [
     Row("BEFORE_DAYS=30 office-prune", prints=""),
     Row("install -d -o office -g office -m 700 /var/lib/office-backups/city"),
     Row("find /var/lib/office-backups -maxdepth 1", then=has_moved),
-    Row("find /var/lib /var/cache", prints=""),
+    Row(LEFT, prints="", then=left_is_seen),
     Row("mkdir -m 700 registers"),
     Row(f"office-overdue {CITY} registers", like=r"registers/overdue-\d{4}-\d\d-\d\d\.csv\n"),
     Row("cp examples/service/city.mail"),

@@ -100,7 +100,7 @@ ROWS = [
     Row("curl --silent 'http://127.0.0.1:9115/probe", skip=MISSING, prints="probe_success 1\n", then=is_probed),
     Row("systemctl is-active", skip="without systemd", then=has_backup),
     Row("examples/monitor/fewer", prints="", then=fewer_are_seen),
-    Row("find /var/lib/office/city -name '*.before-*'", prints=""),
+    Row("find /var/lib/office/city -name '*.before-*Z'", prints=""),
     Row("find /var/lib/office-backups/city -name '*Z.db' -mmin", like=r"\S+/city/20250103T023000Z\.db\n"),
     Row("sqlite3 \"file:$(ls -t /var/lib/office-backups", prints="", then=run_is_seen),
     Row("df --output=avail", like=r" *\d+\n"),

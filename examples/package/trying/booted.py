@@ -6,7 +6,7 @@ import time
 
 from trying.judging import judge
 from trying.machine import Done, Machine, run
-from trying.stopping import ASK_FILE, judge_compaction, judge_missing, judge_stopping
+from trying.stopping import ASK_FILE, judge_compaction, judge_missing, judge_pruned, judge_stopping
 
 CITY = "/var/lib/office/city"
 # asks the service, for half a minute at most: the body of an answer is its last line
@@ -72,6 +72,7 @@ def judge_units(booted: Booted) -> None:
     judge("systemd: a backup makes a copy while it serves", done.out == "1\n", done)
     judge_stopping(booted)
     judge_compaction(booted)
+    judge_pruned(booted)
 
 
 def judge_upgrade(booted: Booted, second: pathlib.Path) -> None:

@@ -104,6 +104,19 @@ def judge_compaction(booted: "Booted") -> None:
     judge("systemd: a compaction of a stopped office leaves it stopped", done.out == "inactive\n2\n", done)
 
 
+def judge_pruned(booted: "Booted") -> None:
+    """The nightly unit removes an old file before it comes to a copy that is not good, which fails it."""
+    copies, old = "/var/lib/office-backups/city", "20200101T000000Z"
+    booted.run(f"echo old >{CITY}/office.db.before-{old}; echo none >{copies}/{old}.db; "
+               f"chown office: {CITY}/office.db.before-{old} {copies}/{old}.db")
+    done = booted.run("systemctl start office-backup@city; systemctl is-failed office-backup@city; "
+                      f"ls {CITY} {copies} | grep -c {old}; journalctl --sync; "
+                      "journalctl -o cat -u office-backup@city; systemctl reset-failed office-backup@city")
+    judge("systemd: the nightly unit removes an old file, and fails over a copy that is not good",
+          done.out.startswith("failed\n0\n") and f"removed: {CITY}/office.db.before-{old}\n" in done.out
+          and f"the office does not open {copies}/{old}.db\n" in done.out, done)
+
+
 MAIL = """#!/bin/sh
 echo "mail $*"
 ls -A /var/lib/office /var/lib/office-backups /var/lib/office-registers 2>&1 | tr '\\n' ' '
