@@ -41,11 +41,14 @@ import("/web/sheet/turning.js").then(({ turned }) => import("/web/cases/turned.j
   .then(({ outcomeOf }) => done(cases.map((it) => outcomeOf(turned, it))))).catch((why) => done(String(why)));
 """
 
-# each request waits until it is let go
+# each request that acts waits until it is let go
 HELD = """
 const there = window.fetch;
 const free = new Promise((then) => { window.letGo = then; });
-window.fetch = async (...words) => { await free; return there(...words); };
+window.fetch = async (...words) => {
+  if (words[1]?.method === "POST") await free;
+  return there(...words);
+};
 """
 
 

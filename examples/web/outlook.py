@@ -10,6 +10,7 @@ from interface import city
 from judging import judge, same
 from place import Office, Proxy
 from shots import shots
+from story import TEXTS
 
 # each bar: what it says, and the height of each part by its look; the axis
 BARS = """
@@ -175,7 +176,7 @@ def tell(office: Office, proxy: Proxy, it: Browser, _folder: pathlib.Path) -> No
     same(
         "outlook: of an empty office it says that nothing falls due",
         it.seen("#outlook-outcome"),
-        "No record has a due day.",
+        TEXTS["outlook"]["none"],
     )
     for name in ("1-schedule", "2-holdings", "3-lawsuit"):
         office.ask("POST", "/acts", city(name))
