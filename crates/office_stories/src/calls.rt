@@ -5,7 +5,7 @@ use office_base::Refusal;
 use office_days::{ConfirmDays, Day};
 use office_desk::Desk;
 use office_machine::{Act, Answer, Builder, Decision, Machine, RecordView, Tables};
-use office_program::{Io, Order, PlanStop, Words, due_to, order_of, plan_to, read_words, run_on};
+use office_program::{Io, Order, PlanStop, due_to, plan_to, run_on};
 use office_proof::Entry;
 use office_store::Store;
 use office_terms::{RecordNo, Text};
@@ -124,7 +124,8 @@ fn wire(alloc: Global, desk: &mut Desk<MemStore>, day: Day, days: ConfirmDays) -
     Err(Fail::new("answered otherwise"))
 }
 
-/// The program: its words, and what it does without an office.
+/// The program: what it does without an office, and a command over a connection. Its words are read
+/// in the cases.
 fn program(alloc: Global, conn: Connection<MemStore>) -> Result<(), Fail> {
     let mut out = Vec::new(alloc);
     let refusal: Result<Option<Refusal>, Io> = due_to(
@@ -140,9 +141,7 @@ fn program(alloc: Global, conn: Connection<MemStore>) -> Result<(), Fail> {
         fails: false,
     };
     let refused: Result<Option<(u64, Refusal)>, PlanStop> = plan_to(alloc, &mut plan, &mut out);
-    let names = ["office", "init", "office.db"];
-    let words: Words<'_> = read_words(alloc, &names)?;
-    let order: Order<'_> = order_of(words)?;
+    let order = Order::Init { file: "office.db" };
     let mut err = Vec::new(alloc);
     let (status, conn): (u8, Connection<MemStore>) = run_on(
         alloc,
