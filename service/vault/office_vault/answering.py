@@ -1,0 +1,186 @@
+"""What the service answers: it takes objects in, and says which object a record's file is, for nginx to send.
+
+    PUT /vault/SHA256          201 a new object, 200 there already; on the disk in both cases
+    GET /records/N/files       the files that record N names, as JSON
+    GET /records/N/files/K     the K-th of them
+
+The office is asked for the content of the record at each GET, with the lines that nginx sets for the office. So who may
+read the content may read the files, and nobody else.
+"""
+import contextlib
+import http.client
+import json
+import re
+import socket
+import sys
+import threading
+import urllib.parse
+from collections.abc import Callable
+from dataclasses import dataclass
+from http.server import BaseHTTPRequestHandler
+
+from office_vault import asking, manifest
+from office_vault.objects import NoRoom, Vault, WrongBytes, stamp_at
+
+PUT = re.compile(r"/vault/([0-9a-f]{64})")
+FILES = re.compile(r"/records/([1-9][0-9]{0,9})/files(?:/([1-9][0-9]{0,5}))?")
+SECONDS = 60
+"""so long a client or nginx may be silent"""
+AT_ONCE = {"PUT": 48, "GET": 48, "HEAD": 48}
+
+
+@dataclass(frozen=True)
+class Settings:
+    """What the service was started with."""
+
+    vault: Vault
+    office: str
+    most: int
+    reserve: int
+    internal: str
+
+
+class Answered(Exception):
+    """Ends a request with a status and a word."""
+
+    def __init__(self, status: int, word: str) -> None:
+        super().__init__(word)
+        self.status, self.word = status, word
+
+
+class Handler(BaseHTTPRequestHandler):
+    """One request, one answer, and the connection is closed."""
+
+    settings: Settings
+    timeout = SECONDS
+    server_version = "office-vault"
+    sys_version = ""
+    free = {name: threading.BoundedSemaphore(count) for name, count in AT_ONCE.items()}
+
+    def do_PUT(self) -> None:
+        self.answer(self.put)
+
+    def do_GET(self) -> None:
+        self.answer(self.give)
+
+    do_HEAD = do_GET
+
+    def answer(self, what: Callable[[], None]) -> None:
+        """Answers, whatever comes of it. A client that is refused early is drained for a moment."""
+        # a client that went away, or is too slow, is let go
+        with contextlib.suppress(TimeoutError, ConnectionError):
+            try:
+                self.within(what)
+            except Answered as it:
+                self.say(it.status, {"error": it.word})
+                self.drain()
+
+    def within(self, what: Callable[[], None]) -> None:
+        """Does one of the requests that are served at once, or refuses it."""
+        if not self.free[self.command].acquire(blocking=False):
+            raise Answered(503, "busy")
+        try:
+            what()
+        except (TimeoutError, ConnectionError):
+            raise
+        except OSError as error:
+            print(f"office-vault: {self.command} {self.path[:80]}: {error}", file=sys.stderr, flush=True)
+            raise Answered(500, "disk") from error
+        finally:
+            self.free[self.command].release()
+
+    def say(self, status: int, body: object, **lines: str) -> None:
+        data = b"" if body is None else json.dumps(body, separators=(",", ":"), sort_keys=True).encode()
+        self.send_response(status)
+        given = {"Content-Type": "application/json", "Content-Length": str(len(data)), "Connection": "close"}
+        for name, value in (given | {it.replace("_", "-"): value for it, value in lines.items()}).items():
+            self.send_header(name, value)
+        self.end_headers()
+        if self.command != "HEAD":
+            self.wfile.write(data)
+
+    def drain(self) -> None:
+        """Reads a little more, so that the answer is not lost with what was not read."""
+        with contextlib.suppress(OSError):
+            self.connection.shutdown(socket.SHUT_WR)
+            self.connection.settimeout(0.2)
+            for _ in range(64):
+                if not self.connection.recv(65536):
+                    return
+
+    # ---- in
+
+    def put(self) -> None:
+        found = PUT.fullmatch(self.path)
+        if not found:
+            raise Answered(404, "path")
+        length = self.length()
+        settings = self.settings
+        try:
+            is_new = settings.vault.receive(found[1], length, self.rfile.read, settings.reserve)
+        except WrongBytes as error:
+            raise Answered(400 if str(error) == "body" else 422, str(error)) from error
+        except NoRoom as error:
+            raise Answered(507, "full") from error
+        self.say(201 if is_new else 200, {"length": length, "sha256": found[1]})
+
+    def length(self) -> int:
+        """Returns how many bytes come, by the rules that the office has for its own bodies."""
+        if self.headers.get("Transfer-Encoding"):
+            raise Answered(501, "coding")
+        lengths = self.headers.get_all("Content-Length") or []
+        if not lengths:
+            raise Answered(411, "length")
+        if len(lengths) > 1 or not re.fullmatch("[0-9]{1,19}", lengths[0]):
+            raise Answered(400, "length")
+        if int(lengths[0]) > self.settings.most:
+            raise Answered(413, "size")
+        return int(lengths[0])
+
+    # ---- out
+
+    def give(self) -> None:
+        found = FILES.fullmatch(self.path)
+        if not found:
+            raise Answered(404, "path")
+        files = manifest.read(self.content(found[1])) or []
+        if found[2] is None:
+            self.say(200, [self.described(at, it) for at, it in enumerate(files, 1)])
+            return
+        if len(files) < int(found[2]):
+            raise Answered(404, "file")
+        it = files[int(found[2]) - 1]
+        if not self.is_there(it):
+            raise Answered(503, "object")
+        name = urllib.parse.quote(re.split(r"[/\\]", it.place)[-1] or "file", safe="")
+        self.say(200, None, Content_Type="application/octet-stream",
+                 Content_Disposition=f"attachment; filename*=UTF-8''{name}",
+                 X_Accel_Redirect=f"{self.settings.internal}/{it.digest[:2]}/{it.digest}")
+
+    def described(self, number: int, it: manifest.Named) -> dict[str, object]:
+        return {"file": number, "length": it.length, "place": it.place, "sha256": it.digest, "there": self.is_there(it)}
+
+    def is_there(self, it: manifest.Named) -> bool:
+        return stamp_at(self.settings.vault.path(it.digest)) is not None
+
+    def content(self, number: str) -> bytes:
+        """Returns the content of a record, if the office gives it to whoever asks; else the office's own answer."""
+        lines = {name: value for name, value in self.headers.items() if name.lower().startswith("office-")}
+        path = f"/records/{number}/content"
+        try:
+            status, data = asking.asked(self.settings.office, path, lines, manifest.MOST_BYTES + 1)
+        except TimeoutError as error:
+            raise Answered(504, "time") from error
+        except (OSError, http.client.HTTPException) as error:
+            raise Answered(502, "office") from error
+        if status == 404:
+            raise Answered(404, "content")
+        if status != 200:
+            raise Answered(status if status in (401, 403) else 503, "office")
+        return data
+
+    def address_string(self) -> str:
+        return "nginx"
+
+    def log_message(self, form: str, *words: object) -> None:
+        """nginx keeps the journal."""

@@ -1,0 +1,154 @@
+"""The words of office-vault: what each takes, and what it prints."""
+import argparse
+import hashlib
+import os
+import pwd
+import sqlite3
+import sys
+from collections.abc import Callable
+from pathlib import Path
+
+from office_vault import checking, manifest, mirroring, service, sweeping
+from office_vault.answering import Settings
+from office_vault.errors import Refused
+from office_vault.objects import NoRoom, Vault
+
+GIGABYTE = 1 << 30
+
+
+def make(it: argparse.Namespace) -> int:
+    """create the folders of a vault"""
+    Vault.make(it.vault)
+    return 0
+
+
+def put(it: argparse.Namespace) -> int:
+    """put files in, and print the manifest that names them"""
+    vault, named = Vault(it.vault), []
+    for path in it.files:
+        with path.open("rb") as file:
+            digest, length = hashlib.file_digest(file, "sha256").hexdigest(), file.tell()
+            file.seek(0)
+            vault.receive(digest, length, file.read, it.reserve)
+        named.append(manifest.Named(digest, length, path.name))
+    print(manifest.text_of(named), end="")
+    return 0
+
+
+def serve(it: argparse.Namespace) -> int:
+    """serve a vault behind nginx, at a socket of the file system"""
+    service.serve(Settings(Vault(it.vault), it.office, it.most, it.reserve, it.internal), it.socket)
+    return 0
+
+
+def sweep(it: argparse.Namespace) -> int:
+    """remove what no record names, and print the report"""
+    rules = sweeping.Rules(it.grace, it.restored, it.many, lines_of(it.line))
+    vault = Vault(it.vault)
+    report = sweeping.sweep_copies(vault, Path(it.office), rules) if it.copies \
+        else sweeping.sweep(vault, it.office, rules)
+    print(report.read_text(), end="")
+    return 0
+
+
+def check(it: argparse.Namespace) -> int:
+    """compare each object with its digest, and each manifest with the objects"""
+    last = ""
+    for last in checking.check(Vault(it.vault), it.office, it.quick, lines_of(it.line)):
+        print(last, flush=True)
+    return 0 if last.endswith("wrong 0") else 1
+
+
+def mirror(it: argparse.Namespace) -> int:
+    """copy to the vault TARGET what it lacks, each digest compared"""
+    last = ""
+    for last in mirroring.mirror(Vault(it.vault), Vault(it.target), it.reserve):
+        print(last, flush=True)
+    return 0 if last.endswith("damaged 0") else 1
+
+
+def lines_of(words: list[str]) -> dict[str, str]:
+    return dict(one.split(": ", 1) for one in words)
+
+
+def line(text: str) -> str:
+    """Reads a field line."""
+    name, mark, _ = text.partition(": ")
+    if not mark or not name:
+        raise argparse.ArgumentTypeError(f"'{text}' is no field line, such as 'Office-Read: newest'")
+    return text
+
+
+def number(text: str) -> int:
+    """Reads a count of bytes or seconds."""
+    if not (text.isascii() and text.isdigit()):
+        raise argparse.ArgumentTypeError(f"'{text}' is no number")
+    return int(text)
+
+
+def words() -> argparse.ArgumentParser:
+    parser = argparse.ArgumentParser("office-vault", allow_abbrev=False)
+    kinds = parser.add_subparsers(required=True, metavar="COMMAND")
+
+    def kind(what: Callable[[argparse.Namespace], int], *places: str) -> argparse.ArgumentParser:
+        one = kinds.add_parser(what.__name__, help=what.__doc__, allow_abbrev=False)
+        one.set_defaults(what=what)
+        for it in places:
+            one.add_argument(it, type=Path)
+        return one
+
+    kind(make, "vault")
+    one = kind(put, "vault")
+    one.add_argument("files", type=Path, nargs="+")
+    room(one)
+    one = kind(serve, "vault", "socket")
+    one.add_argument("--office", required=True, metavar="HOST:PORT")
+    one.add_argument("--most", type=number, default=100 * GIGABYTE, help="bytes of the largest object")
+    one.add_argument("--internal", default="/office-vault-objects", help="where nginx has the objects")
+    room(one)
+    one = kind(sweep, "vault")
+    asked(one)
+    one.add_argument("--grace", type=number, default=int(sweeping.GRACE), help="seconds")
+    one.add_argument("--restored", action="store_true", help="the office was restored from a backup")
+    one.add_argument("--many", action="store_true", help="more may go than stay")
+    one.add_argument("--copies", action="store_true", help="OFFICE is a folder of copies: what no copy names goes")
+    one = kind(check, "vault")
+    asked(one)
+    one.add_argument("--quick", action="store_true", help="look at lengths alone")
+    room(kind(mirror, "vault", "target"))
+    return parser
+
+
+def asked(one: argparse.ArgumentParser) -> None:
+    one.add_argument("office", help="http://127.0.0.1:PORT, FILE, or a folder of copies")
+    one.add_argument("--line", type=line, action="append", default=[], help="a field line of each request")
+
+
+def room(one: argparse.ArgumentParser) -> None:
+    one.add_argument("--reserve", type=number, default=GIGABYTE, help="bytes of the disk that stay free")
+
+
+def become_owner(folder: Path) -> None:
+    """Gives up root's rights for those of the vault's owner, before anything in its folder is touched."""
+    if os.geteuid() != 0 or not folder.is_dir() or (owner := folder.stat().st_uid) == 0:
+        return
+    found = pwd.getpwuid(owner)
+    os.initgroups(found.pw_name, found.pw_gid)
+    os.setresgid(found.pw_gid, found.pw_gid, found.pw_gid)
+    os.setresuid(owner, owner, owner)
+
+
+def main(arguments: list[str]) -> int:
+    it = words().parse_args(arguments)
+    os.umask(0o027)
+    try:
+        become_owner(it.vault)
+        return it.what(it)
+    except Refused as refused:
+        print(f"office-vault: {refused}", file=sys.stderr)
+        return refused.status
+    except NoRoom:
+        print("office-vault: the disk has no room for this object, and the bytes that stay free", file=sys.stderr)
+    except (OSError, sqlite3.Error, ValueError, KeyError) as error:
+        print(f"office-vault: {error}", file=sys.stderr)
+    return 3
