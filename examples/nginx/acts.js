@@ -117,7 +117,7 @@ function line(r) {
 }
 
 /** Whether acts were done, or may have been. */
-const isDone = (status) => status === 200 || status === 409 || status >= 499;
+const isDone = (status) => status === 200 || status === 201 || status === 409 || status >= 499;
 
 /** Answers whether the office has a record, and nothing of it: for a monitor, whose password reads nothing. */
 function alive(r) {

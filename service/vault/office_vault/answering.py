@@ -24,8 +24,8 @@ from office_vault.objects import NoRoom, Vault, WrongBytes, stamp_at
 
 PUT = re.compile(r"/vault/([0-9a-f]{64})")
 FILES = re.compile(r"/records/([1-9][0-9]{0,9})/files(?:/([1-9][0-9]{0,5}))?")
-SECONDS = 60
-"""so long a client or nginx may be silent"""
+SECONDS = 120
+"""so long nginx may be silent, which waits for its client for a shorter time"""
 AT_ONCE = {"PUT": 48, "GET": 48, "HEAD": 48}
 
 
@@ -178,6 +178,12 @@ class Handler(BaseHTTPRequestHandler):
         if status != 200:
             raise Answered(status if status in (401, 403) else 503, "office")
         return data
+
+    def send_error(self, code: int, message: str | None = None, explain: str | None = None) -> None:
+        """Answers what is not read as a request, or has a method that no path takes."""
+        is_method = code == 501
+        self.close_connection = True
+        self.say(405 if is_method else code, {"error": "method" if is_method else "head"})
 
     def address_string(self) -> str:
         return "nginx"

@@ -77,10 +77,15 @@ class State:
         for it in ("known", "naming", "names", "seen"):
             self.tables.execute(f"DELETE FROM {it}")
 
-    def last_record(self) -> list[tuple[int, str]]:
-        """Returns the last record that was read, with its digest, or nothing."""
-        return [(number, digest.hex()) for number, digest in
-                self.rows("SELECT record, digest FROM known ORDER BY record DESC LIMIT 1")]
+    def last_record(self) -> int:
+        """Returns the number of the last record that was read."""
+        return self.rows("SELECT coalesce(max(record), 0) FROM known")[0][0]
+
+    def last_ones(self) -> list[tuple[int, str, bool]]:
+        """Returns the last record that was read, and the one that ended last: an office that went back lost these."""
+        words = "SELECT record, digest, run IS NOT NULL FROM known LEFT JOIN naming USING (record) ORDER BY "
+        found = self.rows(words + "record DESC LIMIT 1") + self.rows(words + "run DESC NULLS LAST, record DESC LIMIT 1")
+        return [(number, digest.hex(), bool(ended)) for number, digest, ended in found]
 
     def known(self) -> Iterator[tuple[int, str, bool]]:
         """Lists the records that were read, each with its digest and whether it is known to have ended."""

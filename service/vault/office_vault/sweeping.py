@@ -73,11 +73,10 @@ def compare(office: Office, number: int, digest: str, has_ended: bool) -> Said:
 
 def learn(state: State, office: Office) -> None:
     """Notes what records name that were filed since the last sweep, and which ended."""
-    number = 1
-    for last, digest in state.last_record():
-        compare(office, last, digest, False)
-        number = last + 1
+    for it in state.last_ones():
+        compare(office, *it)
     old = {it: compare(office, it, digest, False) for it, digest in state.naming()}
+    number = state.last_record() + 1
     while (said := office.said(number)) is not None:
         state.learn(number, said, offices.reading(office, number, said))
         number += 1

@@ -7,6 +7,7 @@ import subprocess
 import time
 from dataclasses import dataclass
 
+from vault_trial import forked
 from vault_trial.expected import GRACE
 from vault_trial.office import Record
 from vault_trial.places import COMMAND, SCRIPTS
@@ -43,7 +44,7 @@ class Copies:
         self.restores = 0
 
     def objects(self) -> set[str]:
-        return {it.name for it in (self.second / "objects").glob("*/*") if len(it.name) == 64}
+        return forked.names(self.second)
 
     def killed(self, words: list[str], longest: float) -> bool:
         """Runs a script and kills it, with all that it started, at a random moment; returns whether it was killed."""
@@ -90,7 +91,7 @@ class Copies:
             self.kills["mirror kills"] += done.returncode == -signal.SIGKILL
         done = it.run("mirror", it.vault, self.second, "--reserve", "0", stop="count")
         assert done.returncode == 0, done.stderr
-        it.lines["mirror"] = max(300, int(done.stderr.split()[-1]))
+        it.lines["mirror"] = max(300, done.lines)
         for one in self.there:
             one.is_covered |= it.model.now - one.made < GRACE
         self.look("after a mirror")

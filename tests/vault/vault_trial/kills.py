@@ -7,8 +7,8 @@ from vault_trial.copying import Copies
 from vault_trial.expected import GRACE
 from vault_trial.world import World
 
-STEPS = 45
-OFFICE_KILLS = 8
+STEPS = 90
+OFFICE_KILLS = 3
 """so many starts of the program after a kill, at most, in one world: each may take seconds"""
 KILLED = ("put kills", "service kills", "sweep kills", "backup kills", "mirror kills", "restore kills", "office kills")
 

@@ -9,16 +9,16 @@ import shutil
 import signal
 import socket
 import subprocess
-import sys
 import time
 
+from vault_trial import forked
 from vault_trial.expected import GRACE, Expected
 from vault_trial.office import Office
 from vault_trial.places import COMMAND, HERE, OFFICE, SCRIPTS
+from vault_trial.standin import StandIn
 
 from office_vault.manifest import Named, text_of
 
-STOPPED = str(HERE / "stopped.py")
 PORTS = itertools.cycle(range(21500, 21560))
 
 
@@ -38,7 +38,7 @@ def free_port() -> int:
 class World:
     """A folder with all of it."""
 
-    def __init__(self, folder: pathlib.Path, seed: int) -> None:
+    def __init__(self, folder: pathlib.Path, seed: int, office: Office | StandIn | None = None) -> None:
         shutil.rmtree(folder, ignore_errors=True)
         folder.mkdir(parents=True)
         self.folder, self.vault, self.kept = folder, folder / "vault", folder / "kept"
@@ -56,10 +56,16 @@ class World:
         self.pending: list[tuple[float, list[str]]] = []
         self.service: subprocess.Popen | None = None
         subprocess.run([COMMAND, "make", str(self.vault)], check=True)
-        self.office = Office(folder / "office.db", free_port())
+        self.office = office or Office(folder / "office.db", free_port())
         self.office.start()
         self.office.found()
         self.start_service()
+
+    def __enter__(self) -> "World":
+        return self
+
+    def __exit__(self, *_: object) -> None:
+        self.end()
 
     def environment(self) -> dict[str, str]:
         """What a command sees. A slow program opens every COPIES-th copy alone; SQLite's own recovery the others."""
@@ -69,10 +75,9 @@ class World:
                 "BACKUP": str(SCRIPTS / "office-backup"),
                 "OFFICE": OFFICE if by_program else str(HERE / "opened-by-sqlite")}
 
-    def run(self, *words: object, stop: str = "plain") -> subprocess.CompletedProcess[str]:
+    def run(self, *words: object, stop: str = "plain") -> forked.Done:
         """Runs a command of the vault at the time of the trial, perhaps stopped at a line."""
-        return subprocess.run([sys.executable, STOPPED, stop, str(self.model.now), *map(str, words)],
-                              env=self.environment(), stdin=subprocess.DEVNULL, capture_output=True, text=True)
+        return forked.run(list(words), self.environment(), self.model.now, stop)
 
     def end(self) -> None:
         self.office.stop()
@@ -163,7 +168,7 @@ class World:
     # ---- sweeps
 
     def there(self) -> set[str]:
-        return {it.name for it in (self.vault / "objects").glob("*/*") if len(it.name) == 64}
+        return forked.names(self.vault)
 
     def place(self) -> str:
         """How sweeps ask the office: over HTTP in half of the worlds, by copies in the others."""
@@ -184,7 +189,7 @@ class World:
     def sweep(self, *more: str) -> None:
         done = self.run(*self.sweep_words(), *more, stop="count")
         assert done.returncode == 0, done.stderr
-        self.lines["sweep"] = int(done.stderr.split()[-1])
+        self.lines["sweep"] = done.lines
         self.counts["sweeps"] += 1
         self.look(True)
 
@@ -209,10 +214,8 @@ class World:
         last = self.lines["sweep"]
         late = self.random.randint(max(1, last - 250), last)
         at = self.random.randint(1, last) if self.random.random() < 0.4 else late
-        words = [sys.executable, STOPPED, f"wait:{at}", str(self.model.now), *self.sweep_words()]
-        sweep = subprocess.Popen(words, env=self.environment(), stdin=subprocess.PIPE, stdout=subprocess.PIPE,
-                                 stderr=subprocess.PIPE)
-        is_waiting = sweep.stdout.readline() == b"waiting\n"
+        sweep = forked.Child(self.sweep_words(), self.environment(), self.model.now, f"wait:{at}")
+        is_waiting = sweep.waits()
         before = self.there()
         renewed = [it for it in chosen if self.put_again(it, before)]
         if renewed:
@@ -220,10 +223,12 @@ class World:
         is_killed = is_waiting and self.random.random() < 0.3
         if is_killed:
             sweep.kill()
-        sweep.communicate(b"\n")
+        elif is_waiting:
+            sweep.tell()
+        done = sweep.wait()
         self.counts["races"] += 1
         self.counts["sweep kills"] += is_killed
-        assert is_killed or sweep.returncode == 0
+        assert is_killed or done.returncode == 0, done.stderr
         self.look(not is_killed)
         for it in renewed:
             if it not in self.there():
