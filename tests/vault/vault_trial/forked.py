@@ -16,6 +16,8 @@ from vault_trial.places import VAULT
 from office_vault import commands, sweeping
 
 SOURCES = str(VAULT / "office_vault") + os.sep
+ONLY = os.environ.get("ONLY", "").split()
+"""functions whose lines alone count, if there are any"""
 
 
 @dataclass
@@ -100,7 +102,8 @@ class Tracing:
         self.at, self.come, self.go, self.count = int(number or 0), come, go, 0
 
     def line(self, frame, event: str, _: object):
-        if not frame.f_code.co_filename.startswith(SOURCES):
+        code = frame.f_code
+        if not code.co_filename.startswith(SOURCES) or ONLY and code.co_name not in ONLY:
             return None
         if event == "line":
             self.count += 1

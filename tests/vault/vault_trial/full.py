@@ -3,6 +3,7 @@ import contextlib
 import http.client
 import os
 import pathlib
+import socket
 import subprocess
 from collections.abc import Iterator
 
@@ -45,9 +46,9 @@ def puts(it: World) -> list[str]:
 
 def filled(it: World, place: pathlib.Path) -> None:
     """The disk becomes full in the middle of a PUT whose length was said to have room."""
-    with (place / "filler").open("wb") as file, contextlib.suppress(OSError):
+    with contextlib.suppress(OSError), (place / "filler").open("wb", buffering=0) as file:
         conn = http.client.HTTPConnection("vault")
-        conn.sock = __import__("socket").socket(__import__("socket").AF_UNIX)
+        conn.sock = socket.socket(socket.AF_UNIX)
         conn.sock.connect(str(it.folder / "socket"))
         data = os.urandom(200_000)
         conn.putrequest("PUT", f"/vault/{digest(data)}")
@@ -55,8 +56,7 @@ def filled(it: World, place: pathlib.Path) -> None:
         conn.endheaders()
         conn.send(data[:1000])
         while True:
-            file.write(bytes(65536))
-            file.flush()
+            file.write(bytes(4096))
     conn.send(data[1000:])
     answer = conn.getresponse()
     same("a disk that becomes full meanwhile", (answer.status, answer.read()), (507, b'{"error":"full"}'))

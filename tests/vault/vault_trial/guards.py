@@ -1,4 +1,5 @@
 """What a sweep refuses: the mistakes that would empty a vault."""
+import hashlib
 import os
 import pathlib
 import subprocess
@@ -51,7 +52,7 @@ def refiled(it: World) -> None:
     it.sweep()
     digest = it.note(b"filed again" * 50)
     it.office.contents[last - 1] = manifest.Named(digest, 550, "x").text().encode()
-    it.office.records[last - 1].digest = __import__("hashlib").sha256(it.office.contents[last - 1]).hexdigest()
+    it.office.records[last - 1].digest = hashlib.sha256(it.office.contents[last - 1]).hexdigest()
     it.model.now += GRACE
     done = it.run(*it.sweep_words())
     judge("a record that was filed anew under an old number is noticed before anything goes",

@@ -15,6 +15,9 @@ from vault_trial.world import free_port
 from office_vault import manifest, state, sweeping
 from office_vault.objects import Vault
 
+NOTED = 3
+"""transactions of a sweep up to the one that notes what goes: two finish an earlier sweep"""
+
 
 class Disk:
     """What was written and synced: of each file its bytes and times, of each folder its names."""
@@ -70,13 +73,13 @@ def watched(disk: Disk) -> Iterator[None]:
         disk.named(os.path.join(os.readlink(f"/proc/self/fd/{dst_dir_fd}"), name))
 
     def renamed(old, new):
-        if pathlib.Path(new).parent.name == "going" and disk.commits < 2:
+        if pathlib.Path(new).parent.name == "going" and disk.commits < NOTED:
             disk.wrong.append("an object is taken out before it is noted why")
         disk.named(str(new))
         disk.named(str(old))
 
     def removed(path, **more):
-        if pathlib.Path(path).parent.name == "going" and disk.commits < 3:
+        if pathlib.Path(path).parent.name == "going" and disk.commits <= NOTED:
             disk.wrong.append("an object is removed before it is noted")
         disk.named(str(path))
 
@@ -123,6 +126,7 @@ def tried(folder: pathlib.Path) -> None:
     path.chmod(0o640)
     path.write_bytes(b"damaged")
     put(vault, data, "a damaged object is replaced by one that is on the disk")
+    judge("and its bytes are right", path.read_bytes() == data)
     put(vault, b"", "an empty object")
     office = StandIn(free_port())
     office.start()

@@ -9,9 +9,9 @@ from vault_trial.places import SCRIPTS
 from vault_trial.world import World
 
 
-def night(it: World, copies: Copies) -> pathlib.Path:
+def night(it: World, copies: Copies, day: int) -> pathlib.Path:
     """FILE first, then the vault."""
-    path = copies.folder / "20240102T000000Z.db"
+    path = copies.folder / f"2024010{day}T000000Z.db"
     done = subprocess.run([str(SCRIPTS / "office-backup"), str(it.office.file), str(path)], env=it.environment(),
                           capture_output=True, text=True)
     same("FILE is copied", (done.returncode, done.stderr), (0, ""))
@@ -26,7 +26,7 @@ def by_copies(it: World, copies: Copies, names: set[str]) -> None:
         it.model.now += 101
         done = it.run("sweep", copies.second, copies.folder, "--copies", "--grace", "100", "--many")
         same("the second vault is swept by its copies", (done.returncode, done.stderr), (0, ""))
-    same("what a copy names stays there", copies.objects(), names)
+    same("what any copy names stays there", copies.objects(), names)
     done = it.run("check", copies.second, copies.folder)
     judge("it is checked by the newest copy", done.returncode == 0, done.stdout + done.stderr)
 
@@ -39,13 +39,14 @@ def tried(folder: pathlib.Path) -> None:
             it.put(one)
         number = it.file("D", sorted(names))
         it.sweep()
-        path = night(it, copies)
+        path = night(it, copies, 2)
         it.office.confirm([number])
         it.office.run()
         for _ in range(2):
             it.model.now += 101
             it.sweep()
         same("they are gone here", it.there(), set())
+        later = night(it, copies, 3)
         by_copies(it, copies, names)
         it.office.stop()
         words = [str(SCRIPTS / "office-restore"), str(it.office.file), str(path)]
@@ -70,5 +71,6 @@ def tried(folder: pathlib.Path) -> None:
         status, _, lines = it.ask("GET", f"/records/{number}/files/5")
         judge("and it is served", status == 200 and lines["X-Accel-Redirect"][-64:] in names, lines)
         path.unlink()
+        later.unlink()
         done = it.run("sweep", copies.second, copies.folder, "--copies")
         same("without a copy nothing is swept there", done.returncode, 3)
