@@ -1,7 +1,7 @@
 """The check: each object has its digest, and each file that a record with content names is there with its length."""
 from collections.abc import Iterator
 
-from office_vault import offices
+from office_vault import offices, opening
 from office_vault.objects import Vault, digest_of, stamp_at
 from office_vault.offices import Office
 
@@ -36,7 +36,7 @@ def check(vault: Vault, place: str, is_quick: bool, lines: dict[str, str]) -> It
     """Lists what is wrong, and at last a line of counts. A quick check reads no object."""
     named: set[str] = set()
     wrong = 0
-    with offices.opened(place, vault.work, lines) as office:
+    with opening.opened(place, vault.work, lines) as office:
         for it in of_manifests(vault, office, named):
             wrong += 1
             yield it

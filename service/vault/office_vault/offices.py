@@ -4,18 +4,13 @@ One moment is not needed. A content never changes, a record that ended stays end
 before the first question has a number below the first one that is not there. So what is asked record by record, after
 the clock was read, is never less than what the office named at that moment, but for records that ended since.
 """
-import contextlib
 import hashlib
-import re
 from collections.abc import Iterator
 from dataclasses import dataclass
-from pathlib import Path
 from typing import Protocol
 
 from office_vault import manifest
 from office_vault.errors import Refused
-
-TIME = re.compile(r"\d{8}T\d{6}Z\.db")
 
 
 @dataclass(frozen=True)
@@ -59,35 +54,10 @@ def reading(office: Office, number: int, said: Said) -> manifest.Reading | None:
 
 
 def readings(office: Office) -> Iterator[tuple[int, manifest.Reading]]:
-    """Lists what the records that have their content keep in the vault, if they keep something or are no sound manifest."""
+    """Lists what the records that have their content keep in the vault: those that keep something, or have a slip."""
     number = 1
     while (said := office.said(number)) is not None:
         found = reading(office, number, said)
         if found is not None and (found.names or not found.is_sound):
             yield number, found
         number += 1
-
-
-def copies_in(folder: Path) -> list[Path]:
-    """Lists the copies in a folder, oldest first: those that office-backup@NAME made, whose name is a time."""
-    return sorted(it for it in folder.glob("*.db") if TIME.fullmatch(it.name))
-
-
-@contextlib.contextmanager
-def opened(place: str, work: Path, lines: dict[str, str]) -> Iterator[Office]:
-    """Opens what a command names as the office: an address, FILE (a copy is taken now), or a folder of copies."""
-    from office_vault.asking import Served
-    from office_vault.copies import Copied, copy_of
-    if place.startswith("http://"):
-        yield Served(place, lines)
-        return
-    path = Path(place)
-    if path.is_dir():
-        found = copies_in(path)
-        if not found:
-            raise Refused(3, f"there is no copy in {path}")
-        with contextlib.closing(Copied(found[-1])) as office:
-            yield office
-        return
-    with copy_of(path, work) as copy, contextlib.closing(Copied(copy)) as office:
-        yield office

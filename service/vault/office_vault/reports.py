@@ -1,4 +1,4 @@
-"""The report of a sweep: what went, which records had named it, and the runs that ended these; made of the state alone."""
+"""The report of a sweep, made of the state alone: what went, which records had named it, which runs ended these."""
 import hashlib
 import time
 from pathlib import Path

@@ -10,7 +10,7 @@ import time
 from dataclasses import dataclass, field
 from pathlib import Path
 
-from office_vault import offices, reports
+from office_vault import offices, opening, reports
 from office_vault.copies import Copied
 from office_vault.durable import sync_folder
 from office_vault.errors import Refused
@@ -115,7 +115,7 @@ def sweep(vault: Vault, place: str, rules: Rules = Rules()) -> Path:
     """Sweeps the vault of the office at an address, or in FILE, and returns the report."""
     with vault.sweeping(), contextlib.closing(State(vault.folder)) as state:
         began = begin(vault, state)
-        with offices.opened(place, vault.work, rules.lines) as office, state:
+        with opening.opened(place, vault.work, rules.lines) as office, state:
             if rules.is_restored:
                 state.forget()
             learn(state, office)
@@ -131,7 +131,7 @@ def sweep_copies(vault: Vault, folder: Path, rules: Rules = Rules()) -> Path:
     """Sweeps a vault that is kept beside copies of the office: an object goes that no copy names."""
     with vault.sweeping(), contextlib.closing(State(vault.folder)) as state:
         began = begin(vault, state)
-        copies = offices.copies_in(folder)
+        copies = opening.copies_in(folder)
         if not copies:
             raise Refused(3, f"there is no copy in {folder}")
         with state:

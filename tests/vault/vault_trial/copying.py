@@ -1,6 +1,5 @@
 """Backups and restores of an office and its vault, whole and killed: FILE first, then the vault."""
 import copy
-import os
 import pathlib
 import signal
 import subprocess

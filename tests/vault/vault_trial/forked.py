@@ -1,7 +1,7 @@
-"""Runs a command of office-vault in a process of its own, at a time of the trial, and stops it at a line of its sources.
+"""Runs a command of office-vault in a process of its own, at a time of the trial, and stops it at a line.
 
-`kill:N` ends it at the N-th line that it comes to, as SIGKILL does. `wait:N` has it write there that it waits, and
-continue once it is told to. `count` has it say how many lines there were. A fork saves the start of Python.
+`kill:N` ends it at the N-th line of its sources that it comes to, as SIGKILL does. `wait:N` has it write there that it
+waits, and continue once it is told to. `count` has it say how many lines there were. A fork saves the start of Python.
 """
 import os
 import pathlib

@@ -44,7 +44,7 @@ def other_offices(it: World) -> None:
 
 
 def refiled(it: World) -> None:
-    """After a restore other records have old numbers. The last one is the same, and still nothing goes that is named."""
+    """After a restore other records have old numbers, and the last one is the same: nothing goes that is named."""
     it.office.add("K", b"plain" * 30, set())
     last = it.office.add("K", b"the last one" * 30, set())
     it.put(it.note(b"filed again" * 50))

@@ -21,8 +21,8 @@ def foreign(it: World) -> None:
     number = it.office.add("D", text, set())
     same("a manifest gives no object of another vault", it.ask("GET", f"/records/{number}/files/1")[0], 503)
     done = it.run("check", it.vault, it.place())
-    judge("the check says that it is missing", f"record {number} names {digest(secret)}, which is missing" in done.stdout,
-          done.stdout)
+    says = f"record {number} names {digest(secret)}, which is missing"
+    judge("the check says that it is missing", says in done.stdout, done.stdout)
 
 
 def lengths_and_places(it: World) -> None:
@@ -43,7 +43,8 @@ def lengths_and_places(it: World) -> None:
     slip = manifest.Named(digest(data), 4, "x").text().replace("\n", "\r\n").encode()
     number = it.office.add("K", slip, {digest(data)})
     done = it.run("check", it.vault, it.place())
-    judge("the check reports a manifest with a slip", f"record {number} begins as a manifest" in done.stdout, done.stdout)
+    says = f"record {number} begins as a manifest"
+    judge("the check reports a manifest with a slip", says in done.stdout, done.stdout)
     same("it names no file to a reader", it.ask("GET", f"/records/{number}/files")[1], b"[]")
 
 
@@ -57,7 +58,8 @@ def long(it: World) -> None:
     texts = {"spaces": b" " * most, "digits": b"SHA256 " + b"d" * (most - 7),
              "a slip at its end": group * 2900 + f"sha256 {name}".encode(),
              "many groups": group * 2900 + manifest.Named(name, len(data), "last").text().encode()}
-    numbers = {what: it.office.add("D", text, {name} if name.encode() in text else set()) for what, text in texts.items()}
+    numbers = {what: it.office.add("D", text, {name} if name.encode() in text else set())
+               for what, text in texts.items()}
     it.sweep()
     status, said, _ = it.ask("GET", f"/records/{numbers['many groups']}/files")
     judge("a list of 2,901 files", status == 200 and said.count(b'"file":') == 2901, (status, len(said)))

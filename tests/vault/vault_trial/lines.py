@@ -1,4 +1,4 @@
-"""A PUT and a sweep are stopped at each of their lines: killed there, and made to wait there while an object is put again."""
+"""A PUT and a sweep are stopped at each of their lines: killed, or made to wait while an object is put again."""
 import collections
 import hashlib
 import io

@@ -23,8 +23,7 @@ def coming_in(it: Proxy, world: World, file: pathlib.Path, name: str) -> None:
     for who, here, status, word in [("", True, 401, "password"), ("reader", True, 403, "name"),
                                     ("registrar", False, 403, "origin"), ("judge", True, 401, "password")]:
         found = it.curl(path, *put, name=who, here=here)
-        same(f"PUT of {who or 'nobody'}, here {here}", found, (status, json.dumps({"error": word}, separators=(",", ":"))
-                                                              .encode()))
+        same(f"PUT of {who or 'nobody'}, here {here}", found, (status, b'{"error":"%s"}' % word.encode()))
     judge("nothing came in", name not in world.there())
     same("PUT of a registrar", it.curl(path, *put)[0], 201)
     same("PUT again", it.curl(path, *put)[0], 200)

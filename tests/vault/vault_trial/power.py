@@ -4,7 +4,7 @@ import io
 import os
 import pathlib
 import stat
-from collections.abc import Iterator
+from collections.abc import Callable, Iterator
 
 from vault_trial.answers import digest
 from vault_trial.forked import names
@@ -54,43 +54,60 @@ class Disk:
             self.wrong.append(f"{what}: not synced: {self.unsynced} {self.open_names}")
 
 
-@contextlib.contextmanager
-def watched(disk: Disk) -> Iterator[None]:
-    """Has the calls of this process noted."""
-    real = {name: getattr(os, name) for name in ("write", "utime", "fsync", "fdatasync", "link", "rename", "replace",
-                                                 "unlink")}
-    leave = state.State.__exit__
+class Calls:
+    """The calls of this process, each noted after it was done."""
 
-    def after(name, note):
-        def call(*words, **more):
-            found = real[name](*words, **more)
-            disk.events += 1
-            note(*words, **more)
+    def __init__(self, disk: Disk) -> None:
+        self.disk = disk
+
+    def after_write(self, fd: int, *_: object, **__: object) -> None:
+        self.disk.wrote(fd)
+
+    after_utime = after_write
+
+    def after_fsync(self, fd: int) -> None:
+        self.disk.synced(fd)
+
+    def after_link(self, _: str, name: str, dst_dir_fd: int = 0, **__: object) -> None:
+        self.disk.named(os.path.join(os.readlink(f"/proc/self/fd/{dst_dir_fd}"), name))
+
+    def after_rename(self, old: pathlib.Path, new: pathlib.Path) -> None:
+        if new.parent.name == "going" and self.disk.commits < NOTED:
+            self.disk.wrong.append("an object is taken out before it is noted why")
+        self.disk.named(str(new))
+        self.disk.named(str(old))
+
+    after_replace = after_rename
+
+    def after_unlink(self, path: pathlib.Path, **_: object) -> None:
+        if pathlib.Path(path).parent.name == "going" and self.disk.commits <= NOTED:
+            self.disk.wrong.append("an object is removed before it is noted")
+        self.disk.named(str(path))
+
+    def noted(self, name: str, real: Callable[..., object]) -> Callable[..., object]:
+        """Returns a call that does the real one, and has it noted."""
+        def call(*words: object, **more: object) -> object:
+            found = real(*words, **more)
+            self.disk.events += 1
+            getattr(self, f"after_{name}")(*words, **more)
             return found
         return call
 
-    def linked(_, name, dst_dir_fd=None, **more):
-        disk.named(os.path.join(os.readlink(f"/proc/self/fd/{dst_dir_fd}"), name))
 
-    def renamed(old, new):
-        if pathlib.Path(new).parent.name == "going" and disk.commits < NOTED:
-            disk.wrong.append("an object is taken out before it is noted why")
-        disk.named(str(new))
-        disk.named(str(old))
+@contextlib.contextmanager
+def watched(disk: Disk) -> Iterator[None]:
+    """Has the calls of this process noted."""
+    calls = Calls(disk)
+    names = [it.removeprefix("after_") for it in dir(Calls) if it.startswith("after_")]
+    real = {name: getattr(os, name) for name in names}
+    leave = state.State.__exit__
 
-    def removed(path, **more):
-        if pathlib.Path(path).parent.name == "going" and disk.commits <= NOTED:
-            disk.wrong.append("an object is removed before it is noted")
-        disk.named(str(path))
-
-    def committed(it, kind, *rest):
-        leave(it, kind, *rest)
+    def committed(it: state.State, *words: object) -> None:
+        leave(it, *words)
         disk.commits += 1
 
-    os.write, os.utime = after("write", lambda fd, _: disk.wrote(fd)), after("utime", lambda fd, **_: disk.wrote(fd))
-    os.fsync, os.fdatasync = after("fsync", disk.synced), after("fdatasync", lambda fd: None)
-    os.link, os.rename = after("link", linked), after("rename", renamed)
-    os.replace, os.unlink = after("replace", renamed), after("unlink", removed)
+    for name, call in real.items():
+        setattr(os, name, calls.noted(name, call))
     state.State.__exit__ = committed
     try:
         yield

@@ -19,8 +19,8 @@ class Proxy:
     def __init__(self, folder: pathlib.Path, city: int, court: int, port: int, vaults: pathlib.Path,
                  sockets: pathlib.Path) -> None:
         self.folder, self.port = folder, port
-        places = {"/etc/nginx/office": str(folder), "/var/log/nginx": f"{folder}/log", "/var/log/office": f"{folder}/log",
-                  "/var/lib/office-vaults/": f"{vaults}/", "/run/office-vault/$vault/socket": f"{sockets}/$vault",
+        places = {"/etc/nginx/office": str(folder), "/var/log/nginx": f"{folder}/log",
+                  "/var/log/office": f"{folder}/log", "/var/lib/office-vaults/": f"{vaults}/", "/run/office-vault/$vault/socket": f"{sockets}/$vault",
                   "127.0.0.1:8081": f"127.0.0.1:{city}", "127.0.0.1:8082": f"127.0.0.1:{court}",
                   "listen 443": f"listen 127.0.0.1:{port}", "listen 80;": f"listen 127.0.0.1:{port + 1};",
                   "|https://$server_name": f"|https://$server_name:{port}"}
@@ -58,7 +58,8 @@ class Proxy:
         return "".join(f"{it}:{one.stdout}" for it, one in done)
 
     def __enter__(self) -> "Proxy":
-        self.process = subprocess.Popen(["nginx", "-c", self.folder / "nginx.conf", "-e", self.folder / "log/start.log"])
+        words = ["nginx", "-c", self.folder / "nginx.conf", "-e", self.folder / "log/start.log"]
+        self.process = subprocess.Popen(words)
         for _ in range(100):
             if (self.folder / "pid").exists() or self.process.poll() is not None:
                 break

@@ -31,6 +31,36 @@ def by_copies(it: World, copies: Copies, names: set[str]) -> None:
     judge("it is checked by the newest copy", done.returncode == 0, done.stdout + done.stderr)
 
 
+def restore(it: World, number: int, path: pathlib.Path) -> None:
+    """Puts the copy in the place of FILE, by office-restore."""
+    it.office.stop()
+    words = [str(SCRIPTS / "office-restore"), str(it.office.file), str(path)]
+    done = subprocess.run(words, env=it.environment(), capture_output=True, text=True)
+    judge("office-restore wants its text read", done.returncode == 1 and "to destroy or transfer again" in done.stdout,
+          done.stdout + done.stderr)
+    done = subprocess.run([words[0], "--since-was-read", *words[1:]], env=it.environment(), capture_output=True)
+    same("then it restores", done.returncode, 0)
+    it.office.records[number].status, it.office.records[number].is_confirmed = "here", False
+    it.office.runs -= 1
+    it.office.start()
+
+
+def brought_back(it: World, copies: Copies, number: int, names: set[str]) -> None:
+    """What the restored office names comes from the second vault, and stays."""
+    same("a restored office is refused until it is named so", it.run(*it.sweep_words()).returncode, 4)
+    done = it.run("check", it.vault, it.place())
+    judge("the check names what is missing", done.returncode == 1 and all(one in done.stdout for one in names),
+          done.stdout)
+    done = it.run("mirror", copies.second, it.vault, "--reserve", "0")
+    same("the mirror brings it back", (done.returncode, it.there()), (0, names))
+    same("then it is swept again", it.run(*it.sweep_words(), "--restored").returncode, 0)
+    it.model.now += 101
+    same("once more", it.run(*it.sweep_words()).returncode, 0)
+    same("and nothing of it goes", it.there(), names)
+    status, _, lines = it.ask("GET", f"/records/{number}/files/5")
+    judge("and it is served", status == 200 and lines["X-Accel-Redirect"][-64:] in names, lines)
+
+
 def tried(folder: pathlib.Path) -> None:
     with World(folder, 7) as it:
         copies = Copies(it)
@@ -48,28 +78,8 @@ def tried(folder: pathlib.Path) -> None:
         same("they are gone here", it.there(), set())
         later = night(it, copies, 3)
         by_copies(it, copies, names)
-        it.office.stop()
-        words = [str(SCRIPTS / "office-restore"), str(it.office.file), str(path)]
-        done = subprocess.run(words, env=it.environment(), capture_output=True, text=True)
-        judge("office-restore wants its text read", done.returncode == 1 and "to destroy or transfer again" in done.stdout,
-              done.stdout + done.stderr)
-        done = subprocess.run([words[0], "--since-was-read", *words[1:]], env=it.environment(), capture_output=True)
-        same("then it restores", done.returncode, 0)
-        it.office.records[number].status, it.office.records[number].is_confirmed = "here", False
-        it.office.runs -= 1
-        it.office.start()
-        same("a restored office is refused until it is named so", it.run(*it.sweep_words()).returncode, 4)
-        done = it.run("check", it.vault, it.place())
-        judge("the check names what is missing", done.returncode == 1 and all(one in done.stdout for one in names),
-              done.stdout)
-        done = it.run("mirror", copies.second, it.vault, "--reserve", "0")
-        same("the mirror brings it back", (done.returncode, it.there()), (0, names))
-        same("then it is swept again", it.run(*it.sweep_words(), "--restored").returncode, 0)
-        it.model.now += 101
-        same("once more", it.run(*it.sweep_words()).returncode, 0)
-        same("and nothing of it goes", it.there(), names)
-        status, _, lines = it.ask("GET", f"/records/{number}/files/5")
-        judge("and it is served", status == 200 and lines["X-Accel-Redirect"][-64:] in names, lines)
+        restore(it, number, path)
+        brought_back(it, copies, number, names)
         path.unlink()
         later.unlink()
         done = it.run("sweep", copies.second, copies.folder, "--copies")

@@ -31,7 +31,8 @@ def tried(folder: pathlib.Path) -> None:
         same("the office is asked each time", len(office.asked) - before, 3)
         it.ask("GET", f"/records/{numbers[0]}/files/1", Office_Name="clerk", Authorization="Basic eDp5", Cookie="x")
         lines = {name.lower() for name in office.asked[-1][1]}
-        same("lines of the office alone are passed on", lines & {"authorization", "cookie", "office-name"}, {"office-name"})
+        found = lines & {"authorization", "cookie", "office-name"}
+        same("lines of the office alone are passed on", found, {"office-name"})
         office.end(numbers[0])
         same("after the record's end", it.ask("GET", f"/records/{numbers[0]}/files/1", Office_Name="clerk")[:2],
              (404, b'{"error":"content"}'))

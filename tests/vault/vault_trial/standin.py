@@ -1,4 +1,4 @@
-"""In place of an office, for what needs none: it answers what is said of a record, and its content to who may read it."""
+"""In place of an office, for what needs none: it says what a record is, and gives its content to who may read it."""
 import hashlib
 import http.server
 import json
@@ -62,14 +62,14 @@ class Answering(http.server.BaseHTTPRequestHandler):
         parts = self.path.split("/")
         number = int(parts[2]) if parts[2].isdigit() else 0
         office.asked.append((self.path, dict(self.headers.items())))
-        it = office.records.get(number)
+        it, who = office.records.get(number), self.headers.get("Office-Name", "")
         if office.status:
             self.say(office.status, b"{}")
         elif it is None:
             self.say(404, b'{"error":"record"}')
         elif len(parts) == 3:
             self.say(200, office.said(number))
-        elif self.headers.get("Office-Name", "") not in office.readers.get(number, {self.headers.get("Office-Name", "")}):
+        elif who not in office.readers.get(number, {who}):
             self.say(403, b'{"error":"name"}')
         elif not it.has_content():
             self.say(404, b'{"error":"content"}')

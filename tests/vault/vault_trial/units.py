@@ -1,0 +1,164 @@
+"""The units on a small Debian that systemd runs, booted by systemd-nspawn: the vault at work, as it is installed."""
+import base64
+import hashlib
+import json
+import os
+import pathlib
+import shutil
+import subprocess
+import time
+
+from vault_trial.judging import judge, same
+from vault_trial.places import OFFICE, SCRIPTS, VAULT
+
+INCLUDED = "adduser,python3,sqlite3,systemd,curl"
+CITY = "/var/lib/office-vaults/city"
+SECOND = "/var/lib/office-vault-backups/city"
+SOCKET = "/run/office-vault/city/socket"
+DATA = b"a large file " * 100_000
+
+
+class Machine:
+    """A Debian of its own, below a folder. ROOT names a tar that mmdebstrap made before, in place of a new one."""
+
+    def __init__(self, top: pathlib.Path) -> None:
+        self.top = top
+        top.mkdir(parents=True)
+        words = ["tar", "-xf", os.environ["ROOT"], "-C", top] if "ROOT" in os.environ else [
+            "mmdebstrap", "--variant=minbase", f"--include={INCLUDED}", "bookworm", top, "http://deb.debian.org/debian"]
+        subprocess.run([str(it) for it in words], check=True, capture_output=True)
+        self.install()
+
+    def install(self) -> None:
+        """Puts program, scripts and units where the pages put them."""
+        places = self.top / "usr/local/bin", self.top / "usr/local/lib/office", self.top / "etc/systemd/system"
+        for it in places:
+            it.mkdir(parents=True, exist_ok=True)
+        shutil.copy(shutil.which(OFFICE) or OFFICE, places[0] / "office")
+        for it in [*SCRIPTS.glob("office-*"), VAULT / "office-vault"]:
+            if it.is_file() and "." not in it.name:
+                shutil.copy(it, places[0])
+        shutil.copytree(SCRIPTS / "office_serve", places[1] / "office_serve")
+        shutil.copytree(VAULT / "office_vault", places[1] / "office_vault")
+        for it in [*SCRIPTS.glob("*@.*"), *VAULT.glob("*@.*")]:
+            shutil.copy(it, places[2])
+        (self.top / "etc/office").mkdir(exist_ok=True)
+        shutil.copy(SCRIPTS / "city.conf", self.top / "etc/office/city.conf")
+        (self.top / "root/file").write_bytes(DATA)
+
+    def __enter__(self) -> "Machine":
+        words = ["systemd-nspawn", "--quiet", "--register=no", "--keep-unit", "--private-network", "--boot",
+                 "--console=pipe", f"--directory={self.top}"]
+        self.nspawn = subprocess.Popen(words, stdin=subprocess.DEVNULL, stdout=subprocess.DEVNULL,
+                                       stderr=subprocess.DEVNULL, start_new_session=True)
+        for _ in range(360):
+            time.sleep(0.5)
+            children = pathlib.Path(f"/proc/{self.nspawn.pid}/task/{self.nspawn.pid}/children").read_text().split()
+            self.init = children[0] if children else ""
+            if self.init and self.run("systemctl is-system-running")[1] in ("running", "degraded"):
+                return self
+        raise SystemExit("the machine does not start")
+
+    def __exit__(self, *_: object) -> None:
+        self.nspawn.terminate()
+        try:
+            self.nspawn.wait(timeout=60)
+        except subprocess.TimeoutExpired:
+            self.nspawn.kill()
+            self.nspawn.wait()
+
+    def run(self, command: str) -> tuple[int, str]:
+        """Runs a command there; returns its status and what it printed."""
+        root = f"/proc/{self.init}/root"
+        words = ["nsenter", "-t", self.init, "-m", "-u", "-i", "-n", "-p", f"-r{root}", f"-w{root}", "env", "-i",
+                 "PATH=/usr/local/bin:/usr/sbin:/usr/bin:/sbin:/bin", "HOME=/root", "LC_ALL=C", "bash", "-c", command]
+        done = subprocess.run(words, stdin=subprocess.DEVNULL, stdout=subprocess.PIPE, stderr=subprocess.STDOUT,
+                              timeout=600)
+        return done.returncode, done.stdout.decode(errors="replace").strip()
+
+
+def set_up(it: Machine) -> None:
+    for command in ["adduser --system --group --no-create-home --home /nonexistent office",
+                    "adduser --system --group --no-create-home --home /nonexistent office-mail",
+                    "install -d -o office -g office -m 700 /var/lib/office/city",
+                    "runuser -u office -- office init /var/lib/office/city/office.db",
+                    "install -d -m 755 /var/lib/office-vaults /var/lib/office-vault-backups",
+                    f"install -d -o office -g www-data -m 2750 {CITY}",
+                    f"runuser -u office -- office-vault make {CITY}",
+                    f"install -d -o office -g office -m 700 {SECOND}",
+                    f"runuser -u office -- office-vault make {SECOND}", "systemctl daemon-reload",
+                    "systemctl start office@city office-vault@city"]:
+        status, said = it.run(command)
+        judge(command, status == 0, said)
+
+
+def used(it: Machine) -> None:
+    """A file comes in and is read, as www-data, which nginx is; objects have the modes that nginx needs."""
+    name = hashlib.sha256(DATA).hexdigest()
+    curl = f"runuser -u www-data -- curl --silent --unix-socket {SOCKET}"
+    it.run("chmod 644 /root/file; cp /root/file /tmp/file")
+    status, said = it.run(f"{curl} --upload-file /tmp/file http://vault/vault/{name}")
+    same("a file comes in", said, f'{{"length":{len(DATA)},"sha256":"{name}"}}')
+    place = f"{CITY}/objects/{name[:2]}"
+    same("its modes", it.run(f"stat -c '%U %G %a' {place} {place}/{name} {SOCKET}")[1],
+         "office www-data 2750\noffice www-data 440\noffice www-data 660")
+    same("nginx may read it", it.run(f"runuser -u www-data -- sha256sum {place}/{name}")[1][:64], name)
+    same("nobody else may", it.run(f"runuser -u nobody -- cat {place}/{name}")[0], 1)
+    acts = filing(name)
+    (it.top / "tmp").mkdir(exist_ok=True)
+    status, said = it.run(f"curl --silent --data-binary '{acts}' http://127.0.0.1:8081/acts")
+    judge("its manifest is filed", "refused" not in said and "number" in said, said)
+    status, said = it.run(f"{curl} --head http://vault/records/1/files/1")
+    judge("it is served through the record", f"/office-vault-objects/city/objects/{name[:2]}/{name}" in said, said)
+
+
+def filing(name: str) -> str:
+    """The acts of an office with one record that names the file."""
+    text = f"SHA256 {name}\nLENGTH {len(DATA)}\nPLACE large\n".encode()
+    day = "2024-01-02"
+    return json.dumps([
+        {"act": "add-schedule", "day": day, "code": "D", "trigger": "added", "unit": "days", "count": 0,
+         "offset": "none", "action": "destroy"}, {"act": "add-class", "day": day, "code": "D", "title": "D", "schedule": "D"},
+        {"act": "add-aggregation", "day": day, "ref": "A", "title": "A", "class": "D"},
+        {"act": "add-record", "day": day, "ref": "r1", "title": "t", "originated": day, "aggregation": 1,
+         "content": base64.b64encode(text).decode()}])
+
+
+def kept(it: Machine) -> None:
+    """Sweep, check, backup and mirror by their units; what they may not see; what a failure is."""
+    for unit in ("office-vault-sweep", "office-vault-check", "office-backup", "office-vault-mirror"):
+        status, said = it.run(f"systemctl start {unit}@city || journalctl -u {unit}@city --no-pager | tail -n 20")
+        judge(f"{unit}@city", it.run(f"systemctl is-failed {unit}@city")[1] == "inactive", said)
+    name = hashlib.sha256(DATA).hexdigest()
+    same("a report", it.run(f"cut -d ' ' -f 1 {CITY}/reports/sweep-000001.txt | head -n 3; stat -c %U {CITY}/state.db")[1],
+         "SWEEP\nBEGAN\nNAMED\noffice")
+    same("the second vault has the file", it.run(f"sha256sum {SECOND}/objects/{name[:2]}/{name}")[1][:64], name)
+    same("timers start", it.run("systemctl enable --now office-vault-{sweep,check,mirror}@city.timer 2>/dev/null; "
+                                "systemctl is-active office-vault-{sweep,check,mirror}@city.timer")[1], "active\n" * 2
+         + "active")
+    it.run("install -d -o office -m 700 /var/lib/office-vaults/court; touch /var/lib/office-vaults/court/x")
+    for place in ("/var/lib/office/city", "/var/lib/office-vaults/court", "/var/lib/office-backups/city", "/root"):
+        seen = it.run("nsenter -t $(systemctl show -p MainPID --value office-vault@city) -m ls -A " + place)[1]
+        judge(f"the service sees nothing of {place}", not seen or "cannot" in seen, seen)
+    it.run(f"systemctl kill --signal=KILL office-vault@city; sleep 4")
+    same("a service that was killed starts again", it.run("systemctl is-active office-vault@city")[1], "active")
+    it.run(f"rm {CITY}/objects/{name[:2]}/{name}")
+    status, said = it.run("systemctl start office-vault-check@city; systemctl is-failed office-vault-check@city; "
+                          "journalctl -u office-vault-check@city --no-pager | grep missing; sleep 2; "
+                          "journalctl -p err --no-pager | grep -c 'office-vault-check@city failed'")
+    judge("a file that is missing is a failure that is reported", "failed" in said and "missing" in said
+          and said.endswith("1"), said)
+    status, said = it.run(f"office-vault mirror {SECOND} {CITY} && stat -c '%U %G %a' {CITY}/objects/{name[:2]}/{name}")
+    judge("root brings it back, as the vault's owner", said.endswith("office www-data 440"), said)
+    it.run("systemctl start office-vault-check@city")
+    same("and all is well", it.run("systemctl is-failed office-vault-check@city")[1], "inactive")
+
+
+def tried(folder: pathlib.Path) -> None:
+    machine = Machine(folder / "machine")
+    folder.chmod(0o755)
+    with machine as it:
+        set_up(it)
+        used(it)
+        kept(it)
+    shutil.rmtree(folder / "machine", ignore_errors=True)
