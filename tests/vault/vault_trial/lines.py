@@ -52,6 +52,10 @@ class Template:
         put(vault, "grace")
         self.stamps = {it: it.stat().st_mtime_ns for it in self.folder.glob("objects/*/*")}
 
+    def is_over(self) -> bool:
+        """Whether the trial may end: a mistake that was planted is seen."""
+        return bool(self.wrong) and "FIRST" in os.environ
+
     def file(self, kind: str, *names: str) -> int:
         text = manifest.text_of([manifest.Named(DIGESTS[it], len(DATA[it]), it) for it in names])
         return self.office.add(kind, text.encode(), {DIGESTS[it] for it in names})
@@ -66,16 +70,22 @@ class Template:
 
     def fresh(self) -> Vault:
         """The vault as it was: its objects are links to those of the template, whose stamps are put back first."""
-        shutil.rmtree(self.again, ignore_errors=True)
+        vault = Vault.make(self.again)
+        for old in [*self.again.glob("objects/*/*"), *self.again.glob("state.db*"), *vault.going.iterdir(),
+                    *vault.reports.iterdir()]:
+            old.unlink()
         for path, stamp in self.stamps.items():
             os.utime(path, ns=(stamp, stamp))
-        shutil.copytree(self.folder, self.again, copy_function=os.link)
-        for name in ("state.db", *(f"objects/{DIGESTS[it][:2]}/{DIGESTS[it]}" for it in ("damaged", "named"))):
-            path = self.again / name
+            os.link(path, self.again / path.relative_to(self.folder))
+        for path in [self.folder / "state.db", *self.folder.glob("reports/*")]:
+            shutil.copy2(path, self.again / path.relative_to(self.folder))
+        for name in ("damaged", "named"):
+            path = vault.path(DIGESTS[name])
             if path.exists():
+                # a file of its own, since the trial writes into it
                 path.unlink()
-                shutil.copy2(self.folder / name, path)
-        return Vault(self.again)
+                shutil.copy2(self.folder / path.relative_to(self.again), path)
+        return vault
 
     def look(self, what: str, vault: Vault, reported: collections.Counter[str]) -> None:
         """All stays that must, nothing else is there, and what went was reported once."""
@@ -99,6 +109,8 @@ class Template:
 
 def killed_sweeps(it: Template, lines: int) -> None:
     for line in range(1, lines + 1, STEP):
+        if it.is_over():
+            return
         vault = it.fresh()
         done = forked.run(it.words(vault), now=1200, stop=f"kill:{line}")
         if done.returncode != -signal.SIGKILL:
@@ -110,6 +122,8 @@ def killed_sweeps(it: Template, lines: int) -> None:
 
 def waiting_sweeps(it: Template, first: int, lines: int) -> None:
     for line in range(first, lines + 1, STEP):
+        if it.is_over():
+            return
         vault = it.fresh()
         child = forked.Child(it.words(vault), dict(os.environ), 1200, f"wait:{line}")
         child.waits()
@@ -135,6 +149,8 @@ def killed_puts(it: Template) -> None:
         file = it.folder.parent / name
         file.write_bytes(DATA[name])
         for line in range(1, 400, STEP):
+            if it.is_over():
+                return
             vault = it.fresh()
             path = vault.path(DIGESTS[name])
             if before is not None:

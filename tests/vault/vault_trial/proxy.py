@@ -20,7 +20,8 @@ class Proxy:
                  sockets: pathlib.Path) -> None:
         self.folder, self.port = folder, port
         places = {"/etc/nginx/office": str(folder), "/var/log/nginx": f"{folder}/log",
-                  "/var/log/office": f"{folder}/log", "/var/lib/office-vaults/": f"{vaults}/", "/run/office-vault/$vault/socket": f"{sockets}/$vault",
+                  "/var/log/office": f"{folder}/log", "/var/lib/office-vaults/": f"{vaults}/",
+                  "/run/office-vault/$vault/socket": f"{sockets}/$vault",
                   "127.0.0.1:8081": f"127.0.0.1:{city}", "127.0.0.1:8082": f"127.0.0.1:{court}",
                   "listen 443": f"listen 127.0.0.1:{port}", "listen 80;": f"listen 127.0.0.1:{port + 1};",
                   "|https://$server_name": f"|https://$server_name:{port}"}

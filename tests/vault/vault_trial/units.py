@@ -118,7 +118,8 @@ def filing(name: str) -> str:
     day = "2024-01-02"
     return json.dumps([
         {"act": "add-schedule", "day": day, "code": "D", "trigger": "added", "unit": "days", "count": 0,
-         "offset": "none", "action": "destroy"}, {"act": "add-class", "day": day, "code": "D", "title": "D", "schedule": "D"},
+         "offset": "none", "action": "destroy"},
+        {"act": "add-class", "day": day, "code": "D", "title": "D", "schedule": "D"},
         {"act": "add-aggregation", "day": day, "ref": "A", "title": "A", "class": "D"},
         {"act": "add-record", "day": day, "ref": "r1", "title": "t", "originated": day, "aggregation": 1,
          "content": base64.b64encode(text).decode()}])
@@ -130,8 +131,8 @@ def kept(it: Machine) -> None:
         status, said = it.run(f"systemctl start {unit}@city || journalctl -u {unit}@city --no-pager | tail -n 20")
         judge(f"{unit}@city", it.run(f"systemctl is-failed {unit}@city")[1] == "inactive", said)
     name = hashlib.sha256(DATA).hexdigest()
-    same("a report", it.run(f"cut -d ' ' -f 1 {CITY}/reports/sweep-000001.txt | head -n 3; stat -c %U {CITY}/state.db")[1],
-         "SWEEP\nBEGAN\nNAMED\noffice")
+    command = f"cut -d ' ' -f 1 {CITY}/reports/sweep-000001.txt | head -n 3; stat -c %U {CITY}/state.db"
+    same("a report", it.run(command)[1], "SWEEP\nBEGAN\nNAMED\noffice")
     same("the second vault has the file", it.run(f"sha256sum {SECOND}/objects/{name[:2]}/{name}")[1][:64], name)
     same("timers start", it.run("systemctl enable --now office-vault-{sweep,check,mirror}@city.timer 2>/dev/null; "
                                 "systemctl is-active office-vault-{sweep,check,mirror}@city.timer")[1], "active\n" * 2
