@@ -5,6 +5,7 @@ import os
 import pathlib
 import socket
 import subprocess
+import time
 from collections.abc import Iterator
 
 from vault_trial import forked
@@ -55,6 +56,8 @@ def filled(it: World, place: pathlib.Path) -> None:
         conn.putheader("Content-Length", str(len(data)))
         conn.endheaders()
         conn.send(data[:1000])
+        # by then the service has looked at the room
+        time.sleep(2)
         while True:
             file.write(bytes(4096))
     conn.send(data[1000:])
