@@ -1,4 +1,4 @@
-"""An office behind office-serve, or behind the program itself, and its clients (bench/office_serve)."""
+"""An office behind office-serve, or behind the program itself, and its clients (tests/office_serve)."""
 import json
 import os
 import pathlib

@@ -1,4 +1,4 @@
-"""The catalogue that office-catalogue makes, against the tables that it is made from (bench/service_scripts)."""
+"""The catalogue that office-catalogue makes, against the tables that it is made from (tests/service_scripts)."""
 import gzip
 import json
 import os

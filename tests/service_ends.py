@@ -1,4 +1,4 @@
-"""Copies end: what a script that was cut off left, pruning, and the comparison of a copy (bench/service_scripts)."""
+"""Copies end: what a script that was cut off left, pruning, and the comparison of a copy (tests/service_scripts)."""
 from __future__ import annotations
 
 import os

@@ -1,4 +1,4 @@
-"""Root starts a script in a folder of somebody who attacks it (bench/service_scripts): nothing of root's is changed.
+"""Root starts a script in a folder of somebody who attacks it (tests/service_scripts): nothing of root's is changed.
 
 The attacker owns FILE and its folder. While a script works, a tool that it calls does in the attacker's name what a
 process that waits would do: the script's own folder is renamed, and one with links to a file of root's is put there.

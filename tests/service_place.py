@@ -1,4 +1,4 @@
-"""Real offices and the scripts of examples/service: what the parts of bench/service_scripts share."""
+"""Real offices and the scripts of service: what the parts of tests/service_scripts share."""
 import base64
 import hashlib
 import http.client
@@ -13,7 +13,7 @@ import time
 HERE = pathlib.Path(__file__).resolve().parent
 TOP = HERE.parent
 OFFICE = os.environ.get("OFFICE", str(TOP / "office"))
-SERVICE = TOP / "examples/service"
+SERVICE = TOP / "service"
 NOBODY = 65534
 FIRST, LAST = "2024-01-02", "2025-01-02"
 RECORDS = 20

@@ -1,4 +1,4 @@
-"""The register of what is overdue: beside a service, where something is wrong, as a mail (bench/service_scripts)."""
+"""The register of what is overdue: beside a service, where something is wrong, as a mail (tests/service_scripts)."""
 import email
 import email.message
 import os

@@ -1,4 +1,4 @@
-"""What a restore takes back, and the restore that was cut off (bench/service_scripts)."""
+"""What a restore takes back, and the restore that was cut off (tests/service_scripts)."""
 from __future__ import annotations
 
 import hashlib

@@ -1,7 +1,7 @@
 #!/usr/bin/env python3
 """Runs a command with no more system calls than a unit of systemd allows, where no systemd runs.
 
-    bench/unit_filter.py UNIT COMMAND ..
+    tests/unit_filter.py UNIT COMMAND ..
 
 It reads SystemCallFilter= (one list of sets that are allowed, and lists with `~` that are taken from it) and
 SystemCallErrorNumber= of the unit, asks systemd-analyze for the members of each set, and loads the filter by
@@ -53,7 +53,7 @@ def load(calls: set[str], otherwise: int) -> None:
         if number >= 0:
             lib.seccomp_rule_add(context, ctypes.c_uint32(ALLOW), ctypes.c_int(number), ctypes.c_uint(0))
     if ctypes.CDLL(None).prctl(NO_NEW_PRIVS, 1, 0, 0, 0) or lib.seccomp_load(context):
-        sys.exit("bench/unit_filter.py: the filter is not loaded")
+        sys.exit("tests/unit_filter.py: the filter is not loaded")
 
 
 if __name__ == "__main__":

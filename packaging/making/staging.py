@@ -12,7 +12,7 @@ from making.changelog import Version, debian
 from making.failing import fail
 from making.words import TOP, table
 
-HERE = TOP / "examples/package"
+HERE = TOP / "packaging"
 UNITS = "lib/systemd/system"
 DOC = "usr/share/doc/office"
 # what the examples say of a machine without the package, and what is so with it
@@ -100,7 +100,7 @@ def stage(top: pathlib.Path, program: pathlib.Path, all_versions: list[Version],
     put_program(program, top / "usr/bin/office")
     for source, folder in listed():
         if not source.exists():
-            fail(f"examples/package/files names {source.relative_to(TOP)}, which is not there")
+            fail(f"packaging/files names {source.relative_to(TOP)}, which is not there")
         for file in files_below(source):
             put_file(file, top / folder / file.relative_to(source.parent))
     put_manuals(top, all_versions[0])

@@ -3,7 +3,7 @@ import pathlib
 import re
 from typing import NamedTuple
 
-TOP = pathlib.Path(__file__).resolve().parent.parent.parent.parent
+TOP = pathlib.Path(__file__).resolve().parent.parent.parent
 README = TOP / "README.md"
 
 

@@ -4,8 +4,8 @@ import datetime
 import json
 import re
 
+from checking.act_forms import ACTS, OFFSETS, TRIGGERS
 from fuzzing.rules import FIRST_DAY
-from fuzzing.wire import ACTS, OFFSETS, TRIGGERS
 
 LAST_DAY = datetime.date(2999, 12, 31)
 CODES = [f"{kind}{n}" for kind in ("D", "FIN", "H-") for n in range(1, 13)]

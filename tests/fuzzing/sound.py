@@ -5,8 +5,8 @@ Rows come as SQLite gives them: of each table a list of dictionaries.
 """
 import re
 
+from checking.act_forms import ACTS, LONGEST, is_code, is_text
 from fuzzing.rules import MOST
-from fuzzing.wire import ACTS, LONGEST, is_code, is_text
 
 DAY, DUE, NUMBER = (range(start, end).__contains__ for start, end in ((-719_162, 376_200), (-719_162, 559_156), (0, 2**32)))
 SIZE = range(262_145).__contains__

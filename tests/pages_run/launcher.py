@@ -17,7 +17,7 @@ from pages_run.commands import TOP, blocks
 from pages_run.judging import judge
 from pages_run.shell import Done, Shell
 
-sys.path.append(str(TOP / "examples/package"))
+sys.path.append(str(TOP / "packaging"))
 
 from making.words import table  # noqa: E402
 

@@ -62,7 +62,7 @@ ROWS = [
     Row("./office serve", serves=True),
     Row("curl", then=is_served),
     Row("./office build"),
-    Row("./office package", skip="examples/package/run makes it"),
+    Row("./office package", skip="tests/package/run makes it"),
     Row("./office install DIR", then=is_installed),
     Row("rt ci", skip="it takes an hour"),
 ]

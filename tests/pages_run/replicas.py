@@ -66,9 +66,9 @@ def prepare_nginx(shell: Shell) -> None:
     """What docs/OPERATING.md does for one office, at the port of the member."""
     for command in (
             "mkdir -p /etc/nginx/office /var/log/office /etc/nginx/sites-available",
-            "cp examples/nginx/http.conf examples/nginx/server.conf examples/nginx/actors.conf /etc/nginx/office/",
-            "cp examples/nginx/acts.js /etc/nginx/office/",
-            "sed 's/8080/8181/' examples/nginx/office.conf > /etc/nginx/sites-available/office",
+            "cp service/nginx/http.conf service/nginx/server.conf service/nginx/actors.conf /etc/nginx/office/",
+            "cp service/nginx/acts.js /etc/nginx/office/",
+            "sed 's/8080/8181/' service/nginx/office.conf > /etc/nginx/sites-available/office",
             "ln -sf ../sites-available/office /etc/nginx/sites-enabled/office",
             "rm -f /etc/nginx/sites-enabled/default",
             "openssl req -x509 -newkey ec -pkeyopt ec_paramgen_curve:P-256 -nodes -days 9 -subj /CN=localhost "
@@ -115,7 +115,7 @@ def third_was_stolen(shell: Shell) -> None:
     HERE.start_member(1)
     listed = shell.run("openssl crl -in /etc/office/etcd/ca.crl -noout -text")
     judge(f"{PAGE}: the list has one certificate", listed.out.count("Serial Number") == 1, listed.out)
-    done = shell.run("examples/replicas/certificates certificates archive3=192.0.2.13")
+    done = shell.run("service/replicas/certificates certificates archive3=192.0.2.13")
     judge(f"{PAGE}: archive3 gets a new key", done.out == "archive3: made\n", done.out + done.err)
     HERE.kill(3)
     HERE.start_etcd(3, "existing")
@@ -211,7 +211,7 @@ def is_copy(shell: Shell) -> None:
     judge(f"{PAGE}: the copy is an office, with its certificate", done.out == "version 2\nCERTIFICATE 1\n", f"{done}")
     snapshot_now(shell, HOLD)
     # the scripts are where docs/OPERATING.md puts them
-    shell.run("install -m 755 $(ls -d examples/service/office-* | grep -v @) /usr/local/bin/")
+    shell.run("install -m 755 $(ls -d service/office-* | grep -v @) /usr/local/bin/")
 
 
 def is_compared(shell: Shell) -> None:
@@ -249,29 +249,29 @@ def is_step_once(shell: Shell) -> None:
 
 
 ROWS = [
-    Row("examples/replicas/three make three", prints=MADE),
-    Row("examples/replicas/three start three 1", prints=""),
-    Row("examples/replicas/three start three", prints=""),
+    Row("service/replicas/three make three", prints=MADE),
+    Row("service/replicas/three start three 1", prints=""),
+    Row("service/replicas/three start three", prints=""),
     Row("curl --silent --data-binary @examples/first/acts.json", like=FIRST_ANSWERS),
-    Row("examples/replicas/three kill three 1"),
+    Row("service/replicas/three kill three 1"),
     Row("curl --fail --silent --retry 20 --header 'Office-Read: newest'", like=r'\{"added":"2022-01-03",.*\}'),
     Row(f"{STEP} http://127.0.0.1:8093", prints='[{"outcome":"destroyed","record":1}]'),
     Row(f"{STEP} http://127.0.0.1:8091", prints='[{"outcome":"destroyed","record":1}]', then=is_step_once),
-    Row("examples/replicas/three stop three"),
+    Row("service/replicas/three stop three"),
     Row("apt-get", skip="the packages are there"),
     Row("systemctl disable", skip="without systemd"),
     Row("./office install /usr/local/bin"),
     Row("adduser"),
     Row("mkdir -p /etc/office/etcd"),
     Row("cp -r replicas/member"),
-    Row("cp examples/replicas/office-etcd.service"),
-    Row("cp examples/replicas/office-etcd-defrag.service"),
-    Row("cp examples/replicas/etcd.conf"),
-    Row("install -m 755 examples/replicas/office-etcdctl"),
+    Row("cp service/replicas/office-etcd.service"),
+    Row("cp service/replicas/office-etcd-defrag.service"),
+    Row("cp service/replicas/etcd.conf"),
+    Row("install -m 755 service/replicas/office-etcdctl"),
     Row("install -d -o office -g office -m 700"),
     Row("systemd-analyze verify"),
-    Row("examples/replicas/certificates certificates revoke", prints="archive3: revoked\n"),
-    Row("examples/replicas/certificates certificates", prints="archive1: made\narchive2: made\narchive3: made\n"),
+    Row("service/replicas/certificates certificates revoke", prints="archive3: revoked\n"),
+    Row("service/replicas/certificates certificates", prints="archive1: made\narchive2: made\narchive3: made\n"),
     Row("install -m 644 certificates/ca.crt"),
     Row("install -m 644 certificates/ca.crl"),
     Row("install -m 644 certificates/archive1.crt"),
@@ -287,11 +287,11 @@ ROWS = [
     Row("systemctl enable --now office-member@city", skip="without systemd", then=members_start),
     Row("runuser -u office -- curl --silent http://127.0.0.1:8181/replica", like=r'\{"answers":true,.*\}',
         then=prepare_nginx),
-    Row("cp examples/replicas/nginx.conf"),
+    Row("cp service/replicas/nginx.conf"),
     Row("sed -i '$a include"),
     Row("sed -i 's|proxy_pass_request_body"),
     Row("nginx -t", then=nginx_passes_keys),
-    Row("cp examples/replicas/office-member.nft", then=rules_load),
+    Row("cp service/replicas/office-member.nft", then=rules_load),
     Row("nft -f /etc/office-member.nft", skip="these rules would close the port that is asked next"),
     Row("echo 'include \"/etc/office-member.nft\"' >> /etc/nftables.conf"),
     Row("office-etcdctl alarm list", prints=""),
@@ -332,4 +332,4 @@ def run(shell: Shell) -> None:
         run_page(shell, PAGE, ROWS)
     finally:
         HERE.end()
-        subprocess.run(["examples/replicas/three", "stop", "three"], cwd=shell.folder, check=False)
+        subprocess.run(["service/replicas/three", "stop", "three"], cwd=shell.folder, check=False)

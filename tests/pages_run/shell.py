@@ -9,6 +9,8 @@ from pages_run.commands import TOP
 
 PROGRAM = pathlib.Path(os.environ.get("OFFICE", TOP / "crates/office/out/office")).resolve()
 SECONDS = 300
+# what the commands of the pages name
+FOLDERS = ("examples", "replicas", "service", "tools", "web")
 
 
 class Done(NamedTuple):
@@ -36,11 +38,8 @@ class Shell:
     def __init__(self, folder: pathlib.Path) -> None:
         self.folder = folder
         folder.mkdir()
-        shutil.copytree(TOP / "examples", folder / "examples")
-        shutil.copytree(TOP / "web", folder / "web")
-        shutil.copytree(TOP / "replicas", folder / "replicas")
-        # the model that examples/acts/check reads
-        shutil.copytree(TOP / "bench/fuzzing", folder / "bench/fuzzing")
+        for name in FOLDERS:
+            shutil.copytree(TOP / name, folder / name)
         launcher(folder)
         for name in ("copies", "second", "DIR"):
             (folder / name).mkdir()

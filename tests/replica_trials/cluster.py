@@ -121,7 +121,7 @@ class Cluster:
         prefix = [] if network is None else ["nsenter", f"--net=/run/netns/{network}", "--"]
         unit = self.units.get(name.rstrip("0123456789"))
         if unit is not None:
-            prefix += [sys.executable, str(TOP / "bench/unit_filter.py"), str(unit)]
+            prefix += [sys.executable, str(TOP / "tests/unit_filter.py"), str(unit)]
         with open(self.folder / f"{name}.log", "ab") as log:
             self.processes[name] = subprocess.Popen(
                 [*prefix, *words], stdin=subprocess.DEVNULL, stdout=log, stderr=subprocess.STDOUT,

@@ -166,7 +166,7 @@ def until_answered(cluster: Cluster, machines: list[int]) -> float:
 def recovery(folder: pathlib.Path, records: int, times: int) -> None:
     """A member of an office of so many records is killed under load, and its office too."""
     file = folder / f"{records}.db"
-    subprocess.run([sys.executable, str(TOP / "bench/save_records.py"), "whole", str(file),
+    subprocess.run([sys.executable, str(TOP / "tests/save_records.py"), "whole", str(file),
                     str(records)], check=True, stdout=subprocess.DEVNULL)
     cluster = Cluster(folder / f"recovery{records}", 28000, snapshot_every=1000)
     settled: list[float] = []

@@ -22,7 +22,7 @@ from shots import SCHEMES, SIZES, shots
 from story import TEXTS, says
 
 WORDS = TEXTS["catalogue"]
-SERVICE = TOP / "examples/service"
+SERVICE = TOP / "service"
 MOST = 300
 VIEWS = {"records": "", "aggregations": "?part=aggregations", "schedules": "?part=schedules", "holds": "?part=holds"}
 # each letter of a question, from the key until the rows are drawn: milliseconds, and how many were found

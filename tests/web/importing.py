@@ -18,7 +18,7 @@ from shots import SIZES, shot
 from story import TEXTS, Story, says
 
 WORDS, FILING = TEXTS["import"], TEXTS["filing"]
-CASES = TOP / "examples/import/cases"
+CASES = TOP / "tests/import/cases"
 ROWS = 1_000
 HEADER = ["Aktenzeichen", "Kurztext", "Datum", "Akten-Nr.", "Aktenplan", "Bemerkung"]
 # the rows that are wrong, by their number in the sheet: which cell, what is in it, and the kind of that
@@ -147,7 +147,7 @@ def cases(view: View) -> None:
     there = view.browser.driver.execute_async_script(BY_PAGE, given)
     wrong = [case["name"] for case, outcome in zip(table, there, strict=True)
              if outcome != json.loads(expanded(json.dumps(case["outcome"])))]
-    same(f"{len(table)} cases of examples/import/cases, in Chromium", wrong, [])
+    same(f"{len(table)} cases of tests/import/cases, in Chromium", wrong, [])
 
 
 # the columns of that sheet, as the lists show them once the title is chosen

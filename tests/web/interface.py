@@ -69,7 +69,7 @@ def examples(part, place):
 
 def form():
     published = published_form()
-    for name, schema in (("the form that stands in examples/web", FORM), ("the schema of python3-openapi-spec-validator", published)):
+    for name, schema in (("the form that stands in tests/web", FORM), ("the schema of python3-openapi-spec-validator", published)):
         if schema is None:
             print(f"not done here, since it is not installed: {name}")
             continue

@@ -1,4 +1,4 @@
-"""A place to try the page in: an office that `office serve` serves, and nginx with the site examples/nginx/office.conf before it.
+"""A place to try the page in: an office that `office serve` serves, and nginx with the site service/nginx/office.conf before it.
 
 The site is the one of the repository, with the files that it includes. Ports, folders and files of this trial are put
 in place of those that it names.
@@ -18,7 +18,7 @@ import time
 TOP = pathlib.Path(__file__).resolve().parent.parent.parent
 OFFICE = os.environ.get("OFFICE", str(TOP / "office"))
 NAME, PASSWORD = "registrar", "a long one"
-NGINX = TOP / "examples/nginx"
+NGINX = TOP / "service/nginx"
 # in place of Debian's nginx.conf
 MAIN = """load_module modules/ngx_http_js_module.so;
 user www-data;
@@ -42,7 +42,7 @@ def free_port():
 
 def replaced(text, old, new):
     if old not in text:
-        raise SystemExit(f"the site of examples/nginx does not say {old!r}")
+        raise SystemExit(f"the site of service/nginx does not say {old!r}")
     return text.replace(old, new)
 
 

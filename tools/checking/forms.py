@@ -1,4 +1,4 @@
-"""Why a member of an act is not of its form, in words. Whether it is, the model of acts in bench/fuzzing says."""
+"""Why a member of an act is not of its form, in words. Whether it is, act_forms says."""
 from __future__ import annotations
 
 import base64
@@ -6,14 +6,14 @@ import json
 import re
 from collections.abc import Callable
 
-from fuzzing import wire
+from checking import act_forms
 
 DAYS = ("day", "originated", "occurred")
 CODES = ("code", "class", "schedule", "hold")
 TEXTS = ("title", "ref", "reason", "by")
 NUMBERS = ("aggregation", "parent", "record")
-WORDS = {"trigger": wire.TRIGGERS.split(), "unit": list(wire.LONGEST), "offset": wire.OFFSETS.split(),
-         "action": wire.ACTIONS.split()}
+WORDS = {"trigger": act_forms.TRIGGERS.split(), "unit": list(act_forms.LONGEST), "offset": act_forms.OFFSETS.split(),
+         "action": act_forms.ACTIONS.split()}
 LARGEST = 4_294_967_295
 LONGEST_TEXT, LONGEST_CODE = 200, 16
 CONTROL = re.compile("[\x00-\x1f\x7f-\x9f]")
@@ -84,7 +84,7 @@ def content_why(value: str) -> str:
         if joined != value:
             return "is base64 with spaces or line breaks in it: make it by `base64 -w0`"
         kilobytes = -(-length // 1024)
-        return (f"represents {length:,} bytes ({kilobytes:,} KB), and a content has at most {wire.LONGEST_CONTENT:,} "
+        return (f"represents {length:,} bytes ({kilobytes:,} KB), and a content has at most {act_forms.LONGEST_CONTENT:,} "
                 '(256 KB): see "Contents above 256 KB" in docs/CSV.md')
     if is_base64(joined.rstrip("=") + "=" * (-len(joined.rstrip("=")) % 4)):
         return "is base64 with wrong padding: its length must be a multiple of 4, with = at the end"
@@ -114,7 +114,7 @@ def number_why(value: object) -> str:
 
 def limit_of(unit: object) -> int | None:
     """The largest count of a unit, none where there is no such unit."""
-    return wire.LONGEST.get(unit) if isinstance(unit, str) else None
+    return act_forms.LONGEST.get(unit) if isinstance(unit, str) else None
 
 
 def is_count(value: object) -> bool:

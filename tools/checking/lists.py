@@ -9,8 +9,8 @@ from collections.abc import Callable, Iterable
 from dataclasses import dataclass
 from typing import Optional, cast
 
+from checking import act_forms
 from checking.forms import is_count, shown, why
-from fuzzing import wire
 
 Part = Callable[[object], Optional[int]]
 SPACE = " \t\r\n"
@@ -32,7 +32,7 @@ class Act:
 
     def name(self) -> str:
         kind = self.value.get("act") if isinstance(self.value, dict) else None
-        known = f", {kind}" if isinstance(kind, str) and kind in wire.ACTS else ""
+        known = f", {kind}" if isinstance(kind, str) and kind in act_forms.ACTS else ""
         return f"act {self.place} ({ordinal(self.place + 1)}, line {self.line}{known})"
 
 
@@ -57,8 +57,8 @@ def acts_in(data: bytes) -> list[Act]:
         line = data.count(b"\n", 0, fault.start) + 1
         raise NoList(f"line {line} is not UTF-8: save the file as UTF-8") from fault
     try:
-        values = wire.json_of(data)
-    except wire.NotJson as fault:
+        values = act_forms.json_of(data)
+    except act_forms.NotJson as fault:
         raise NoList(json_why(fault.__cause__)) from fault
     if not isinstance(values, list):
         raise NoList(f"the file has {kind_of(values)} and no list: put [ in front of the acts, and ] behind them")
@@ -111,11 +111,11 @@ def faults_of(act: Act) -> list[str]:
     if not isinstance(value, dict):
         return [f"is {kind_of(value)}, and an act is an object as {{\"act\":\"run-step\"}}"]
     kind = value.get("act")
-    if not isinstance(kind, str) or kind not in wire.ACTS:
+    if not isinstance(kind, str) or kind not in act_forms.ACTS:
         return [unknown_why(value)]
     parts = parts_of(kind)
     wrong = [name for name, part in parts.items()
-             if (wire.count_part(value) if name == "count" else part(value.get(name)))]
+             if (act_forms.count_part(value) if name == "count" else part(value.get(name)))]
     if "unit" in wrong and is_count(value.get("count")):
         # only with a unit does a count have a limit
         wrong.remove("count")
@@ -125,14 +125,14 @@ def faults_of(act: Act) -> list[str]:
 
 def parts_of(kind: str) -> dict[str, Part]:
     """The members of a kind of act beside `act`, each with what says its refusal."""
-    members = cast(dict[str, Part], wire.ACTS[kind])
-    return members if kind == "run-step" else {"day": wire.DAY, **members}
+    members = cast(dict[str, Part], act_forms.ACTS[kind])
+    return members if kind == "run-step" else {"day": act_forms.DAY, **members}
 
 
 def unknown_why(value: dict[str, object]) -> str:
     if "act" not in value:
-        return f"has no member \"act\"; it is one of {', '.join(wire.ACTS)}"
-    return f"act {shown(value['act'])} is unknown{guess(value['act'], wire.ACTS)}; there are {', '.join(wire.ACTS)}"
+        return f"has no member \"act\"; it is one of {', '.join(act_forms.ACTS)}"
+    return f"act {shown(value['act'])} is unknown{guess(value['act'], act_forms.ACTS)}; there are {', '.join(act_forms.ACTS)}"
 
 
 def strange_why(name: str, value: dict[str, object], parts: dict[str, Part]) -> str:

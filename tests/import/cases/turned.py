@@ -1,4 +1,4 @@
-"""What the command line makes of a case: examples/import/spreadsheet."""
+"""What the command line makes of a case: tools/spreadsheet."""
 from __future__ import annotations
 
 import base64
@@ -7,7 +7,7 @@ import re
 import sys
 
 HERE = pathlib.Path(__file__).resolve().parent
-sys.path.insert(0, str(HERE.parent))
+sys.path.insert(0, str(HERE.parent.parent.parent / "tools"))
 
 from spreadsheet.columns import columns_of, known  # noqa: E402
 from spreadsheet.sheet import Unreadable, decoded, separated  # noqa: E402

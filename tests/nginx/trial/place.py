@@ -52,7 +52,7 @@ def install(site: str) -> None:
     for command in commands():
         if command.startswith(NOT_HERE):
             continue
-        call = command.replace("examples/nginx/offices.conf", f"examples/nginx/{site}")
+        call = command.replace("service/nginx/offices.conf", f"service/nginx/{site}")
         done = run(call)
         judge(f"{site}: {call}", done.returncode == 0, done.stdout)
     run(f"htpasswd -iB -C 10 {NAMES} reader <<< \"$PASSWORD\"")

@@ -57,7 +57,7 @@ class Booted:
 
 def judge_units(booted: Booted) -> None:
     done = booted.run("dpkg -i /root/office.deb && mkdir -p /etc/office && "
-                      "cp /usr/share/doc/office/examples/service/city.conf /etc/office/ && "
+                      "cp /usr/share/doc/office/service/city.conf /etc/office/ && "
                       "systemctl list-units --all --plain --no-legend 'office*'")
     judge("systemd: after the installation nothing runs", done.status == 0 and "office@" not in done.out, done)
     judge_missing(booted)

@@ -12,7 +12,7 @@ from trying.judging import judge
 from trying.machine import run
 
 PROGRAM = pathlib.Path(os.environ.get("OFFICE", TOP / "crates/office/out/office")).resolve()
-MAKE = TOP / "examples/package/make"
+MAKE = TOP / "packaging/make"
 # who makes it, in each trial
 BY = {"DEBFULLNAME": "Office of the trial", "DEBEMAIL": "office@trial.example"}
 
@@ -26,10 +26,10 @@ def make(place: pathlib.Path, changelog: pathlib.Path | None = None) -> pathlib.
 
 
 def judge_list() -> None:
-    """No file of examples/service is forgotten, and what is listed is there."""
+    """No file of service is forgotten, and what is listed is there."""
     sources = {it.source for it in staging.listed()}
-    missing = [it.name for it in sorted((TOP / "examples/service").iterdir()) if it.is_file() and it not in sources]
-    judge("the list has each file of examples/service", not missing, missing)
+    missing = [it.name for it in sorted((TOP / "service").iterdir()) if it.is_file() and it not in sources]
+    judge("the list has each file of service", not missing, missing)
     judge("each file of the list is there", all(it.exists() for it in sources))
 
 
@@ -93,20 +93,20 @@ def judge_completion(top: pathlib.Path) -> None:
 
 def judge_tools(top: pathlib.Path) -> None:
     """The tools of the pages work where the package puts them: a list of acts is read, and a sheet converted."""
-    here = top / "usr/share/doc/office/examples"
-    done = run(["python3", "-B", here / "acts/check", here / "first/acts.json"])
-    judge("the package's acts/check reads a list", done.status == 0 and done.out.startswith("acts: 6, wrong: 0;"), done)
-    done = run(["python3", "-B", here / "import/convert", here / "import/letters.csv"])
-    judge("the package's import/convert reads a sheet", done.status == 0 and done.out.count("\n") > 1, done)
+    here = top / "usr/share/doc/office"
+    done = run(["python3", "-B", here / "tools/check", here / "examples/first/acts.json"])
+    judge("the package's tools/check reads a list", done.status == 0 and done.out.startswith("acts: 6, wrong: 0;"), done)
+    done = run(["python3", "-B", here / "tools/convert", here / "examples/import/letters.csv"])
+    judge("the package's tools/convert reads a sheet", done.status == 0 and done.out.count("\n") > 1, done)
 
 
 def judge_named(top: pathlib.Path) -> None:
-    """What the commands of OPERATING.md copy from examples is in the package, but for what it puts elsewhere."""
+    """What the commands of OPERATING.md copy from service is in the package, but for what it puts elsewhere."""
     doc, page = top / "usr/share/doc/office", (TOP / "docs/OPERATING.md").read_text()
-    named = set(re.findall(r"(?m)(?<=[ ])examples/[a-z]+/[\w@.-]+", "\n".join(re.findall(r"(?m)^    .*", page))))
+    named = set(re.findall(r"(?m)(?<=[ ])service/[\w@./-]+", "\n".join(re.findall(r"(?m)^    .*", page))))
     elsewhere = {it.source for it in staging.listed() if not f"/{it.folder}".startswith("/usr/share/doc")}
     missing = sorted(it for it in named if TOP / it not in elsewhere and not (doc / it).exists())
-    judge("the package has the examples that OPERATING.md copies", not missing and len(named) > 20, missing or named)
+    judge("the package has the files that OPERATING.md copies", not missing and len(named) > 20, missing or named)
 
 
 def tree(top: pathlib.Path) -> dict[str, tuple[int, bytes]]:
@@ -120,7 +120,7 @@ def clone(place: pathlib.Path) -> pathlib.Path:
     top = place / "clone"
     out = top / "crates/office/out"
     out.mkdir(parents=True)
-    for name in ("docs", "examples", "web", "bench/fuzzing"):
+    for name in ("docs", "examples", "packaging", "service", "tools", "web"):
         shutil.copytree(TOP / name, top / name, ignore=shutil.ignore_patterns("__pycache__"))
     for name in ("office", "crates.txt", "README.md", "CHANGELOG.md"):
         shutil.copy(TOP / name, top)

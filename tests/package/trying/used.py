@@ -50,10 +50,11 @@ def judge_installed(machine: Machine, file: pathlib.Path) -> None:
     done = machine.run(f"for unit in {names}; do systemctl is-enabled $unit; done")
     judge("no unit is enabled", set(done.out.split()) <= {"disabled", "static"} and done.out != "", done)
     done = machine.run("touch /etc/office.conf && mkdir -p /etc/office && "
-                       f"cp /usr/share/doc/office/examples/service/city.conf /etc/office/ && "
+                       f"cp /usr/share/doc/office/service/city.conf /etc/office/ && "
                        f"systemd-analyze verify --man=no {names}")
     judge("systemd takes each unit", done.status == 0 and done.err == "", done)
-    done = machine.run("grep -rl /usr/local /lib/systemd/system/office* /usr/share/doc/office/examples/*/*.conf")
+    done = machine.run("grep -rl /usr/local /lib/systemd/system/office* /usr/share/doc/office/service/*.conf "
+                       "/usr/share/doc/office/service/*/*.conf")
     judge("units and configurations name the package's places", done.out == "", done)
 
 
