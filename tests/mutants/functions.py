@@ -1,12 +1,8 @@
 """The functions of a source, each with the lines of its head and of its body."""
-import importlib.machinery
-import importlib.util
 import re
-from types import ModuleType
 from typing import NamedTuple
 
-from mutant import TOP
-
+BLOCK = re.compile(r"^(impl|pub trait|trait)\b(.*)\{")
 FUNCTION = re.compile(r"^( *)(?:pub )?(?:pub\([a-z ]+\) )?(?:const )?(?:unsafe )?fn (\w+)")
 CALLED = re.compile(r"(?:(\w+)(?:::<[^>]*>)?::|(\.))?\b(\w+)(?:::<[^>]*>)?\(")
 
@@ -28,15 +24,17 @@ class Function(NamedTuple):
         return f"{self.owner}::{self.name}" if self.owner else self.name
 
 
-def script(name: str) -> ModuleType:
-    """A command of bench, as a module."""
-    loader = importlib.machinery.SourceFileLoader(name, str(TOP / "bench" / name))
-    module = importlib.util.module_from_spec(importlib.util.spec_from_loader(name, loader))
-    loader.exec_module(module)
-    return module
-
-
-clauses = script("clauses")
+def of_block(line: str) -> tuple[str, str]:
+    """The type of a block and the trait that it gives a body to, or the name of a trait that it declares."""
+    found = BLOCK.match(line)
+    text = found[2] if found else ""
+    while re.search(r"<[^<>]*>", text):
+        text = re.sub(r"<[^<>]*>", "", text)
+    words = text.replace("(", " (").split()
+    if "for" in words:
+        at = words.index("for")
+        return " ".join(words[at + 1:]), words[at - 1].split("::")[-1]
+    return (words[0].rstrip(":") if words else ""), ""
 
 
 def end_of(lines: list[str], at: int, indent: str) -> tuple[int, int]:
@@ -56,8 +54,8 @@ def functions(file: str, text: str) -> list[Function]:
     for at, line in enumerate(lines):
         if line.startswith("#[cfg(test)]"):
             break
-        if clauses.BLOCK.match(line):
-            owner = clauses.of_block(line)[0]
+        if BLOCK.match(line):
+            owner = of_block(line)[0]
         elif line.startswith("}"):
             owner = ""
         named = FUNCTION.match(line)

@@ -105,7 +105,7 @@ class Room:
         shutil.rmtree(folder, ignore_errors=True)
         folder.mkdir()
         for it in mutants:
-            shutil.copy(TOP / f"bench/edits/{it.key}.edit", folder)
+            (folder / f"{it.name}.edit").write_text(it.text)
         ran = subprocess.run(["rt", "must-fail", self.name], cwd=self.top, stdin=subprocess.DEVNULL,
                              stdout=subprocess.PIPE, stderr=subprocess.STDOUT, text=True, errors="replace",
                              env={**os.environ, "RT_JOBS": "1"})
