@@ -1,4 +1,4 @@
-"""Runs trials of a list one after another, and says of each whether it passed (tests/run, bench/all)."""
+"""Runs trials of a list one after another, and says of each whether it passed (tests/run, tests/run)."""
 import pathlib
 import re
 import signal
@@ -15,9 +15,9 @@ LAST = re.compile(r"^([\d,]+) passed, ([\d,]+) failed$")
 PARTS = {
     "contract": "any clause, comment or mutant",
     "memory": "office_terms, office_tree, office_holds, office_proof, office_rules, office_loading, office_machine",
-    "tables": "office_sql, office_saving, office_store, office_desk",
-    "wire": "office_json, office_csv, office_http, office_requests, office_wire, tools",
-    "words": "office_base, office_days, office_plan, office_words, office_orders, office_run, office",
+    "tables": "office_sql, office_store, office_desk",
+    "wire": "office_json, office_csv, office_http, office_wire, tools",
+    "words": "office_base, office_days, office_plan, office_words, office_commands, office",
     "service": "service, docs/OPERATING.md",
     "pages": "README.md and docs",
     "web": "web, docs/openapi.yaml, docs/ERRORS.md",
