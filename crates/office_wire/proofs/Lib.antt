@@ -1,11 +1,11 @@
 pub mod AnyAnswer
 pub mod Calls
 pub mod Connected
-pub mod ImportLines
 pub mod Imported
 pub mod Performed
 pub mod Replied
-pub mod Resumed
 pub mod Reported
+pub mod Resumed
 pub mod Unavailable
 pub mod Unreported
+pub mod Whatever

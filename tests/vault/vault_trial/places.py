@@ -8,9 +8,8 @@ TOP = HERE.parent.parent
 OFFICE = os.environ.get("OFFICE", "office")
 VAULT = pathlib.Path(os.environ.get("VAULT_SOURCES", TOP / "service/vault"))
 COMMAND = str(VAULT / "office-vault")
-# the scripts of an office, where they are now and where they were
-SCRIPTS = next(it for it in (TOP / "service", TOP / "examples/service") if (it / "office-backup").exists())
-NGINX = next(it for it in (TOP / "service/nginx", TOP / "examples/nginx") if (it / "http.conf").exists())
+SCRIPTS = TOP / "service"
+NGINX = TOP / "service/nginx"
 
 sys.dont_write_bytecode = True
 sys.path.insert(0, str(VAULT))

@@ -6,11 +6,10 @@ import ssl
 import subprocess
 import time
 
-from vault_trial.places import NGINX, TOP
+from vault_trial.places import NGINX
 
 MODULE = "/usr/lib/nginx/modules/ngx_http_js_module.so"
 NAMES = {"registrar": "a long one", "reader": "another", "judge": "of the court"}
-VAULT_FILES = next(it for it in (TOP / "service/nginx", NGINX) if (it / "vault.conf").exists())
 
 
 class Proxy:
@@ -28,7 +27,7 @@ class Proxy:
         self.places = places
         folder.mkdir(parents=True)
         (folder / "log").mkdir()
-        for it in [*NGINX.glob("*.conf"), *NGINX.glob("*.js"), *VAULT_FILES.glob("vault*.conf")]:
+        for it in [*NGINX.glob("*.conf"), *NGINX.glob("*.js")]:
             self.put(it.name, it.read_text())
         self.put("vaults.conf", '"/city/" city;\n')
         site = self.put("offices.conf", (NGINX / "offices.conf").read_text())
