@@ -115,6 +115,9 @@ def tried(folder: pathlib.Path) -> None:
             same("after the record's end", it.curl(f"/city/records/{number}/files/1", name="reader"),
                  (404, b'{"error":"content"}'))
             times(it, world, folder)
+            world.restart_service("--internal", "/office-vault-objects/city/objects", "--reserve", str(1 << 50))
+            same("a disk without room, with most of the bytes to come",
+                 it.curl(f"/city/vault/{'1' * 64}", "--upload-file", folder / "large"), (507, b'{"error":"full"}'))
             world.service.kill()
             world.service.wait()
             same("without the service", it.curl("/city/records/1/files/1", name="reader"), (502, b'{"error":"office"}'))
