@@ -95,6 +95,17 @@ def times(it: Proxy, world: World, folder: pathlib.Path) -> None:
     same("what comes back is the same", digest((folder / "back").read_bytes()), name)
 
 
+def alone(it: Proxy, world: World, data: bytes) -> None:
+    """The site of one office alone: the same paths without a folder."""
+    name = digest(data)
+    same("one office: PUT", it.curl(f"/vault/{name}", "--upload-file", it.folder.parent / "file")[0], 200)
+    number = world.office.add("D", Named(name, len(data), "x").text().encode(), {name})
+    same("one office: GET", it.curl(f"/records/{number}/files/1", name="reader"), (200, data))
+    same("one office: PUT of a reader", it.curl(f"/vault/{name}", "--upload-file", it.folder.parent / "file",
+                                                name="reader")[0], 403)
+    same("one office: a folder", it.curl(f"/city/records/{number}/files/1", name="reader")[0], 404)
+
+
 def tried(folder: pathlib.Path) -> None:
     court = StandIn(free_port())
     with World(folder / "world", 8, StandIn(free_port())) as world:
@@ -107,7 +118,8 @@ def tried(folder: pathlib.Path) -> None:
         court.add("D", b"x" * 100, set())
         data = os.urandom(1_000_000)
         (folder / "file").write_bytes(data)
-        with Proxy(folder / "nginx", world.office.port, court.port, 21570, folder / "vaults", folder / "sockets") as it:
+        places = folder / "vaults", folder / "sockets"
+        with Proxy(folder / "nginx", world.office.port, court.port, 21570, *places) as it:
             coming_in(it, world, folder / "file", digest(data))
             limits(it, folder)
             number = going_out(it, world, digest(data), data)
@@ -118,6 +130,9 @@ def tried(folder: pathlib.Path) -> None:
             world.restart_service("--internal", "/office-vault-objects/city/objects", "--reserve", str(1 << 50))
             same("a disk without room, with most of the bytes to come",
                  it.curl(f"/city/vault/{'1' * 64}", "--upload-file", folder / "large"), (507, b'{"error":"full"}'))
+            world.restart_service("--internal", "/office-vault-objects/city/objects")
+            with Proxy(folder / "alone", world.office.port, court.port, 21580, *places, "office.conf") as one:
+                alone(one, world, data)
             world.service.kill()
             world.service.wait()
             same("without the service", it.curl("/city/records/1/files/1", name="reader"), (502, b'{"error":"office"}'))

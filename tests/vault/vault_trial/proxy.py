@@ -16,12 +16,13 @@ class Proxy:
     """nginx in front of the offices city and court; city has a vault, and court has names of its own."""
 
     def __init__(self, folder: pathlib.Path, city: int, court: int, port: int, vaults: pathlib.Path,
-                 sockets: pathlib.Path) -> None:
+                 sockets: pathlib.Path, site_name: str = "offices.conf") -> None:
         self.folder, self.port = folder, port
         places = {"/etc/nginx/office": str(folder), "/var/log/nginx": f"{folder}/log",
                   "/var/log/office": f"{folder}/log", "/var/lib/office-vaults/": f"{vaults}/",
                   "/run/office-vault/$vault/socket": f"{sockets}/$vault",
-                  "127.0.0.1:8081": f"127.0.0.1:{city}", "127.0.0.1:8082": f"127.0.0.1:{court}",
+                  "127.0.0.1:8080": f"127.0.0.1:{city}", "127.0.0.1:8081": f"127.0.0.1:{city}",
+                  "127.0.0.1:8082": f"127.0.0.1:{court}",
                   "listen 443": f"listen 127.0.0.1:{port}", "listen 80;": f"listen 127.0.0.1:{port + 1};",
                   "|https://$server_name": f"|https://$server_name:{port}"}
         self.places = places
@@ -29,8 +30,8 @@ class Proxy:
         (folder / "log").mkdir()
         for it in [*NGINX.glob("*.conf"), *NGINX.glob("*.js")]:
             self.put(it.name, it.read_text())
-        self.put("vaults.conf", '"/city/" city;\n')
-        site = self.put("offices.conf", (NGINX / "offices.conf").read_text())
+        self.put("vaults.conf", '"/city/" city;\n' if site_name == "offices.conf" else '"/" city;\n')
+        site = self.put("site.conf", (NGINX / site_name).read_text())
         own = f"location /court/ {{\n auth_basic_user_file {folder}/court.htpasswd;"
         site.write_text(site.read_text().replace("location /court/ {", own))
         self.put("office.htpasswd", self.names("registrar", "reader"))
