@@ -1,4 +1,5 @@
 """In place of an office, for what needs none: it says what a record is, and gives its content to who may read it."""
+import contextlib
 import hashlib
 import http.server
 import json
@@ -79,8 +80,10 @@ class Answering(http.server.BaseHTTPRequestHandler):
     def say(self, status: int, body: bytes) -> None:
         self.send_response(status)
         self.send_header("Content-Length", str(len(body)))
-        self.end_headers()
-        self.wfile.write(body)
+        # who asked may be killed
+        with contextlib.suppress(ConnectionError):
+            self.end_headers()
+            self.wfile.write(body)
 
     def log_message(self, *_: object) -> None:
         """It keeps no journal."""
