@@ -12,7 +12,8 @@ import re
 from collections.abc import Iterator
 from dataclasses import dataclass
 
-from transferring.office import Office
+from transferring.failing import Failed
+from transferring.office import LONGEST_ERROR, Office, pieces
 
 GROUP = re.compile(r"SHA256 ([0-9a-f]{64})\nLENGTH (0|[1-9][0-9]{0,17})\nPLACE ([^\x00-\x1f\x7f-\x9f]+)\n")
 
@@ -42,9 +43,17 @@ def named(content: bytes) -> list[Large]:
     return found
 
 
-def fetched(vault: Office, record: int, at: int, large: Large) -> Iterator[bytes] | None:
-    """The bytes of the large file that is the one at this place, from 1, in a record's manifest; None if it is gone.
+def fetched(vault: Office, record: int, at: int) -> Iterator[bytes] | None:
+    """The bytes of the file that is the one at this place, from 1, in a record's manifest; None if the vault lacks it.
 
-    This alone knows where the vault has a file.
+    This alone knows where a vault has its files. The caller compares the digest.
     """
-    return vault.parts_of(f"vault/{large.digest}")
+    path = f"records/{record}/files/{at}"
+    answer = vault.open("GET", path)
+    if answer.status == 200:
+        return pieces(answer, f"{vault.address}/{path}")
+    text = answer.read(LONGEST_ERROR).decode(errors="replace").strip()
+    # without a vault, or without the file in it; its administrator learns of the second by the vault's own check
+    if answer.status == 404 or (answer.status, text) == (503, '{"error":"object"}'):
+        return None
+    raise Failed(f"{vault.address}/{path} answers {answer.status} {text[:200]}")

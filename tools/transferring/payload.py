@@ -83,7 +83,7 @@ def put_record(folder: Folder, sources: Sources, record: Record, content: bytes,
 
 def put_large(folder: Folder, sources: Sources, record: Record, at: int, it: large.Large, own: str) -> File | None:
     """Writes a large file from the vault; None if the vault lacks it."""
-    parts = large.fetched(sources.vault, record.entry.record, at, it)
+    parts = large.fetched(sources.vault, record.entry.record, at)
     if parts is None:
         return None
     first = next(parts, b"")
