@@ -85,16 +85,20 @@ def sign(certificates: pathlib.Path, seals: pathlib.Path, office: str, key: path
         return new
 
 
-def sign_anew(seals: pathlib.Path, office: str, key: pathlib.Path, withdrawn: pathlib.Path) -> int:
-    """Seals again each text of which all seals are by keys that were withdrawn: how many."""
+def sign_anew(certificates: pathlib.Path, seals: pathlib.Path, office: str, key: pathlib.Path,
+              withdrawn: pathlib.Path) -> int:
+    """Seals again each certificate that is kept and that only keys in a file have signed: how many.
+
+    A text that is in the seals alone is not signed again: whoever has such a key may have put it there.
+    """
     with durable.locked(seals):
-        there, gone = chain.read(seals, office), keys_in(withdrawn)
-        signers = {it.number: signer(it) for it in there}
-        good = {(it.certificate, it.digest) for it in there if signers[it.number] not in gone}
-        again = {(it.certificate, it.digest): it for it in there if (it.certificate, it.digest) not in good}
-        for it in again.values():
-            body = (it.folder / f"certificate-{it.certificate}.txt").read_bytes()
-            if chain.digest(body) != it.digest:
-                raise Refused(WRONG, f"the certificate in {it.folder} is another than the sealed one")
-            add(seals, there, office, it.certificate, body, key, "key")
-        return len(again)
+        there, gone, new = chain.read(seals, office), keys_in(withdrawn), 0
+        good = {(it.certificate, it.digest) for it in there if signer(it) not in gone}
+        sealed = {(it.certificate, it.digest) for it in there}
+        for number, file in fetching.kept(certificates).items():
+            body = file.read_bytes()
+            text = (number, chain.digest(body))
+            if text in sealed and text not in good:
+                add(seals, there, office, number, body, key, "key")
+                new += 1
+        return new

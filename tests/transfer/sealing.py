@@ -170,8 +170,14 @@ def keys(folder: pathlib.Path) -> None:
         done = place.verify("--withdrawn", place.withdrawn)
         judge("a key that was withdrawn is told, for each of its seals", done.status == 1
               and done.out.count("is signed by a key that was withdrawn") == 2 and "WRONG: 000003" not in done.out, done)
+        kept = place.certificates / "certificate-2.txt"
+        text = kept.read_bytes()
+        kept.unlink()
         done = place.sign("--withdrawn", place.withdrawn, key=second)
-        judge("the new key signs these again", done.out == "seals: 2\n", done)
+        judge("a text that is in the seals alone is not signed again", done.out == "seals: 1\n", done)
+        kept.write_bytes(text)
+        done = place.sign("--withdrawn", place.withdrawn, key=second)
+        judge("the new key signs the others again", done.out == "seals: 1\n", done)
         done = place.verify("--withdrawn", place.withdrawn)
         judge("then all verify, and the withdrawn key is still told", done.status == 0 and "seals: 5, certificates: 3" in done.out
               and done.out.count("note: 00000") == 4, done)
