@@ -10,8 +10,8 @@ from office_seal.errors import IMPOSSIBLE, WRONG, Refused
 SECONDS = 300
 NAME = re.compile(r"certificate-([1-9][0-9]{0,9})\.txt")
 LAST = len(b"SHA256 \n") + 64
-ADVICE = ("was a backup restored, or was FILE changed by somebody else? Find out which, with the text that is kept; only "
-          "after a restore: office-seal fetch --restored, and office-seal sign --restored")
+ADVICE = ("was a backup restored, or was FILE changed by somebody else? Find out which, with the text that is kept; "
+          "only after a restore: office-seal fetch --restored, and office-seal sign --restored")
 
 
 def kept(folder: pathlib.Path) -> dict[int, pathlib.Path]:

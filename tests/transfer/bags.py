@@ -3,6 +3,7 @@ import csv
 import io
 import pathlib
 import subprocess
+from collections.abc import Callable
 
 import csip
 import reader
@@ -147,41 +148,45 @@ def gone(folder: pathlib.Path) -> None:
               and "transferred by run 2" in done.err, done)
 
 
+def answers(fake: Fake) -> dict[str, Callable[[], object]]:
+    """Answers that cannot be true, each as a change of those of a sound office."""
+    def put(path: str, status: int, body: bytes) -> Callable[[], object]:
+        return lambda: fake.answers.update({path: (status, body)})
+
+    def changed(old: bytes, new: bytes) -> Callable[[], object]:
+        return lambda: put("/certificates/1", 200, fake.answers["/certificates/1"][1].replace(old, new))()
+
+    def large(body: bytes, length: int) -> Callable[[], object]:
+        manifest = f"SHA256 {digest(b'big')}\nLENGTH 3\nPLACE big.bin\n".encode()
+        return lambda: (fake.close(1, [fake.record(1, "A", "One", manifest)]),
+                        put("/records/1/files/1", 200, body)(), fake.told.update({"/records/1/files/1": length}))
+
+    return {
+        "a content with other bytes": put("/records/1/content", 200, b"eno"),
+        "a content that is longer": put("/records/1/content", 200, b"one more"),
+        "a content that breaks off": lambda: fake.told.update({"/records/1/content": 9}),
+        "a record of another ref": lambda: fake.record(1, "other", "One", b"one"),
+        "a content that is gone, of a record that is not ended": put(
+            "/records/1/content", 404, b'{"error":"content"}'),
+        "a record that is no JSON": put("/records/1", 200, b"{"),
+        "a record without a title": put("/records/1", 200, b"{}"),
+        "an office that must be opened again": put("/records/1", 503, b'{"fault":32}'),
+        "a certificate with another letter": changed(b"M. Vane", b"M. Vate"),
+        "a certificate of another run": changed(b"CERTIFICATE 1", b"CERTIFICATE 2"),
+        "a run that is not closed": lambda: fake.answers.pop("/certificates/1"),
+        "an address that is no office": put("/certificates/1", 404, b'{"error":"path"}'),
+        "a large file with other bytes": large(b"bog", 3),
+        "a large file that breaks off": large(b"big", 4),
+        "a catalogue without the aggregation": put("/catalogue/aggregations.json", 200, b'{"aggregations":[]}'),
+    }
+
+
 def wrong(folder: pathlib.Path) -> None:
     """Answers that cannot be true make no bag, and a sentence."""
     with Fake() as fake:
-        def base() -> None:
-            fake.answers |= {"/records/1/files/1": (404, b"")}
+        for name, change in answers(fake).items():
             fake.told.clear()
             fake.close(1, [fake.record(1, "A", "One", b"one")])
-
-        manifest = f"SHA256 {digest(b'big')}\nLENGTH 3\nPLACE big.bin\n".encode()
-        cases = {
-            "a content with other bytes": lambda: fake.answers.update({"/records/1/content": (200, b"eno")}),
-            "a content that is longer": lambda: fake.answers.update({"/records/1/content": (200, b"one more")}),
-            "a content that breaks off": lambda: fake.told.update({"/records/1/content": 9}),
-            "a record of another ref": lambda: fake.record(1, "other", "One", b"one"),
-            "a content that is gone, of a record that is not ended": lambda: fake.answers.update(
-                {"/records/1/content": (404, b'{"error":"content"}')}),
-            "a record that is no JSON": lambda: fake.answers.update({"/records/1": (200, b"{")}),
-            "a record without a title": lambda: fake.answers.update({"/records/1": (200, b"{}")}),
-            "an office that must be opened again": lambda: fake.answers.update({"/records/1": (503, b'{"fault":32}')}),
-            "a certificate with another letter": lambda: fake.answers.update(
-                {"/certificates/1": (200, fake.answers["/certificates/1"][1].replace(b"M. Vane", b"M. Vate"))}),
-            "a certificate of another run": lambda: fake.answers.update(
-                {"/certificates/1": (200, fake.answers["/certificates/1"][1].replace(b"CERTIFICATE 1", b"CERTIFICATE 2"))}),
-            "a run that is not closed": lambda: fake.answers.pop("/certificates/1"),
-            "an address that is no office": lambda: fake.answers.update({"/certificates/1": (404, b'{"error":"path"}')}),
-            "a large file with other bytes": lambda: (fake.close(1, [fake.record(1, "A", "One", manifest)]),
-                                                      fake.answers.update({"/records/1/files/1": (200, b"bog")})),
-            "a large file that breaks off": lambda: (fake.close(1, [fake.record(1, "A", "One", manifest)]),
-                                                     fake.answers.update({"/records/1/files/1": (200, b"big")}),
-                                                     fake.told.update({"/records/1/files/1": 4})),
-            "a catalogue without the aggregation": lambda: fake.answers.update(
-                {"/catalogue/aggregations.json": (200, b'{"aggregations":[]}')}),
-        }
-        for name, change in cases.items():
-            base()
             change()
             done = transfer(fake, folder / "wrong")
             judge(f"{name}: no bag, and a sentence", done.status in (1, 3) and done.err.startswith("transfer: ")

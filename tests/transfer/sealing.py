@@ -88,11 +88,24 @@ def by_ssh_keygen_alone(place: Place) -> list[bool]:
     return found
 
 
+def bytes_of(place: Place) -> None:
+    """One byte of a certificate, a seal or a signature is changed, at places by chance."""
+    rng, silent = random.Random(7), 0
+    for name in ("certificate-2.txt", "seal.txt", "seal.txt.sig"):
+        file = place.seals / "000002" / name
+        data = file.read_bytes()
+        for at in sorted(rng.sample(range(len(data)), 12)):
+            file.write_bytes(data[:at] + bytes([data[at] ^ 1]) + data[at + 1:])
+            silent += place.verify().status != 1
+        file.write_bytes(data)
+    judge("36 changes of one byte of a certificate, a seal and a signature are all refused", silent == 0, silent)
+
+
 def changes(place: Place) -> None:
-    """Each byte of a seal and of its certificate, changed in turn at some places; folders that lack or are swapped."""
-    rng = random.Random(7)
+    """Changes of a seal and of its certificate; folders that lack or are swapped."""
     whole = place.folder / "whole"
     shutil.copytree(place.seals, whole)
+    bytes_of(place)
 
     def told(name: str, change: Callable[[], None], what: str) -> None:
         change()
@@ -101,14 +114,6 @@ def changes(place: Place) -> None:
         shutil.rmtree(place.seals)
         shutil.copytree(whole, place.seals)
 
-    silent = 0
-    for file in ("certificate-2.txt", "seal.txt", "seal.txt.sig"):
-        data = (whole / "000002" / file).read_bytes()
-        for at in sorted(rng.sample(range(len(data)), 12)):
-            (place.seals / "000002" / file).write_bytes(data[:at] + bytes([data[at] ^ 1]) + data[at + 1:])
-            silent += place.verify().status != 1
-        (place.seals / "000002" / file).write_bytes(data)
-    judge("36 changes of one byte of a certificate, a seal and a signature are all refused", silent == 0, silent)
     seal = place.seals / "000002"
     text = seal / "certificate-2.txt"
     told("a letter of a certificate", lambda: (text.write_bytes(text.read_bytes().replace(b"Vane", b"Vale")), None)[1],

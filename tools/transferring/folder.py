@@ -12,7 +12,7 @@ from collections.abc import Iterable, Iterator
 from dataclasses import dataclass, field
 from pathlib import Path
 
-from transferring.failing import Failed
+from transferring.failing import WRONG, Failed
 
 
 @dataclass(frozen=True)
@@ -117,7 +117,7 @@ def finish(folder: Folder, target: Path) -> bool:
     if target.exists() or target.is_symlink():
         others = differing(folder.path, target) if target.is_dir() else [target.name]
         if others:
-            raise Failed(f"{target} is there and is another one: {', '.join(others[:5])} differ; nothing was written", 1)
+            raise Failed(f"{target} is there, and another: {', '.join(others[:5])} differ; nothing was written", WRONG)
         return False
     for at, _, _ in os.walk(folder.path):
         sync(Path(at))

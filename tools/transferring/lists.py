@@ -82,8 +82,8 @@ def table(text: str, header: str) -> Read:
     digest, path, number, ref = (next((columns[it] for it in names if it in columns), None)
                                  for names in (DIGESTS, PATHS, NUMBERS, REFS))
     if digest is None or (path or number or ref) is None:
-        raise Failed("the list is not as sha256sum writes it, and no CSV with a column sha256 and one of path, record or "
-                     f"ref: {header[:80]!r}", USAGE)
+        raise Failed("the list is not as sha256sum writes it, and no CSV with a column sha256 and one of path, record "
+                     f"or ref: {header[:80]!r}", USAGE)
     lines, wrong = [], []
     for row in rows:
         cells = [(row.get(it) or "").strip() if it is not None else "" for it in (digest, path, number, ref)]

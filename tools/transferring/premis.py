@@ -15,9 +15,9 @@ def premis(files: list[File], of: Certificate) -> bytes:
     event, person = f"disposal-run-{of.run}", of.by
     parts = [*map(file_object, files), run_event(files, of, event, person), agent(person, "person"),
              agent(PROGRAM, "software")]
-    return (DECLARATION + element("premis", *parts, xmlns=PREMIS, xmlns__xsi=XSI, version="3.0",
-                                  xsi__schemaLocation=f"{PREMIS} https://www.loc.gov/standards/premis/premis.xsd",
-                                  )).encode()
+    schema = f"{PREMIS} https://www.loc.gov/standards/premis/premis.xsd"
+    whole = element("premis", *parts, xmlns=PREMIS, xmlns__xsi=XSI, version="3.0", xsi__schemaLocation=schema)
+    return (DECLARATION + whole).encode()
 
 
 def identifier(kind: str, value: str) -> str:
@@ -33,8 +33,8 @@ def file_object(file: File) -> str:
 
 
 def run_event(files: list[File], of: Certificate, event: str, person: str) -> str:
-    detail = element("eventDetailInformation",
-                     text("eventDetail", f"sent by disposal run {of.run}; its certificate has the SHA-256 {of.digest()}"))
+    what = f"sent by disposal run {of.run}; its certificate has the SHA-256 {of.digest()}"
+    detail = element("eventDetailInformation", text("eventDetail", what))
     outcome = element("eventOutcomeInformation", text("eventOutcome", "sent"))
     agents = [link("Agent", name) for name in (person, PROGRAM)]
     return element("event", identifier("event", event), text("eventType", "transfer"),

@@ -1,4 +1,4 @@
-"""Which receipts an archive's list makes: of a record only if its content and each file of its manifest are confirmed."""
+"""Which receipts an archive's list makes: of a record if its content and each file of its manifest are confirmed."""
 from __future__ import annotations
 
 from collections import Counter
@@ -80,7 +80,7 @@ def judge(sent: list[Sent], read: Read) -> Judged:
 
 
 def part_is_there(record: Sent, part: Part, lines: list[Line], renamed: Counter[str], found: Judged) -> bool:
-    """Whether the archive has a part, by the lines of it, or by one line of its digest under a name of the archive's own."""
+    """Whether the archive has a part: by its lines, or by a line with its digest under a name of the archive's own."""
     name = f"record {record.number}, {record.ref}{f': {part.path}' if part.path else ''}"
     digests = {it.digest for it in lines}
     if len(lines) > 1:
