@@ -148,6 +148,26 @@ def gone(folder: pathlib.Path) -> None:
               and "transferred by run 2" in done.err, done)
 
 
+def site(folder: pathlib.Path) -> None:
+    """An office behind TLS and a password, as nginx serves it."""
+    run("openssl", "req", "-x509", "-newkey", "rsa:2048", "-nodes", "-days", "2", "-subj", "/CN=localhost", "-addext",
+        "subjectAltName=DNS:localhost", "-keyout", folder / "key", "-out", folder / "office.crt")
+    (folder / "login").write_text("registrar:a long: one\n")
+    (folder / "no").write_text("registrar:wrong\n")
+    with Fake(login="registrar:a long: one", tls=(str(folder / "office.crt"), str(folder / "key"))) as fake:
+        fake.close(1, [fake.record(1, "A", "One", b"one")])
+        words = ("--cacert", folder / "office.crt", "--login", folder / "login")
+        done = transfer(fake, folder / "bag", *words)
+        judge("a bag by TLS and a password, with the catalogue of the site", done.status == 0
+              and reader.problems_of(str(folder / "bag")) == []
+              and rows(folder / "bag", "metadata/records.csv")[0]["aggregation_ref"] == "MAP/1993", done)
+        for name, those in (("without a password", words[:2]), ("with another password", (*words[:3], folder / "no")),
+                            ("from a site that nobody vouches for", words[2:])):
+            done = transfer(fake, folder / "other", *those)
+            judge(f"{name}: no bag, and a sentence", done.status == 3 and "Traceback" not in done.err
+                  and not (folder / "other").exists() and "a long" not in done.err, done)
+
+
 def answers(fake: Fake) -> dict[str, Callable[[], object]]:
     """Answers that cannot be true, each as a change of those of a sound office."""
     def put(path: str, status: int, body: bytes) -> Callable[[], object]:

@@ -1,8 +1,10 @@
 """An office that answers what the trial wants, also what no office answers, with a vault and a catalogue beside it."""
+import base64
 import contextlib
 import hashlib
 import http.server
 import json
+import ssl
 import threading
 import time
 import urllib.parse
@@ -33,6 +35,9 @@ class Fake:
     seconds: float = 0.0
     # the length that is told of a body, where it is another than its own
     told: dict[str, int] = field(default_factory=dict)
+    # NAME:PASSWORD, and the certificate and key of TLS, if it asks for these
+    login: str = ""
+    tls: tuple[str, str] | None = None
 
     def record(self, number: int, ref: str, title: str, content: bytes | None, ended: dict | None = None) -> tuple:
         """Adds a record, and returns its entry; a content of None is gone."""
@@ -53,7 +58,11 @@ class Fake:
         class Handler(http.server.BaseHTTPRequestHandler):
             def do_GET(self) -> None:
                 time.sleep(fake.seconds)
-                status, body = fake.answers.get(urllib.parse.unquote(self.path), (404, missing(self.path)))
+                path = urllib.parse.unquote(self.path).removeprefix("/city")
+                status, body = fake.answers.get(path, (404, missing(path)))
+                known = "Basic " + base64.b64encode(fake.login.encode()).decode()
+                if fake.login and self.headers.get("Authorization") != known:
+                    status, body = 401, b'{"error":"password"}'
                 self.send_response(status)
                 self.send_header("Content-Length", str(fake.told.get(self.path, len(body))))
                 self.end_headers()
@@ -67,8 +76,12 @@ class Fake:
         port = free_port()
         self.server = http.server.ThreadingHTTPServer(("127.0.0.1", port), Handler)
         self.server.daemon_threads = True
+        if self.tls:
+            context = ssl.SSLContext(ssl.PROTOCOL_TLS_SERVER)
+            context.load_cert_chain(*self.tls)
+            self.server.socket = context.wrap_socket(self.server.socket, server_side=True)
         threading.Thread(target=self.server.serve_forever, daemon=True).start()
-        self.address = f"http://127.0.0.1:{port}"
+        self.address = f"https://localhost:{port}/city" if self.tls else f"http://127.0.0.1:{port}"
         self.answers.setdefault("/catalogue/aggregations.json", (200, json.dumps(
             {"moment": "2024-03-04T12:00:00Z",
              "aggregations": [{"number": 3, "ref": "MAP/1993", "title": "Maps of 1993"}]}).encode()))

@@ -75,12 +75,24 @@ def new_folder(target: Path) -> Iterator[Folder]:
         with locked(left) as is_free:
             if is_free:
                 shutil.rmtree(left)
-    path = Path(tempfile.mkdtemp(prefix=start, dir=parent))
-    with locked(path):
-        try:
-            yield Folder(path)
-        finally:
-            shutil.rmtree(path, ignore_errors=True)
+    path, handle = locked_folder(parent, start)
+    try:
+        yield Folder(path)
+    finally:
+        shutil.rmtree(path, ignore_errors=True)
+        os.close(handle)
+
+
+def locked_folder(parent: Path, start: str) -> tuple[Path, int]:
+    """Makes a folder and takes its lock. Another run may remove one that is not locked yet: then it makes another."""
+    while True:
+        path = Path(tempfile.mkdtemp(prefix=start, dir=parent))
+        with contextlib.suppress(FileNotFoundError):
+            handle = os.open(path, os.O_RDONLY | os.O_DIRECTORY)
+            fcntl.flock(handle, fcntl.LOCK_EX)
+            if path.exists():
+                return path, handle
+            os.close(handle)
 
 
 def glob_safe(text: str) -> str:
