@@ -50,11 +50,14 @@ def stops(folder: pathlib.Path) -> None:
 
 
 def beside(folder: pathlib.Path) -> None:
-    """Two at once at the same place: one bag, and neither takes away what the other writes."""
-    with Fake(seconds=0.02) as fake:
-        fake.close(1, [fake.record(at, f"r{at}", "T", b"x") for at in range(1, 21)])
+    """A second one begins at the same place while the first writes: neither takes away what the other has written."""
+    with Fake(seconds=0.05) as fake:
+        fake.close(1, [fake.record(at, f"r{at}", "T", b"x") for at in range(1, 31)])
         words = [str(TOOLS / "transfer"), "--office", fake.address, "1", str(folder / "bag")]
-        both = [subprocess.Popen(words, stdout=subprocess.PIPE, stderr=subprocess.PIPE) for _ in range(2)]
+        both = [subprocess.Popen(words, stdout=subprocess.PIPE, stderr=subprocess.PIPE)]
+        while not list(folder.glob(".bag.new-*/data")):
+            time.sleep(0.01)
+        both.append(subprocess.Popen(words, stdout=subprocess.PIPE, stderr=subprocess.PIPE))
         ends = [(it.wait(), it.communicate()) for it in both]
-        judge("two at once make one bag", reader.problems_of(str(folder / "bag")) == []
-              and sorted(it[0] for it in ends)[0] == 0 and [it.name for it in folder.iterdir()] == ["bag"], ends)
+        judge("two at once make one bag", [it[0] for it in ends] == [0, 0]
+              and reader.problems_of(str(folder / "bag")) == [] and [it.name for it in folder.iterdir()] == ["bag"], ends)
