@@ -14,15 +14,15 @@ PARTS = {"data/000001_A_One.txt": b"one", "data/000003_C_One-again.txt": b"one",
 
 
 def made(folder: pathlib.Path) -> tuple[pathlib.Path, dict[str, str]]:
-    """A bag of four records: its place, and the digests of its payload."""
+    """A bag of four records, and a package of them: the place of the bag, and the digests of its payload."""
     manifest = "".join(f"SHA256 {digest(it)}\nLENGTH {len(it)}\nPLACE {name}\n"
                        for it, name in ((BIG, "big"), (SCAN, "scan"))).encode()
     with Fake() as fake:
         fake.answers |= {"/records/2/files/1": (200, BIG), "/records/2/files/2": (200, SCAN)}
         fake.close(1, [fake.record(1, "A", "One", b"one"), fake.record(2, "B", "Two", manifest),
                        fake.record(3, "C", "One again", b"one"), fake.record(4, "D", "Four", b"four")])
-        done = transfer(fake, folder / "bag")
-        judge("the bag for the lists is made", done.status == 0, done)
+        done = [transfer(fake, folder / "bag"), transfer(fake, folder / "package", "--form", "eark")]
+        judge("the bag and the package for the lists are made", [it.status for it in done] == [0, 0], done)
     every = {**PARTS, "data/000002_B_Two/manifest.txt": manifest}
     return folder / "bag", {name: digest(data) for name, data in every.items()}
 
@@ -64,6 +64,12 @@ def lists(folder: pathlib.Path) -> None:
     for name, (text, wanted) in forms.items():
         found, done = receipts(bag, text)
         judge(f"{name}: receipts of {wanted}", found == wanted and done.status == (0 if len(wanted) == 4 else 1), done)
+    found, done = receipts(folder / "package", plain.replace("data/", "representations/rep1/data/"))
+    judge("the list of a package makes receipts too", (found, done.status) == ([1, 2, 3, 4], 0), done)
+    table = folder / "package/metadata/descriptive/records.csv"
+    table.write_bytes(table.read_bytes().replace(b"One", b"Two"))
+    _, done = receipts(folder / "package", plain)
+    judge("but not if its table was changed", (done.status, done.out) == (1, "") and "was changed" in done.err, done)
     told(bag, content)
     refused(bag, content)
     changed(bag, plain, receipts)
