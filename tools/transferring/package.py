@@ -8,7 +8,7 @@ from urllib.parse import unquote
 
 from transferring import mets
 from transferring.certificate import Certificate
-from transferring.folder import File, Folder
+from transferring.folder import Folder
 from transferring.payload import CSV, PLAIN, Payload, Sources, fill, tables
 from transferring.premis import PROGRAM, premis
 
