@@ -126,6 +126,12 @@ def changes(place: Place) -> None:
                                                 seal.rename(place.seals / "000003"),
                                                 (place.seals / "x").rename(place.seals / "000002"), None)[3],
          "the chain is broken")
+    other = place.folder / "other"
+    other.mkdir()
+    time.sleep(1.1)
+    run(SEAL, "sign", "--name", "city", "--key", place.key, place.certificates, other)
+    told("a good seal of another chain", lambda: (shutil.rmtree(seal), shutil.copytree(other / "000002", seal), None)[2],
+         "000002: the chain is broken: it does not follow the seal before it")
     shutil.rmtree(place.seals / "000003")
     done = place.verify()
     judge("the last seal may be cut off unseen, but the last line says which is the last", done.status == 0
