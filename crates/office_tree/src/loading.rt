@@ -285,8 +285,8 @@ fn kept_of(alloc: Global, rows: &Rows<'_>) -> Result<Kept, Memory>
         kept.records_in.before.items) }
     ensures class_index { IfOk result
         (λ kept. AreListed rows.now.classes rows.now.aggregations rows.now.records
-        (from_entries kept.class_index.numbers.entries) kept.class_index.class_lists.first.items
-        kept.class_index.class_lists.next.items kept.class_index.class_lists.previous.items
+        (from_entries kept.class_index.numbers.entries)
+        (length kept.class_index.class_lists.first.items)
         kept.class_index.class_lists.class.items) }
     ensures aggregations_in { IfOk result
         (λ kept. HasChildren rows.now.aggregations kept.aggregations_in.last.items

@@ -5,7 +5,6 @@ ghost use Rattle.office_tree.specs.ClassIndex.{HaveNumbers, IsOfClass};
 ghost use Rattle.office_tree.specs.ChildLists.{HasChildren, HasLinks};
 ghost use Rattle.office_tree.specs.Inheriting.{is_heir, is_reached};
 ghost use Rattle.office_terms.specs.Lists.{numbered};
-ghost use Rattle.office_tree.specs.ClassLists.{AreClassLists};
 ghost use Rattle.office_tree.specs.RecordCaches.{AreRecordCaches, IsRecordCache};
 ghost use Rattle.office_tree.specs.ScheduleNumbers.{AreNumbered};
 ghost use Rattle.office_terms.specs.Sound.{IsSound};
@@ -62,8 +61,6 @@ impl RecordCaches {
         requires schedules { AreNumbered rows.now.schedules schedule_numbers.now }
         requires last { AreLastAdditions summaries.now rows.now.aggregations rows.now.records }
         requires many { length self.old.rows.items ≡ length rows.now.records }
-        requires class_lists { AreClassLists class_lists.now.first.items class_lists.now.next.items
-            class_lists.now.previous.items class_lists.now.class.items }
         requires all { length class_lists.now.class.items ≡ length rows.now.records }
         requires low { 0 < class }
         requires high { class ≤ length class_lists.now.first.items }
@@ -133,9 +130,6 @@ pub(crate) fn refresh_inheriting(
     requires there { IsTrue (has_aggregation rows.now from) }
     requires numbers { HaveNumbers rows.now.classes (from_entries class_index.old.numbers.entries)
         (length class_index.old.class_lists.first.items) }
-    requires class_lists { AreClassLists class_index.old.class_lists.first.items
-        class_index.old.class_lists.next.items class_index.old.class_lists.previous.items
-        class_index.old.class_lists.class.items }
     requires classed { length class_index.old.class_lists.class.items ≡ length rows.now.records }
     ensures count { length record_caches.new.rows.items ≡ length record_caches.old.rows.items }
     ensures refreshed { AreRefreshed schedule_numbers.now rows.now
@@ -144,9 +138,6 @@ pub(crate) fn refresh_inheriting(
     ensures same { class_index.new.numbers ≡ class_index.old.numbers }
     ensures first { length class_index.new.class_lists.first.items
         ≡ length class_index.old.class_lists.first.items }
-    ensures class_lists { AreClassLists class_index.new.class_lists.first.items
-        class_index.new.class_lists.next.items class_index.new.class_lists.previous.items
-        class_index.new.class_lists.class.items }
     ensures classed { length class_index.new.class_lists.class.items
         ≡ length class_index.old.class_lists.class.items }
     ensures listed { AreDone
@@ -197,9 +188,6 @@ pub(crate) fn refresh_reached(
     requires there { IsTrue (has_aggregation rows.now aggregation) }
     requires numbers { HaveNumbers rows.now.classes (from_entries class_index.old.numbers.entries)
         (length class_index.old.class_lists.first.items) }
-    requires class_lists { AreClassLists class_index.old.class_lists.first.items
-        class_index.old.class_lists.next.items class_index.old.class_lists.previous.items
-        class_index.old.class_lists.class.items }
     requires classed { length class_index.old.class_lists.class.items ≡ length rows.now.records }
     ensures count { length record_caches.new.rows.items ≡ length record_caches.old.rows.items }
     ensures refreshed { AreRefreshed schedule_numbers.now rows.now
@@ -208,9 +196,6 @@ pub(crate) fn refresh_reached(
     ensures same { class_index.new.numbers ≡ class_index.old.numbers }
     ensures first { length class_index.new.class_lists.first.items
         ≡ length class_index.old.class_lists.first.items }
-    ensures class_lists { AreClassLists class_index.new.class_lists.first.items
-        class_index.new.class_lists.next.items class_index.new.class_lists.previous.items
-        class_index.new.class_lists.class.items }
     ensures classed { length class_index.new.class_lists.class.items
         ≡ length class_index.old.class_lists.class.items }
     ensures listed { AreDone

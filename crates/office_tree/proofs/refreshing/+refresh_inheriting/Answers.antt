@@ -21,7 +21,6 @@ loop-child-init t c =
       looks = heirs_last (IsRecordCache c.args.schedule_numbers.now rows) rows.records rows.aggregations c.args.from c.last-child.result c.args.record_caches.now.rows.items c.refresh_container.new.self.rows.items c.refresh_container.ensures.count c.refresh_container.ensures.refreshed last;
       same = c.reindex_container.ensures.same;
       first = c.reindex_container.ensures.first;
-      class_lists = c.reindex_container.ensures.class_lists;
       classes =
           heirs_last (IsOfClass (from_entries {R = code_cmp} c.args.class_index.now.numbers.entries) rows.aggregations rows.records) rows.records rows.aggregations c.args.from c.last-child.result c.args.class_index.now.class_lists.class.items c.reindex_container.new.self.class_lists.class.items
           c.reindex_container.ensures.count c.reindex_container.ensures.listed last;
@@ -57,7 +56,6 @@ loop-child-preserved t c =
                 (heirs_next IsRight rows.records xs c.args.from c.loop-child.child c.before-child.result old c.loop-child.record_caches.rows.items w.refresh_inheriting.new.record_caches.rows.items so_far.looks w.refresh_inheriting.ensures.count w.refresh_inheriting.ensures.refreshed before_is);
             same = ap (λ (g : ClassIndex). g.numbers) w.class_index-is ∙ w.refresh_inheriting.ensures.same ∙ same;
             first = ap (λ (g : ClassIndex). length g.class_lists.first.items) w.class_index-is ∙ w.refresh_inheriting.ensures.first ∙ so_far.first;
-            class_lists = rw w.class_index-is w.refresh_inheriting.ensures.class_lists;
             classes =
                 subst (λ (classes : List ℕ). HeirsAbove IsClassed rows.records xs c.args.from c.before-child.result of classes) (sym (ap (λ (g : ClassIndex). g.class_lists.class.items) w.class_index-is))
                 (heirs_next IsClassed rows.records xs c.args.from c.loop-child.child c.before-child.result of c.loop-child.class_index.class_lists.class.items w.refresh_inheriting.new.class_index.class_lists.class.items so_far.classes w.refresh_inheriting.ensures.classed done before_is);
@@ -70,7 +68,6 @@ loop-child-preserved t c =
                 (heirs_skip IsRight rows.records xs c.args.from c.loop-child.child c.before-child.result old c.loop-child.record_caches.rows.items so_far.looks own before_is);
             same = ap (λ (g : ClassIndex). g.numbers) w.class_index-is ∙ so_far.same;
             first = ap (λ (g : ClassIndex). length g.class_lists.first.items) w.class_index-is ∙ so_far.first;
-            class_lists = rw w.class_index-is so_far.class_lists;
             classes =
                 subst (λ (classes : List ℕ). HeirsAbove IsClassed rows.records xs c.args.from c.before-child.result of classes) (sym (ap (λ (g : ClassIndex). g.class_lists.class.items) w.class_index-is))
                 (heirs_skip IsClassed rows.records xs c.args.from c.loop-child.child c.before-child.result of c.loop-child.class_index.class_lists.class.items so_far.classes own before_is);

@@ -1,7 +1,6 @@
 use Rattle.std.proofs.Common.{◌≡◌, ◌-◌, length}
 use Rattle.std.specs.FinMap.{from_entries}
 use Rattle.office_tree.specs.ClassIndex.{IsOfClass}
-use Rattle.office_tree.specs.ClassLists.{AreClassLists}
 use Rattle.office_tree.specs.RecordCaches.{IsRecordCache}
 use Rattle.office_tree.proofs.Heirs.{HeirsAbove}
 use Rattle.office_tree.proofs.refreshing.+refresh_inheriting.Given as goal
@@ -16,7 +15,6 @@ invariant-loop-child l = record {
   looks : HeirsAbove (IsRecordCache l.schedule_numbers l.rows) l.rows.records l.rows.aggregations l.from l.child l.fn.record_caches.rows.items l.record_caches.rows.items;
   same : l.class_index.numbers ≡ l.fn.class_index.numbers;
   first : length l.class_index.class_lists.first.items ≡ length l.fn.class_index.class_lists.first.items;
-  class_lists : AreClassLists l.class_index.class_lists.first.items l.class_index.class_lists.next.items l.class_index.class_lists.previous.items l.class_index.class_lists.class.items;
   classes : HeirsAbove (IsOfClass (from_entries l.fn.class_index.numbers.entries) l.rows.aggregations l.rows.records) l.rows.records l.rows.aggregations l.from l.child l.fn.class_index.class_lists.class.items l.class_index.class_lists.class.items;
 }
 

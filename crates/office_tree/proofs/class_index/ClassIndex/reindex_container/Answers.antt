@@ -15,7 +15,6 @@ pub loop-at-init : goal.loop-at-init
 loop-at-init c = record {
   same = refl;
   first = refl;
-  class_lists = c.requires.class_lists;
   done = done_last (IsOfClass (from_entries {R = code_cmp} c.args.self.now.numbers.entries) c.args.rows.now.aggregations c.args.rows.now.records) c.args.rows.now.records c.args.container c.last-at.result c.args.self.now.class_lists.class.items (c.requires.linked.lasts c.args.container c.last-at.result c.last-at.ensures);
 }
 
@@ -47,7 +46,6 @@ loop-at-preserved c =
     record {
       same = c.reindex.ensures.same ∙ same;
       first = c.reindex.ensures.first ∙ c.loop-at.invariant.first;
-      class_lists = c.reindex.ensures.class_lists;
       done = done_before (IsOfClass (from_entries {R = code_cmp} c.args.self.now.numbers.entries) c.args.rows.now.aggregations c.args.rows.now.records) c.args.rows.now.records c.args.container c.loop-at.at c.before-at.result c.args.self.now.class_lists.class.items c.loop-at.self.class_lists.class.items c.reindex.new.self.class_lists.class.items
           c.loop-at.invariant.done c.reindex.ensures.count
           (λ k e. subst (λ (numbers : NumberMap). IsOfClass numbers c.args.rows.now.aggregations c.args.rows.now.records c.loop-at.at k) (λ i. from_entries {R = code_cmp} (same i).entries) (c.reindex.ensures.here k e))

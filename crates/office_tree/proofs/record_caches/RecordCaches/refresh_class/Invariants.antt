@@ -1,8 +1,9 @@
 use Rattle.std.proofs.Common.{◌≡◌, ◌≢◌, ℕ, length, Some}
 use Rattle.office_terms.specs.Lists.{numbered}
+use Rattle.office_tree.specs.ClassLists.{rest}
 use Rattle.office_tree.specs.RecordCaches.{IsRecordCache}
 use Rattle.office_tree.specs.declared.record_cache.RecordCache.{RecordCache}
-use Rattle.office_tree.proofs.Visits.{IsWalked, rest}
+use Rattle.office_tree.proofs.Visits.{IsWalked}
 use Rattle.office_tree.proofs.record_caches.RecordCaches.refresh_class.Given as goal
 
 -- those of the class that are not computed anew are ahead
