@@ -1,17 +1,16 @@
 //! The index of records by class: a number for each class, and the list under it.
-ghost use Rattle.std.specs.Prelude.{◌≡◌, ◌≢◌, ◌≤◌, ℕ, List, [], IfOk, IsSome, IsTrue, OnOk, Some, length};
+ghost use Rattle.std.specs.Prelude.{◌≡◌, ◌≤◌, ℕ, List, [], IfOk, IsSome, IsTrue, OnOk, Some, length};
 ghost use Rattle.std.specs.FinMap.{FinMap, empty, from_entries, get};
 ghost use Rattle.office_tree.specs.ClassIndex.{AreListed, HaveNumbers, IsOfClass};
-ghost use Rattle.office_tree.specs.ChildLists.{HasLinks};
-ghost use Rattle.office_terms.specs.Lists.{numbered};
+ghost use Rattle.office_tree.specs.Derived.{AreRenewed, CanRefresh, HasPlaces, IsPutRight, KeepsNumbers};
 ghost use Rattle.office_terms.specs.Sound.{IsSound};
-ghost use Rattle.office_tree.specs.Stored.{AreDone, is_in};
+ghost use Rattle.office_tree.specs.Stored.{is_in};
 ghost use Rattle.office_terms.specs.Tree.{code_cmp, has_aggregation, has_record};
 ghost use Rattle.office_terms.specs.declared.class.Class.{Class};
 
-use crate::child_lists::ChildLists;
 use crate::class_lists::{ClassLists, ClassNo};
 use crate::classifying::class_in;
+use crate::directory::Directory;
 use crate::rows::Rows;
 use office_base::Memory;
 use office_terms::{AggNo, Class, Code, RecordNo};
@@ -82,17 +81,11 @@ impl ClassIndex {
         requires numbers { HaveNumbers rows.now.classes (from_entries self.old.numbers.entries)
             (length self.old.class_lists.first.items) }
         requires on_list { record_no ≤ length self.old.class_lists.class.items }
-        ensures same { self.new.numbers ≡ self.old.numbers }
-        ensures first { length self.new.class_lists.first.items
-            ≡ length self.old.class_lists.first.items }
-        ensures count { length self.new.class_lists.class.items
-            ≡ length self.old.class_lists.class.items }
-        ensures here { (c : ℕ) → numbered self.new.class_lists.class.items record_no ≡ Some c
-            → IsOfClass (from_entries self.old.numbers.entries) rows.now.aggregations
-            rows.now.records record_no c }
-        ensures others { (r : ℕ) → r ≢ record_no
-            → numbered self.new.class_lists.class.items r
-            ≡ numbered self.old.class_lists.class.items r }
+        ensures keeps { KeepsNumbers self.old self.new }
+        ensures listed { IsPutRight
+            (IsOfClass (from_entries self.old.numbers.entries) rows.now.aggregations
+            rows.now.records record_no) record_no self.old.class_lists.class.items
+            self.new.class_lists.class.items }
     {
         let class = class_in(rows.aggregations, rows.records, record_no);
         let number = self.number_of(class);
@@ -103,30 +96,22 @@ impl ClassIndex {
     pub(crate) fn reindex_container(
         &mut self,
         rows: &Rows<'_>,
-        records_in: &ChildLists,
+        directory: &Directory,
         container: AggNo,
     )
-        requires sound { IsSound rows.now }
-        requires linked { HasLinks rows.now records_in.now.last.items
-            records_in.now.before.items }
+        requires ready { CanRefresh rows.now directory.now }
         requires there { IsTrue (has_aggregation rows.now container) }
-        requires numbers { HaveNumbers rows.now.classes (from_entries self.old.numbers.entries)
-            (length self.old.class_lists.first.items) }
-        requires count { length self.old.class_lists.class.items ≡ length rows.now.records }
-        ensures same { self.new.numbers ≡ self.old.numbers }
-        ensures first { length self.new.class_lists.first.items
-            ≡ length self.old.class_lists.first.items }
-        ensures count { length self.new.class_lists.class.items
-            ≡ length self.old.class_lists.class.items }
-        ensures listed { AreDone
+        requires places { HasPlaces rows.now self.old }
+        ensures keeps { KeepsNumbers self.old self.new }
+        ensures listed { AreRenewed
             (IsOfClass (from_entries self.old.numbers.entries) rows.now.aggregations
             rows.now.records) rows.now.records (is_in container)
             self.old.class_lists.class.items self.new.class_lists.class.items }
     {
-        let mut at = records_in.last(container);
+        let mut at = directory.records_in.last(container);
         while at != 0 {
             self.reindex(rows, at);
-            at = records_in.before(at);
+            at = directory.records_in.before(at);
         }
     }
 }

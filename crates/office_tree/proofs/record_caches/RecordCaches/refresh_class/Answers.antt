@@ -12,7 +12,7 @@ loop-at-init c =
     let m = c.args.class_lists.now in
     record {
       count = refl;
-      walked = walk_starts m.first.items m.next.items m.previous.items m.class.items m.linked c.args.class c.first-at.result (λ r. (it : RecordCache) → numbered c.args.self.now.rows.items r ≡ Some it → IsRecordCache c.args.schedule_numbers.now c.args.rows.now r it) c.requires.low c.first-at.ensures;
+      walked = walk_starts m.first.items m.next.items m.previous.items m.class.items m.linked c.args.class c.first-at.result (λ r. (it : RecordCache) → numbered c.args.self.now.rows.items r ≡ Some it → IsRecordCache c.args.directory.now.schedule_numbers c.args.rows.now r it) c.requires.there.0 c.first-at.ensures;
       others = λ r apart. refl;
     }
 
@@ -37,12 +37,16 @@ loop-at-preserved c =
       count = c.refresh.ensures.count ∙ c.loop-at.invariant.count;
       walked =
           walk_goes m.first.items m.next.items m.previous.items m.class.items m.linked c.args.class at c.next-at.result
-          (λ r. (it : RecordCache) → numbered c.loop-at.self.rows.items r ≡ Some it → IsRecordCache c.args.schedule_numbers.now c.args.rows.now r it)
-          (λ r. (it : RecordCache) → numbered c.refresh.new.self.rows.items r ≡ Some it → IsRecordCache c.args.schedule_numbers.now c.args.rows.now r it)
+          (λ r. (it : RecordCache) → numbered c.loop-at.self.rows.items r ≡ Some it → IsRecordCache c.args.directory.now.schedule_numbers c.args.rows.now r it)
+          (λ r. (it : RecordCache) → numbered c.refresh.new.self.rows.items r ≡ Some it → IsRecordCache c.args.directory.now.schedule_numbers c.args.rows.now r it)
           some c.next-at.ensures c.loop-at.invariant.walked c.refresh.ensures.here
           (λ r other done it e. done it (sym (c.refresh.ensures.others r other) ∙ e));
       others = λ r apart. c.refresh.ensures.others r (λ same. apart (ap (numbered m.class.items) same ∙ its)) ∙ c.loop-at.invariant.others r apart;
     }
 
-pub returns-clause-here : goal.returns-clause-here
-returns-clause-here c = walk_ends c.args.class_lists.now.next.items c.args.class_lists.now.class.items c.args.class c.loop-at.at (λ r. (it : RecordCache) → numbered c.loop-at.self.rows.items r ≡ Some it → IsRecordCache c.args.schedule_numbers.now c.args.rows.now r it) (omega (arith, c.loop-at-test.false)) c.loop-at.invariant.walked
+pub returns : goal.returns
+returns c = record {
+  count = c.loop-at.invariant.count;
+  here = walk_ends c.args.class_lists.now.next.items c.args.class_lists.now.class.items c.args.class c.loop-at.at (λ r. (it : RecordCache) → numbered c.loop-at.self.rows.items r ≡ Some it → IsRecordCache c.args.directory.now.schedule_numbers c.args.rows.now r it) (omega (arith, c.loop-at-test.false)) c.loop-at.invariant.walked;
+  others = c.loop-at.invariant.others;
+}

@@ -10,7 +10,7 @@ use Rattle.office_tree.proofs.record_caches.RecordCaches.refresh_class.Given as 
 abbrev pub invariant-loop-at : goal.invariant-loop-at
 invariant-loop-at l = record {
   count : length l.self.rows.items ≡ length l.initial.self.rows.items;
-  walked : IsWalked l.class_lists.next.items l.class_lists.class.items l.class l.at (λ r. (it : RecordCache) → numbered l.self.rows.items r ≡ Some it → IsRecordCache l.schedule_numbers l.rows r it);
+  walked : IsWalked l.class_lists.next.items l.class_lists.class.items l.class l.at (λ r. (it : RecordCache) → numbered l.self.rows.items r ≡ Some it → IsRecordCache l.directory.schedule_numbers l.rows r it);
   others : (r : ℕ) → numbered l.class_lists.class.items r ≢ Some l.class → numbered l.self.rows.items r ≡ numbered l.initial.self.rows.items r;
 }
 
