@@ -12,6 +12,10 @@ use Rattle.office_terms.specs.declared.head.Record.{Record}
 abbrev pub NumberMap : Type 0
 NumberMap = FinMap code_cmp ℕ
 
+-- each class keeps its number
+abbrev pub StayNamed : NumberMap → NumberMap → Type 0
+StayNamed old new = (code : List ℕ) (n : ℕ) → get old code ≡ Some n → get new code ≡ Some n
+
 -- the number is that of the record's class
 abbrev pub IsOfClass : NumberMap → List Aggregation → List Record → ℕ → ℕ → Type 0
 IsOfClass numbers aggregations records r class =

@@ -1,7 +1,7 @@
 //! The index of records by class: a number for each class, and the list under it.
-ghost use Rattle.std.specs.Prelude.{◌≡◌, ◌≤◌, ℕ, List, [], IfOk, IsSome, IsTrue, OnOk, Some, length};
+ghost use Rattle.std.specs.Prelude.{◌≡◌, ◌≤◌, [], IfOk, IsSome, IsTrue, OnOk, Some, length};
 ghost use Rattle.std.specs.FinMap.{FinMap, empty, from_entries, get};
-ghost use Rattle.office_tree.specs.ClassIndex.{AreListed, HaveNumbers, IsOfClass};
+ghost use Rattle.office_tree.specs.ClassIndex.{AreListed, HaveNumbers, IsOfClass, StayNamed};
 ghost use Rattle.office_tree.specs.Derived.{AreRenewed, CanRefresh, HasPlaces, IsPutRight, KeepsNumbers};
 ghost use Rattle.office_terms.specs.Sound.{IsSound};
 ghost use Rattle.office_tree.specs.Stored.{is_in};
@@ -55,9 +55,8 @@ impl ClassIndex {
         ensures class { self.new.class_lists.class.items ≡ self.old.class_lists.class.items }
         ensures named { OnOk result
             (IsSome (get (from_entries {R = code_cmp} self.new.numbers.entries) code.now)) }
-        ensures kept { (q : List ℕ) (n : ℕ)
-            → get (from_entries {R = code_cmp} self.old.numbers.entries) q ≡ Some n
-            → get (from_entries {R = code_cmp} self.new.numbers.entries) q ≡ Some n }
+        ensures kept { StayNamed (from_entries self.old.numbers.entries)
+            (from_entries self.new.numbers.entries) }
         ensures numbers { (classes : FinMap code_cmp Class)
             → HaveNumbers classes (from_entries self.old.numbers.entries)
             (length self.old.class_lists.first.items)
