@@ -37,7 +37,7 @@ def catalogue(folder: pathlib.Path) -> None:
     script("office-backup", file, copy, user=NOBODY)
     status, _, error = script("office-catalogue", copy, place, user=NOBODY)
     there = read(place / "now")
-    judge("a catalogue", status == 0 and len(there) == 8, error.strip() or list(there))
+    judge("a catalogue", status == 0 and len(there) == 9 and there["awaiting"] == [], error.strip() or list(there))
     moment = there["moments"].pop()
     judge("all of it is of the moment of the copy",
           not there["moments"] and time.strftime("%Y-%m-%dT%H:%M:%SZ", time.gmtime(began)) <= moment
@@ -93,7 +93,7 @@ def refused(folder: pathlib.Path, file: pathlib.Path, copy: pathlib.Path, place:
     killed.kill()
     killed.wait()
     judge("one that is killed leaves the one that is there", (place / "now").resolve() in stands
-          and len(list((place / "now").iterdir())) == 7)
+          and len(list((place / "now").iterdir())) == 8)
     for it in place.glob(".office-catalogue.*"):
         judge("and a folder, which a later one removes", it.is_dir())
         os.utime(it, (0, 0))

@@ -278,6 +278,7 @@ ROWS = [
     Row(LEFT, prints="", then=left_is_seen),
     Row("mkdir -m 700 registers"),
     Row(f"office-overdue {CITY} registers", like=r"registers/overdue-\d{4}-\d\d-\d\d\.csv\n"),
+    Row("office-awaiting city.db", like=r"sent,run,record,ref,class,schedule,length,sha256\n2022-05-02,1,19,BLD.*\n"),
     Row("cp service/city.mail"),
     Row("install -d -o office -g www-data -m 2750 /var/lib/office-catalogues/city"),
     Row("office-catalogue city.db /var/lib/office-catalogues/city", prints=""),
