@@ -8,8 +8,9 @@ import sys
 
 HERE = pathlib.Path(__file__).resolve().parent
 sys.path.insert(0, str(HERE.parent))
+sys.path.append(str(HERE.parent.parent.parent / "tools"))
 
-from spreadsheet.columns import columns_of, known  # noqa: E402
+from spreadsheet.columns import RECORD, columns_of  # noqa: E402
 from spreadsheet.sheet import Unreadable, decoded, separated  # noqa: E402
 from spreadsheet.turning import Turner  # noqa: E402
 
@@ -43,7 +44,7 @@ def turned(case: Case) -> Case:
     header, years = options.get("header", 1), options.get("years")
     try:
         text, encoding = decoded(bytes_of(case), options.get("encoding"))
-        separator, rows = separated(text, known, header, options.get("separator"))
+        separator, rows = separated(text, RECORD.known, header, options.get("separator"))
         columns = columns_of(rows, header, options.get("columns", {}), options.get("set", {}))
         turner = Turner(columns, None, years, options.get("joinLines", False))
         found = turner.all(rows[header:], options.get("days"))
