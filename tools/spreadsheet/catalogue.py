@@ -49,12 +49,16 @@ def catalogue_in(folder: pathlib.Path) -> Catalogue:
     moments = {moment for moment, _ in parts.values()}
     if len(moments) > 1:
         raise Unreadable("catalogue", f"the parts of the catalogue in {folder} are of several moments: read it again")
-    rows = {name: it for name, (_, it) in parts.items()}
+    return catalogue_of({name: it for name, (_, it) in parts.items()}, moments.pop())
+
+
+def catalogue_of(rows: dict[str, list], moment: str = "") -> Catalogue:
+    """The catalogue whose parts have these rows."""
     aggregations = {it["number"]: it["ref"] for it in rows["aggregations"]}
     records = {it[0]: it[1] for it in rows["records"]}
     by_ref = {"aggregation": {ref: number for number, ref in aggregations.items()},
               "record": {ref: number for number, ref in records.items()}}
     codes = {"schedule": "schedules", "class": "classes", "hold": "holds"}
-    return Catalogue(moments.pop(), aggregations, {it["number"] for it in rows["aggregations"] if it["closed"]}, records,
+    return Catalogue(moment, aggregations, {it["number"] for it in rows["aggregations"] if it["closed"]}, records,
                      {name: {it["code"] for it in rows[many]} for name, many in codes.items()},
                      {it["code"] for it in rows["holds"] if it["lifted"]}, by_ref)
