@@ -7,6 +7,7 @@ import json
 import os
 import pathlib
 import shutil
+import socket
 import ssl
 import subprocess
 import urllib.parse
@@ -17,6 +18,8 @@ Answer = dict[str, object]
 # a request takes 1,048,576 bytes, and some room is left
 MOST_BYTES = 1_048_576 - 1_024
 SECONDS = 120
+# a log that is shorter has no act
+FIRST_ACT = 56
 
 
 class Stopped(Exception):
@@ -92,23 +95,29 @@ class OnCopy:
     """The program on a copy of an office, or on a new one: what it answers there, it answers to the same acts."""
 
     def __init__(self, folder: pathlib.Path, copy: pathlib.Path | None) -> None:
-        self.folder, self.file = folder, folder / "tried.db"
-        self.program = os.environ.get("OFFICE", "office")
+        self.file, self.program = folder / "tried.db", os.environ.get("OFFICE", "office")
         if copy is not None:
-            shutil.copyfile(copy, self.file)
             log = copy.with_name(copy.name + "-wal")
-            if log.exists() and log.stat().st_size > 41:
+            if log.exists() and log.stat().st_size >= FIRST_ACT:
                 raise ValueError(f"{log} still has acts: take a copy with office-backup")
+            shutil.copyfile(copy, self.file)
 
-    def acts(self, acts: list[Act]) -> list[Answer]:
-        list_ = self.folder / "acts.json"
-        list_.write_text(listed([line_of(it) for it in acts]))
+    def __enter__(self) -> OverHttp:
+        """Serves the copy, for this program alone to ask."""
+        with socket.create_server(("127.0.0.1", 0)) as free:
+            port = free.getsockname()[1]
+        words = [self.program, "serve", str(self.file), str(port), "1000000"]
         try:
-            done = subprocess.run([self.program, "apply", str(self.file), str(list_)], stdin=subprocess.DEVNULL,
-                                  capture_output=True)
+            self.process = subprocess.Popen(words, stdin=subprocess.DEVNULL, stdout=subprocess.PIPE, stderr=subprocess.PIPE)
         except OSError as why:
-            raise Stopped([], f"{self.program} cannot be run: {why.strerror}; OFFICE names the program") from why
-        answers = [json.loads(line) for line in done.stdout.splitlines()]
-        if len(answers) < len(acts):
-            raise Stopped(answers, done.stderr.decode(errors="replace").strip())
-        return answers
+            raise ValueError(f"{self.program} cannot be run: {why.strerror}; OFFICE names the program") from why
+        assert self.process.stdout and self.process.stderr
+        if not self.process.stdout.readline().startswith(b"listening"):
+            said = self.process.stderr.read().decode(errors="replace").strip()
+            self.__exit__()
+            raise ValueError(f"{self.program} does not open the copy: {said}")
+        return OverHttp(f"http://127.0.0.1:{port}")
+
+    def __exit__(self, *_: object) -> None:
+        self.process.kill()
+        self.process.communicate()

@@ -131,7 +131,8 @@ class Converter:
         """What the program answers to the acts on a copy of the office, or on a new one."""
         with tempfile.TemporaryDirectory() as new:
             copy = None if self.asked.try_on == "new" else pathlib.Path(self.asked.try_on)
-            return Sender(OnCopy(pathlib.Path(new), copy), {}).send(rows)
+            with OnCopy(pathlib.Path(new), copy) as office:
+                return Sender(office, {}).send(rows)
 
 
 def order_told(order: Order) -> str:
