@@ -17,8 +17,8 @@ CODES = {"code", "class", "schedule", "hold"}
 # the columns that hold days
 DAYS = ("occurred", "day")
 # kinds in which a second row for the same thing is a mistake: the members that say which thing it is
-ONCE = {"add-schedule": ["code"], "add-class": ["code"], "add-aggregation": ["ref"], "close-aggregation": ["aggregation"],
-        "set-class-schedule": ["class"], "place-hold": ["code"], "lift-hold": ["hold"], "hold-on": ["hold", "target"],
+ONCE = {"add-schedule": ["code"], "add-class": ["code"], "add-aggregation": ["ref"],
+        "close-aggregation": ["aggregation"], "set-class-schedule": ["class"], "place-hold": ["code"], "lift-hold": ["hold"], "hold-on": ["hold", "target"],
         "hold-off": ["hold", "target"], "reclassify": ["target"],
         "add-record": ["ref"],
         **dict.fromkeys(("event", "review", "confirm", "receipt", "set-record-schedule"), ["record"])}
