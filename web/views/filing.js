@@ -109,7 +109,10 @@ export function sayFates(place, items, answer, part = "filing") {
   say(place, kind, end, factsOf(facts), ...(answer ? told(answer) : []), ...stopped);
 }
 
-/** Takes what is dropped on a place, as what is chosen by its field. A folder is no file. */
+/**
+ * Takes what is dropped on a place, as what is chosen by its field: the files, the names of folders, and all of it as the
+ * entries of a file system, if the browser has these.
+ */
 export function onDrop(place, take) {
   const over = (is) => place.classList.toggle("over", is);
   for (const name of ["dragenter", "dragover"]) {
@@ -125,7 +128,8 @@ export function onDrop(place, take) {
     const entries = [...event.dataTransfer.items].map((item) => item.webkitGetAsEntry?.());
     const isFolder = (at) => entries.length === event.dataTransfer.files.length && entries[at]?.isDirectory;
     const files = [...event.dataTransfer.files];
-    take(files.filter((_, at) => !isFolder(at)), files.filter((_, at) => isFolder(at)).map(({ name }) => name));
+    const names = files.filter((_, at) => isFolder(at)).map(({ name }) => name);
+    take(files.filter((_, at) => !isFolder(at)), names, names.length ? entries : null);
   });
 }
 
