@@ -32,6 +32,8 @@ class Acts(View):
         if kind and self.browser.one("#import-kind").get_attribute("value") != kind:
             self.browser.choose("#import-kind", kind)
             self.clicks += 1
+        sheet = self.browser.one("#import-sheet")
+        self.browser.wait(lambda: not kind or sheet.get_attribute("data-kind") == kind, f"{name} is not read as {kind}")
 
     def send(self) -> int:
         self.clicks += 1

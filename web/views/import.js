@@ -125,6 +125,7 @@ function refresh() {
   const there = headerOf();
   reading.show(sheet.options, there.header, there);
   byId("import-sheet").hidden = false;
+  byId("import-sheet").dataset.kind = sheet.kind;
   byId("import-rows").hidden = !sheet.found;
   byId("import-heading").textContent = visible(sheet.name);
   if (!sheet.found) return;
