@@ -112,6 +112,9 @@ async function findKind() {
   reading.takeKind(sheet.kind, changed);
   preview.takeKind(sheet.kind);
   byId("import-acts-about").hidden = sheet.kind === RECORDS;
+  const part = sheet.kind === RECORDS ? "import" : acts.PART;
+  byId("import-send").querySelector("legend").textContent = t(`${part}.send`);
+  byId("import-send").querySelector("fieldset > .hint").textContent = t(`${part}.sendAbout`);
 }
 
 /** Reads the sheet anew, and shows what came of it. */

@@ -13,9 +13,13 @@ const SHOWN = 200;
 
 let rows = [];
 let shown = SHOWN;
-/** What each row is, and the columns that it has. */
+/** What each row is, and the columns that are shown of it. */
 let kind = RECORDS;
 let names = formOf(RECORDS).names;
+/** A row of a plan has so many columns that only these are apart; the others are together, in a column of this name. */
+const APART = ["act", "code", "ref", "title"];
+const REST = "rest";
+const restOf = () => formOf(kind).names.filter((name) => !APART.includes(name));
 
 /** What became of the act of a row, in words. */
 const fateOf = (fate) => {
@@ -69,7 +73,12 @@ function answerOf(row) {
 /** What a row has in a column: the value that will be sent, else what the sheet has. */
 function shownIn(row, name, at) {
   if (kind === RECORDS) return row.values[at] ?? "";
+  if (name === REST) {
+    const there = restOf().map((it) => [it, shownIn(row, it)]).filter(([, value]) => value);
+    return there.map(([it, value]) => `${columnWord(it)}: ${value}`).join("; ");
+  }
   const value = row.act?.[name];
+  if (name === "act" && value) return t(`${PART}.kinds.${value}`);
   return ["string", "number"].includes(typeof value) ? String(value) : row.shown[name];
 }
 
@@ -78,6 +87,8 @@ function cellOf(row, name, at) {
   const value = shownIn(row, name, at);
   const wrong = row.wrong.find((it) => it.name === name);
   if (wrong) return made("td", { role: "cell", class: "bad" }, inShort(wrong.text));
+  const isBad = name === REST && row.wrong.some((it) => restOf().includes(it.name));
+  if (isBad) return made("td", { role: "cell", class: "bad" }, visible(value));
   const isContent = name === "content" && value;
   const words = isContent ? inBytes(contentBytes(value)) : visible(value);
   return made("td", { role: "cell" }, words);
@@ -112,7 +123,7 @@ export function take(these) {
 /** Has the columns of what each row is. */
 export function takeKind(this_) {
   kind = this_;
-  ({ names } = formOf(kind));
+  names = kind === "plan" ? [...APART, REST] : formOf(kind).names;
   const words = [t("import.columns.row"), ...names.map(columnWord), t("import.columns.answer")];
   const heads = words.map((word) => made("th", { scope: "col", role: "columnheader" }, word));
   const table = byId("import-table");
