@@ -121,7 +121,7 @@ def by_refs(view: Acts) -> None:
     view.filtered("all")
     view.send()
     same("they are closed", view.outcome(), {"added": str(FILES - 614)})
-    view.chosen("events.csv", ["Record;Date;Who", "BP/1/1;31.12.2020;M. Vane", "2;01.02.1799;M. Vane", "3;01.02.2999;M. Vane"], "event")
+    view.chosen("events.csv", ["Record;Date;Who", "BP/1/1;31.12.2020;M. Vane", "5;01.02.1799;M. Vane", "3;01.02.2999;M. Vane"], "event")
     looked = view.filtered("look")
     says("a day of long ago is to be looked at", looked[0][-1], PART["look"]["old"].split("{")[0])
     says("and one that has not come", looked[1][-1], PART["look"]["future"].split("{")[0])
