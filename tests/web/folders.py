@@ -39,14 +39,15 @@ def listed(view: View, how: str) -> None:
     days = {row[1]: row[3] for row in rows}
     same("the mail has the day of its header", days.pop("post/2018/Garten/zaun.eml"), "2018-12-31")
     same("the others that of their last change", set(days.values()), {after(0)})
-    mail = next(row for row in rows if row[1].endswith("zaun.eml"))
-    says("which is said in its row", mail[0], PART["mail"])
+    heads = view.browser.driver.execute_script(
+        "return Array.from(document.querySelectorAll('#file-table tbody th'), (it) => it.textContent)")
+    same("which its row alone says", [it.split(".")[0] for it in heads if PART["mail"] in it], ["zaun"])
 
 
 def filed(view: View, office: Office) -> None:
     """They are filed; the same folder again is there already."""
     view.browser.write(file_all_aggregation="1")
-    view.press()
+    view.file()
     same("all are filed", view.counts(), {"added": "4"})
     told = json.loads(office.ask("GET", "/records/2")[2])
     same("by their places", (told["ref"] in WANTED, told["title"]), (True, WANTED[told["ref"]]))
@@ -68,7 +69,7 @@ def tell(office: Office, proxy: Proxy, browser: Browser, folder: pathlib.Path) -
     browser.wait(lambda: len(view.rows()) == len(WANTED), "the folder is not listed")
     listed(view, "chosen")
     browser.write(file_all_aggregation="1")
-    view.press()
+    view.file()
     same("a second time all are there already", view.counts(), {"added": "0", "same": "4"})
     view.open()
     view.drop([place / "empty"])
