@@ -1,5 +1,5 @@
 // Rows of a sheet that are acts, in the view Import: which kind they are, what the catalogue has, and how they are sent.
-import { isThere, part } from "../catalogue.js";
+import { part, refresh } from "../catalogue.js";
 import { made } from "../page.js";
 import { bytesOf } from "../plain/acts.js";
 import { isSettled } from "../plain/sending.js";
@@ -49,9 +49,10 @@ const namesRecords = (kind) => kind !== "plan" && formOf(kind).names.includes("r
 
 /** What the catalogue has that rows of a kind may name, or null where there is none. */
 export async function lookUp(kind) {
-  if (!isThere()) return null;
-  const names = ["about", "schedules", "classes", "holds", "aggregations", ...(namesRecords(kind) ? ["records"] : [])];
-  const parts = await Promise.all(names.map((name) => (name === "about" ? [] : part(name))));
+  // a later one may have come since the page was opened
+  if ((await refresh()) === null) return null;
+  const names = ["schedules", "classes", "holds", "aggregations", ...(namesRecords(kind) ? ["records"] : [])];
+  const parts = await Promise.all(names.map((name) => part(name)));
   if (parts.includes(null)) return null;
   return catalogueOf({ records: [], ...Object.fromEntries(names.map((name, at) => [name, parts[at]])) });
 }
