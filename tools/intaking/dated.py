@@ -1,6 +1,7 @@
 """What a file says of itself: the day of a mail by its header, that of a picture by its EXIF, others by their names."""
 from __future__ import annotations
 
+import codecs
 import datetime
 import email.header
 import email.parser
@@ -18,25 +19,28 @@ EXIF_POINTER = 0x8769
 def mail_of(data: bytes) -> tuple[datetime.date | None, str]:
     """The day and the subject of a mail, by its header: the day is that of its own time zone."""
     head = email.parser.BytesHeaderParser(policy=email.policy.compat32).parsebytes(data)
-    subject = str(email.header.make_header(decoded(str(head["Subject"] or ""))))
+    # bytes that are no ASCII are taken for UTF-8, as many programs write them
+    fields: dict[str, str] = {}
+    for name, text in head.raw_items():
+        plain = text.encode("utf-8", "surrogateescape").decode("utf-8", "replace")
+        fields.setdefault(name.lower(), " ".join(plain.splitlines()))
+    subject = subject_of(fields.get("subject", ""))
     try:
-        return email.utils.parsedate_to_datetime(str(head["Date"])).date(), subject
+        return email.utils.parsedate_to_datetime(fields.get("date", "")).date(), subject
     except (TypeError, ValueError):
         return None, subject
 
 
-def decoded(text: str) -> list:
-    """The parts of a header; one in an encoding that nobody knows stays as it is."""
+def subject_of(text: str) -> str:
+    """A subject in words; bytes in an encoding that nobody knows are read as Latin-1."""
     parts = []
     for part, charset in email.header.decode_header(text):
         try:
-            b"".decode(charset or "ascii")
+            name = codecs.lookup(charset or "ascii").name
         except LookupError:
-            charset = "latin-1"
-        if isinstance(part, bytes):
-            part = part.decode(charset or "latin-1", errors="replace")
-        parts.append((part, "utf-8"))
-    return parts
+            name = "latin-1"
+        parts.append(part.decode(name, errors="replace") if isinstance(part, bytes) else part)
+    return "".join(parts)
 
 
 def picture_day(data: bytes) -> datetime.date | None:
