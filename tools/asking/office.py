@@ -17,7 +17,7 @@ Act = dict[str, object]
 Answer = dict[str, object]
 # a request takes 1,048,576 bytes, and some room is left
 MOST_BYTES = 1_048_576 - 1_024
-SECONDS = 120
+SECONDS = 600
 # a log that is shorter has no act
 FIRST_ACT = 56
 

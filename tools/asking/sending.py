@@ -8,7 +8,7 @@ from typing import Protocol
 from asking.office import MOST_BYTES, Act, Answer, Office, Stopped, line_of
 
 # so many go at most in one request: what is done is seen, and little is unknown where a connection is lost
-MOST_ACTS = 500
+MOST_ACTS = 100
 
 
 class Item(Protocol):
