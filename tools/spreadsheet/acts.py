@@ -83,10 +83,11 @@ class ActTurner:
         found = ActFindings()
         filled = [it for it in rows if not it.is_empty()]
         found.empty = len(rows) - len(filled)
-        for name in self.days():
-            if name in self.columns.form.names:
-                cells = ((self.where(it, name), self.cell(it, name)) for it in filled)
-                self.orders[name] = order_of(cells, self.asked.days, self.asked.first_year)
+        # a program writes the days of all columns alike
+        days = [it for it in self.days() if it in self.columns.form.names]
+        cells = ((self.where(row, name), self.cell(row, name)) for name in days for row in filled)
+        order = order_of(cells, self.asked.days, self.asked.first_year)
+        self.orders = dict.fromkeys(days, order)
         for row in filled:
             self.turn(row, found)
         return found

@@ -142,9 +142,9 @@ def order_told(order: Order) -> str:
 def report(sheet: Sheet) -> None:
     """Says on standard error what was found of a sheet."""
     found = sheet.found
-    orders = {name: order_told(it) for name, it in sheet.turner.orders.items() if name in sheet.columns.places}
+    orders = [it for name, it in sheet.turner.orders.items() if name in sheet.columns.places]
     lines = [sheet.told, f"columns: {sheet.columns.summary()}"]
-    lines += [f"order of days in {name}: {order}" for name, order in orders.items()]
+    lines += [f"order of days: {order_told(it)}" for it in orders[:1]]
     lines += found.said[:MOST_SHOWN]
     lines += [f"and {len(found.said) - MOST_SHOWN} cells more"] if len(found.said) > MOST_SHOWN else []
     lines += [f"look at {it}" for it in found.notes[:MOST_SHOWN]]
