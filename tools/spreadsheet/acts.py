@@ -55,7 +55,8 @@ class ActFindings:
     empty: int = 0
 
     def count(self) -> int:
-        return len(self.good) + len(self.wrong) + len(self.refused) + len(self.undecided) + self.empty
+        rows = {it.number for it in self.good} | set(self.wrong)
+        return len(rows) + len(self.refused) + len(self.undecided) + self.empty
 
 
 @dataclass(frozen=True)

@@ -106,6 +106,8 @@ def check_acting(parser: argparse.ArgumentParser, asked: argparse.Namespace) -> 
         parser.error("--files goes with records, and an act of this kind has no content")
     if bool(asked.output) == bool(asked.office):
         parser.error("say -o LIST to write the acts, or --office URL to send them")
+    if asked.history and not asked.try_on and not asked.office:
+        parser.error("--history goes with --try COPY, --try new or --office URL: the office numbers the files")
     if asked.try_on and asked.office:
         parser.error("--try writes what a copy has answered, and goes with -o")
     if (asked.login or asked.ca) and not asked.office:
@@ -114,6 +116,7 @@ def check_acting(parser: argparse.ArgumentParser, asked: argparse.Namespace) -> 
         parser.error("--history takes a sheet of files and one of records" if asked.history
                      else f"one sheet at a time is converted to {asked.act}; --act plan takes several")
     members = {name for kind in MEMBERS.values() for name in kind.split()}
-    strange = next((name for name, _ in asked.set if not asked.history and name not in {*members, "day", "decision", "act"}), None)
+    members |= {"day", "decision", "act"}
+    strange = next((name for name, _ in asked.set if not asked.history and name not in members), None)
     if strange:
         parser.error(f"no act has the member {strange}")
