@@ -14,11 +14,14 @@ from spreadsheet.sheet import Row, in_quotes, place
 
 TEXTS = ("ref", "title", "reason", "by")
 CODES = {"code", "class", "schedule", "hold"}
+# what the code of each kind is that of
+OF_CODE = {"add-schedule": "schedule", "add-class": "class", "place-hold": "hold"}
 # the columns that hold days
 DAYS = ("occurred", "day")
 # kinds in which a second row for the same thing is a mistake: the members that say which thing it is
 ONCE = {"add-schedule": ["code"], "add-class": ["code"], "add-aggregation": ["ref"],
-        "close-aggregation": ["aggregation"], "set-class-schedule": ["class"], "place-hold": ["code"], "lift-hold": ["hold"], "hold-on": ["hold", "target"],
+        "close-aggregation": ["aggregation"], "set-class-schedule": ["class"], "place-hold": ["code"],
+        "lift-hold": ["hold"], "hold-on": ["hold", "target"],
         "hold-off": ["hold", "target"], "reclassify": ["target"],
         "add-record": ["ref"],
         **dict.fromkeys(("event", "review", "confirm", "receipt", "set-record-schedule"), ["record"])}
@@ -260,7 +263,7 @@ class ActTurner:
                 return self.things.look_code("class", thing, False)
             return self.things.look(what, int(thing), "reclassify")
         if name in CODES:
-            what = {"add-schedule": "schedule", "add-class": "class", "place-hold": "hold"}[kind] if name == "code" else name
+            what = OF_CODE[kind] if name == "code" else name
             return self.things.look_code(what, str(value or ""), name == "code")
         if name == "ref" and self.catalogue and self.catalogue.number("aggregation", str(value)) is not None:
             return "exists", "is the ref of an aggregation already, by the catalogue"

@@ -34,7 +34,8 @@ def part(folder: pathlib.Path, name: str) -> tuple[str, list]:
     places = [folder / "now" / f"{name}.json.gz", folder / f"{name}.json.gz", folder / f"{name}.json"]
     file = next((it for it in places if it.is_file()), None)
     if file is None:
-        raise Unreadable("catalogue", f"there is no {name}.json.gz of a catalogue in {folder}: office-catalogue makes it")
+        why = f"there is no {name}.json.gz of a catalogue in {folder}: office-catalogue makes it"
+        raise Unreadable("catalogue", why)
     data = file.read_bytes()
     try:
         read = json.loads(gzip.decompress(data) if file.suffix == ".gz" else data)

@@ -149,8 +149,10 @@ def report(sheet: Sheet) -> None:
     lines += [f"and {len(found.said) - MOST_SHOWN} cells more"] if len(found.said) > MOST_SHOWN else []
     lines += [f"look at {it}" for it in found.notes[:MOST_SHOWN]]
     lines += [f"and {len(found.notes) - MOST_SHOWN} more to look at"] if len(found.notes) > MOST_SHOWN else []
-    left = [f"{len(found.refused)} say no", f"{len(found.undecided)} say nothing"] if "decision" in sheet.columns.form.names else []
-    counts = [f"{found.count()} read", f"{len(found.good)} acts", *left, f"{found.empty} empty", f"{len(found.wrong)} wrong"]
+    decided = "decision" in sheet.columns.form.names
+    left = [f"{len(found.refused)} say no", f"{len(found.undecided)} say nothing"] if decided else []
+    counts = [f"{found.count()} read", f"{len(found.good)} acts", *left, f"{found.empty} empty",
+              f"{len(found.wrong)} wrong"]
     lines.append(f"rows below the header: {', '.join(counts)}")
     print("\n".join(lines), file=sys.stderr)
 

@@ -109,7 +109,7 @@ class HistoryTurner(ActTurner):
         return acts
 
     def record(self, row: Row, found: ActFindings) -> list[ActRow]:
-        """The act of a record: it is filed on its day of filing, else on the day when it was made, or its file opened."""
+        """The act of a record: it is filed on its day of filing, else when it was made, or when its file was opened."""
         ref = self.read(row, found, "ref", text_of)
         title = self.read(row, found, "title", text_of)
         originated = self.read(row, found, "originated", lambda cell: self.past("originated", cell))
