@@ -50,6 +50,11 @@ def digest_of(cell: str) -> str:
     return cell.lower()
 
 
+def without_guard(ref: str) -> str:
+    """A ref without the apostrophe that the page's CSV puts before what a spreadsheet program would compute."""
+    return ref[1:] if re.match(r"'[=+\-@\t\r]", ref) else ref
+
+
 class Things:
     """Numbers of records and aggregations by what cells say: a number, or a ref that the catalogue has."""
 
@@ -73,15 +78,16 @@ class Things:
         if cell.startswith("0") or int(cell) > LARGEST_NUMBER:
             raise Wrong("range", f"is not a number from 1 to {LARGEST_NUMBER:,} without zeros in front")
         there = self.catalogue.ref(what, int(cell)) if self.catalogue else None
-        if ref and there is not None and there != ref:
+        if ref and there is not None and there not in (ref, without_guard(ref)):
             raise Wrong("otherRef", f"has the ref {there} in the catalogue, and not {ref}")
         return int(cell)
 
     def by_ref(self, what: str, ref: str) -> int | Pending:
         text_of(ref)
-        number = self.catalogue.number(what, ref) if self.catalogue else None
-        if number is not None:
-            return number
+        for text in (ref, without_guard(ref)):
+            number = self.catalogue.number(what, text) if self.catalogue else None
+            if number is not None:
+                return number
         if what == "aggregation" and ref in self.added[what]:
             return Pending(ref)
         if self.catalogue is None:

@@ -46,6 +46,9 @@ export function digestOf(cell) {
   return cell.toLowerCase();
 }
 
+/** A ref without the apostrophe that the page's CSV puts before what a spreadsheet program would compute. */
+const withoutGuard = (ref) => (/^'[=+\-@\t\r]/.test(ref) ? ref.slice(1) : ref);
+
 /** Numbers of records and aggregations by what cells say: a number, or a ref that the catalogue has. */
 export class Things {
   constructor(catalogue) {
@@ -63,13 +66,14 @@ export class Things {
     if (named !== undefined && String(named) !== cell) throw new Wrong("both", { number: named });
     if (cell.startsWith("0") || Number(cell) > LARGEST_NUMBER) throw new Wrong("range", { most: LARGEST_NUMBER });
     const there = this.catalogue?.refs[what].get(Number(cell));
-    if (ref && there !== undefined && there !== ref) throw new Wrong("otherRef", { there, ref });
+    if (ref && there !== undefined && ![ref, withoutGuard(ref)].includes(there)) throw new Wrong("otherRef", { there, ref });
     return Number(cell);
   }
 
   byRef(what, ref) {
     textOf(ref);
-    const number = this.catalogue?.numbers[what].get(ref);
+    const numbers = this.catalogue?.numbers[what];
+    const number = numbers?.get(ref) ?? numbers?.get(withoutGuard(ref));
     if (number !== undefined) return number;
     if (what === "aggregation" && this.added.aggregation.has(ref)) return new Pending(ref);
     throw new Wrong(this.catalogue ? "noRef" : "noCatalogue");
