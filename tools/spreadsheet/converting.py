@@ -6,7 +6,7 @@ import datetime
 import pathlib
 import sys
 import tempfile
-from dataclasses import dataclass
+from dataclasses import dataclass, replace
 
 from asking.office import OnCopy, Office, OverHttp
 from asking.sending import Sender, Sent
@@ -74,6 +74,8 @@ class Converter:
         separator, rows = separated(text, kind_known, asked.header, asked.separator)
         header = rows[asked.header - 1].cells if asked.header <= len(rows) else []
         kind, form = self.form(at, header)
+        left = [name for name in form.names if name not in asked.without or name in form.needed]
+        form = replace(form, names=left, either=[name for name in form.either if name in left])
         mapped = {name: it for name, it in asked.column if name in form.names}
         if asked.files and "content" in form.names:
             mapped["content"] = asked.files

@@ -44,6 +44,8 @@ def add_reading(parser: argparse.ArgumentParser) -> None:
     parser.add_argument("--years", type=year, metavar="FIRST", help="two digits mean one of the 100 years from FIRST")
     parser.add_argument("--column", type=pair, action="append", default=[], metavar="NAME=HEADER",
                         help='which column is NAME, as ref="Reference No" or ref=B')
+    parser.add_argument("--without", action="append", default=[], metavar="NAME",
+                        help="a column that is not used though the sheet has it, as class")
     parser.add_argument("--set", type=pair, action="append", default=[], metavar="NAME=VALUE",
                         help="the same value in each row, as aggregation=1")
     parser.add_argument("--files", metavar="HEADER", help="the column of file names: each content is that of the file")
@@ -92,6 +94,8 @@ def check(parser: argparse.ArgumentParser, asked: argparse.Namespace) -> None:
         parser.error("--act and --history do not go together")
     if asked.act or asked.history:
         return check_acting(parser, asked)
+    if asked.without:
+        parser.error("--without goes with --act or --history")
     strange = next((name for name in given if name not in NAMES), None)
     if strange:
         parser.error(f"NAME is one of {', '.join(NAMES)}, and not {strange}")
