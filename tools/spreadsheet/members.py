@@ -100,8 +100,8 @@ class Things:
         if not there:
             raise Wrong("nothing", "there is no target: no number, ref or code")
         if len(there) > 1 and set(there) != {"record", "ref"}:
-            raise Wrong("several", f"has several targets: {', '.join(there)}; write one, or say --without "
-                                   f"{list(there)[-1]}")
+            other = next((name for name in there if name not in ("record", "ref")), "ref")
+            raise Wrong("several", f"has several targets: {', '.join(there)}; write one, or say --without {other}")
         if "target" in there:
             kind, colon, name = there["target"].partition(":")
             if not colon or kind not in ("class", "aggregation", "record"):
