@@ -40,8 +40,9 @@ export function kindShown(header) {
   if (columnsIn(header, formOf("plan")).includes("act")) return "plan";
   const isWhole = (kind) => !missingOf(formOf(kind), columnsIn(header, formOf(kind))).length;
   const kind = SHOWN.find(isWhole);
-  const lacksDay = !columnsIn(header, formOf(RECORDS)).includes("originated");
-  return kind && (kind !== "add-aggregation" || lacksDay) ? kind : RECORDS;
+  // a sheet of records may lack a day and an aggregation, but it has no parents
+  const hasParents = kind === "add-aggregation" && columnsIn(header, formOf(kind)).includes("parent");
+  return kind && (kind !== "add-aggregation" || hasParents) ? kind : RECORDS;
 }
 
 /** Whether rows of a kind name records. */
