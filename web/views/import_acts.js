@@ -4,7 +4,7 @@ import { made } from "../page.js";
 import { bytesOf } from "../plain/acts.js";
 import { isSettled } from "../plain/sending.js";
 import { actOf, inOrder } from "../sheet/acts.js";
-import { NAMES, columnNamed, missingOf } from "../sheet/columns.js";
+import { NAMES, columnNamed, missingOf, plain } from "../sheet/columns.js";
 import { COLUMNS, RECORDS, formOf } from "../sheet/kinds.js";
 import { catalogueOf } from "../sheet/lookups.js";
 import { all, t } from "../texts.js";
@@ -37,7 +37,8 @@ const columnsIn = (header, form) => header.map((cell) => columnNamed(cell, form)
 /** What each row is, by the header: records, unless it has the columns of a plan and lacks those of a record. */
 export function kindShown(header) {
   if (!missingOf(formOf(RECORDS), columnsIn(header, formOf(RECORDS))).length) return RECORDS;
-  if (columnsIn(header, formOf("plan")).includes("act")) return "plan";
+  // its other names are common ones of other columns, as Art
+  if (header.some((cell) => plain(cell) === "act")) return "plan";
   const isWhole = (kind) => !missingOf(formOf(kind), columnsIn(header, formOf(kind))).length;
   const kind = SHOWN.find(isWhole);
   // a sheet of records may lack a day and an aggregation, but it has no parents
