@@ -11,6 +11,8 @@ function wordsOf(question) {
   return words.sort((one, other) => other.length - one.length);
 }
 
+/** @typedef {{ rows: any[], starts: Uint32Array, text: string }} Index rows, and their texts as one */
+
 /**
  * The texts of many rows as one long text, a line a row, so that a word is looked for in all of them at once. `textOf`
  * gives the text of a row.
@@ -22,28 +24,35 @@ export function indexOf(rows, textOf) {
   return { rows, starts, text };
 }
 
-/** The rows that have all words of the question and that `takes` takes: how many, and the first ones up to `most`. */
-export function search(index, question, most, takes = () => true) {
+/**
+ * The positions of the rows that have all words of the question and that `takes` takes, by position.
+ * @param {Index} index
+ * @param {string} question
+ * @param {function(number): boolean} takes
+ * @returns {number[]}
+ */
+export function positions(index, question, takes = () => true) {
   const { rows, starts, text } = index;
   const [first = "", ...others] = wordsOf(question);
   const found = [];
-  let count = 0;
-  const look = (row) => {
-    if (!takes(rows[row])) return;
-    count += 1;
-    if (found.length < most) found.push(rows[row]);
-  };
   if (!first) {
-    for (let row = 0; row < rows.length; row += 1) look(row);
-    return { count, found };
+    for (let row = 0; row < rows.length; row += 1) if (takes(row)) found.push(row);
+    return found;
   }
   let row = 0;
   for (let at = text.indexOf(first); at !== -1; at = text.indexOf(first, starts[row + 1])) {
     while (starts[row + 1] <= at) row += 1;
     const line = others.length ? text.slice(starts[row], starts[row + 1]) : "";
-    if (others.every((word) => line.includes(word))) look(row);
+    if (others.every((word) => line.includes(word)) && takes(row)) found.push(row);
   }
-  return { count, found };
+  return found;
+}
+
+/** The rows that have all words of the question and that `takes` takes: how many, and the first ones up to `most`. */
+export function search(index, question, most, takes = () => true) {
+  const { rows } = index;
+  const found = positions(index, question, (at) => takes(rows[at]));
+  return { count: found.length, found: found.slice(0, most).map((at) => rows[at]) };
 }
 
 export const STATUSES = ["here", "sent", "received", "ended"];
