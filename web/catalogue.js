@@ -1,7 +1,8 @@
 // The catalogue that office-catalogue made, where nginx serves one: its parts are read once each, all of one moment.
 import { get } from "./ask.js";
 import { classOf, indexOf, treeOf } from "./plain/catalogue.js";
-import { aggregationOrder, isOfDetails, recordOrder, yearsOf } from "./plain/finding.js";
+import { Details } from "./plain/details.js";
+import { aggregationOrder, isOfDetails, recordOrder } from "./plain/finding.js";
 import { jsonOf } from "./plain/outcomes.js";
 
 /** The moment of what was read, or null where nothing was; what `about` says; its parts and what is made of them. */
@@ -90,11 +91,16 @@ export const records = () => ofPart("records", "records", recordIndex);
 export const aggregations = () => ofPart("aggregations", "aggregations", aggregationIndex);
 export const tree = () => ofPart("tree", "aggregations", treeOf);
 
-/** What the office reports of each record beside that: days, class, schedule, length and due day (plain/finding.js). */
-export const details = () => part("details");
+/** What the office reports of each record beside that: days, class, schedule, length and due day; null if it is not there. */
+export async function details() {
+  const [classes, schedules] = [await part("classes"), await part("schedules")];
+  if (!classes || !schedules) return null;
+  const codes = (rows) => rows.map(({ code }) => code);
+  return ofPart("details", "details", (columns) => new Details(columns, codes(classes), codes(schedules)));
+}
 
 /** The years in which records originated. */
-export const years = () => ofPart("years", "details", yearsOf);
+export const years = async () => (await details())?.years() ?? null;
 
 /** The number of each record, or of each aggregation, by its ref. */
 const numbersOf = (rows, of) => new Map(rows.map(of));
@@ -114,7 +120,8 @@ export async function recordsBy(column) {
   if (!column || column === "number") return null;
   const index = await records();
   if (!isOfDetails(column)) return ofPart(`records by ${column}`, "records", () => recordOrder(index, null, column));
-  return ofPart(`records by ${column}`, "details", (rows) => recordOrder(index, rows, column));
+  const known = await details();
+  return ofPart(`records by ${column}`, "details", () => recordOrder(index, known, column));
 }
 
 /** The same of aggregations. */

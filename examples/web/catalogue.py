@@ -53,7 +53,7 @@ def make(proxy: Proxy, copy: pathlib.Path) -> None:
         place.mkdir()
         shutil.chown(place, group="www-data")
         place.chmod(0o2750)
-    subprocess.run([SERVICE / "office-catalogue", copy, place], check=True)
+    subprocess.run([SERVICE / "office-catalogue", copy, place], check=True, env={**os.environ, "OFFICE": OFFICE})
 
 
 def renew(proxy: Proxy, office: Office) -> None:

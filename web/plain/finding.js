@@ -1,5 +1,6 @@
 // What is found of the catalogue's records: by words, status, class, schedule, year and due day, in any order.
 import { folded, positions } from "./catalogue.js";
+import { numberOfDay } from "./details.js";
 
 /**
  * What is asked for; an empty text asks for nothing.
@@ -16,77 +17,91 @@ import { folded, positions } from "./catalogue.js";
 /** Asks for records without a due day. */
 export const NO_DUE = "none";
 
-/** The places of a record's details: those of the catalogue's part `details`. */
-const DETAIL = { originated: 0, added: 1, class: 2, schedule: 3, length: 4, due: 5 };
-
 /** The columns that a list of records may be ordered by. */
 export const RECORD_COLUMNS = ["number", "ref", "title", "aggregation", "class", "schedule", "due", "status"];
 
-/** What a record is ordered by; without a due day it comes after all days. */
+/** What a record is ordered by; other columns are of the details. */
 const KEYS = {
   number: ([number]) => number,
   ref: ([, ref]) => folded(ref),
   title: ([, , title]) => folded(title),
   aggregation: ([, , , aggregation]) => aggregation,
   status: ([, , , , status]) => status,
-  class: (row, details) => details?.[DETAIL.class] ?? "",
-  schedule: (row, details) => details?.[DETAIL.schedule] ?? "",
-  due: (row, details) => details?.[DETAIL.due] ?? "9999",
 };
 
 /** Whether a question asks for something that only the details have. */
 export const wantsDetails = ({ class: code, schedule, year, due }) => Boolean(code || schedule || year || due);
 
 /** Whether ordering by a column wants the details. */
-export const isOfDetails = (column) => column in DETAIL;
+export const isOfDetails = (column) => ["class", "schedule", "due"].includes(column);
 
-/** The details of a record by their names. */
-export const detailsOf = (details) => Object.fromEntries(Object.entries(DETAIL).map(([name, at]) => [name, details?.[at] ?? null]));
-
-/** Whether the due day is as it is asked for. */
-function isDue(due, wanted) {
-  if (wanted === NO_DUE) return due === null;
-  return due !== null && due <= wanted;
-}
-
-/** A function of a record's position that says whether what is asked for beside the words takes it. */
-function takerOf({ rows }, details, asked) {
-  const { status, aggregation, class: code, schedule, year, due } = asked;
-  const within = Number(aggregation);
-  const ofDetails = wantsDetails(asked);
+/** A function of a position that says whether the details are as they are asked for. */
+function detailsTaker({ columns, codes }, { class: code, schedule, year, due }) {
+  const [ofClass, ofSchedule] = [codes.class.indexOf(code), codes.schedule.indexOf(schedule)];
+  const [first, last] = year ? [numberOfDay(`${year}-01-01`), numberOfDay(`${year}-12-31`)] : [0, 0];
+  const until = due && due !== NO_DUE ? numberOfDay(due) : 0;
   return (at) => {
-    const row = rows[at];
-    if (status && row[4] !== status) return false;
-    if (aggregation && row[3] !== within) return false;
-    if (!ofDetails) return true;
-    const it = details[at];
-    if (code && it[DETAIL.class] !== code) return false;
-    if (schedule && it[DETAIL.schedule] !== schedule) return false;
-    if (year && !it[DETAIL.originated].startsWith(year)) return false;
-    return !due || isDue(it[DETAIL.due], due);
+    if (code && columns.class[at] !== ofClass) return false;
+    if (schedule && columns.schedule[at] !== ofSchedule) return false;
+    if (year && !(columns.originated[at] >= first && columns.originated[at] <= last)) return false;
+    const day = columns.due[at] ?? null;
+    if (due === NO_DUE) return day === null;
+    return !due || (day !== null && day <= until);
   };
 }
 
+/** A function of a position that says whether what is asked for beside the words takes it. */
+function takerOf({ rows }, details, asked) {
+  const { status, aggregation } = asked;
+  const within = Number(aggregation);
+  const ofDetails = wantsDetails(asked) ? detailsTaker(details, asked) : () => true;
+  return (at) => (!status || rows[at][4] === status) && (!aggregation || rows[at][3] === within) && ofDetails(at);
+}
+
+/** The place of each key among all keys, which are texts or numbers; null comes after all others. */
+function ranksOf(keys) {
+  const there = [...new Set(keys)].filter((key) => key !== null && key !== undefined);
+  // without a function a sort of texts is much faster
+  const sorted = typeof there[0] === "number" ? there.sort((one, other) => one - other) : there.sort();
+  const ranks = new Map(sorted.map((key, at) => [key, at]));
+  return { count: sorted.length + 1, ranks: keys.map((key) => ranks.get(key) ?? sorted.length) };
+}
+
 /**
- * The positions of all rows, ordered by what `keyOf` says of each; equal ones stay as they are.
+ * The positions of all keys in their order; equal ones stay as they are.
+ * @param {(string | number | null)[]} keys
  * @returns {Uint32Array}
  */
-export function orderBy(count, keyOf) {
-  const keys = Array.from({ length: count }, (_, at) => keyOf(at));
-  const compare = (one, other) => (keys[one] < keys[other] ? -1 : keys[one] > keys[other] ? 1 : one - other);
-  return Uint32Array.from({ length: count }, (_, at) => at).sort(compare);
+export function orderOf(keys) {
+  const { count, ranks } = ranksOf(keys);
+  const starts = new Uint32Array(count + 1);
+  for (const rank of ranks) starts[rank + 1] += 1;
+  for (let rank = 1; rank <= count; rank += 1) starts[rank] += starts[rank - 1];
+  const order = new Uint32Array(keys.length);
+  ranks.forEach((rank, at) => {
+    order[starts[rank]] = at;
+    starts[rank] += 1;
+  });
+  return order;
 }
 
 /** The order of all records by a column. */
-export const recordOrder = ({ rows }, details, column) => orderBy(rows.length, (at) => KEYS[column](rows[at], details?.[at]));
+export function recordOrder({ rows }, details, column) {
+  if (!isOfDetails(column)) return orderOf(rows.map(KEYS[column]));
+  // codes have their places in the order of the codes already
+  return orderOf(details.columns[column].map((key) => key ?? null));
+}
 
 /** Positions in an order of all rows, or from its end. */
 export function inOrder(found, order, isDown) {
   if (!order) return isDown ? [...found].reverse() : found;
   const isFound = new Uint8Array(order.length);
   for (const at of found) isFound[at] = 1;
-  const sorted = Array.from(order.filter((at) => isFound[at]));
-  return isDown ? sorted.reverse() : sorted;
+  const sorted = [];
+  const take = (at) => isFound[at] && sorted.push(at);
+  if (isDown) for (let place = order.length - 1; place >= 0; place -= 1) take(order[place]);
+  else for (let place = 0; place < order.length; place += 1) take(order[place]);
+  return sorted;
 }
 
 /** Puts the one whose number is asked for outright first. */
@@ -99,7 +114,7 @@ function withNumber(found, { rows }, asked, takes, numberOf) {
 /**
  * The positions of all records that are found, in their order; the one whose number is asked for comes first.
  * @param {import("./catalogue.js").Index} index
- * @param {any[][] | null} details
+ * @param {import("./details.js").Details | null} details
  * @param {Asked} asked
  * @param {Uint32Array | null} order
  * @param {boolean} isDown
@@ -129,10 +144,7 @@ export function aggregationOrder({ rows }, column, classOf) {
     ref: (it) => folded(it.ref),
     title: (it) => folded(it.title),
     class: classOf,
-    closed: (it) => it.closed ?? "9999",
+    closed: (it) => it.closed,
   };
-  return orderBy(rows.length, (at) => keys[column](rows[at]));
+  return orderOf(rows.map(keys[column]));
 }
-
-/** The years in which records originated, the last one first. */
-export const yearsOf = (details) => [...new Set(details.map((it) => it[DETAIL.originated].slice(0, 4)))].sort().reverse();

@@ -1,5 +1,5 @@
 // The catalogue: records and aggregations, searched as one types; classes, schedules, holds and runs as lists.
-import { aboutIt, lastAnswer, part, refresh } from "../catalogue.js";
+import { aboutIt, lastAnswer, part, records, refresh } from "../catalogue.js";
 import { serverNow } from "../clock.js";
 import { asking, byId, failed, grouped, link, made, paragraph, quiet, say } from "../page.js";
 import { isDay, today } from "../plain/forms.js";
@@ -189,6 +189,11 @@ async function fillDetails(mine) {
   FOUND.records.table?.show(FOUND.records.rowsAt(FOUND.records.found), Math.max(shown, FIRST));
 }
 
+/** Makes ready bit by bit what a search for words goes through, so that the first key is answered at once. */
+function warm(index) {
+  if (index?.warm()) setTimeout(() => warm(index), 20);
+}
+
 /** Shows what is asked for now. What was asked for before and comes later is not shown any more. */
 async function draw() {
   const mine = ++turn;
@@ -207,7 +212,8 @@ async function draw() {
   select("within").replaceChildren();
   place.replaceChildren(...tell());
   tellTools();
-  fillDetails(mine);
+  await fillDetails(mine);
+  if (asked.part === "records") warm(await records());
 }
 
 /** Looks for what is written and chosen by now. */

@@ -3,8 +3,9 @@ import { aggregations, aggregationsBy, details, part, records, recordsBy, tree, 
 import { byId, grouped, made, save } from "../page.js";
 import { STATUSES, above, classOf } from "../plain/catalogue.js";
 import { csvOf, formulasIn } from "../plain/csv.js";
+import { NO_DETAILS } from "../plain/details.js";
 import {
-  AGGREGATION_COLUMNS, NO_DUE, RECORD_COLUMNS, detailsOf, findAggregations, findRecords, isOfDetails, wantsDetails,
+  AGGREGATION_COLUMNS, NO_DUE, RECORD_COLUMNS, findAggregations, findRecords, isOfDetails, wantsDetails,
 } from "../plain/finding.js";
 import { visible } from "../plain/marks.js";
 import { Selection } from "../plain/selection.js";
@@ -52,7 +53,7 @@ export async function fillChoices(name, select, wanted) {
 /** Cells of a record; the details may not be there yet. */
 function recordCells({ row, detail }, order) {
   const [number, ref, title, aggregation, status] = row;
-  const { class: code, schedule, due } = detailsOf(detail);
+  const { class: code, schedule, due } = detail;
   const state = t(`catalogue.statuses.${status}`);
   return [recordLink(number), visible(ref), visible(title), aggregationLink(aggregation, order), code ?? "", schedule ?? "", due ?? "", state];
 }
@@ -111,7 +112,7 @@ export class FoundRecords extends Found {
 
   /** The rows at these positions. */
   rowsAt(positions) {
-    return positions.map((at) => ({ row: this.rows[at], detail: this.details?.[at] }));
+    return positions.map((at) => ({ row: this.rows[at], detail: this.details?.at(at) ?? NO_DETAILS }));
   }
 
   /** Finds what is asked for: whether it could. What needs no details is found before they are there. */
@@ -144,22 +145,21 @@ export class FoundRecords extends Found {
 
   async items() {
     const rows = (await part("records")) ?? [];
-    const known = (await details()) ?? [];
     return this.marks.numbers.filter((number) => rows[number - 1]).map((number) => {
       const [, ref, title, , status] = rows[number - 1];
-      return { kind: "record", number, ref, title, status, details: detailsOf(known[number - 1]) };
+      return { kind: "record", number, ref, title, status };
     });
   }
 
   /** The rows of a file, of these numbers. */
   async cells(numbers) {
     const rows = (await part("records")) ?? [];
-    const known = (await details()) ?? [];
+    const known = await details();
     const order = await tree();
     const header = ["record", "ref", "title", "originated", "added", "aggregation", "aggregationRef", "class", "schedule", "length", "due", "status"];
     const cells = numbers.map((number) => {
       const [, ref, title, aggregation, status] = rows[number - 1];
-      const it = detailsOf(known[number - 1]);
+      const it = known?.at(number - 1) ?? NO_DETAILS;
       const within = order.byNumber.get(aggregation)?.ref;
       return [number, ref, title, it.originated, it.added, aggregation, within, it.class, it.schedule, it.length, it.due, t(`catalogue.statuses.${status}`)];
     });

@@ -92,7 +92,7 @@ export function sayAnswers(place, { deed, requests, answer, again }) {
   const own = answer && ![200, 409].includes(answer.status) ? told(answer) : [];
   const kind = isWhole ? "done" : counts.unknown || !counts.refused ? "unknown" : "wrong";
   const end = endOf({ deed, counts, again });
-  say(place, kind, made("p", { class: "verdict" }, words), factsOf(facts), ...own, ...end, tableOfAnswers(deed, steps), saver(deed, steps));
+  say(place, kind, made("p", { class: "verdict" }, words), ...(isWhole ? [] : [factsOf(facts)]), ...own, ...end, tableOfAnswers(deed, steps), saver(deed, steps));
   place.focus();
   return isWhole;
 }

@@ -7,7 +7,7 @@ import { t } from "../texts.js";
 
 /** What the office does not record of each deed: the words of the forms for one of these acts. */
 const UNRECORDED = {
-  hold: "holds.unrecorded",
+  hold: "marked.hold.unrecorded",
   event: "event.unrecorded",
   review: "recordActs.review.unrecorded",
   schedule: "recordActs.schedule.unrecorded",
