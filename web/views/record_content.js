@@ -53,11 +53,16 @@ async function pictureOf({ bytes, kind }) {
   return canvas;
 }
 
-/** A document in a frame of its own, which can neither run a script of its own nor reach this page. */
+/**
+ * A document in a frame, by the browser's own viewer. The page says that it is a PDF, so that nothing takes it for a page;
+ * what policy this page has, the frame has too, and it may ask for nothing (no camera, no place). The attribute `sandbox` is
+ * not there: Chromium shows no PDF in such a frame.
+ */
 function frameOf({ bytes }) {
+  if (navigator.pdfViewerEnabled === false) return paragraph(t("content.noViewer"));
   const url = URL.createObjectURL(new Blob([bytes], { type: "application/pdf" }));
   forget = () => URL.revokeObjectURL(url);
-  return made("iframe", { src: url, title: t("content.document"), class: "looked", sandbox: "" });
+  return made("iframe", { src: url, title: t("content.document"), allow: "", referrerpolicy: "no-referrer" });
 }
 
 function textNode({ bytes }) {
