@@ -23,8 +23,11 @@ function signature(role) {
   return made("div", { class: "signature" }, made("strong", {}, t(`approval.${role}`)), ...["name", "day", "signature"].map(line));
 }
 
-function tableOf(columns, cells) {
-  const row = (words, tag) => made("tr", {}, ...words.map((word) => made(tag, {}, visible(String(word ?? "")))));
+function tableOf(names, columns, cells) {
+  // only a ref and a title may be broken
+  const kind = (at) => (["ref", "title"].includes(names[at]) ? "long" : names[at] ? "whole" : "room");
+  const cell = (tag) => (word, at) => made(tag, { class: kind(at) }, visible(String(word ?? "")));
+  const row = (words, tag) => made("tr", {}, ...words.map(cell(tag)));
   const head = made("thead", {}, row([...columns, t("approval.decision")], "th"));
   return made("table", {}, head, made("tbody", {}, ...cells.map((words) => row([...words, ""], "td"))));
 }
@@ -32,9 +35,9 @@ function tableOf(columns, cells) {
 /**
  * Prints a list for approval.
  * @param {{ question: object, title: string, caption: string, isMarked: boolean, filter: string[][], rows: object[],
- *   columns: string[], cells: any[][] }} it
+ *   names: string[], columns: string[], cells: any[][] }} it `names` are those of the columns, and `columns` their words
  */
-export function printApproval({ title, caption, isMarked, filter, rows, columns, cells }) {
+export function printApproval({ title, caption, isMarked, filter, rows, names, columns, cells }) {
   document.getElementById("approval")?.remove();
   const facts = [
     [t("approval.list"), `${title}. ${caption}`],
@@ -50,7 +53,7 @@ export function printApproval({ title, caption, isMarked, filter, rows, columns,
     factsOf(facts),
     made("h2", {}, t("approval.counts")),
     factsOf(countsOf(rows)),
-    tableOf(columns, cells),
+    tableOf(names, columns, cells),
     paragraph(t("approval.about")),
     made("div", { class: "signatures" }, signature("owner"), signature("records")),
   );

@@ -128,6 +128,7 @@ export class Deciding {
       isMarked,
       filter: list.kind.filters.filter((name) => list.filter[name]).map((name) => [this.#word(name), this.#chosen(name)]),
       rows,
+      names: columns,
       columns: columns.map((name) => this.#word(name)),
       cells,
     });

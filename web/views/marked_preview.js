@@ -49,8 +49,8 @@ export function preview(deed, kind, taken, left, { wrong, before, most }) {
   const requests = Math.ceil(acts / most);
   const parts = [];
   if (before && taken.length) parts.push(t("marked.hold.placed"));
-  parts.push(plural(`marked.${deed}.what.${kind}`, taken.length));
   if (requests > 1) parts.push(t("marked.requests", { requests: grouped(requests), acts: grouped(acts), most }));
+  parts.push(plural(`marked.${deed}.what.${kind}`, taken.length));
   const words = made("p", { class: "marked-what" }, parts.join(" "));
   const lines = wrong.length ? [paragraph(t("marked.receipt.wrong", { lines: wrong.slice(0, 20).join(", ") }), "bad-lines")] : [];
   return [words, ...lines, ...(taken.length ? [listOf(taken)] : []), ...leftOut(left)];
