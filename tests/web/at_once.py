@@ -136,7 +136,8 @@ def reviewed(office: Office, it: Counted, proxy: Proxy) -> None:
     it.write("due_record_review_by", WHO)
     it.press("#due-record-review-submit")
     judge(f"review: {CONTRACTS} take so few clicks, {it.count}", it.count <= MOST_CLICKS)
-    says("review: each is reviewed", page.seen("#due-answer"), f"{CONTRACTS} records are reviewed.")
+    # the list is empty now, so that this is said above it
+    says("review: each is reviewed", page.seen("#due-outcome"), f"{CONTRACTS} records are reviewed.")
     same("review: the office says so", told(office, CASTLE + 1)["due"], after(365 if TODAY.month > 2 or TODAY.year % 4 else 366))
     same("review: none is in the list any more", [row for row in page.table("#due-table") if row[5] == "review"], [])
 

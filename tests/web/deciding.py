@@ -3,6 +3,7 @@ import base64
 import csv
 import json
 import pathlib
+import shutil
 import struct
 import subprocess
 import zlib
@@ -14,12 +15,13 @@ import looks
 from browser import Browser
 from judging import judge, same
 from late import TODAY
-from place import Office, Proxy
-from shots import SCHEMES, shots
+from place import TOP, Office, Proxy
+from shots import shots
 from story import TEXTS, says
 
 WORDS = TEXTS["content"]
-STATUSES = TEXTS["catalogue"]["statuses"]
+# milliseconds
+MOST = 1000
 NAMES = ("originated", "added", "class", "schedule", "length", "due")
 PIXELS = """
 const it = document.querySelector("#record-looked canvas");
@@ -118,7 +120,7 @@ def files(it: Browser, proxy: Proxy, folder: pathlib.Path) -> None:
     judge("CSV: all that is found is in it", len(rows) > at_once.CASTLE, str(len(rows)))
     it.open(f"{proxy.page}#due?day=2999-12-31")
     it.press("#due-csv")
-    name = f"due-2999-12-31.csv"
+    name = "due-2999-12-31.csv"
     it.wait((folder / name).exists, "no file was saved")
     rows = list(csv.reader((folder / name).read_text("utf-8-sig").splitlines()))
     same("CSV: the list has titles too", rows[0], ["Record", "Ref", "Title", "Class", "Schedule", "Action", "Due", "Held by", "Confirmed"])
@@ -163,6 +165,21 @@ def looked(it: Browser, proxy: Proxy, numbers: list[int], folder: pathlib.Path) 
         same(f"content: saved as {name}", (folder / name).read_bytes(), content)
 
 
+def large(folder: pathlib.Path) -> None:
+    """200,000 records are found and ordered by the page's own modules, under node."""
+    place = folder / "modules"
+    place.mkdir()
+    for name in ("plain", "sheet"):
+        shutil.copytree(TOP / "web" / name, place / name)
+    (place / "package.json").write_text('{"type":"module"}')
+    script = pathlib.Path(__file__).with_name("finding.mjs")
+    done = subprocess.run(["node", script, place], stdout=subprocess.PIPE, check=True)
+    told = json.loads(done.stdout)
+    same("200,000: what is found is what a plain search finds, in each order", told["wrong"], [])
+    slow = max(told["times"].items(), key=lambda it: it[1])
+    judge(f"200,000: nothing takes a second of the processor, at most {slow[0]} {slow[1]:.0f} ms", slow[1] < MOST, str(told["times"]))
+
+
 def pictures(it: Browser, proxy: Proxy, number: int) -> None:
     def hold(view):
         it.press(f"#{view}-mark" if view == "catalogue" else "#due-mark-all")
@@ -184,6 +201,7 @@ def tell(office: Office, proxy: Proxy, it: Browser, folder: pathlib.Path) -> Non
     files(it, proxy, folder)
     approval(it, proxy, folder)
     looked(it, proxy, numbers, folder)
+    large(folder)
     layout.words(it, f"{proxy.page}#catalogue?sort=due", "what is found")
     for name, address in (("what is found", "#catalogue?sort=due"), ("aggregations found", "#catalogue?part=aggregations&state=open")):
         looks.readable_view(it, proxy, name, address)

@@ -1,5 +1,6 @@
 // Finds and orders 200,000 records by the page's own modules: node finding.mjs FOLDER, which has web/plain and web/sheet.
-// Standard output gets the milliseconds of each, at best of five, as JSON; what is found is compared with a plain search.
+// Standard output gets the milliseconds of each as JSON, of the processor's time at best of three, since a machine may be busy;
+// what is found is compared with a plain search.
 import { pathToFileURL } from "node:url";
 
 const from = (name) => import(pathToFileURL(`${process.argv[2]}/plain/${name}.js`));
@@ -45,14 +46,16 @@ function takes(asked, at) {
 }
 
 const times = {};
-/** The least milliseconds of five tries, and what the last one returned. */
+const spent = () => (process.cpuUsage().user + process.cpuUsage().system) / 1000;
+
+/** What the last of three tries returned; the least milliseconds of them are noted. */
 function timed(name, work) {
   let least = Infinity;
   let result;
-  for (let turn = 0; turn < 5; turn += 1) {
-    const began = performance.now();
+  for (let turn = 0; turn < 3; turn += 1) {
+    const began = spent();
     result = work();
-    least = Math.min(least, performance.now() - began);
+    least = Math.min(least, spent() - began);
   }
   times[name] = least;
   return result;

@@ -49,7 +49,8 @@ export class Deciding {
       kind: "record",
       except: EXCEPT,
       items: () => this.#items(),
-      answer: () => list.part("answer"),
+      // with an empty list nothing of it is seen but what is said above it
+      answer: () => list.part(list.rows.length ? "answer" : "outcome"),
       save: () => this.#save(list.markedRows()),
       before: (items) => this.#isAsShown(items),
       after: (numbers) => this.#after(numbers),
