@@ -29,19 +29,24 @@ const columns = [
 const details = new Details(columns, ["A", "B", "C", "D"], ["X", "Y", "Z"]);
 const NOTHING = { text: "", status: "", aggregation: "", class: "", schedule: "", year: "", due: "" };
 
+const lines = rows.map(([, ref, title]) => folded(`${ref} ${title}`));
+
 /** Whether a record is what is asked for, said once more without the page's own search. */
 function takes(asked, at) {
-  const [, ref, title, aggregation, status] = rows[at];
-  const it = details.at(at);
-  const line = folded(`${ref} ${title}`);
+  const [, , , aggregation, status] = rows[at];
+  const has = (name, wanted) => !wanted || details.value(name, at) === wanted;
+  const isDue = () => {
+    const due = details.value("due", at);
+    return asked.due === NO_DUE ? due === null : due !== null && due <= asked.due;
+  };
   return (
-    folded(asked.text).split(" ").every((word) => line.includes(word)) &&
+    (!asked.text || folded(asked.text).split(" ").every((word) => lines[at].includes(word))) &&
     (!asked.status || asked.status === status) &&
     (!asked.aggregation || Number(asked.aggregation) === aggregation) &&
-    (!asked.class || asked.class === it.class) &&
-    (!asked.schedule || asked.schedule === it.schedule) &&
-    (!asked.year || it.originated.startsWith(asked.year)) &&
-    (!asked.due || (asked.due === NO_DUE ? it.due === null : it.due !== null && it.due <= asked.due))
+    has("class", asked.class) &&
+    has("schedule", asked.schedule) &&
+    (!asked.year || details.value("originated", at).startsWith(asked.year)) &&
+    (!asked.due || isDue())
   );
 }
 
