@@ -31,6 +31,12 @@ window.fetch = async (...words) => {
 };
 """
 MOST_CLICKS = 6
+# the forms for what is marked
+DEEDS = [
+    *(f"{view}-record-{deed}" for view in ("due", "overdue") for deed in ("hold", "event", "review", "schedule")),
+    *(f"catalogue-record-{deed}" for deed in ("hold", "event", "review", "schedule", "receipt")),
+    *(f"catalogue-aggregation-{deed}" for deed in ("hold", "close")),
+]
 
 
 class Counted:
@@ -110,7 +116,7 @@ def held(office: Office, it: Counted, proxy: Proxy) -> None:
     page.settled()
     it.begin()
     it.press("#catalogue-mark")
-    it.press("#catalogue-record-hold")
+    it.press("#catalogue-record-hold-choose")
     says("hold: what it would do is said before", page.seen("#catalogue-record-hold-preview"), "40 records are put on it:", "1 · SITE/1 · Castle Hill, find 1", "40 · SITE/40")
     for name, value in (("code", "LAW-1"), ("reason", "The dig"), ("by", "Legal office")):
         it.write(f"catalogue_record_hold_{name}", value)
@@ -132,7 +138,7 @@ def reviewed(office: Office, it: Counted, proxy: Proxy) -> None:
     it.begin()
     it.choose("#due-action", "review")
     it.press("#due-mark-all")
-    it.press("#due-record-review")
+    it.press("#due-record-review-choose")
     it.write("due_record_review_by", WHO)
     it.press("#due-record-review-submit")
     judge(f"review: {CONTRACTS} take so few clicks, {it.count}", it.count <= MOST_CLICKS)
@@ -151,7 +157,7 @@ def closed(office: Office, it: Counted, proxy: Proxy) -> None:
     page.settled()
     it.choose("#catalogue-state", "open")
     it.press("#catalogue-mark")
-    it.press("#catalogue-aggregation-close")
+    it.press("#catalogue-aggregation-close-choose")
     it.press("#catalogue-aggregation-close-sure")
     it.press("#catalogue-aggregation-close-submit")
     same("close: the year's files take so many clicks", it.count, MOST_CLICKS)
@@ -167,7 +173,7 @@ def interrupted(office: Office, it: Counted, proxy: Proxy) -> None:
     page.open(f"{proxy.page}#catalogue?class=SITES")
     page.press("#catalogue-mark")
     more = page.driver.execute_script("const it = window.sent.length; window.lost = it + 1; return it")
-    page.press("#catalogue-record-event")
+    page.press("#catalogue-record-event-choose")
     page.write(catalogue_record_event_occurred="2024-01-02", catalogue_record_event_by=WHO)
     page.press("#catalogue-record-event-submit")
     says("lost: what is not known is said", page.seen("#catalogue-answer"), f"Done: 0 of {CASTLE + 1}.", WORDS["event"]["lost"])
@@ -184,7 +190,7 @@ def refused(office: Office, it: Counted, proxy: Proxy) -> None:
     page = it.browser
     page.open(f"{proxy.page}#catalogue?text=contract")
     page.press("#catalogue-mark")
-    page.press("#catalogue-record-hold")
+    page.press("#catalogue-record-hold-choose")
     page.write(catalogue_record_hold_code="OLD-1", catalogue_record_hold_reason="A case", catalogue_record_hold_by="Legal office")
     day = {"day": TODAY.isoformat()}
     place = {"act": "place-hold", **day, "code": "OLD-1", "reason": "Another case", "by": "Another clerk"}
@@ -199,7 +205,7 @@ def receipts(office: Office, it: Counted, proxy: Proxy) -> None:
     page = it.browser
     page.open(f"{proxy.page}#catalogue?status=sent")
     page.press("#catalogue-mark")
-    page.press("#catalogue-record-receipt")
+    page.press("#catalogue-record-receipt-choose")
     digest = lambda n: hashlib.sha256(f"map {n}".encode()).hexdigest().upper()
     lines = f"{digest(1)}  data/MAP-1.txt\n{digest(2)} *record-{CASTLE + CONTRACTS + 2}.bin\nnothing here\n"
     page.driver.execute_script(
@@ -236,10 +242,28 @@ def placed(office: Office, it: Counted, proxy: Proxy) -> None:
     same("refs: the office says so", told(office, CASTLE + 1)["held"], "LAW-2")
 
 
+def late(office: Office, it: Counted, proxy: Proxy) -> None:
+    """Each form for what is marked asks for a tick at a day later than today, and sends nothing without it."""
+    page = it.browser
+    page.open(f"{proxy.page}#due?day=2999-12-31")
+    forms = page.driver.execute_script("return Array.from(document.querySelectorAll('form.deed'), (it) => it.id)")
+    same("late: the forms of deeds", sorted(forms), sorted(DEEDS))
+    for name, view in (("due", "#due?day=2999-12-31"), ("overdue", "#overdue?day=2999-12-31&count=30"), ("catalogue", "#catalogue")):
+        page.go(view)
+        page.press("#catalogue-mark" if name == "catalogue" else f"#{name}-mark-all")
+        for form in [form for form in forms if form.startswith(f"{name}-record-")]:
+            page.press(f"#{form}-choose")
+            page.write(**{f"{form}-day": after(2)})
+            says(f"late: {form}: what that means is said", page.text(f"#{form}-day-late"), after(2))
+            before = len(sent(page))
+            page.press(f"#{form}-submit")
+            same(f"late: {form}: without the tick nothing is sent", (len(sent(page)), page.text(f"#{form}-day-sure-wrong")), (before, TEXTS["fields"]["sureWrong"]))
+
+
 def tell(office: Office, proxy: Proxy, it: Browser, folder: pathlib.Path) -> None:
     fill(office)
     catalogue.renew(proxy, office)
     counted = Counted(it)
     with it.before_each_page(WATCHED):
-        for part in (held, reviewed, closed, interrupted, refused, receipts, placed):
+        for part in (late, held, reviewed, closed, interrupted, refused, receipts, placed):
             part(office, counted, proxy)

@@ -102,7 +102,7 @@ def searched(office: Office, it: Browser, proxy: Proxy) -> None:
             it.press("#catalogue-whole")
         same(f"search: by {name} {value}", shown(), [row["number"] for row in reversed(rows) if takes(row)])
     it.open(f"{proxy.page}#catalogue?class=SITES")
-    it.press("[data-column=due] button")
+    it.press("#catalogue-part [data-column=due] button")
     same("search: the heading says the order", it.one("#catalogue-part [data-column=due]").get_attribute("aria-sort"), "ascending")
     it.wait(lambda: "sort=due" in it.driver.current_url, "the address has no order")
 
@@ -183,7 +183,7 @@ def large(folder: pathlib.Path) -> None:
 def pictures(it: Browser, proxy: Proxy, number: int) -> None:
     def hold(view):
         it.press(f"#{view}-mark" if view == "catalogue" else "#due-mark-all")
-        it.press(f"#{view}-record-hold")
+        it.press(f"#{view}-record-hold-choose")
     sizes = ("1280x900", "400")
     shots(it, "many-catalogue", f"{proxy.page}#catalogue?text=castle", lambda: hold("catalogue"), sizes)
     shots(it, "many-due", f"{proxy.page}#due?day=2999-12-31", lambda: hold("due"), sizes)

@@ -49,8 +49,9 @@ export class MarkedBar {
   }
 
   #buttonOf(deed) {
-    const id = `${this.marks.name}-${this.marks.kind}-${deed}`;
-    const button = made("button", { type: "button", class: "quiet", id, "aria-pressed": "false" }, t(`marked.${deed}.button`));
+    const id = `${this.marks.name}-${this.marks.kind}-${deed}-choose`;
+    const named = { type: "button", class: "quiet", id, "data-deed": deed, "aria-pressed": "false" };
+    const button = made("button", named, t(`marked.${deed}.button`));
     button.addEventListener("click", () => this.choose(deed === this.deed ? "" : deed));
     return button;
   }
@@ -73,7 +74,7 @@ export class MarkedBar {
     if (this.node.hasAttribute("aria-busy")) return;
     this.deed = deed;
     for (const [name, { form }] of this.#forms) form.hidden = name !== deed;
-    for (const button of this.buttons) button.setAttribute("aria-pressed", String(button.id.endsWith(`-${deed}`) && deed !== ""));
+    for (const button of this.buttons) button.setAttribute("aria-pressed", String(button.dataset.deed === deed));
     this.node.dispatchEvent(new CustomEvent("chosen", { detail: deed }));
     quiet(this.outcome);
     if (!deed) return;
