@@ -46,6 +46,9 @@ export function refresh() {
   return look;
 }
 
+/** Whether a catalogue is there, once somebody has looked for one. */
+export const isFound = async () => (await (look ?? refresh())) !== null;
+
 /** Whether a catalogue was there when somebody looked last. */
 export const isThere = () => moment !== null;
 export const aboutIt = () => ({ ...about, moment });

@@ -126,9 +126,16 @@ function tableOf(found) {
   return it.table;
 }
 
+/** A catalogue that an older program made has no details: what asks for them finds nothing, and that is said. */
+function tellNoDetails() {
+  FOUND.records.found = [];
+  say(byId("catalogue-outcome"), "unknown", paragraph(t("catalogue.noDetails")));
+  return [];
+}
+
 async function tellRecords() {
   const found = FOUND.records;
-  if (!(await found.find(asked))) return null;
+  if (!(await found.find(asked))) return (await records()) ? tellNoDetails : null;
   return () => {
     tellWithin(found.within(asked));
     return found.found.length ? [tableOf(found)] : [];

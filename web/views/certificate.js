@@ -54,9 +54,9 @@ let titles = null;
 
 /** Puts the title of each record beside its ref in the entries, or takes it off. */
 async function tellTitles() {
-  titles.renew();
   const mine = asked;
   const title = await titleOf();
+  titles.renew();
   const table = document.querySelector("#certificate-tables .entries");
   if (mine !== asked || !table) return;
   for (const { cells } of table.tBodies[0].rows) {

@@ -82,8 +82,8 @@ export class Deciding {
   /** Puts the titles beside the refs of what is shown, or takes them off. */
   async shown() {
     const mine = ++this.#turn;
-    this.#switch.renew();
     const title = await titleOf();
+    this.#switch.renew();
     if (mine === this.#turn) this.#list.tellTitles(title);
   }
 

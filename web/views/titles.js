@@ -1,17 +1,14 @@
 // Titles of the catalogue beside refs: whether they are shown, which is one choice for all views, and what they are.
-import { isThere, part } from "../catalogue.js";
+import { isFound, isThere, part } from "../catalogue.js";
 import { made } from "../page.js";
 import { t } from "../texts.js";
 
 let isOn = true;
 const switches = [];
 
-/** Whether titles are shown, where there is a catalogue. */
-export const areShown = () => isOn && isThere();
-
 /** The titles by record: a function of a record's number, or null where no titles are shown. */
 export async function titleOf() {
-  if (!areShown()) return null;
+  if (!(await isFound()) || !isOn) return null;
   const rows = await part("records");
   return rows && ((record) => rows[record - 1]?.[2] ?? null);
 }
