@@ -68,7 +68,8 @@ export const DEEDS = {
     fields: { by: "by", day: "day" },
     left: ({ status, digest }) => (status !== "sent" ? "notSent" : digest ? "" : "noDigest"),
     act: ({ number, digest }, { day, by }) => ({ act: "receipt", day, record: number, digest, by }),
-    already: [],
+    // by the catalogue it was sent, so that one which is not sent any more was received since
+    already: [19],
   },
   close: {
     kinds: ["aggregation"],
