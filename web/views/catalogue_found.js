@@ -89,8 +89,9 @@ class Found {
     return this.found.map((at) => at + 1);
   }
 
+  /** How many rows are in the table; where nothing is found there is none. */
   get shown() {
-    return this.#table?.shown ?? 0;
+    return this.found.length ? (this.#table?.shown ?? 0) : 0;
   }
 }
 
