@@ -1,4 +1,5 @@
 """The catalogue that office-catalogue makes, against the tables that it is made from (tests/service_scripts)."""
+import csv
 import gzip
 import json
 import os
@@ -10,6 +11,8 @@ import time
 from service_place import (FIRST, LAST, NOBODY, OFFICE, RECORDS, SERVICE, Served, apply, judge, made, path_with, run,
                            run_acts, script)
 
+# the columns of the details, in their order
+DETAILS = ("originated", "added", "class", "schedule", "length", "due")
 # a title with all that JSON and a shell have a meaning for
 TITLE = "\"O'Brien\" \\ $(id) `id` %s, Straße \u202e \u2028 \U0001f5c2 {a}"
 
@@ -18,6 +21,22 @@ def read(place: pathlib.Path) -> dict:
     """All that a catalogue has, by the names of its files, and its moments."""
     files = {it.name.removesuffix(".json.gz"): json.loads(gzip.decompress(it.read_bytes())) for it in place.iterdir()}
     return {**{name: it[name] for name, it in files.items()}, "moments": {it["moment"] for it in files.values()}}
+
+
+def details(copy: pathlib.Path, there: dict) -> None:
+    """What the program reports of each record: its register of what is due, and the entries of what has ended."""
+    columns = {name: there["details"][at] for at, name in enumerate(DETAILS)}
+    day = lambda number: time.strftime("%Y-%m-%d", time.gmtime(number * 86400))
+    due = csv.DictReader(run(OFFICE, "export", copy, "2999-12-31")[1].splitlines())
+    ended = csv.DictReader(run(OFFICE, "export", copy, "entries")[1].splitlines())
+    wanted = {int(row["record"]): (row["class"], row["schedule"], row["due"]) for row in [*ended, *due]}
+    codes = lambda part: [it["code"] for it in there[part]]
+    told = {at + 1: (codes("classes")[columns["class"][at]], codes("schedules")[columns["schedule"][at]], day(number))
+            for at, number in enumerate(columns["due"]) if number is not None}
+    judge("class, schedule and due day are those that the program reports", told == wanted and len(told) > RECORDS,
+          str([it for it in told.items() if wanted.get(it[0]) != it[1]][:3]))
+    lengths = {len(column) for column in there["details"]}
+    judge("each column has each record", lengths == {len(there["records"])} and None not in columns["class"], lengths)
 
 
 def catalogue(folder: pathlib.Path) -> None:
@@ -37,7 +56,7 @@ def catalogue(folder: pathlib.Path) -> None:
     script("office-backup", file, copy, user=NOBODY)
     status, _, error = script("office-catalogue", copy, place, user=NOBODY)
     there = read(place / "now")
-    judge("a catalogue", status == 0 and len(there) == 8, error.strip() or list(there))
+    judge("a catalogue", status == 0 and len(there) == 10 and there["awaiting"] == [], error.strip() or list(there))
     moment = there["moments"].pop()
     judge("all of it is of the moment of the copy",
           not there["moments"] and time.strftime("%Y-%m-%dT%H:%M:%SZ", time.gmtime(began)) <= moment
@@ -46,6 +65,7 @@ def catalogue(folder: pathlib.Path) -> None:
                "SELECT num, ref, title, aggregation, status FROM records ORDER BY num")[1]
     judge("its records are those of the table", there["records"] == [list(it.values()) for it in json.loads(rows)]
           and len(there["records"]) == 2 * RECORDS + 1, f"{len(there['records'])}")
+    details(copy, there)
     judge("a title with quotes and marks is as it was", there["records"][-1][2] == TITLE, there["records"][-1][2])
     judge("its other files say what was done", there["schedules"] == [
         {"code": "D1", "trigger": "added", "unit": "years", "count": 1, "offset": "none", "action": "destroy"}]
@@ -93,7 +113,7 @@ def refused(folder: pathlib.Path, file: pathlib.Path, copy: pathlib.Path, place:
     killed.kill()
     killed.wait()
     judge("one that is killed leaves the one that is there", (place / "now").resolve() in stands
-          and len(list((place / "now").iterdir())) == 7)
+          and len(list((place / "now").iterdir())) == 8)
     for it in place.glob(".office-catalogue.*"):
         judge("and a folder, which a later one removes", it.is_dir())
         os.utime(it, (0, 0))

@@ -64,7 +64,7 @@ def overdue(folder: pathlib.Path) -> None:
             status, out, error = script("office-overdue", *words, **how)
             judge(
                 f"{name}: no register, and the old one stays",
-                (status, out) == (1, "") and register.read_bytes() == stands and len(list(registers.glob("*"))) == 2,
+                (status, out) == (1, "") and register.read_bytes() == stands and len(list(registers.glob("*"))) == 4,
                 error.strip(),
             )
         judge("the service answers", served.ask("GET", "/records/1") == 200)
@@ -72,14 +72,18 @@ def overdue(folder: pathlib.Path) -> None:
         served.end()
     judge(
         "no copy of FILE is left",
-        sorted(it.name for it in registers.iterdir()) == [f"overdue-{it}.csv" for it in day.values()],
+        sorted(it.name for it in registers.iterdir())
+        == sorted(f"{name}-{it}.csv" for it in day.values() for name in ("awaiting", "overdue")),
     )
+    waits = (registers / f"awaiting-{day['second']}.csv").read_text()
+    judge("nothing was sent, so nothing awaits a receipt", waits == "sent,run,record,ref,class,schedule,length,sha256\n", waits)
     mails(folder, register, wanted[1])
 
 
 def mails(folder: pathlib.Path, register: pathlib.Path, wanted: str) -> None:
-    """A register is sent as it is: by a `mail` that notes what it is asked, and by bsd-mailx where it is installed."""
-    subject = f"Records overdue on 2025-02-02: {RECORDS}"
+    """Both registers are sent as they are: by a `mail` that notes what it is asked, and by bsd-mailx if it is there."""
+    subject = f"Records overdue on 2025-02-02: {RECORDS}, awaiting a receipt: 0"
+    wanted += "\nSent to the archive, and awaiting its receipt: 0\nsent,run,record,ref,class,schedule,length,sha256\n"
     sent = folder / "sent"
     path = path_with(folder / "mail", "mail", f'for word; do echo "$word"; done >{sent}\ncat >{sent}.body')
     status, _, error = script("office-overdue-mail", register, "a@localhost", "b@localhost", PATH=path)

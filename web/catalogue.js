@@ -1,6 +1,8 @@
 // The catalogue that office-catalogue made, where nginx serves one: its parts are read once each, all of one moment.
 import { get } from "./ask.js";
-import { indexOf, treeOf } from "./plain/catalogue.js";
+import { classOf, indexOf, treeOf } from "./plain/catalogue.js";
+import { Details } from "./plain/details.js";
+import { aggregationOrder, isOfDetails, recordOrder } from "./plain/finding.js";
 import { jsonOf } from "./plain/outcomes.js";
 
 /** The moment of what was read, or null where nothing was; what `about` says; its parts and what is made of them. */
@@ -43,6 +45,9 @@ export function refresh() {
   look = lookNow();
   return look;
 }
+
+/** Whether a catalogue is there, once somebody has looked for one. */
+export const isFound = async () => (await (look ?? refresh())) !== null;
 
 /** Whether a catalogue was there when somebody looked last. */
 export const isThere = () => moment !== null;
@@ -88,6 +93,46 @@ const aggregationIndex = (rows) => indexOf(rows, ({ ref, title }) => `${ref} ${t
 export const records = () => ofPart("records", "records", recordIndex);
 export const aggregations = () => ofPart("aggregations", "aggregations", aggregationIndex);
 export const tree = () => ofPart("tree", "aggregations", treeOf);
+
+/** What the office reports of each record beside that: days, class, schedule, length and due day; null if it is not there. */
+export async function details() {
+  const [classes, schedules] = [await part("classes"), await part("schedules")];
+  if (!classes || !schedules) return null;
+  const codes = (rows) => rows.map(({ code }) => code);
+  return ofPart("details", "details", (columns) => new Details(columns, codes(classes), codes(schedules)));
+}
+
+/** The years in which records originated. */
+export const years = async () => (await details())?.years() ?? null;
+
+/** The number of each record, or of each aggregation, by its ref. */
+const numbersOf = (rows, of) => new Map(rows.map(of));
+const NAMES = {
+  records: () => ofPart("records by ref", "records", (rows) => numbersOf(rows, ([number, ref]) => [ref, number])),
+  aggregations: () => ofPart("aggregations by ref", "aggregations", (rows) => numbersOf(rows, ({ number, ref }) => [ref, number])),
+};
+
+/** The number of the record or aggregation that has this ref; undefined if none has, or nothing is known of them. */
+export const numberOf = async (name, ref) => (await NAMES[name]())?.get(ref);
+
+/** The record or aggregation of this number, as its part has it; undefined if there is none. */
+export const numbered = async (name, number) => (await part(name))?.[number - 1];
+
+/** The records in their order by a column, or null for the order of their numbers. */
+export async function recordsBy(column) {
+  if (!column || column === "number") return null;
+  const index = await records();
+  if (!isOfDetails(column)) return ofPart(`records by ${column}`, "records", () => recordOrder(index, null, column));
+  const known = await details();
+  return ofPart(`records by ${column}`, "details", () => recordOrder(index, known, column));
+}
+
+/** The same of aggregations. */
+export async function aggregationsBy(column) {
+  if (!column || column === "number") return null;
+  const [index, order] = [await aggregations(), await tree()];
+  return ofPart(`aggregations by ${column}`, "aggregations", () => aggregationOrder(index, column, (it) => classOf(order, it)));
+}
 
 const scheduleOf = async (code) => (await part("schedules"))?.find((it) => it.code === code) ?? null;
 

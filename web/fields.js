@@ -4,6 +4,7 @@ import { bothDays } from "./clock.js";
 import { byId, made, paragraph, quiet } from "./page.js";
 import { isCode, isDay, isNumber, isTarget, isText, today } from "./plain/forms.js";
 import { PLAN_KINDS } from "./plain/plan_kinds.js";
+import { putNumbers } from "./refs.js";
 import { t } from "./texts.js";
 
 /**
@@ -129,8 +130,9 @@ function wrongOf(input) {
   if (input.type === "checkbox") return input.checked ? "" : t("fields.sureWrong");
   if (input.type === "file") return input.files.length ? "" : t("fields.fileWrong");
   const kind = input.closest("form").querySelector("select");
-  const target = input.closest("[data-field]").dataset.field === "target";
-  if (target) return isTarget(kind.value, input.value) ? "" : t(kind.value === "class" ? "fields.codeWrong" : "fields.numberWrong");
+  const { field: name, optional: may } = input.closest("[data-field]").dataset;
+  if (may !== undefined && input.value === "") return "";
+  if (name === "target") return isTarget(kind.value, input.value) ? "" : t(kind.value === "class" ? "fields.codeWrong" : "fields.numberWrong");
   const { takes, wrong, optional } = kindOf(input);
   return (optional && input.value === "") || takes(input.value, input.form) ? "" : t(wrong);
 }
@@ -168,12 +170,12 @@ export function onSubmit(form, work) {
   form.addEventListener("submit", async (event) => {
     event.preventDefault();
     if (form.dataset.busy) return;
-    let values = valuesOf(form);
-    if (!values) return;
     form.dataset.busy = "yes";
     form.setAttribute("aria-busy", "true");
     try {
-      if (daysIn(form).length) {
+      await putNumbers(form);
+      let values = valuesOf(form);
+      if (values && daysIn(form).length) {
         // either clock may have been set since the last answer
         await askTime();
         values = valuesOf(form);

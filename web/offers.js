@@ -27,7 +27,7 @@ const KINDS = [
 const TARGETS = { class: "classes", aggregation: "aggregations", record: "records" };
 
 /** The part of the catalogue that a field asks for; where that is chosen in the same form, it is as the choice says. */
-function partOf(input) {
+export function partOf(input) {
   const { field, offers } = input.closest("[data-field]").dataset;
   if (offers !== undefined) return offers;
   if (["target", "number"].includes(field)) return TARGETS[input.form.querySelector("select")?.value] ?? "";

@@ -3,6 +3,7 @@ import * as warning from "./clock_warning.js";
 import { field, renewDays } from "./fields.js";
 import * as offers from "./offers.js";
 import { byId, made, translate } from "./page.js";
+import * as refs from "./refs.js";
 import { all, load, t } from "./texts.js";
 import * as catalogue from "./views/catalogue.js";
 import * as certificate from "./views/certificate.js";
@@ -105,6 +106,7 @@ async function begin() {
   for (const view of Object.values(VIEWS)) view.start();
   warning.start();
   offers.start();
+  refs.start();
   byId("skip").addEventListener("click", skip);
   addEventListener("hashchange", () => show(true));
   addEventListener("focus", comeBack);

@@ -53,7 +53,7 @@ def make(proxy: Proxy, copy: pathlib.Path) -> None:
         place.mkdir()
         shutil.chown(place, group="www-data")
         place.chmod(0o2750)
-    subprocess.run([SERVICE / "office-catalogue", copy, place], check=True)
+    subprocess.run([SERVICE / "office-catalogue", copy, place], check=True, env={**os.environ, "OFFICE": OFFICE})
 
 
 def renew(proxy: Proxy, office: Office) -> None:
@@ -83,6 +83,11 @@ def without(it: Browser, proxy: Proxy) -> None:
     same("and no field offers anything", it.one("#run-number").get_attribute("list"), None)
 
 
+def found(it: Browser) -> list[list[str]]:
+    """The records that are shown: number, ref, title, aggregation, status."""
+    return [[*row[1:5], row[8]] for row in it.table("#catalogue-part .records")]
+
+
 def rows_of(copy: pathlib.Path, question: str) -> list[list[str]]:
     conn = sqlite3.connect(f"file:{copy}?immutable=1", uri=True)
     found = [["" if cell is None else str(cell) for cell in row] for row in conn.execute(question)]
@@ -105,22 +110,22 @@ def lists(it: Browser, proxy: Proxy, copy: pathlib.Path) -> None:
         "SELECT r.num, r.ref, r.title, a.num || ' · ' || a.ref, r.status FROM records r"
         " JOIN aggregations a ON a.num = aggregation ORDER BY r.num",
     )
-    same("records: each is there", it.table("#catalogue-part .records"), records)
+    same("records: each is there", found(it), records)
     same("records: and counted", it.seen("#catalogue-count"), WORDS["found"].format(count=33, all=33, shown=33))
     it.write(catalogue_text="park")
     same(
         "records: those with a word in ref or title, whatever its case",
-        it.table("#catalogue-part .records"),
+        found(it),
         [row for row in records if "park" in (row[1] + row[2]).lower()],
     )
     it.write(catalogue_text="fair report")
     same(
         "records: each word must be there",
-        it.table("#catalogue-part .records"),
+        found(it),
         [row for row in records if all(word in (row[1] + " " + row[2]).lower() for word in ("fair", "report"))],
     )
     it.write(catalogue_text="22")
-    same("records: the one whose number is written comes first", it.table("#catalogue-part .records")[0], records[21])
+    same("records: the one whose number is written comes first", found(it)[0], records[21])
     it.write(catalogue_text="no such record")
     same(
         "records: and where there is none nothing is shown",
@@ -129,11 +134,11 @@ def lists(it: Browser, proxy: Proxy, copy: pathlib.Path) -> None:
     )
     it.one("#catalogue-text").clear()
     it.choose("#catalogue-status", "ended")
-    same("records: by status", it.table("#catalogue-part .records"), [row for row in records if row[4] == "ended"])
+    same("records: by status", found(it), [row for row in records if row[4] == "ended"])
     it.wait(lambda: "status=ended" in it.driver.current_url, "the address has no status")
-    address, kept = it.driver.current_url, it.table("#catalogue-part .records")
+    address, kept = it.driver.current_url, found(it)
     it.open(address)
-    same("records: the address brings the same rows again", it.table("#catalogue-part .records"), kept)
+    same("records: the address brings the same rows again", found(it), kept)
     for part, columns, question in (
         ("classes", 3, "SELECT code, title, schedule FROM classes ORDER BY code"),
         ("schedules", 1, "SELECT code FROM schedules2 ORDER BY code"),
@@ -195,7 +200,7 @@ def tree(it: Browser, proxy: Proxy) -> None:
     it.settled()
     same(
         "tree: its records are a click away",
-        [row[0] for row in it.table("#catalogue-part .records")],
+        [row[0] for row in found(it)],
         ["1", "2", "3", "5"],
     )
     says(

@@ -14,7 +14,7 @@ from shots import shots
 from story import TEXTS, Story, says
 
 # the views with a form that sends a day
-SENDING = {"due", "overdue", "record", "file", "import", "plan", "run", "holds"}
+SENDING = {"due", "overdue", "record", "file", "import", "plan", "run", "holds", "catalogue"}
 # this browser's clock is so many hours ahead, from the first script of the page on
 AHEAD = """
 { const Real = Date, more = 3600000 * %f;

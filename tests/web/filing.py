@@ -140,8 +140,6 @@ def listed(view: View, files: list[pathlib.Path]) -> None:
     same("its row says so", [row[0] for row in rows if row[-1] == WORDS["large"]], ["letter 23.pdf"])
     same("ref and title begin as the name of the file", rows[4][:3], ["Straße 05.txt", "Straße 05.txt", "Straße 05"])
     same("and originated as the day of its last change", {row[3] for row in rows}, {after(0)})
-    view.drop([files[0].parent])
-    says("a folder is none", view.browser.seen("#file-taken"), WORDS["folder"].format(name="scans"))
     same("a file that is dropped beside the place leaves the page there", dropped_beside(view, files[0]), 40)
 
 

@@ -58,7 +58,7 @@ def acts(it: Browser, proxy: Proxy) -> None:
     """What the office refuses, and what a certificate's sum says, in German."""
     it.open(f"{proxy.page}#holds")
     it.write(hold_place_code="Q-2020-17", hold_place_reason="Noch ein Rechtsstreit", hold_place_by="Rechtsamt")
-    it.press("#hold-place button")
+    it.press("#hold-place button:not([type])")
     seen = it.seen("#hold-place-outcome")
     wanted = [
         GERMAN["said.refusal"].format(number=4, name="Exists"),

@@ -37,8 +37,9 @@ REFUSED = {808: (3, "77"), 909: (4, "NONE")}
 # the cases in the browser, by the page's own modules
 BY_PAGE = """
 const [cases, done] = arguments;
-import("/web/sheet/turning.js").then(({ turned }) => import("/web/cases/turned.js")
-  .then(({ outcomeOf }) => done(cases.map((it) => outcomeOf(turned, it))))).catch((why) => done(String(why)));
+Promise.all(["sheet/turning.js", "sheet/lookups.js", "cases/turned.js"].map((it) => import(`/web/${it}`)))
+  .then(([{ turned }, { catalogueOf }, { outcomeOf }]) => done(cases.map((it) => outcomeOf(turned, catalogueOf, it))))
+  .catch((why) => done(String(why)));
 """
 
 # each request that acts waits until it is let go
@@ -141,7 +142,7 @@ def cases(view: View) -> None:
     place = view.story.proxy.web / "cases"
     place.mkdir()
     (place / "turned.js").write_text((CASES / "turned.js").read_text())
-    table = json.loads((CASES / "table.json").read_text())
+    table = [*json.loads((CASES / "table.json").read_text()), *json.loads((CASES / "acts.json").read_text())]
     view.open()
     given = [{"base64": base64.b64encode(bytes_of(it)).decode(), "options": it.get("options", {})} for it in table]
     there = view.browser.driver.execute_async_script(BY_PAGE, given)

@@ -48,7 +48,7 @@ class View:
         """Has a hold placed, and its answer be these; the key that was sent."""
         self.browser.driver.execute_script("window.answers = arguments[0]", answers)
         self.browser.write(hold_place_code=code, hold_place_reason="A lawsuit", hold_place_by=WHO)
-        self.browser.press("#hold-place button")
+        self.browser.press("#hold-place button:not([type])")
         return self.keys()[-1]
 
     def keys(self) -> list[str]:

@@ -260,8 +260,10 @@ def clock(story: Story) -> None:
 
 
 def all_forms(browser: Browser) -> None:
-    """Each form with the day of an act is among those that are tried."""
-    days = "return Array.from(document.querySelectorAll('[data-field=day] > input'), (it) => it.id).sort()"
+    """Each form with the day of an act is among those that are tried; those for what is marked are so in at_once.py."""
+    days = (
+        "return Array.from(document.querySelectorAll('form:not(.deed) [data-field=day] > input'), (it) => it.id).sort()"
+    )
     same("each form with a day is tried", browser.driver.execute_script(days), sorted(f"{name}-day" for name in FORMS))
 
 

@@ -306,7 +306,7 @@ def confirmed(view: View) -> None:
     """What is marked is confirmed in one request, and is overdue no more."""
     it, story = view.browser, view.story
     view.open()
-    same("overdue: what is to be reviewed has no box", len(it.all("#overdue-table tbody input")), 4)
+    same("overdue: what is to be reviewed has a box too, for a review", len(it.all("#overdue-table tbody input")), 5)
     it.write(overdue_confirm_by=WHO, overdue_confirm_day="2025-01-12")
     it.press("#overdue-submit")
     same(

@@ -41,7 +41,7 @@ def members(browser: Browser, proxy: Proxy) -> None:
         status, word = int(row["status"]), json.loads(row["body"])["error"]
         answers(browser, f"{proxy.page}#holds", status, "application/json", row["body"])
         browser.write(hold_place_code="H-1", hold_place_reason="A lawsuit", hold_place_by="Legal office")
-        browser.press("#hold-place button")
+        browser.press("#hold-place button:not([type])")
         told = browser.seen("#hold-place-outcome")
         says(f"a {status} {word} of a member is said in words", told, "The office said:", row["meaning"], row["do"])
         same(f"a {status} {word}: whether it is told as unknown", TEXTS["holds"]["lostPlace"] in told, word not in undone)
@@ -61,7 +61,7 @@ def forbidden(browser: Browser, proxy: Proxy) -> None:
         judge(f"a 403 {word}: and nothing of the others", not any(other in told for other in others), told)
     answers(browser, f"{proxy.page}#holds", 403, "application/json", '{"error":"future","place":0}')
     browser.write(hold_place_code="H-1", hold_place_reason="A lawsuit", hold_place_by="Legal office")
-    browser.press("#hold-place button")
+    browser.press("#hold-place button:not([type])")
     told = browser.seen("#hold-place-outcome")
     judge("an act of a day too far ahead is not told as unknown", TEXTS["holds"]["lostPlace"] not in told, told)
 
@@ -84,7 +84,7 @@ def tell(browser: Browser, proxy: Proxy) -> None:
     for kind, body in BODIES:
         answers(browser, f"{proxy.page}#holds", 502, kind, body)
         browser.write(hold_place_code="H-1", hold_place_reason="A lawsuit", hold_place_by="Legal office")
-        browser.press("#hold-place button")
+        browser.press("#hold-place button:not([type])")
         says(
             f"an act that a 502 with {kind or 'no type'} answers is told as unknown",
             browser.seen("#hold-place-outcome"),

@@ -63,7 +63,7 @@ def heads(proxy):
     for path in ("/web/", "/web/office.js", "/web/texts/en.json", "/records/1", "/records/99", "/nothing"):
         proxy.ask("GET", path)
         policy = proxy.head.get("Content-Security-Policy", "")
-        judge(f"{path}: what it may load", policy.startswith("default-src 'self'") and "frame-ancestors 'none'" in policy, policy)
+        judge(f"{path}: what it may load", policy.startswith("default-src 'self'; frame-src blob:; base-uri") and "frame-ancestors 'none'" in policy, policy)
         kept = "no-cache" if path.startswith("/web/") and path != "/web/" else "no-store"
         same(f"{path}: what is kept of it", proxy.head.get("Cache-Control"), kept)
         same(f"{path}: and taken for what it is called", proxy.head.get("X-Content-Type-Options"), "nosniff")

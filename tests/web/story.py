@@ -112,7 +112,7 @@ class Story:
         ):
             it.go(view)
             it.write(**wrong)
-            it.press(f"#{form} button")
+            it.press(f"#{form} button:not([type])")
             field, text = word
             same(f"{form}: a wrong value is told at its field", texts(f"#{field}-wrong"), fields[text])
             judge(f"{form}: and the field is told as invalid", it.one(f"#{field}").get_attribute("aria-invalid") == "true")
@@ -228,8 +228,9 @@ class Story:
         words(1)
         it.press("#record-save")
         outcome = it.seen("#record-saved")
-        says("record 1: its content is saved", outcome, "Saved as record-1: ", "agrees with that of the record")
-        saved = self.folder / "record-1"
+        name = "EVT-2018-01-1 Application for the river fair.txt"
+        says("record 1: its content is saved under its ref and title", outcome, f"Saved as {name}: ", "agrees with that of the record")
+        saved = self.folder / name
         it.wait(saved.exists, "no file was saved")
         same("record 1: and is that of the office", saved.read_bytes(), self.office.ask("GET", "/records/1/content")[2])
 
@@ -268,7 +269,7 @@ class Story:
         it.write(**{f"hold_{form}_{name}": value for name, value in fields.items()})
         if form == "lift":
             it.press("#hold-sure")
-        it.press(f"#hold-{form} button")
+        it.press(f"#hold-{form} button:not([type])")
         says(f"holds: {form}: {outcome}", it.seen(f"#hold-{form}-outcome"), *words)
 
     def holds(self):

@@ -152,3 +152,18 @@ def late_why(act: Act, today: datetime.date) -> str | None:
     if day is None or day <= today.isoformat():
         return None
     return f"day {shown(day)} " + LATE.format(today=today)
+
+
+def back_whys(acts: list[Act]) -> list[str]:
+    """The acts whose day is before that of one above: the office refuses these, once that one is done."""
+    latest, above, found = "", -1, []
+    for act in acts:
+        day = act.value.get("day") if isinstance(act.value, dict) else None
+        if not isinstance(day, str) or act_forms.DAY(day) is not None:
+            continue
+        if day < latest:
+            found.append(f"{act.name()}: day {shown(day)} is before {latest}, the day of act {above}: the office "
+                         "refuses it (1) once that one is done. Sort the acts by their days")
+        else:
+            latest, above = day, act.place
+    return found

@@ -1,8 +1,8 @@
-"""Which column of a sheet is which column of an import, by the names in its header."""
+"""Which column of a sheet is which column of an import or of an act, by the names in its header."""
 from __future__ import annotations
 
 import re
-from collections.abc import Mapping
+from collections.abc import Collection, Mapping
 from dataclasses import dataclass
 
 from spreadsheet.sheet import NEAR_TOP, Row, Unreadable, letters
@@ -29,12 +29,41 @@ SYNONYMS: dict[str, list[str]] = {
 
 
 @dataclass(frozen=True)
+class Form:
+    """The columns that rows of one kind have: those that each sheet needs, and those of which it needs one."""
+
+    names: list[str]
+    needed: list[str]
+    either: list[str]
+    synonyms: Mapping[str, list[str]]
+
+    def column_named(self, name: str) -> str | None:
+        """The column that a name of a header is for; its own name comes before another column's synonym."""
+        word = plain(name)
+        own = next((it for it in self.names if word == plain(it)), None)
+        return own or next((it for it in self.names if word in self.synonyms.get(it, [])), None)
+
+    def known(self, header: list[str]) -> int:
+        """How many names of a header are known."""
+        return sum(self.column_named(it) is not None for it in header)
+
+    def missing(self, there: Collection[str]) -> list[str]:
+        """The columns that are needed and not there; of those of which one is needed, all if none is there."""
+        either = [] if any(it in there for it in self.either) else self.either
+        return [*either, *(it for it in self.needed if it not in there)]
+
+
+RECORD = Form(NAMES, NEEDED, [], SYNONYMS)
+
+
+@dataclass(frozen=True)
 class Columns:
-    """Where each column of an import is in the sheet, counted from 0, or the value that all rows have."""
+    """Where each column of a form is in the sheet, counted from 0, or the value that all rows have."""
 
     places: dict[str, int]
     values: dict[str, str]
     header: list[str]
+    form: Form = RECORD
 
     def nameless(self, width: int) -> list[int]:
         """The places of a row with so many cells for which the header has no name."""
@@ -46,7 +75,7 @@ class Columns:
         return [f"{letters(at)} \"{it.strip()}\"" for at, it in enumerate(self.header) if at not in used and it.strip()]
 
     def empty(self) -> list[str]:
-        return [it for it in NAMES if it not in self.places and it not in self.values]
+        return [it for it in self.form.names if it not in self.places and it not in self.values]
 
     def summary(self) -> str:
         names = {name: self.header[at].strip() for name, at in self.places.items()}
@@ -54,7 +83,8 @@ class Columns:
                  for name, at in self.places.items()]
         found += [f"{name} is {value} in each row" for name, value in self.values.items()]
         parts = [", ".join(found)]
-        parts += [f"not in the sheet, left empty: {', '.join(self.empty())}"] if self.empty() else []
+        empty = [it for it in self.empty() if it != "day"]
+        parts += [f"not in the sheet, left empty: {', '.join(empty)}"] if empty else []
         parts += [f"not used: {', '.join(self.unused())}"] if self.unused() else []
         return "; ".join(parts)
 
@@ -62,16 +92,6 @@ class Columns:
 def plain(name: str) -> str:
     """A name without capitals, marks and doubled spaces."""
     return re.sub(r"[\s_.:\-]+", " ", name.casefold()).strip()
-
-
-def column_named(name: str) -> str | None:
-    """The import's column that a name of a header is for."""
-    return next((it for it in NAMES if plain(name) == it or plain(name) in SYNONYMS[it]), None)
-
-
-def known(header: list[str]) -> int:
-    """How many names of a header are known."""
-    return sum(column_named(it) is not None for it in header)
 
 
 def place_of(name: str, header: list[str]) -> int:
@@ -91,30 +111,32 @@ def names_of(header: list[str]) -> str:
 Words = Mapping[str, str]
 
 
-def columns_of(rows: list[Row], number: int, mapped: Words, values: Words) -> Columns:
+def columns_of(rows: list[Row], number: int, mapped: Words, values: Words, form: Form = RECORD) -> Columns:
     """The columns by the header in row `number`: those that the caller maps, then those whose names are known."""
     header = rows[number - 1].cells if number <= len(rows) else []
-    places = {name: place_of(mapped[name], header) for name in NAMES if name in mapped}
+    places = {name: place_of(mapped[name], header) for name in form.names if name in mapped}
     for at, cell in enumerate(header):
-        name = column_named(cell)
+        name = form.column_named(cell)
         if name is None or name in mapped or name in values or at in places.values():
             continue
         if name in places:
             both = f"{letters(places[name])} and {letters(at)}"
             raise Unreadable("both", f"{both} may both be the column {name}: say --column {name}={letters(at)}")
         places[name] = at
-    missing = [it for it in NEEDED if it not in places and it not in values]
-    if missing:
-        raise Unreadable(*why_missing(rows, number, header, missing))
-    return Columns({it: places[it] for it in NAMES if it in places}, dict(values), header)
+    if form.missing([*places, *values]):
+        raise Unreadable(*why_missing(rows, number, header, form, [*places, *values]))
+    return Columns({it: places[it] for it in form.names if it in places}, dict(values), header, form)
 
 
-def why_missing(rows: list[Row], number: int, header: list[str], missing: list[str]) -> tuple[str, str]:
-    better = next((row for row in rows[:NEAR_TOP] if known(row.cells) > max(known(header), 1)), None)
+def why_missing(rows: list[Row], number: int, header: list[str], form: Form, found: list[str]) -> tuple[str, str]:
+    missing = form.missing(found)
+    better = next((row for row in rows[:NEAR_TOP] if form.known(row.cells) > max(form.known(header), 1)), None)
     if better:
         why = f"row {number} is no header, but row {better.number} looks like one: say --header {better.number}"
         return "header", why
     same = ", or --set aggregation=1 for the same in each row" if "aggregation" in missing else ""
     there = names_of(header) or "nothing"
-    why = f"no column for {', '.join(missing)} in row {number}, which has {there}"
+    either = [" or ".join(form.either)] if missing[:1] == form.either[:1] and form.either else []
+    words = [*either, *missing[len(form.either) if either else 0:]]
+    why = f"no column for {', '.join(words)} in row {number}, which has {there}"
     return "missing", f"{why}: say --column {missing[0]}=HEADER{same}"

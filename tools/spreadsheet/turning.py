@@ -2,13 +2,16 @@
 from __future__ import annotations
 
 import csv
+import datetime
 import io
 from collections.abc import Callable, Iterator
 from dataclasses import dataclass, field
 
+from spreadsheet.catalogue import Catalogue
 from spreadsheet.cells import Files, Wrong, code_of, content_of, in_one_line, note_of, number_of, text_of
 from spreadsheet.columns import NAMES, Columns
 from spreadsheet.days import Order, day_read, order_of, why_no_day
+from spreadsheet.members import Things, look_day
 from spreadsheet.sheet import Row, in_quotes, place
 
 
@@ -43,8 +46,10 @@ class Findings:
 class Turner:
     """Turns rows by the columns of a sheet; `first_year` is that of two digits, where they may be a year."""
 
-    def __init__(self, columns: Columns, files: Files | None, first_year: int | None, join_lines: bool) -> None:
+    def __init__(self, columns: Columns, files: Files | None, first_year: int | None, join_lines: bool,
+                 today: datetime.date | None = None, catalogue: Catalogue | None = None) -> None:
         self.columns, self.files, self.first_year, self.join_lines = columns, files, first_year, join_lines
+        self.today, self.things = today or datetime.date.today(), Things(catalogue)
         self.refs: dict[str, int] = {}
         self.order = Order("ymd", None)
 
@@ -86,6 +91,18 @@ class Turner:
             raise Wrong(*why_no_day(cell, self.order.name, self.first_year))
         return read.isoformat()
 
+    def aggregation(self, cell: str) -> str:
+        """The number of an aggregation, or that of the one whose ref the catalogue has."""
+        return str(self.things.number("aggregation", cell)) if cell and self.things.catalogue else number_of(cell)
+
+    def look(self, name: str, value: str) -> tuple[str, str] | None:
+        """What somebody should look at in a cell that is of its form."""
+        if name == "originated":
+            return look_day(datetime.date.fromisoformat(value), self.today, None)
+        if name == "aggregation":
+            return self.things.look("aggregation", int(value), "add-record")
+        return self.things.look_code(name, value, False) if name in ("class", "schedule") else None
+
     def content(self, cell: str) -> str:
         """The base64, or the name of a file that is there and not too large: it is read when it is written."""
         if self.files is None:
@@ -99,16 +116,17 @@ class Turner:
         """Puts a row among those that are good, or says what is wrong with each of its cells."""
         parts: dict[str, Callable[[str], str]] = {
             "ref": lambda cell: self.ref(row, cell), "title": text_of, "originated": self.day,
-            "aggregation": number_of, "class": code_of, "schedule": code_of, "content": self.content}
+            "aggregation": self.aggregation, "class": code_of, "schedule": code_of, "content": self.content}
         values, said = [], []
         for name, part in parts.items():
             cell = self.cell(row, name)
+            note = note_of(cell) if name in ("ref", "title") else None
             try:
                 values.append(part(cell))
+                note = note or self.look(name, values[-1])
             except Wrong as why:
                 found.kinds.append((row.number, name, why.kind))
                 said.append(f"{self.where(row, name)} ({name}): {in_quotes(cell) + ' ' if cell else ''}{why}")
-            note = note_of(cell) if name in ("ref", "title") else None
             if note:
                 found.looks.append((row.number, name, note[0]))
                 found.notes.append(f"{self.where(row, name)} ({name}): {in_quotes(cell)} {note[1]}")

@@ -11,39 +11,84 @@ function wordsOf(question) {
   return words.sort((one, other) => other.length - one.length);
 }
 
-/**
- * The texts of many rows as one long text, a line a row, so that a word is looked for in all of them at once. `textOf`
- * gives the text of a row.
- */
-export function indexOf(rows, textOf) {
-  const text = folded(`${rows.map(textOf).join("\n")}\n`);
-  const starts = new Uint32Array(rows.length + 1);
-  for (let row = 1; row <= rows.length; row += 1) starts[row] = text.indexOf("\n", starts[row - 1]) + 1;
-  return { rows, starts, text };
+/** So many rows become text at a time, so that the page answers meanwhile. */
+const SLICE = 20000;
+
+/** Many rows as one long text, a line a row, so that a word is looked for in all of them at once. It is made once it is wanted. */
+export class Index {
+  #textOf;
+  #slices = [];
+  #text = null;
+  #starts = null;
+
+  /**
+   * @param {any[]} rows
+   * @param {function(any): string} textOf the text of a row, on one line
+   */
+  constructor(rows, textOf) {
+    this.rows = rows;
+    this.#textOf = textOf;
+  }
+
+  /** Makes a part of the text: whether more is to be made. */
+  warm() {
+    const at = this.#slices.length * SLICE;
+    if (this.#text !== null || at >= this.rows.length) return false;
+    this.#slices.push(folded(`${this.rows.slice(at, at + SLICE).map(this.#textOf).join("\n")}\n`));
+    return at + SLICE < this.rows.length;
+  }
+
+  get text() {
+    if (this.#text === null) {
+      while (this.warm());
+      this.#text = this.#slices.join("");
+      this.#slices = [];
+    }
+    return this.#text;
+  }
+
+  /** Where the line of each row begins. */
+  get starts() {
+    if (this.#starts === null) {
+      const { text, rows } = this;
+      this.#starts = new Uint32Array(rows.length + 1);
+      for (let row = 1; row <= rows.length; row += 1) this.#starts[row] = text.indexOf("\n", this.#starts[row - 1]) + 1;
+    }
+    return this.#starts;
+  }
 }
 
-/** The rows that have all words of the question and that `takes` takes: how many, and the first ones up to `most`. */
-export function search(index, question, most, takes = () => true) {
-  const { rows, starts, text } = index;
+export const indexOf = (rows, textOf) => new Index(rows, textOf);
+
+/**
+ * The positions of the rows that have all words of the question and that `takes` takes, by position.
+ * @param {Index} index
+ * @param {string} question
+ * @param {function(number): boolean} takes
+ * @returns {number[]}
+ */
+export function positions(index, question, takes = () => true) {
   const [first = "", ...others] = wordsOf(question);
   const found = [];
-  let count = 0;
-  const look = (row) => {
-    if (!takes(rows[row])) return;
-    count += 1;
-    if (found.length < most) found.push(rows[row]);
-  };
   if (!first) {
-    for (let row = 0; row < rows.length; row += 1) look(row);
-    return { count, found };
+    for (let row = 0; row < index.rows.length; row += 1) if (takes(row)) found.push(row);
+    return found;
   }
+  const { starts, text } = index;
   let row = 0;
   for (let at = text.indexOf(first); at !== -1; at = text.indexOf(first, starts[row + 1])) {
     while (starts[row + 1] <= at) row += 1;
     const line = others.length ? text.slice(starts[row], starts[row + 1]) : "";
-    if (others.every((word) => line.includes(word))) look(row);
+    if (others.every((word) => line.includes(word)) && takes(row)) found.push(row);
   }
-  return { count, found };
+  return found;
+}
+
+/** The rows that have all words of the question and that `takes` takes: how many, and the first ones up to `most`. */
+export function search(index, question, most, takes = () => true) {
+  const { rows } = index;
+  const found = positions(index, question, (at) => takes(rows[at]));
+  return { count: found.length, found: found.slice(0, most).map((at) => rows[at]) };
 }
 
 export const STATUSES = ["here", "sent", "received", "ended"];

@@ -9,15 +9,19 @@ export const MOST_FILES = 1000;
 /** What is written of each record, in the order of the columns. */
 export const MEMBERS = ["ref", "title", "originated", "aggregation", "class", "schedule"];
 
-/** What a record is called where nobody writes anything: by the name and by the last change of its file. */
-export function suggested({ name, lastModified }) {
+/**
+ * What a record is called where nobody writes anything: by the place, the name and the last change of its file, and by
+ * what the file says of itself, as a mail does.
+ */
+export function suggested({ name, lastModified }, place = name, said = {}) {
   const dot = name.lastIndexOf(".");
-  return { ref: name, title: dot > 0 ? name.slice(0, dot) : name, originated: today(new Date(lastModified)) };
+  const title = dot > 0 ? name.slice(0, dot) : name;
+  return { ref: place, title, originated: today(new Date(lastModified)), ...said };
 }
 
 /** What a record gets from what is written for all files. */
-export function forAll(common, file) {
-  const own = suggested(file);
+export function forAll(common, file, place, said) {
+  const own = suggested(file, place, said);
   return {
     ref: `${common.prefix}${own.ref}`,
     title: common.title || own.title,

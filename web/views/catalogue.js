@@ -1,28 +1,34 @@
 // The catalogue: records and aggregations, searched as one types; classes, schedules, holds and runs as lists.
-import { aboutIt, aggregations, lastAnswer, part, records, refresh, tree } from "../catalogue.js";
+import { aboutIt, lastAnswer, part, records, refresh } from "../catalogue.js";
 import { serverNow } from "../clock.js";
 import { asking, byId, failed, grouped, link, made, paragraph, quiet, say } from "../page.js";
-import { STATUSES, search } from "../plain/catalogue.js";
-import { today } from "../plain/forms.js";
+import { isDay, today } from "../plain/forms.js";
+import { NO_DUE } from "../plain/finding.js";
 import { visible } from "../plain/marks.js";
 import { t } from "../texts.js";
-import { addressOf, aggregationsTable, listOf, recordsTable } from "./catalogue_tables.js";
+import { FILTERS, FIRST, FoundAggregations, FoundRecords, MORE, MOST, fillChoices, saveFound } from "./catalogue_found.js";
+import { addressOf, listOf } from "./catalogue_tables.js";
 import { treeList } from "./catalogue_tree.js";
+import { MarkedBar } from "./marked.js";
 
 const PARTS = ["records", "aggregations", "classes", "schedules", "holds", "runs"];
-const SEARCHED = ["records", "aggregations"];
-/** So many rows are shown at first, and so many more each time that more are asked for. */
-const FIRST = 50;
-const MORE = 200;
+const ALL_FILTERS = [...new Set(Object.values(FILTERS).flat())];
 
-/** What the address asks for: a part, words, a status and an aggregation; and how many rows are shown. */
-const asked = { part: "records", text: "", status: "", aggregation: "", most: FIRST };
+/** What the address asks for: a part, words, filters, an aggregation and an order; an empty text asks for nothing. */
+const NOTHING = { text: "", aggregation: "", ...Object.fromEntries(ALL_FILTERS.map((name) => [name, ""])), sort: "", isDown: false };
+let asked = { part: "records", ...NOTHING };
 let turn = 0;
 
 const select = (name) => byId(`catalogue-${name}`);
 /** So many milliseconds after the last key the address has what is asked: a browser slows a page down that changes it at each key. */
 const STILL = 250;
 let later = 0;
+
+const FOUND = { records: new FoundRecords(() => tellMarks()), aggregations: new FoundAggregations(() => tellMarks()) };
+const BARS = {};
+
+/** What is searched in the part that is shown, or undefined. */
+const foundOf = () => FOUND[asked.part];
 
 function keepAddress() {
   clearTimeout(later);
@@ -61,24 +67,42 @@ function tellParts() {
   byId("catalogue-parts").replaceChildren(...links);
 }
 
-// ---- the parts
-
-/** Says how many rows were found, and offers more of them. */
-function tellFound(key, found, count, all) {
-  const counts = { count: grouped(count), all: grouped(all), shown: grouped(found.length) };
-  byId("catalogue-count").textContent = t(key, counts);
-  byId("catalogue-more").hidden = found.length >= count;
+/** Shows the filters of the part that is asked for, with their choices. */
+async function tellFilters() {
+  const names = FILTERS[asked.part] ?? [];
+  for (const name of ALL_FILTERS) select(`${name}-field`).hidden = !names.includes(name);
+  const isBy = asked.due !== "" && asked.due !== NO_DUE;
+  select("due-day").value = isBy ? asked.due : "";
+  tellDueDay(isBy);
+  for (const name of names) await fillChoices(name, select(name), name === "due" && isBy ? "by" : asked[name]);
 }
 
-/** What is found of these rows; the one whose number is asked for outright comes first. */
-function findIn(index, numberOf, takes = () => true) {
-  const { found, count } = search(index, asked.text, asked.most, takes);
-  const { rows } = index;
-  const number = Number(asked.text);
-  const it = /^[1-9]\d*$/.test(asked.text) ? rows[number - 1] : undefined;
-  if (!it || numberOf(it) !== number || !takes(it)) return { found, count };
-  const others = found.filter((row) => row !== it);
-  return { found: [it, ...others], count: others.length < found.length ? count : count + 1 };
+/** The day by which something is due is asked for only where that is chosen. */
+const tellDueDay = (isBy) => (select("due-day-field").hidden = !isBy || asked.part !== "records");
+
+// ---- what is found
+
+/** Says how many rows were found and are shown, and offers the others. */
+function tellCounts() {
+  const found = foundOf();
+  const [count, shown] = [found.found.length, found.shown];
+  byId("catalogue-count").textContent = t("catalogue.found", { count: grouped(count), all: grouped(found.total()), shown: grouped(shown) });
+  const rest = Math.min(count, shown + MOST) - shown;
+  byId("catalogue-more").hidden = byId("catalogue-whole").hidden = rest === 0;
+  byId("catalogue-whole").textContent = t(shown + rest < count ? "catalogue.showSome" : "catalogue.showAll", { count: grouped(rest) });
+  byId("catalogue-mark").textContent = t("marked.allFound", { count: grouped(count) });
+}
+
+/** Says how many are marked, and what could be done with them. */
+function tellMarks() {
+  const found = foundOf();
+  if (!found) return;
+  const among = found.marks.among(found.numbers());
+  const words = { count: grouped(found.marks.size), hidden: grouped(found.marks.size - among) };
+  byId("catalogue-marked").textContent = t("catalogue.marked", words);
+  byId("catalogue-panel").hidden = found.marks.size === 0;
+  byId("catalogue-panel").classList.toggle("marking", found.marks.size > 0);
+  BARS[asked.part]?.tell();
 }
 
 /** Says in which aggregation alone the records are looked for, and leads to all of them. */
@@ -88,33 +112,45 @@ function tellWithin(it) {
   select("within").replaceChildren(paragraph(words), link("#catalogue?part=records", t("catalogue.everywhere")));
 }
 
+function sortBy(column) {
+  asked.isDown = (asked.sort || "number") === column && !asked.isDown;
+  asked.sort = column;
+  keepAddress();
+  return draw();
+}
+
+/** The table of what is found, with its first rows. */
+function tableOf(found) {
+  const it = found.tableFor(asked, sortBy);
+  it.show(found.rowsAt(found.found), FIRST);
+  return it.table;
+}
+
+/** A catalogue that an older program made has no details: what asks for them finds nothing, and that is said. */
+function tellNoDetails() {
+  FOUND.records.found = [];
+  say(byId("catalogue-outcome"), "unknown", paragraph(t("catalogue.noDetails")));
+  return [];
+}
+
 async function tellRecords() {
-  const [index, order] = [await records(), await tree()];
-  if (!index || !order) return null;
-  const within = Number(asked.aggregation);
-  const takes = ([, , , aggregation, status]) =>
-    (!asked.status || status === asked.status) && (!asked.aggregation || aggregation === within);
-  const { found, count } = findIn(index, ([number]) => number, takes);
+  const found = FOUND.records;
+  if (!(await found.find(asked))) return (await records()) ? tellNoDetails : null;
   return () => {
-    tellFound("catalogue.found", found, count, index.rows.length);
-    tellWithin(order.byNumber.get(within));
-    return found.length ? [recordsTable(found, order)] : [];
+    tellWithin(found.within(asked));
+    return found.found.length ? [tableOf(found)] : [];
   };
 }
 
+/** Whether aggregations are shown as a tree: while nothing is asked of them. */
+const isTree = () => asked.part === "aggregations" && !asked.text && !asked.state && !asked.class && !asked.sort;
+
 async function tellAggregations() {
-  const [index, order] = [await aggregations(), await tree()];
-  if (!index || !order) return null;
-  if (!asked.text) {
-    return () => {
-      tellFound("catalogue.roots", order.roots, order.roots.length, index.rows.length);
-      return [treeList(order)];
-    };
-  }
-  const { found, count } = findIn(index, ({ number }) => number);
+  const found = FOUND.aggregations;
+  if (!(await found.find(asked))) return null;
   return () => {
-    tellFound("catalogue.found", found, count, index.rows.length);
-    return found.length ? [aggregationsTable(found, order)] : [];
+    if (isTree()) return [treeList(found.order, found.marks)];
+    return found.found.length ? [tableOf(found)] : [];
   };
 }
 
@@ -123,7 +159,6 @@ async function tellList() {
   if (!rows) return null;
   return () => {
     byId("catalogue-count").textContent = rows.length ? "" : t("catalogue.none");
-    byId("catalogue-more").hidden = true;
     return rows.length ? [listOf(asked.part, rows)] : [];
   };
 }
@@ -138,6 +173,34 @@ function tellNone() {
   return say(place, "unknown", paragraph(t("catalogue.missing")), paragraph(t("catalogue.missingDo")));
 }
 
+/** Shows what can be done with what is found; a tree has it in itself. */
+function tellTools() {
+  const found = foundOf();
+  byId("catalogue-tools").hidden = !found || (found.found.length === 0 && !isTree());
+  for (const name of ["more", "whole"]) byId(`catalogue-${name}`).hidden = true;
+  for (const [name, bar] of Object.entries(BARS)) bar.node.hidden = name !== asked.part;
+  byId("catalogue-panel").hidden = true;
+  if (!found) return;
+  if (isTree()) {
+    const counts = { count: grouped(found.order.roots.length), all: grouped(found.total()) };
+    byId("catalogue-count").textContent = t("catalogue.roots", counts);
+    byId("catalogue-mark").textContent = t("marked.allFound", { count: grouped(found.found.length) });
+  } else tellCounts();
+  tellMarks();
+}
+
+/** Puts the class, schedule and due day beside what is shown already, once they are read. */
+async function fillDetails(mine) {
+  if (asked.part !== "records" || !(await FOUND.records.readDetails()) || mine !== turn) return;
+  const { shown } = FOUND.records;
+  FOUND.records.table?.show(FOUND.records.rowsAt(FOUND.records.found), Math.max(shown, FIRST));
+}
+
+/** Makes ready bit by bit what a search for words goes through, so that the first key is answered at once. */
+function warm(index) {
+  if (index?.warm()) setTimeout(() => warm(index), 20);
+}
+
 /** Shows what is asked for now. What was asked for before and comes later is not shown any more. */
 async function draw() {
   const mine = ++turn;
@@ -148,55 +211,124 @@ async function draw() {
   clearTimeout(waiting);
   if (mine !== turn) return;
   place.removeAttribute("aria-busy");
-  if (!tell) return tellNone();
+  if (!tell) {
+    tellNone();
+    return;
+  }
   quiet(byId("catalogue-outcome"));
   select("within").replaceChildren();
   place.replaceChildren(...tell());
+  tellTools();
+  await fillDetails(mine);
+  if (asked.part === "records") warm(await records());
 }
 
-/** Looks for what is written in the field by now. */
+/** Looks for what is written and chosen by now. */
 function look() {
   asked.text = select("text").value.trim();
-  asked.status = select("status").value;
-  asked.most = FIRST;
+  for (const name of FILTERS[asked.part] ?? []) asked[name] = select(name).value;
+  const isBy = asked.due === "by";
+  tellDueDay(isBy);
+  const day = select("due-day").value.trim();
+  if (isBy) asked.due = isDay(day) ? day : "";
   keepAddress();
   return draw();
 }
 
 // ---- the view
 
-export function start() {
-  const options = STATUSES.map((status) => made("option", { value: status }, t(`catalogue.statuses.${status}`)));
-  select("status").append(made("option", { value: "" }, t("catalogue.all")), ...options);
-  select("text").addEventListener("input", look);
-  select("status").addEventListener("change", look);
-  byId("catalogue-search").addEventListener("submit", (event) => event.preventDefault());
-  byId("catalogue-more").addEventListener("click", () => {
-    asked.most += MORE;
-    draw();
+/** The bar of a part. */
+function barOf(name) {
+  const found = FOUND[name];
+  const kind = name === "records" ? "record" : "aggregation";
+  const tell = (words) => say(byId("catalogue-answer"), "done", paragraph(words));
+  return new MarkedBar({
+    name: "catalogue",
+    kind,
+    items: () => found.items(),
+    answer: () => byId("catalogue-answer"),
+    save: async () => tell(await saveFound(found, found.marks.numbers)),
+    after: async (numbers) => {
+      for (const number of numbers) found.marks.set(number, false);
+      found.table?.tick();
+    },
   });
+}
+
+/** What is done with all that is found. */
+function startTools() {
+  const press = (name, work) => byId(`catalogue-${name}`).addEventListener("click", work);
+  const marksAnew = (work) => () => {
+    const found = foundOf();
+    work(found);
+    found.table?.tick();
+    for (const box of byId("catalogue-part").querySelectorAll(".tree input")) box.checked = found.marks.has(Number(box.dataset.number));
+  };
+  press("mark", marksAnew((found) => found.marks.add(found.numbers())));
+  press("unmark", marksAnew((found) => found.marks.clear()));
+  press("csv", async () => say(byId("catalogue-answer"), "done", paragraph(await saveFound(foundOf(), foundOf().numbers()))));
+  press("print", () => print());
+  press("more", () => foundOf().table.fillTo(foundOf().shown + MORE, tellCounts));
+  press("whole", () => foundOf().table.fillTo(foundOf().shown + MOST, tellCounts));
+}
+
+/** On paper is all that is found, up to as many rows as a browser prints; if there are more, that is said. */
+function beforePaper() {
+  if (byId("catalogue").hidden || !foundOf()?.table || isTree()) return;
+  foundOf().table.finish(MOST);
+  tellCounts();
+  const { length } = foundOf().found;
+  byId("catalogue-paper").textContent = length > MOST ? t("catalogue.paper", { most: grouped(MOST), count: grouped(length) }) : "";
+}
+
+export function start() {
+  select("text").addEventListener("input", look);
+  select("due-day").addEventListener("input", look);
+  for (const name of ALL_FILTERS) select(name).addEventListener("change", look);
+  byId("catalogue-search").addEventListener("submit", (event) => event.preventDefault());
+  for (const name of Object.keys(FOUND)) {
+    BARS[name] = barOf(name);
+    byId("catalogue-panel").append(BARS[name].node);
+  }
+  startTools();
+  addEventListener("beforeprint", beforePaper);
+}
+
+/** What the words of the address ask for. */
+function read(words) {
+  const named = words.get("part");
+  const sort = words.get("sort") ?? "";
+  const given = Object.keys(NOTHING).filter((name) => words.has(name) && name !== "isDown");
+  const isDown = sort.startsWith("-");
+  return {
+    ...NOTHING,
+    ...Object.fromEntries(given.map((name) => [name, words.get(name)])),
+    part: PARTS.includes(named) ? named : "records",
+    sort: sort.replace(/^-/, ""),
+    isDown,
+  };
 }
 
 /** Shows the part that the address names, of the catalogue that is there by now. */
 export async function show(words) {
-  const named = words.get("part");
-  asked.part = PARTS.includes(named) ? named : "records";
-  asked.text = words.get("text") ?? "";
-  asked.aggregation = words.get("aggregation") ?? "";
-  asked.most = FIRST;
-  asked.status = STATUSES.includes(words.get("status")) ? words.get("status") : "";
+  asked = read(words);
+  const found = foundOf();
+  // a column or a due day that there is not is not asked for
+  if (found && asked.sort && !found.kind().sorted.includes(asked.sort)) asked.sort = "";
+  if (asked.due && asked.due !== NO_DUE && !isDay(asked.due)) asked.due = "";
   select("text").value = asked.text;
-  select("status").value = asked.status;
-  byId("catalogue-search").hidden = !SEARCHED.includes(asked.part);
-  select("status-field").hidden = asked.part !== "records";
+  quiet(byId("catalogue-answer"));
+  byId("catalogue-search").hidden = !found;
   byId("catalogue-part").setAttribute("aria-busy", "true");
   const moment = await refresh();
   if (moment === null) {
     byId("catalogue-part").removeAttribute("aria-busy");
-    return tellNone();
+    tellNone();
+    return;
   }
   byId("catalogue-there").hidden = false;
   tellMoment();
   tellParts();
-  return draw();
+  tellFilters();
+  await draw();
 }

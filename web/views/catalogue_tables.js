@@ -1,38 +1,29 @@
-// The tables of the catalogue: what was found of records and aggregations; classes, schedules, holds and runs.
+// The lists of the catalogue: classes, schedules, holds and runs; links to its parts, and words that its views share.
 import { grouped, link, made, tableOf } from "../page.js";
-import { STATUSES, above, classOf } from "../plain/catalogue.js";
+import { STATUSES } from "../plain/catalogue.js";
 import { visible } from "../plain/marks.js";
 import { t } from "../texts.js";
 
 const word = (name) => t(`catalogue.columns.${name}`);
-/** A count with its thousands apart, as the language has it. */
 
-const recordLink = (number) => link(`#record?number=${number}`, number);
+export const recordLink = (number) => link(`#record?number=${number}`, number);
 
-/** The address of a part with what is looked for in it. */
-export function addressOf({ part, text = "", status = "", aggregation = "" }) {
-  const asked = Object.entries({ part, text, status, aggregation }).filter(([, word]) => word !== "");
-  return `#catalogue?${new URLSearchParams(asked)}`;
+/** What the address of a part may ask for. */
+const ASKED = ["part", "text", "aggregation", "status", "class", "schedule", "year", "due", "state"];
+
+/** The address of a part with what is looked for in it, and in which order. */
+export function addressOf(asked) {
+  const words = ASKED.filter((name) => asked[name]).map((name) => [name, asked[name]]);
+  const sort = asked.sort || asked.isDown ? [["sort", `${asked.isDown ? "-" : ""}${asked.sort || "number"}`]] : [];
+  return `#catalogue?${new URLSearchParams([...words, ...sort])}`;
 }
 
 export const recordsOf = (aggregation, words) => link(addressOf({ part: "records", aggregation }), words);
 
 /** The number of an aggregation, which leads to its records. */
-function aggregationLink(number, tree) {
+export function aggregationLink(number, tree) {
   const it = tree.byNumber.get(number);
   return it ? recordsOf(number, `${number} · ${visible(it.ref)}`) : String(number);
-}
-
-export function recordsTable(rows, tree) {
-  const words = ["number", "ref", "title", "aggregation", "status"].map(word);
-  const cells = rows.map(([number, ref, title, aggregation, status]) => [
-    recordLink(number),
-    visible(ref),
-    visible(title),
-    aggregationLink(aggregation, tree),
-    t(`catalogue.statuses.${status}`),
-  ]);
-  return tableOf(t("catalogue.parts.records"), words, cells, "found records");
 }
 
 /** How many records of each status there are, as `here 4, ended 2`; of those that there are none of nothing is said. */
@@ -41,20 +32,6 @@ export function countsOf(counts) {
   const word = (status) => t(`catalogue.statuses.${status}`);
   const told = there.map((status) => t("catalogue.count", { status: word(status), count: grouped(counts[status]) }));
   return told.length ? told.join(", ") : t("catalogue.empty");
-}
-
-export function aggregationsTable(rows, tree) {
-  const words = ["number", "ref", "title", "within", "class", "closed", "counts"].map(word);
-  const cells = rows.map((it) => [
-    recordsOf(it.number, it.number),
-    visible(it.ref),
-    visible(it.title),
-    above(tree, it).map(({ ref }) => visible(ref)).join(" › "),
-    classOf(tree, it),
-    it.closed ?? "",
-    countsOf(tree.totals.get(it.number)),
-  ]);
-  return tableOf(t("catalogue.parts.aggregations"), words, cells, "found aggregations");
 }
 
 /** A period in words, as `7 years`. */

@@ -18,29 +18,37 @@ function factsOf(tree, it) {
   return [paragraph(words, "hint"), made("p", {}, records, ` (${countsOf(it)})`)];
 }
 
-function nodeOf(tree, it) {
+/** A box that marks an aggregation. */
+function boxOf({ number }, marks) {
+  const box = made("input", { type: "checkbox", id: `catalogue-node-${number}`, "data-number": number });
+  box.checked = marks.has(number);
+  box.addEventListener("change", () => marks.set(number, box.checked));
+  return made("p", { class: "sure" }, box, made("label", { for: box.id }, t("marked.markAggregation", { number })));
+}
+
+function nodeOf(tree, it, marks) {
   const words = made("span", { class: "ref" }, visible(it.ref));
   const counts = made("span", { class: "counts" }, countsOf(tree.totals.get(it.number)));
   const details = made("details", {}, made("summary", {}, words, " ", visible(it.title), " ", counts));
   const fill = () => {
     details.removeEventListener("toggle", fill);
     const within = tree.within.get(it.number) ?? [];
-    const list = within.length ? [listOf(tree, within)] : [];
-    details.append(made("div", { class: "node" }, ...factsOf(tree, it), ...list));
+    const list = within.length ? [listOf(tree, within, marks)] : [];
+    details.append(made("div", { class: "node" }, ...factsOf(tree, it), boxOf(it, marks), ...list));
   };
   details.addEventListener("toggle", fill);
   return made("li", {}, details);
 }
 
 /** A list of aggregations, the first ones at once; a button shows more of them. */
-function listOf(tree, them) {
+function listOf(tree, them, marks) {
   const list = made("ul", { class: "tree" });
   const more = made("button", { type: "button", class: "quiet" }, t("catalogue.more"));
   const item = made("li", {}, more);
   let shown = 0;
   const add = () => {
     item.remove();
-    const next = them.slice(shown, shown + SOME).map((it) => nodeOf(tree, it));
+    const next = them.slice(shown, shown + SOME).map((it) => nodeOf(tree, it, marks));
     list.append(...next);
     shown += next.length;
     if (shown < them.length) list.append(item);
@@ -51,4 +59,5 @@ function listOf(tree, them) {
   return list;
 }
 
-export const treeList = (tree) => listOf(tree, tree.roots);
+/** All aggregations, from the roots on; `marks` are those that are marked. */
+export const treeList = (tree, marks) => listOf(tree, tree.roots, marks);

@@ -7,6 +7,7 @@ import { isNumber } from "../plain/forms.js";
 import { visible } from "../plain/marks.js";
 import { isMissing } from "../plain/outcomes.js";
 import { all, t } from "../texts.js";
+import { titleOf, titleSwitch } from "./titles.js";
 
 let shown = null;
 let asked = 0;
@@ -49,6 +50,22 @@ function tellTables(certificate) {
   byId("certificate-tables").replaceChildren(...tables);
 }
 
+let titles = null;
+
+/** Puts the title of each record beside its ref in the entries, or takes it off. */
+async function tellTitles() {
+  const mine = asked;
+  const title = await titleOf();
+  titles.renew();
+  const table = document.querySelector("#certificate-tables .entries");
+  if (mine !== asked || !table) return;
+  for (const { cells } of table.tBodies[0].rows) {
+    const words = title?.(Number(cells[0].textContent));
+    cells[2].querySelector(".of-ref")?.remove();
+    if (words) cells[2].append(made("span", { class: "of-ref" }, visible(words)));
+  }
+}
+
 /** Links to the certificates of the runs before and after. */
 function tellOthers(number) {
   const to = (other, key) => link(`#certificate?number=${other}`, t(key, { number: other }));
@@ -70,6 +87,7 @@ async function tell(heading, bytes, name) {
   byId("certificate-text").textContent = seen;
   byId("certificate-marks").hidden = seen === text;
   byId("certificate-told").hidden = false;
+  tellTitles();
   return certificate;
 }
 
@@ -113,6 +131,8 @@ async function check() {
 export function start() {
   byId("certificate-save").addEventListener("click", () => save(shown.name, shown.bytes, "text/plain"));
   byId("certificate-print").addEventListener("click", () => print());
+  titles = titleSwitch("certificate-titles", tellTitles);
+  byId("certificate-switch").replaceWith(titles.node);
   onSubmit(byId("certificate-file-form"), check);
   onSubmit(byId("certificate-form"), (values) => {
     const address = `#certificate?number=${values["certificate-number"]}`;

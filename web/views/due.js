@@ -5,6 +5,7 @@ import { isConfirmDays, isDay, today } from "../plain/forms.js";
 import { DUE, overdueAmong } from "../plain/lists.js";
 import { t } from "../texts.js";
 import { RecordList } from "./list.js";
+import { Deciding } from "./list_deciding.js";
 import { USUAL_DAYS } from "./overdue.js";
 
 /** How many days a record has to be confirmed in, as the address or the field says. */
@@ -22,8 +23,13 @@ const list = new RecordList({
     days = isConfirmDays(count) ? count : USUAL_DAYS;
     list.part("count").value = days;
   },
-  shown: tellOverdue,
+  shown() {
+    tellOverdue();
+    deciding.shown();
+  },
+  marked: () => deciding.marked(),
 });
+const deciding = new Deciding(list);
 
 /** Says how many records of the list are overdue on its day, with a link to these. */
 function tellOverdue() {
@@ -63,6 +69,7 @@ function addOverdue() {
 export function start() {
   list.start();
   addOverdue();
+  deciding.start();
 }
 
 export const show = (words) => list.show(words);

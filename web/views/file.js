@@ -10,6 +10,7 @@ import { isText, today } from "../plain/forms.js";
 import { visible } from "../plain/marks.js";
 import { batches, isSettled } from "../plain/sending.js";
 import { t } from "../texts.js";
+import { filesIn, placed, saidBy } from "./file_folders.js";
 import { isLeftOut, rowOf, showAnswer, showHead, showValues } from "./file_rows.js";
 import { addPanel, guardPage, onDrop, sayFates, send, showSums, whereAggregation } from "./filing.js";
 
@@ -23,7 +24,7 @@ const commonField = (name) => byId(`file-all-${name}`);
 const common = () => Object.fromEntries(COMMON.map((name) => [name, commonField(name).value.trim()]));
 
 /** What the record of a file will be: what is written in its row, else what is written for all. */
-const valuesOf = (entry, shared = common()) => ({ ...forAll(shared, entry.file), ...entry.own });
+const valuesOf = (entry, shared = common()) => ({ ...forAll(shared, entry.file, entry.place, entry.said), ...entry.own });
 
 const isToBeFiled = (entry) => !isSettled(entry) && !isLeftOut(entry);
 
@@ -101,17 +102,19 @@ function remove(these) {
   refresh();
 }
 
-/** Lists more files, and says which could not be taken. */
-function take(files, folders = []) {
+/** Lists more files, each with its place in a folder or its name, and says which could not be taken. */
+async function take(files) {
   const room = Math.max(0, MOST_FILES - entries.length);
-  const more = files.slice(0, room).map((file) => ({ id: ++lastId, file, own: {}, fate: null, hasManifest: false }));
+  const listed = files.slice(0, room);
+  const said = await Promise.all(listed.map(({ file }) => saidBy(file)));
+  const more = listed.map(({ file, place }, at) => (
+    { id: ++lastId, file, place, said: said[at], own: {}, fate: null, hasManifest: false }));
   for (const entry of more) entry.make = () => actOf(entry);
   entries.push(...more);
   byId("file-table").tBodies[0].append(...more.map((entry) => rowOf(entry, { edited, removed, replaced })));
-  const said = folders.map((name) => paragraph(t("file.folder", { name: visible(name) })));
   const over = files.length - room;
-  if (over > 0) said.push(paragraph(plural("file.tooMany", over, { most: grouped(MOST_FILES) })));
-  if (said.length) say(byId("file-taken"), "wrong", ...said);
+  if (over > 0) say(byId("file-taken"), "wrong", paragraph(plural("file.tooMany", over, { most: grouped(MOST_FILES) })));
+  else if (!files.length) say(byId("file-taken"), "wrong", paragraph(t("sheetActs.folders.none")));
   else quiet(byId("file-taken"));
   quiet(byId("file-send-outcome"));
   refresh();
@@ -200,13 +203,14 @@ export function start() {
   guardPage();
   addPanel("file");
   showHead(byId("file-table"));
-  const choose = byId("file-choose");
-  choose.addEventListener("change", () => {
-    take([...choose.files]);
-    // so that the same file can be chosen again
-    choose.value = "";
-  });
-  onDrop(byId("file-drop"), take);
+  for (const id of ["file-choose", "file-folder"]) {
+    byId(id).addEventListener("change", ({ target }) => {
+      take(placed(target.files));
+      // so that the same file can be chosen again
+      target.value = "";
+    });
+  }
+  onDrop(byId("file-drop"), async (files, folders, entries_) => take(entries_ ? await filesIn(entries_) : placed(files)));
   for (const name of COMMON) {
     commonField(name).addEventListener("input", () => {
       mark(commonField(name), "");

@@ -46,6 +46,7 @@ export function rowOf(entry, { edited, removed, replaced }) {
   entry.replace = buttonOf("file.manifest", name, () => replaced(entry, true));
   entry.leave = buttonOf("file.leave", name, () => replaced(entry, false));
   const words = [made("span", { class: "named" }, name), made("span", { class: "hint" }, inBytes(entry.file.size))];
+  if (entry.said?.originated) words.push(made("span", { class: "hint" }, t("sheetActs.folders.mail")));
   const first = made("th", { scope: "row", role: "rowheader" }, ...words);
   const cells = MEMBERS.map((member) => made("td", { role: "cell" }, ...fieldOf(entry, member, edited)));
   const answer = made("td", { role: "cell" });

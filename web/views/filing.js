@@ -7,10 +7,14 @@ import { all, t } from "../texts.js";
 
 const LOOKS = { added: "done", same: "done", refused: "wrong", unread: "wrong", unknown: "unknown", left: "unknown" };
 
-/** What became of one act, in words; what was filed may be the manifest of a file. */
-export function fateWords(fate, isManifest = false) {
+/**
+ * What became of one act, in words; what was filed may be the manifest of a file. `part` is the part of the texts: that
+ * of records, or that of acts from a sheet.
+ */
+export function fateWords(fate, isManifest = false, part = "filing") {
   const record = fate.number === undefined ? "" : link(`#record?number=${fate.number}`, fate.number);
-  const words = sentence(isManifest && fate.kind === "added" ? "filing.manifestAdded" : `filing.${fate.kind}`, { record });
+  const key = isManifest && fate.kind === "added" ? "manifestAdded" : fate.kind;
+  const words = part === "filing" ? sentence(`filing.${key}`, { record }) : [t(`${part}.${key}`, fate)];
   if (fate.kind !== "refused") return made("span", { class: `fate ${LOOKS[fate.kind]}` }, ...words);
   const row = all().refusals[fate.refusal] ?? { name: "", meaning: "", do: "" };
   const refusal = t("said.refusal", { number: fate.refusal, name: row.name });
@@ -24,9 +28,9 @@ export function whereAggregation(isLinked = true) {
   return sentence("file.whereAggregation", { plan: view("plan"), catalogue: view("catalogue") });
 }
 
-/** The sums of the view `name`, each with its word. */
-export function showSums(name, sums) {
-  const words = ([sum, number]) => [made("dt", {}, t(`${name}.totals.${sum}`)), made("dd", {}, grouped(number))];
+/** The sums of the view `name`, each with its word, from a part of the texts. */
+export function showSums(name, sums, part = name) {
+  const words = ([sum, number]) => [made("dt", {}, t(`${part}.totals.${sum}`)), made("dd", {}, grouped(number))];
   byId(`${name}-totals`).replaceChildren(...Object.entries(sums).map((it) => made("div", {}, ...words(it))));
 }
 
@@ -86,23 +90,29 @@ export async function send(name, items, changed) {
 
 const FACTS = ["added", "same", "refused", "unread", "unknown", "left"];
 
-/** Says what became of all that was sent: the counts, the answer that stopped it, and what can be done now. */
-export function sayFates(place, items, answer) {
+/**
+ * Says what became of all that was sent: the counts, the answer that stopped it, and what can be done now, in the words
+ * of a part of the texts.
+ */
+export function sayFates(place, items, answer, part = "filing") {
   const counts = counted(items);
   const kinds = FACTS.filter((it) => counts[it] || it === "added");
-  const facts = kinds.map((it) => [t(`filing.counts.${it}`), grouped(counts[it])]);
+  const facts = kinds.map((it) => [t(`${part}.counts.${it}`), grouped(counts[it])]);
   const settled = items.filter(isSettled).length;
   const { length } = items;
-  const partly = () => t("filing.partly", { settled: grouped(settled), count: grouped(length) });
-  const end = made("p", { class: "verdict" }, settled === length ? plural("filing.whole", length) : partly());
-  const retry = counts.unknown ? "filing.retryUnknown" : "filing.retry";
+  const partly = () => t(`${part}.partly`, { settled: grouped(settled), count: grouped(length) });
+  const end = made("p", { class: "verdict" }, settled === length ? plural(`${part}.whole`, length) : partly());
+  const retry = `${part}.${counts.unknown ? "retryUnknown" : "retry"}`;
   const stopped = counts.unknown + counts.left ? [paragraph(t(retry))] : [];
-  if (counts.same) stopped.unshift(paragraph(t("filing.sameAbout")));
+  if (counts.same) stopped.unshift(paragraph(t(`${part}.sameAbout`)));
   const kind = settled === length ? "done" : counts.refused + counts.unread ? "wrong" : "unknown";
   say(place, kind, end, factsOf(facts), ...(answer ? told(answer) : []), ...stopped);
 }
 
-/** Takes what is dropped on a place, as what is chosen by its field. A folder is no file. */
+/**
+ * Takes what is dropped on a place, as what is chosen by its field: the files, the names of folders, and all of it as the
+ * entries of a file system, if the browser has these.
+ */
 export function onDrop(place, take) {
   const over = (is) => place.classList.toggle("over", is);
   for (const name of ["dragenter", "dragover"]) {
@@ -118,7 +128,8 @@ export function onDrop(place, take) {
     const entries = [...event.dataTransfer.items].map((item) => item.webkitGetAsEntry?.());
     const isFolder = (at) => entries.length === event.dataTransfer.files.length && entries[at]?.isDirectory;
     const files = [...event.dataTransfer.files];
-    take(files.filter((_, at) => !isFolder(at)), files.filter((_, at) => isFolder(at)).map(({ name }) => name));
+    const names = files.filter((_, at) => isFolder(at)).map(({ name }) => name);
+    take(files.filter((_, at) => !isFolder(at)), names, names.length ? entries : null);
   });
 }
 

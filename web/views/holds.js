@@ -2,10 +2,11 @@
 import { post } from "../ask.js";
 import { mark, onSubmit, untick } from "../fields.js";
 import { asking, byId, failed, made, paragraph, say, told } from "../page.js";
-import { bodyOf, holdOff, holdOn, liftHold, placeHold } from "../plain/acts.js";
+import { bodyOf, holdOff, holdOn, liftHold } from "../plain/acts.js";
 import { isCode } from "../plain/forms.js";
 import { fatesOf } from "../plain/outcomes.js";
 import { t } from "../texts.js";
+import * as placing from "./hold_place.js";
 
 const targetOf = (values, form) => `${byId(`${form}-kind`).value}:${values[`${form}-target`]}`;
 
@@ -18,16 +19,10 @@ function carry(code, forms) {
 }
 
 /**
- * The four forms: the act that each asks for, what is said once it is done, and what where that is unknown; `after` is
- * called once it is done.
+ * The forms for a hold that is there: the act that each asks for, what is said once it is done, and what where that is
+ * unknown.
  */
 const FORMS = {
-  "hold-place": {
-    act: (values) => placeHold(values["hold-place-day"], values["hold-place-code"], values["hold-place-reason"], values["hold-place-by"]),
-    done: (act) => t("holds.placed", { hold: act.code }),
-    lost: "holds.lostPlace",
-    after: (act) => carry(act.code, ["hold-on"]),
-  },
   "hold-on": {
     act: (values) => holdOn(values["hold-on-day"], values["hold-on-code"], targetOf(values, "hold-on")),
     done: (act) => t("holds.isOn", act),
@@ -48,7 +43,7 @@ const FORMS = {
 /** Asks for one act, and says what came of it. */
 async function ask(name, values) {
   const place = byId(`${name}-outcome`);
-  const { act, done, lost, after } = FORMS[name];
+  const { act, done, lost } = FORMS[name];
   const asked = act(values);
   asking(place);
   untick(byId(name));
@@ -57,10 +52,10 @@ async function ask(name, values) {
   if (end === "unknown") say(place, "unknown", ...told(answer), paragraph(t(lost)));
   else if (answers[0]?.done) say(place, "done", paragraph(done(asked)), ...told(answer));
   else failed(place, answer);
-  if (end === "answered" && answers[0].done) after?.(asked);
 }
 
 export function start() {
+  placing.start((code) => carry(code, ["hold-on"]));
   for (const name of Object.keys(FORMS)) onSubmit(byId(name), (values) => ask(name, values));
   for (const form of ["hold-on", "hold-off"]) {
     const kinds = ["class", "aggregation", "record"].map((kind) => made("option", { value: kind }, t(`fields.kinds.${kind}`)));

@@ -1,4 +1,4 @@
-// Import: a CSV of a spreadsheet program is read, shown as the records that its rows will be, and sent in few requests.
+// Import: a CSV of a spreadsheet program is read, shown as what its rows will be, and sent in few requests.
 import { onSubmit, untick } from "../fields.js";
 import { byId, grouped, made, paragraph, plural, quiet, save, say } from "../page.js";
 import { addRecord, bytesOf } from "../plain/acts.js";
@@ -6,10 +6,12 @@ import { today } from "../plain/forms.js";
 import { visible } from "../plain/marks.js";
 import { batches, isSettled } from "../plain/sending.js";
 import { NAMES } from "../sheet/columns.js";
+import { RECORDS, formOf } from "../sheet/kinds.js";
 import { glimpsed, turned } from "../sheet/turning.js";
 import { Unreadable } from "../sheet/unreadable.js";
 import { t } from "../texts.js";
 import { addPanel, onDrop, sayFates, send, showSums, whereAggregation } from "./filing.js";
+import * as acts from "./import_acts.js";
 import * as reading from "./import_reading.js";
 import * as preview from "./import_rows.js";
 import { notTaken } from "./import_saved.js";
@@ -17,8 +19,11 @@ import { notTaken } from "./import_saved.js";
 /** A sheet with more bytes is not read: the page would stand still. */
 const MOST_BYTES = 64 * 1048576;
 
-/** The sheet that is shown: its name and bytes, what somebody says of it, and what came of it. */
-const sheet = { name: "", bytes: null, options: {}, found: null };
+/**
+ * The sheet that is shown: its name and bytes, what somebody says of it, what each row is, and what came of it; the
+ * numbers of the aggregations that its rows added.
+ */
+const sheet = { name: "", bytes: null, options: {}, kind: RECORDS, found: null, numbers: new Map() };
 let isSending = false;
 let day = "";
 
@@ -30,19 +35,28 @@ const left = () => items().filter((item) => !isSettled(item));
 
 const wordsOf = (row) => Object.fromEntries(NAMES.map((name, at) => [name, row.values[at] ?? ""]));
 
-/** The item by which a good row is sent. */
+/** The item by which a good row is sent, or null where it is not to be sent. */
 function itemOf(row) {
+  if (row.wrong.length || row.left) return null;
+  if (sheet.kind !== RECORDS) return acts.actItem(row, () => day, sheet.numbers);
   const values = wordsOf(row);
   const bytes = bytesOf(JSON.stringify(addRecord(today(), values)));
   return { bytes, make: async () => addRecord(day, values), fate: null };
 }
 
+/** The columns that are needed and not there; of some one is enough. */
+function missingWords({ missing, either = [] }) {
+  const others = missing.filter((name) => !either.includes(name)).map(acts.columnWord);
+  const one = either.length ? [t(`${acts.PART}.oneOf`, { names: either.map(acts.columnWord).join(", ") })] : [];
+  return [...one, ...others].join(", ");
+}
+
 /** What keeps a sheet from being read, and what can be done; where a day has two readings, one is chosen here. */
 function sayUnreadable({ kind, values }) {
   const words = { ...values };
-  if (values.missing) words.missing = values.missing.map((name) => t(`import.columns.${name}`)).join(", ");
+  if (values.missing) words.missing = missingWords(values);
   if (values.places) words.found = reading.placesWords(values.places);
-  if (values.name && NAMES.includes(values.name)) words.name = t(`import.columns.${values.name}`);
+  if (values.name && formOf(sheet.kind).names.includes(values.name)) words.name = acts.columnWord(values.name);
   if (values.text) words.text = visible(values.text);
   if (values.encoding) words.encoding = t(`import.encodings.${values.encoding}`);
   const buttons = Object.entries(values.read ?? {}).map(([order, read]) => {
@@ -55,7 +69,7 @@ function sayUnreadable({ kind, values }) {
     return button;
   });
   const choice = buttons.length ? [made("div", { class: "tools" }, ...buttons)] : [];
-  if (values.missing?.includes("aggregation")) choice.push(made("p", {}, ...whereAggregation()));
+  if (sheet.kind === RECORDS && values.missing?.includes("aggregation")) choice.push(made("p", {}, ...whereAggregation()));
   const look = kind === "doubtful" ? "unknown" : "wrong";
   const key = kind === "missing" && !words.found ? "missingAll" : kind;
   say(byId("import-outcome"), look, paragraph(t(`import.unreadable.${key}`, words)), ...choice);
@@ -87,20 +101,47 @@ function headerOf() {
   }
 }
 
+/** Finds what each row is: what somebody chose, else what the header shows. */
+async function findKind() {
+  const { header } = headerOf();
+  const shown = acts.kindShown(header);
+  sheet.kind = byId("import-kind").value || shown;
+  byId("import-kind").options[0].text = t("import.foundIs", { value: t(`${acts.PART}.kinds.${shown}`) });
+  sheet.options.kind = sheet.kind;
+  sheet.options.catalogue = (await acts.lookUp(sheet.kind)) ?? undefined;
+  reading.takeKind(sheet.kind, changed);
+  preview.takeKind(sheet.kind);
+  byId("import-acts-about").hidden = sheet.kind === RECORDS;
+  const part = sheet.kind === RECORDS ? "import" : acts.PART;
+  byId("import-send").querySelector("legend").textContent = t(`${part}.send`);
+  byId("import-send").querySelector("fieldset > .hint").textContent = t(`${part}.sendAbout`);
+}
+
 /** Reads the sheet anew, and shows what came of it. */
 function refresh() {
   quiet(byId("import-outcome"));
   quiet(byId("import-send-outcome"));
+  Object.assign(sheet.options, { today: today(), day: byId("import-send-day").value });
+  sheet.numbers = new Map();
   sheet.found = read();
-  for (const row of rows()) row.item = row.wrong.length ? null : itemOf(row);
+  for (const row of rows()) row.item = itemOf(row);
   const there = headerOf();
   reading.show(sheet.options, there.header, there);
   byId("import-sheet").hidden = false;
+  byId("import-sheet").dataset.kind = sheet.kind;
   byId("import-rows").hidden = !sheet.found;
   byId("import-heading").textContent = visible(sheet.name);
   if (!sheet.found) return;
   preview.take(rows());
   showTotals();
+}
+
+/** Takes what somebody says each row is: what was said of columns was of another kind. */
+async function kindChanged() {
+  sheet.options = { ...sheet.options, columns: {}, set: {} };
+  await findKind();
+  sheet.options = { ...sheet.options, ...reading.recalled(headerOf().header, sheet.kind), days: sheet.options.days };
+  refresh();
 }
 
 /** Takes what somebody says of the sheet, and reads it anew. */
@@ -132,6 +173,7 @@ async function take([file], folders = []) {
   sheet.name = file.name;
   sheet.options = {};
   sheet.found = null;
+  await findKind();
   const days = recall();
   refresh();
   const order = t(`import.orders.${days}`);
@@ -140,8 +182,8 @@ async function take([file], folders = []) {
 
 /** Takes up what was said of an earlier sheet with the same names: the order of days, where only that decides it. */
 function recall() {
-  const { columns, set, days } = reading.recalled(headerOf().header);
-  sheet.options = { columns, set };
+  const { columns, set, days } = reading.recalled(headerOf().header, sheet.kind);
+  sheet.options = { ...sheet.options, columns, set };
   try {
     turned(sheet.bytes, sheet.options);
   } catch (why) {
@@ -162,8 +204,12 @@ function showTotals() {
   const filed = items().filter(isSettled).length;
   const { empty } = sheet.found;
   const requests = batches(ready).length;
-  showSums("import", { count: rows().length, ready: ready.length, wrong, empty, filed, requests });
-  const key = ready.some(({ fate }) => fate) ? "file.again" : "import.submit";
+  const isActs = sheet.kind !== RECORDS;
+  const passed = sheet.kind === "confirm" ? { left: rows().filter((row) => row.left).length } : {};
+  const sums = { count: rows().length, ready: ready.length, wrong, ...passed, empty, filed, requests };
+  showSums("import", sums, isActs ? acts.PART : "import");
+  const submit = isActs ? `${acts.PART}.submit` : "import.submit";
+  const key = ready.some(({ fate }) => fate) ? "file.again" : submit;
   if (!isSending) byId("import-submit").textContent = t(key, { count: grouped(ready.length) });
   const refused = rows().filter(preview.isRefused).length;
   byId("import-save").hidden = refused === 0;
@@ -182,12 +228,14 @@ async function importAll(values) {
   quiet(place);
   untick(byId("import-send"));
   day = values["import-send-day"];
-  reading.remember(sheet.found);
+  reading.remember(sheet.found, sheet.kind);
   isSending = true;
-  const answer = await send("import", ready, progressed);
+  const isActs = sheet.kind !== RECORDS;
+  const open = rows().filter((row) => row.item && !isSettled(row.item));
+  const answer = await (isActs ? acts.sendActs(open, sheet.numbers, progressed) : send("import", ready, progressed));
   isSending = false;
   progressed();
-  sayFates(place, ready, answer);
+  sayFates(place, ready, answer, isActs ? acts.PART : "filing");
   const wrong = rows().filter((row) => row.wrong.length).length;
   if (wrong) place.append(paragraph(plural("import.leftOut", wrong)));
   if (rows().some(preview.isRefused)) place.append(paragraph(t("import.saveAbout")));
@@ -213,6 +261,8 @@ export function start() {
   onDrop(byId("import-drop"), take);
   reading.start(changed);
   preview.start();
+  byId("import-kind").append(...acts.kindOptions());
+  byId("import-kind").addEventListener("change", kindChanged);
   byId("import-save").addEventListener("click", saveRefused);
   onSubmit(byId("import-send"), importAll);
 }

@@ -2,18 +2,25 @@
 import { byId, made } from "../page.js";
 import { visible } from "../plain/marks.js";
 import { ENCODINGS } from "../sheet/bytes.js";
-import { NAMES, NEEDED, plain } from "../sheet/columns.js";
+import { plain } from "../sheet/columns.js";
 import { ORDERS } from "../sheet/days.js";
+import { RECORDS, formOf } from "../sheet/kinds.js";
 import { SEPARATORS, letters } from "../sheet/rows.js";
 import { t } from "../texts.js";
+import { columnWord } from "./import_acts.js";
 
 /** What a column may be in place of one of the sheet. */
 const NONE = "none";
 const SAME = "same";
 /** What it is while it may be either of two. */
 const EITHER = "";
-/** The members of a record that may well be the same in each row. */
-const SHARED = ["title", "originated", "aggregation", "class", "schedule"];
+/** The columns that cannot well be the same in each row. */
+const APART = ["ref", "content", "code", "digest", "target", "record", "act"];
+
+/** The columns of what each row is. */
+let form = formOf(RECORDS);
+/** A column that may well be the same in each row: of a closing not even the aggregation. */
+const isShared = (name) => !APART.includes(name) && !(form.either.includes(name) && name !== "class");
 
 /** Where the words of the choices of a field are. */
 const WORDS = { encoding: "encodings", separator: "separators", days: "orders" };
@@ -21,20 +28,30 @@ const WORDS = { encoding: "encodings", separator: "separators", days: "orders" }
 const select = (name) => byId(`import-${name}`);
 const options = (pairs) => pairs.map(([value, text]) => made("option", { value }, text));
 
-/** What was matched by hand, for as long as the page is open: names of headers, values for all rows, orders of days. */
-const remembered = { names: new Map(), values: {}, orders: new Map() };
+/**
+ * What was matched by hand, for as long as the page is open and for each kind of rows: names of headers, values for all
+ * rows, orders of days.
+ */
+const memory = new Map();
+
+function rememberedOf(kind) {
+  if (!memory.has(kind)) memory.set(kind, { names: new Map(), values: {}, orders: new Map() });
+  return memory.get(kind);
+}
 
 const signature = (header) => header.map(plain).join("|");
 
 /** Keeps in mind what was said of a sheet, for the next one with the same names. */
-export function remember({ columns, order }) {
+export function remember({ columns, order }, kind) {
+  const remembered = rememberedOf(kind);
   for (const [name, at] of Object.entries(columns.places)) remembered.names.set(plain(columns.header[at]), name);
   remembered.values = { ...columns.values };
   remembered.orders.set(signature(columns.header), order.name);
 }
 
 /** What was said of an earlier sheet, as far as this header has the same names. */
-export function recalled(header) {
+export function recalled(header, kind) {
+  const remembered = rememberedOf(kind);
   const columns = {};
   header.forEach((cell, at) => {
     const name = remembered.names.get(plain(cell));
@@ -63,14 +80,19 @@ export function start(changed) {
     const row = Math.min(Math.max(1, Number.parseInt(header.value, 10) || 1), 999999);
     changed({ header: row, columns: {} });
   });
-  byId("import-columns").append(...NAMES.map((name) => columnField(name, changed)));
+}
+
+/** Has the columns of what each row is to choose from. */
+export function takeKind(kind, changed) {
+  form = formOf(kind);
+  byId("import-columns").replaceChildren(...form.names.map((name) => columnField(name, changed)));
 }
 
 /** The field that says which column of the sheet is one of an import. */
 function columnField(name, changed) {
   const id = `import-column-${name}`;
   const choice = made("select", { id });
-  const named = { "aria-label": t("import.sameOf", { name: t(`import.columns.${name}`) }) };
+  const named = { "aria-label": t("import.sameOf", { name: columnWord(name) }) };
   const plainly = { type: "text", autocomplete: "off", spellcheck: "false" };
   const value = made("input", { id: `import-same-${name}`, ...plainly, ...named });
   const choose = () => {
@@ -84,7 +106,7 @@ function columnField(name, changed) {
   });
   value.addEventListener("change", choose);
   value.hidden = true;
-  return made("div", { class: "field" }, made("label", { for: id }, t(`import.columns.${name}`)), choice, value);
+  return made("div", { class: "field" }, made("label", { for: id }, columnWord(name)), choice, value);
 }
 
 /** The words of a column of the sheet: its letters and its name. */
@@ -92,25 +114,24 @@ const columnWords = (cell, at) => `${letters(at)}: ${visible(cell.trim()) || t("
 
 // ---- what was found
 
-const wordOf = (name) => t(`import.columns.${name}`);
-
 /** Columns with their letters, as `Ref (A), Title (B)`. */
 export const placesWords = (places) =>
-  NAMES.filter((name) => name in places)
-    .map((name) => t("import.inColumn", { name: wordOf(name), column: letters(places[name]) }))
+  form.names.filter((name) => name in places)
+    .map((name) => t("import.inColumn", { name: columnWord(name), column: letters(places[name]) }))
     .join(", ");
 
 /** Which columns are matched, which may be either of two, which are the same in each row, and which are not matched. */
 function matchWords(found, set) {
   const { places, both } = found;
   const either = (name) => both[name].map(letters).join(", ");
-  const eitherOf = (name) => t("import.inColumn", { name: wordOf(name), column: either(name) });
-  const neededOf = (name) => (NEEDED.includes(name) ? t("import.neededOf", { name: wordOf(name) }) : wordOf(name));
-  const unmatched = NAMES.filter((name) => !(name in places) && !(name in both) && !(name in set));
+  const eitherOf = (name) => t("import.inColumn", { name: columnWord(name), column: either(name) });
+  const isNeeded = (name) => form.needed.includes(name);
+  const neededOf = (name) => (isNeeded(name) ? t("import.neededOf", { name: columnWord(name) }) : columnWord(name));
+  const unmatched = form.names.filter((name) => !(name in places) && !(name in both) && !(name in set));
   const lists = {
     matched: placesWords(places),
     unclear: Object.keys(both).map(eitherOf).join(", "),
-    sameFor: Object.keys(set).map(wordOf).join(", "),
+    sameFor: Object.keys(set).map(columnWord).join(", "),
     unmatched: unmatched.map(neededOf).join(", "),
   };
   const parts = Object.entries(lists).filter(([, names]) => names);
@@ -121,7 +142,7 @@ function matchWords(found, set) {
 function showColumn(name, columns, found, value) {
   const choice = select(`column-${name}`);
   const isUnclear = name in found.both;
-  const same = SHARED.includes(name) ? [[SAME, t("import.same")]] : [];
+  const same = isShared(name) ? [[SAME, t("import.same")]] : [];
   choice.replaceChildren(...options([[NONE, t("import.none")], ...same, ...columns]));
   if (isUnclear) choice.prepend(made("option", { value: EITHER, disabled: "" }, t("import.either")));
   choice.value = isUnclear ? EITHER : value !== undefined ? SAME : found.places[name] ?? NONE;
@@ -146,7 +167,7 @@ export function show(options_, header, found) {
   select("join").checked = Boolean(options_.joinLines);
   const columns = header.map((cell, at) => [at, columnWords(cell, at)]);
   const set = options_.set ?? {};
-  for (const name of NAMES) showColumn(name, columns, found, set[name]);
+  for (const name of form.names) showColumn(name, columns, found, set[name]);
   byId("import-matched").textContent = header.length ? matchWords(found, set) : "";
   const used = new Set([...Object.values(found.places), ...Object.values(found.both).flat()]);
   const unused = header.filter((cell, at) => !used.has(at) && cell.trim()).map((cell) => visible(cell.trim()));

@@ -27,6 +27,7 @@ import { ListTable, recordOf } from "./list_table.js";
  * @property {function(URLSearchParams): void} [readMore] reads further words of the address
  * @property {function(): Object<string, string>} [more] the further words of the address
  * @property {function(RecordList): void} [shown] is called once a list is shown
+ * @property {function(RecordList): void} [marked] is called once other records are marked
  */
 
 const isSame = (one, other) => JSON.stringify(one) === JSON.stringify(other);
@@ -211,9 +212,21 @@ export class RecordList {
   #tellMarks() {
     const shown = this.shown.filter((row) => this.marks.has(row.record)).length;
     this.part("marked").textContent = t("due.marked", { count: this.marks.size, hidden: this.marks.size - shown });
-    this.part("submit").textContent = t("due.submit", { count: this.marks.size });
+    const count = this.markedRows().filter(canBeConfirmed).length;
+    this.part("submit").textContent = t("due.submit", { count });
     // only then it stays in sight, over the rows (office.css)
     this.part("panel").classList.toggle("marking", this.marks.size > 0);
+    this.kind.marked?.(this);
+  }
+
+  /** Puts the title of each record beside its ref; `titleOf` is null where none is shown. */
+  tellTitles(titleOf) {
+    this.#table.tellTitles(titleOf);
+  }
+
+  /** Says that something was done with the list which changed nothing of it. */
+  tell(words) {
+    say(this.part("answer"), "done", paragraph(words));
   }
 
   /** Marks these records and no others. */

@@ -30,14 +30,21 @@ function word(key) {
   return words.get(key);
 }
 
+/** Puts a title behind the ref in its cell, or takes it off. */
+function fillTitle(cell, title) {
+  if (cell.childNodes.length > 1) cell.lastChild.remove();
+  if (title) cell.append(made("span", { class: "of-ref" }, visible(title)));
+}
+
 /** How the cell of a column is filled; any other one has the member as it is. */
 const FILLS = {
   record(cell, row) {
     cell.firstChild.setAttribute("href", `#record?number=${row.record}`);
     cell.firstChild.firstChild.data = row.record;
   },
-  ref(cell, row) {
+  ref(cell, row, titleOf) {
     cell.firstChild.data = visible(row.ref);
+    fillTitle(cell, titleOf?.(row.record));
   },
   action(cell, row) {
     cell.firstChild.data = word(`actions.${row.action}`);
@@ -51,7 +58,8 @@ const FILLS = {
 };
 
 function fillMark(cell, row, marked) {
-  if (!canBeConfirmed(row)) return cell.replaceChildren(made("span", { class: "hint" }, word("due.noMark")));
+  // it is marked for other deeds than a confirmation
+  if (!canBeConfirmed(row)) cell.append(made("span", { class: "hint" }, word("due.noMark")));
   const box = cell.firstChild;
   if (marked) box.checked = true;
   box.setAttribute("aria-label", word("due.markRow").replace("{record}", row.record));
@@ -72,12 +80,16 @@ export class ListTable {
   #wanting = [];
   #copied;
   #fills;
+  #titleOf = null;
+  #refAt;
 
   /** A table of the view of this name. `sortBy` is called with the column whose heading is pressed. */
   constructor(name, columns, sortBy) {
     this.table = byId(`${name}-table`);
     this.head = byId(`${name}-head`);
     this.#copied = pattern(columns);
+    // the box comes first
+    this.#refAt = columns.indexOf("ref") + 1;
     const plain = (column) => (cell, row) => (cell.firstChild.data = row[column]);
     this.#fills = columns.map((column) => FILLS[column] ?? plain(column));
     this.#tellHead(name, columns, sortBy);
@@ -100,7 +112,7 @@ export class ListTable {
   #fillRow(node, row) {
     const [mark, ...cells] = node.children;
     fillMark(mark, row, this.#isMarked(row.record));
-    cells.forEach((cell, at) => this.#fills[at](cell, row));
+    cells.forEach((cell, at) => this.#fills[at](cell, row, this.#titleOf));
     return node;
   }
 
@@ -114,6 +126,13 @@ export class ListTable {
   begin(marked) {
     this.#nodes = new Map();
     this.#isMarked = marked;
+  }
+
+  /** Puts titles beside the refs of all rows, also of those that are made later; `titleOf` is null where none is shown. */
+  tellTitles(titleOf) {
+    if (titleOf === null && this.#titleOf === null) return;
+    this.#titleOf = titleOf;
+    for (const [record, node] of this.#nodes) fillTitle(node.cells[this.#refAt], titleOf?.(record));
   }
 
   /** Ticks the boxes of the records that are marked, and no others. */

@@ -2,6 +2,7 @@
 import { isConfirmDays, isDay, today } from "../plain/forms.js";
 import { OVERDUE } from "../plain/lists.js";
 import { RecordList } from "./list.js";
+import { Deciding } from "./list_deciding.js";
 
 /** So many days a record has to be confirmed in, where nobody says another number. */
 export const USUAL_DAYS = "30";
@@ -15,8 +16,15 @@ const list = new RecordList({
   },
   first: () => ({ day: today(), count: USUAL_DAYS }),
   path: ({ day, count }) => `overdue/${day}/${count}`,
+  shown: () => deciding.shown(),
+  marked: () => deciding.marked(),
 });
+const deciding = new Deciding(list);
 
-export const start = () => list.start();
+export function start() {
+  list.start();
+  deciding.start();
+}
+
 export const show = (words) => list.show(words);
 export const renew = () => list.renew();

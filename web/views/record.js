@@ -3,15 +3,15 @@ import { get, getNewest } from "../ask.js";
 import { schedule } from "../catalogue.js";
 import { onSubmit } from "../fields.js";
 import {
-  asking, byId, details, factsOf, failed, inBytes, link, made, paragraph, quiet, save, say, sentence,
+  asking, byId, details, factsOf, failed, inBytes, link, made, paragraph, quiet, say, sentence,
 } from "../page.js";
-import { digestOf } from "../plain/certificates.js";
 import { isNumber, today } from "../plain/forms.js";
 import { visible } from "../plain/marks.js";
 import { reasonsFor } from "../plain/no_due.js";
 import { isMissing, jsonOf } from "../plain/outcomes.js";
 import { t } from "../texts.js";
 import * as acts from "./record_acts.js";
+import * as content from "./record_content.js";
 import * as event from "./record_event.js";
 
 let shown = null;
@@ -74,10 +74,9 @@ function tell(record, rule) {
   const words = [ofStatus(record), ...ofDue(record, rule), ofEvent(record), ofHold(record), ...ofConfirmation(record)];
   byId("record-words").replaceChildren(...words);
   byId("record-facts").replaceChildren(factsTold(record));
-  byId("record-content").hidden = record.status === "ended";
+  content.offer(record);
   event.offer(record);
   acts.offer(record);
-  quiet(byId("record-saved"));
   byId("record-told").hidden = false;
 }
 
@@ -113,25 +112,8 @@ async function readAnew() {
   return ofDue(record, rule);
 }
 
-/** Asks for the content of the record that is shown, compares its digest, and gives it to be saved. */
-async function saveContent() {
-  const place = byId("record-saved");
-  const record = shown;
-  asking(place);
-  const answer = await get(`records/${record.number}/content`);
-  if (isMissing(answer, "content")) return say(place, "wrong", paragraph(t("record.contentGone")), details(answer));
-  if (answer.status !== 200) return failed(place, answer);
-  const name = t("record.file", record);
-  const digest = await digestOf(answer.bytes);
-  save(name, answer.bytes, "application/octet-stream");
-  const agrees = digest === record.digest;
-  const key = digest === null ? "record.savedUnseen" : agrees ? "record.saved" : "record.savedOther";
-  const words = t(key, { name, size: inBytes(answer.bytes.length) });
-  say(place, digest !== null && !agrees ? "wrong" : "done", paragraph(words));
-}
-
 export function start() {
-  byId("record-save").addEventListener("click", saveContent);
+  content.start();
   event.start(readAnew);
   acts.start(readAnew, () => shown);
   onSubmit(byId("record-form"), (values) => {

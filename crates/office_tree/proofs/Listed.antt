@@ -5,7 +5,6 @@ use Rattle.std.specs.FinMap.{FinMap, empty, get, get-empty, insert}
 use Rattle.std.specs.Option.{is_some}
 use Rattle.office_tree.specs.ClassIndex.{HaveNumbers, IsOfClass, NumberMap}
 use Rattle.office_terms.specs.Lists.{numbered}
-use Rattle.office_tree.specs.ClassLists.{AreClassLists}
 use Rattle.office_terms.specs.Tree.{code_cmp}
 use Rattle.office_terms.specs.declared.aggregation.Aggregation.{Aggregation}
 use Rattle.office_terms.specs.declared.class.Class.{Class}
@@ -63,9 +62,8 @@ stays_named old new code kept there = stays_by new code (get old code) (λ m e. 
 
 -- ---- so many records on lists
 
-pub record ListedTo (classes : FinMap code_cmp Class) (aggregations : List Aggregation) (records : List Record) (i : ℕ) (numbers : NumberMap) (first next previous class : List ℕ) : Type 0 where
-  pub numbers_agree : HaveNumbers classes numbers (length first)
-  pub class_lists : AreClassLists first next previous class
+pub record ListedTo (classes : FinMap code_cmp Class) (aggregations : List Aggregation) (records : List Record) (i : ℕ) (numbers : NumberMap) (lists : ℕ) (class : List ℕ) : Type 0 where
+  pub numbers_agree : HaveNumbers classes numbers lists
   pub count : length class ≡ i
   pub each : (r c : ℕ) → numbered class r ≡ Some c → IsOfClass numbers aggregations records r c
 
@@ -75,11 +73,10 @@ no_class class r c none e = nothing r (ap (λ its. numbered its r) (sym none) �
   nothing zero f = absurd cc
   nothing (suc r) f = absurd cc
 
-pub listed_none : (classes : FinMap code_cmp Class) (aggregations : List Aggregation) (records : List Record) (numbers : NumberMap) (first next previous class : List ℕ) → HaveNumbers classes numbers (length first) → AreClassLists first next previous class → class ≡ []
-    → ListedTo classes aggregations records 0 numbers first next previous class
-listed_none classes aggregations records numbers first next previous class right class_lists none = record {
+pub listed_none : (classes : FinMap code_cmp Class) (aggregations : List Aggregation) (records : List Record) (numbers : NumberMap) (lists : ℕ) (class : List ℕ) → HaveNumbers classes numbers lists → class ≡ []
+    → ListedTo classes aggregations records 0 numbers lists class
+listed_none classes aggregations records numbers lists class right none = record {
   numbers_agree = right;
-  class_lists = class_lists;
   count = ap length none;
   each = λ r c e. absurd (no_class class r c none e);
 }

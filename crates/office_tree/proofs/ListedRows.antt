@@ -7,7 +7,6 @@ use Rattle.office_tree.specs.ClassIndex.{AreListed, HaveNumbers, IsOfClass, Numb
 use Rattle.office_tree.specs.Inheriting.{is_heir}
 use Rattle.office_terms.specs.Lasting.{AggregationStays}
 use Rattle.office_terms.specs.Lists.{numbered, put}
-use Rattle.office_tree.specs.ClassLists.{AreClassLists}
 use Rattle.office_terms.specs.Sound.{IsSound}
 use Rattle.office_tree.specs.Stored.{AreDone}
 use Rattle.office_terms.specs.Tree.{TreeState, class_in, code_cmp}
@@ -23,10 +22,9 @@ use Rattle.office_tree.proofs.Puts.{same_or_not}
 use Rattle.office_terms.proofs.Walk.{placed_in}
 
 -- there are none
-pub listed_empty : (first next previous class : List ℕ) → first ≡ [] → class ≡ [] → AreClassLists first next previous class → AreListed empty [] [] empty first next previous class
-listed_empty first next previous class none nobody class_lists = record {
-  numbers_agree = subst (λ (n : ℕ). HaveNumbers empty empty n) (sym (ap length none)) numbers_none;
-  class_lists = class_lists;
+pub listed_empty : (lists : ℕ) (class : List ℕ) → lists ≡ 0 → class ≡ [] → AreListed empty [] [] empty lists class
+listed_empty lists class none nobody = record {
+  numbers_agree = subst (λ (n : ℕ). HaveNumbers empty empty n) (sym none) numbers_none;
   count = ap length nobody;
   each = λ r c e. absurd (nothing r c (ap (λ its. numbered its r) (sym nobody) ∙ e));
 } where
@@ -34,11 +32,10 @@ listed_empty first next previous class none nobody class_lists = record {
   nothing r c e = let h = numbered_within [] r c e in omega (arith, h.0, h.1)
 
 -- other classes under the codes that have numbers
-pub listed_classes : (classes others : FinMap code_cmp Class) (xs : List Aggregation) (records : List Record) (numbers : NumberMap) (first next previous class : List ℕ) → ((code : List ℕ) → IsSome (get others code) → IsSome (get classes code))
-    → AreListed classes xs records numbers first next previous class → AreListed others xs records numbers first next previous class
-listed_classes classes others xs records numbers first next previous class there old = record {
+pub listed_classes : (classes others : FinMap code_cmp Class) (xs : List Aggregation) (records : List Record) (numbers : NumberMap) (lists : ℕ) (class : List ℕ) → ((code : List ℕ) → IsSome (get others code) → IsSome (get classes code))
+    → AreListed classes xs records numbers lists class → AreListed others xs records numbers lists class
+listed_classes classes others xs records numbers lists class there old = record {
   numbers_agree = record { each = λ code some. old.numbers_agree.each code (there code some); within = old.numbers_agree.within };
-  class_lists = old.class_lists;
   count = old.count;
   each = old.each;
 }
@@ -48,12 +45,11 @@ kept_number numbers more None c kept e = absurd cc
 kept_number numbers more (Some q) c kept e = kept q c e
 
 -- more numbers and lists, where each class keeps its number
-pub listed_numbers : (classes : FinMap code_cmp Class) (xs : List Aggregation) (records : List Record) (numbers more : NumberMap) (first next previous class firsts nexts previouses now : List ℕ)
-    → HaveNumbers classes more (length firsts) → AreClassLists firsts nexts previouses now → now ≡ class → ((q : List ℕ) (n : ℕ) → get numbers q ≡ Some n → get more q ≡ Some n)
-    → AreListed classes xs records numbers first next previous class → AreListed classes xs records more firsts nexts previouses now
-listed_numbers classes xs records numbers more first next previous class firsts nexts previouses now right class_lists same kept old = record {
+pub listed_numbers : (classes : FinMap code_cmp Class) (xs : List Aggregation) (records : List Record) (numbers more : NumberMap) (lists more_lists : ℕ) (class now : List ℕ)
+    → HaveNumbers classes more more_lists → now ≡ class → ((q : List ℕ) (n : ℕ) → get numbers q ≡ Some n → get more q ≡ Some n)
+    → AreListed classes xs records numbers lists class → AreListed classes xs records more more_lists now
+listed_numbers classes xs records numbers more lists more_lists class now right same kept old = record {
   numbers_agree = right;
-  class_lists = class_lists;
   count = ap length same ∙ old.count;
   each = λ r c e. kept_number numbers more (class_in xs records r) c kept (old.each r c (ap (λ its. numbered its r) (sym same) ∙ e));
 }
@@ -66,30 +62,28 @@ named_by classes numbers code class q (Some x) named each e some = elim (insert_
 ]
 
 -- and one class more, which has a number
-pub listed_class : (classes : FinMap code_cmp Class) (code : List ℕ) (it : Class) (xs : List Aggregation) (records : List Record) (numbers : NumberMap) (first next previous class : List ℕ) → IsSome (get numbers code)
-    → AreListed classes xs records numbers first next previous class → AreListed (insert classes code it) xs records numbers first next previous class
-listed_class classes code it xs records numbers first next previous class named old = record {
+pub listed_class : (classes : FinMap code_cmp Class) (code : List ℕ) (it : Class) (xs : List Aggregation) (records : List Record) (numbers : NumberMap) (lists : ℕ) (class : List ℕ) → IsSome (get numbers code)
+    → AreListed classes xs records numbers lists class → AreListed (insert classes code it) xs records numbers lists class
+listed_class classes code it xs records numbers lists class named old = record {
   numbers_agree = record {
     each = λ q some. named_by classes numbers code it q (get (insert classes code it) q) named old.numbers_agree.each refl some;
     within = old.numbers_agree.within;
   };
-  class_lists = old.class_lists;
   count = old.count;
   each = old.each;
 }
 
 -- what is reported of the records that are on lists
-head_of : (classes : FinMap code_cmp Class) (xs : List Aggregation) (records : List Record) (numbers : NumberMap) (first next previous class : List ℕ) (r c : ℕ) → AreListed classes xs records numbers first next previous class → numbered class r ≡ Some c → (head : Record) × (numbered records r ≡ Some head)
-head_of classes xs records numbers first next previous class r c old e = across class records r c old.count e
+head_of : (classes : FinMap code_cmp Class) (xs : List Aggregation) (records : List Record) (numbers : NumberMap) (lists : ℕ) (class : List ℕ) (r c : ℕ) → AreListed classes xs records numbers lists class → numbered class r ≡ Some c → (head : Record) × (numbered records r ≡ Some head)
+head_of classes xs records numbers lists class r c old e = across class records r c old.count e
 
 -- aggregations that leave the classes of all records
-pub listed_aggregations : (classes : FinMap code_cmp Class) (xs others : List Aggregation) (records : List Record) (numbers : NumberMap) (first next previous class : List ℕ) → ((r : ℕ) (head : Record) → numbered records r ≡ Some head → class_in others records r ≡ class_in xs records r)
-    → AreListed classes xs records numbers first next previous class → AreListed classes others records numbers first next previous class
-listed_aggregations classes xs others records numbers first next previous class left old = record {
+pub listed_aggregations : (classes : FinMap code_cmp Class) (xs others : List Aggregation) (records : List Record) (numbers : NumberMap) (lists : ℕ) (class : List ℕ) → ((r : ℕ) (head : Record) → numbered records r ≡ Some head → class_in others records r ≡ class_in xs records r)
+    → AreListed classes xs records numbers lists class → AreListed classes others records numbers lists class
+listed_aggregations classes xs others records numbers lists class left old = record {
   numbers_agree = old.numbers_agree;
-  class_lists = old.class_lists;
   count = old.count;
-  each = λ r c e. let head = head_of classes xs records numbers first next previous class r c old e in ap (option_and_then (get numbers)) (left r head.0 head.1) ∙ old.each r c e;
+  each = λ r c e. let head = head_of classes xs records numbers lists class r c old e in ap (option_and_then (get numbers)) (left r head.0 head.1) ∙ old.each r c e;
 }
 
 reached : (tree : TreeState) (a : ℕ) (old new : Aggregation) (reclassifies : Bool) → IsSound tree → numbered tree.aggregations a ≡ Some old → AggregationStays old new → LeavesClass reclassifies old new → (r : ℕ) (head : Record) → numbered tree.records r ≡ Some head
@@ -99,14 +93,13 @@ reached tree a old new true sound there stays leaves r head here apart =
 reached tree a old new false sound there stays leaves r head here apart = class_put tree a new old r head sound here there stays.parent (leaves refl)
 
 -- an aggregation that was edited, with those that it reaches on the lists of their classes
-pub listed_reached : (classes : FinMap code_cmp Class) (tree : TreeState) (a : ℕ) (old new : Aggregation) (reclassifies : Bool) (numbers : NumberMap) (first next previous class firsts nexts previouses now : List ℕ)
+pub listed_reached : (classes : FinMap code_cmp Class) (tree : TreeState) (a : ℕ) (old new : Aggregation) (reclassifies : Bool) (numbers : NumberMap) (lists more_lists : ℕ) (class now : List ℕ)
     → IsSound tree → numbered tree.aggregations a ≡ Some old → AggregationStays old new → LeavesClass reclassifies old new
-    → AreListed classes tree.aggregations tree.records numbers first next previous class → length firsts ≡ length first → AreClassLists firsts nexts previouses now → length now ≡ length class
+    → AreListed classes tree.aggregations tree.records numbers lists class → more_lists ≡ lists → length now ≡ length class
     → AreDone (IsOfClass numbers (put tree.aggregations a new) tree.records) tree.records (λ head. reclassifies && is_heir (put tree.aggregations a new) a head) class now
-    → AreListed classes (put tree.aggregations a new) tree.records numbers firsts nexts previouses now
-listed_reached classes tree a old new reclassifies numbers first next previous class firsts nexts previouses now sound there stays leaves kept lists class_lists many done = record {
-  numbers_agree = subst (λ (n : ℕ). HaveNumbers classes numbers n) (sym lists) kept.numbers_agree;
-  class_lists = class_lists;
+    → AreListed classes (put tree.aggregations a new) tree.records numbers more_lists now
+listed_reached classes tree a old new reclassifies numbers lists more_lists class now sound there stays leaves kept same_lists many done = record {
+  numbers_agree = subst (λ (n : ℕ). HaveNumbers classes numbers n) (sym same_lists) kept.numbers_agree;
   count = many ∙ kept.count;
   each = λ r c e.
       let head = across now tree.records r c (many ∙ kept.count) e in
@@ -117,13 +110,12 @@ listed_reached classes tree a old new reclassifies numbers first next previous c
 }
 
 -- a record that was edited or added, on the list of its class
-pub listed_record : (classes : FinMap code_cmp Class) (xs : List Aggregation) (records more : List Record) (numbers : NumberMap) (first next previous class firsts nexts previouses now : List ℕ) (r : ℕ)
-    → AreListed classes xs records numbers first next previous class → length firsts ≡ length first → AreClassLists firsts nexts previouses now → length now ≡ length more
+pub listed_record : (classes : FinMap code_cmp Class) (xs : List Aggregation) (records more : List Record) (numbers : NumberMap) (lists more_lists : ℕ) (class now : List ℕ) (r : ℕ)
+    → AreListed classes xs records numbers lists class → more_lists ≡ lists → length now ≡ length more
     → ((q : ℕ) → q ≢ r → numbered more q ≡ numbered records q) → ((c : ℕ) → numbered now r ≡ Some c → IsOfClass numbers xs more r c) → ((q c : ℕ) → q ≢ r → numbered now q ≡ Some c → numbered class q ≡ Some c)
-    → AreListed classes xs more numbers firsts nexts previouses now
-listed_record classes xs records more numbers first next previous class firsts nexts previouses now r old lists class_lists many same here others = record {
-  numbers_agree = subst (λ (n : ℕ). HaveNumbers classes numbers n) (sym lists) old.numbers_agree;
-  class_lists = class_lists;
+    → AreListed classes xs more numbers more_lists now
+listed_record classes xs records more numbers lists more_lists class now r old same_lists many same here others = record {
+  numbers_agree = subst (λ (n : ℕ). HaveNumbers classes numbers n) (sym same_lists) old.numbers_agree;
   count = many;
   each = λ q c e. elim (same_or_not q r) [
     | inl is ↦ subst (λ (n : ℕ). IsOfClass numbers xs more n c) (sym is) (here c (ap (numbered now) (sym is) ∙ e))

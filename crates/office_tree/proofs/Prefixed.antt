@@ -1,11 +1,12 @@
 -- The lists of records by class stay right as a record that is on none is put at the head of one.
 use Rattle.std.proofs.Common.{◌≡◌, ◌≢◌, ℕ, ◌+◌, ◌<◌, ◌≤◌, List, length, cond, ◌==◌, Bool, true, false, Some, refl, sym, ap, ◌∙◌, ◌⊎◌, inl, inr, arith}
 use Rattle.office_terms.specs.Lists.{numbered, put}
-use Rattle.office_tree.specs.ClassLists.{AreClassLists}
+use Rattle.office_tree.specs.ClassLists.{AreClassLists, rest}
 use Rattle.office_terms.proofs.Places.{numbered_within}
 use Rattle.office_tree.proofs.Puts.{is_other, is_same, numbered_low, one_of, put_cases, put_here, put_kept}
 use Rattle.office_terms.proofs.Putting.{length-put}
-use Rattle.office_tree.proofs.Relinked.{first_within}
+use Rattle.office_tree.proofs.Ranks.{falls_by}
+use Rattle.office_tree.proofs.Relinked.{first_within, next_within}
 
 -- the ranks with this one in place of the record's
 abbrev ranked : (ℕ → ℕ) → ℕ → ℕ → ℕ → ℕ
@@ -153,25 +154,37 @@ module _ (first next previous class : List ℕ) (right : AreClassLists first nex
       (next_kept x apart ∙ was.0, class_kept x apart ∙ (was.1 ∙ sym (class_kept m other)))
 
   -- the first is above the one that was the first
+  abbrev was_rank : ℕ → ℕ
+  was_rank m = length (rest next m)
+
   abbrev rank : ℕ → ℕ
-  rank = ranked right.rank r (right.rank f + 1)
+  rank = ranked was_rank r (was_rank f + 1)
 
-  rank_here : (m : ℕ) → m ≡ r → rank m ≡ right.rank f + 1
-  rank_here m same = here_by m r (right.rank f + 1) (right.rank m) (m == r) refl same
+  rank_here : (m : ℕ) → m ≡ r → rank m ≡ was_rank f + 1
+  rank_here m same = here_by m r (was_rank f + 1) (was_rank m) (m == r) refl same
 
-  rank_other : (m : ℕ) → m ≢ r → rank m ≡ right.rank m
-  rank_other m other = other_by m r (right.rank f + 1) (right.rank m) (m == r) refl other
+  rank_other : (m : ℕ) → m ≢ r → rank m ≡ was_rank m
+  rank_other m other = other_by m r (was_rank f + 1) (was_rank m) (m == r) refl other
 
-  falls_by : (m x : ℕ) → 0 < x → ((m ≡ r) × (x ≡ f)) ⊎ ((m ≢ r) × (numbered next m ≡ Some x)) → rank x < rank m
-  falls_by m x some (inl at) =
-      let lower : rank x ≡ right.rank f = rank_other x (λ e. not_f (sym e ∙ at.1)) ∙ ap right.rank at.1 in
-      let higher : rank m ≡ right.rank f + 1 = rank_here m at.0 in
+  rank_falls : (m x : ℕ) → 0 < x → ((m ≡ r) × (x ≡ f)) ⊎ ((m ≢ r) × (numbered next m ≡ Some x)) → rank x < rank m
+  rank_falls m x some (inl at) =
+      let lower : rank x ≡ was_rank f = rank_other x (λ e. not_f (sym e ∙ at.1)) ∙ ap was_rank at.1 in
+      let higher : rank m ≡ was_rank f + 1 = rank_here m at.0 in
       omega (arith, lower, higher)
-  falls_by m x some (inr at) =
+  rank_falls m x some (inr at) =
       let was = right.falls m x at.1 some in
-      let lower : rank x ≡ right.rank x = rank_other x (next_other m x at.1 some) in
-      let higher : rank m ≡ right.rank m = rank_other m at.0 in
+      let lower : rank x ≡ was_rank x = rank_other x (next_other m x at.1 some) in
+      let higher : rank m ≡ was_rank m = rank_other m at.0 in
       omega (arith, was, lower, higher)
+
+  -- what follows is there
+  next_inside : (m x : ℕ) → numbered nexts m ≡ Some x → x ≤ length nexts
+  next_inside m x e =
+      let longer = length-put next r f r_next in
+      elim (put_cases next r f m x r_next e) [
+        | inl at ↦ omega (arith, at.1, f_previous, longer, right.next_count, right.previous_count)
+        | inr at ↦ let high = next_within first next previous class right m x at.1 in omega (arith, high, longer, right.next_count, right.previous_count)
+      ]
 
   pub class_lists_on : AreClassLists firsts nexts previouses classes
   class_lists_on =
@@ -185,6 +198,5 @@ module _ (first next previous class : List ℕ) (right : AreClassLists first nex
         heads = heads;
         nexts = λ m x e some. nexts_by m x some (put_cases next r f m x r_next e);
         previouses = λ m x e some. previouses_by m x (numbered_low previouses m x e) some (put_cases previous f r m x f_previous e);
-        rank = rank;
-        falls = λ m x e some. falls_by m x some (put_cases next r f m x r_next e);
+        falls = falls_by nexts rank next_inside (λ m x e some. rank_falls m x some (put_cases next r f m x r_next e));
       }

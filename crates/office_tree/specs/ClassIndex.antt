@@ -3,7 +3,6 @@ use Rattle.std.specs.Prelude.{◌≡◌, ◌<◌, ◌≤◌, ℕ, List, length, 
 use Rattle.std.specs.FinMap.{FinMap, get}
 use Rattle.std.specs.Option.{option_and_then}
 use Rattle.office_terms.specs.Lists.{numbered}
-use Rattle.office_tree.specs.ClassLists.{AreClassLists}
 use Rattle.office_terms.specs.Tree.{code_cmp, class_in}
 use Rattle.office_terms.specs.declared.aggregation.Aggregation.{Aggregation}
 use Rattle.office_terms.specs.declared.class.Class.{Class}
@@ -12,6 +11,10 @@ use Rattle.office_terms.specs.declared.head.Record.{Record}
 -- the number under each class's code
 abbrev pub NumberMap : Type 0
 NumberMap = FinMap code_cmp ℕ
+
+-- each class keeps its number
+abbrev pub StayNamed : NumberMap → NumberMap → Type 0
+StayNamed old new = (code : List ℕ) (n : ℕ) → get old code ≡ Some n → get new code ≡ Some n
 
 -- the number is that of the record's class
 abbrev pub IsOfClass : NumberMap → List Aggregation → List Record → ℕ → ℕ → Type 0
@@ -23,10 +26,9 @@ pub record HaveNumbers (classes : FinMap code_cmp Class) (numbers : NumberMap) (
   pub each : (code : List ℕ) → IsSome (get classes code) → IsSome (get numbers code)
   pub within : (code : List ℕ) (n : ℕ) → get numbers code ≡ Some n → (0 < n) × (n ≤ count)
 
--- the classes have numbers and lists, and each record is on the list of its class
+-- the classes have numbers, so many have lists, and each record is on the list of its class
 pub record AreListed (classes : FinMap code_cmp Class) (aggregations : List Aggregation) (records : List Record)
-    (numbers : NumberMap) (first next previous class : List ℕ) : Type 0 where
-  pub numbers_agree : HaveNumbers classes numbers (length first)
-  pub class_lists : AreClassLists first next previous class
+    (numbers : NumberMap) (lists : ℕ) (class : List ℕ) : Type 0 where
+  pub numbers_agree : HaveNumbers classes numbers lists
   pub count : length class ≡ length records
   pub each : (r c : ℕ) → numbered class r ≡ Some c → IsOfClass numbers aggregations records r c

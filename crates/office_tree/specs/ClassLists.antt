@@ -1,7 +1,23 @@
 -- The records of each class, doubly linked, so that one is moved without the others and those of a class are gone
 -- through alone. Source: own.
-use Rattle.std.specs.Prelude.{◌≡◌, ◌<◌, ◌≤◌, ℕ, List, length, Some}
+use Rattle.std.specs.Prelude.{◌≡◌, ◌<◌, ◌≤◌, ℕ, zero, suc, List, [], ◌∷◌, length, Some, unwrap_or}
+use Rattle.std.specs.Global.{Vec}
 use Rattle.office_terms.specs.Lists.{numbered}
+use Rattle.office_tree.specs.Rooms.{HasRoom}
+
+-- the next of a record; 0 for none
+abbrev pub next_of : List ℕ → ℕ → ℕ
+next_of next r = unwrap_or (numbered next r) 0
+
+-- at most so many of the records from one on
+abbrev pub listed : List ℕ → ℕ → ℕ → List ℕ
+listed next zero at = []
+listed next (suc most) zero = []
+listed next (suc most) (suc n) = suc n ∷ listed next most (next_of next (suc n))
+
+-- the records from one on along its list
+abbrev pub rest : List ℕ → ℕ → List ℕ
+rest next at = listed next (suc (length next)) at
 
 -- for each class the first record on its list, for each record the next and the previous on its list, and the class of
 -- that list; 0 for none
@@ -20,6 +36,9 @@ pub record AreClassLists (first next previous class : List ℕ) : Type 0 where
       → (numbered previous q ≡ Some r) × (numbered class q ≡ numbered class r)
   pub previouses : (r p : ℕ) → numbered previous r ≡ Some p → 0 < p
       → (numbered next p ≡ Some r) × (numbered class p ≡ numbered class r)
-  -- and no list runs in a circle
-  pub rank : ℕ → ℕ
-  pub falls : (r q : ℕ) → numbered next r ≡ Some q → 0 < q → rank q < rank r
+  -- and no list runs in a circle: from the next on there are fewer
+  pub falls : (r q : ℕ) → numbered next r ≡ Some q → 0 < q → length (rest next q) < length (rest next r)
+
+-- there is room for one record more
+abbrev pub HaveRoom : Vec ℕ → Vec ℕ → Vec ℕ → Type 0
+HaveRoom next previous class = HasRoom next × HasRoom previous × HasRoom class

@@ -1,18 +1,16 @@
 //! The index of records by class: a number for each class, and the list under it.
-ghost use Rattle.std.specs.Prelude.{◌≡◌, ◌≢◌, ◌≤◌, ℕ, List, [], IfOk, IsSome, IsTrue, OnOk, Some, length};
+ghost use Rattle.std.specs.Prelude.{◌≡◌, ◌≤◌, [], IfOk, IsSome, IsTrue, OnOk, Some, length};
 ghost use Rattle.std.specs.FinMap.{FinMap, empty, from_entries, get};
-ghost use Rattle.office_tree.specs.ClassIndex.{AreListed, HaveNumbers, IsOfClass};
-ghost use Rattle.office_tree.specs.ChildLists.{HasLinks};
-ghost use Rattle.office_terms.specs.Lists.{numbered};
-ghost use Rattle.office_tree.specs.ClassLists.{AreClassLists};
+ghost use Rattle.office_tree.specs.ClassIndex.{AreListed, HaveNumbers, IsOfClass, StayNamed};
+ghost use Rattle.office_tree.specs.Derived.{AreRenewed, CanRefresh, HasPlaces, IsPutRight, KeepsNumbers};
 ghost use Rattle.office_terms.specs.Sound.{IsSound};
-ghost use Rattle.office_tree.specs.Stored.{AreDone, is_in};
+ghost use Rattle.office_tree.specs.Stored.{is_in};
 ghost use Rattle.office_terms.specs.Tree.{code_cmp, has_aggregation, has_record};
 ghost use Rattle.office_terms.specs.declared.class.Class.{Class};
 
-use crate::child_lists::ChildLists;
 use crate::class_lists::{ClassLists, ClassNo};
 use crate::classifying::class_in;
+use crate::directory::Directory;
 use crate::rows::Rows;
 use office_base::Memory;
 use office_terms::{AggNo, Class, Code, RecordNo};
@@ -33,9 +31,6 @@ impl ClassIndex {
         ensures numbers { from_entries {R = code_cmp} result.numbers.entries ≡ empty }
         ensures first { result.class_lists.first.items ≡ [] }
         ensures class { result.class_lists.class.items ≡ [] }
-        ensures class_lists { AreClassLists result.class_lists.first.items
-            result.class_lists.next.items result.class_lists.previous.items
-            result.class_lists.class.items }
     {
         ClassIndex {
             numbers: BTreeMap::new(alloc),
@@ -57,18 +52,11 @@ impl ClassIndex {
 
     /// Gives a class the next number and a list without records, if it has none.
     pub(crate) fn add_class(&mut self, alloc: Global, code: &Code) -> Result<(), Memory>
-        requires class_lists { AreClassLists self.old.class_lists.first.items
-            self.old.class_lists.next.items self.old.class_lists.previous.items
-            self.old.class_lists.class.items }
-        ensures class_lists { AreClassLists self.new.class_lists.first.items
-            self.new.class_lists.next.items self.new.class_lists.previous.items
-            self.new.class_lists.class.items }
         ensures class { self.new.class_lists.class.items ≡ self.old.class_lists.class.items }
         ensures named { OnOk result
             (IsSome (get (from_entries {R = code_cmp} self.new.numbers.entries) code.now)) }
-        ensures kept { (q : List ℕ) (n : ℕ)
-            → get (from_entries {R = code_cmp} self.old.numbers.entries) q ≡ Some n
-            → get (from_entries {R = code_cmp} self.new.numbers.entries) q ≡ Some n }
+        ensures kept { StayNamed (from_entries self.old.numbers.entries)
+            (from_entries self.new.numbers.entries) }
         ensures numbers { (classes : FinMap code_cmp Class)
             → HaveNumbers classes (from_entries self.old.numbers.entries)
             (length self.old.class_lists.first.items)
@@ -91,24 +79,12 @@ impl ClassIndex {
         requires there { IsTrue (has_record rows.now record_no) }
         requires numbers { HaveNumbers rows.now.classes (from_entries self.old.numbers.entries)
             (length self.old.class_lists.first.items) }
-        requires class_lists { AreClassLists self.old.class_lists.first.items
-            self.old.class_lists.next.items self.old.class_lists.previous.items
-            self.old.class_lists.class.items }
         requires on_list { record_no ≤ length self.old.class_lists.class.items }
-        ensures same { self.new.numbers ≡ self.old.numbers }
-        ensures first { length self.new.class_lists.first.items
-            ≡ length self.old.class_lists.first.items }
-        ensures class_lists { AreClassLists self.new.class_lists.first.items
-            self.new.class_lists.next.items self.new.class_lists.previous.items
+        ensures keeps { KeepsNumbers self.old self.new }
+        ensures listed { IsPutRight
+            (IsOfClass (from_entries self.old.numbers.entries) rows.now.aggregations
+            rows.now.records record_no) record_no self.old.class_lists.class.items
             self.new.class_lists.class.items }
-        ensures count { length self.new.class_lists.class.items
-            ≡ length self.old.class_lists.class.items }
-        ensures here { (c : ℕ) → numbered self.new.class_lists.class.items record_no ≡ Some c
-            → IsOfClass (from_entries self.old.numbers.entries) rows.now.aggregations
-            rows.now.records record_no c }
-        ensures others { (r : ℕ) → r ≢ record_no
-            → numbered self.new.class_lists.class.items r
-            ≡ numbered self.old.class_lists.class.items r }
     {
         let class = class_in(rows.aggregations, rows.records, record_no);
         let number = self.number_of(class);
@@ -119,36 +95,22 @@ impl ClassIndex {
     pub(crate) fn reindex_container(
         &mut self,
         rows: &Rows<'_>,
-        records_in: &ChildLists,
+        directory: &Directory,
         container: AggNo,
     )
-        requires sound { IsSound rows.now }
-        requires linked { HasLinks rows.now records_in.now.last.items
-            records_in.now.before.items }
+        requires ready { CanRefresh rows.now directory.now }
         requires there { IsTrue (has_aggregation rows.now container) }
-        requires numbers { HaveNumbers rows.now.classes (from_entries self.old.numbers.entries)
-            (length self.old.class_lists.first.items) }
-        requires class_lists { AreClassLists self.old.class_lists.first.items
-            self.old.class_lists.next.items self.old.class_lists.previous.items
-            self.old.class_lists.class.items }
-        requires count { length self.old.class_lists.class.items ≡ length rows.now.records }
-        ensures same { self.new.numbers ≡ self.old.numbers }
-        ensures first { length self.new.class_lists.first.items
-            ≡ length self.old.class_lists.first.items }
-        ensures class_lists { AreClassLists self.new.class_lists.first.items
-            self.new.class_lists.next.items self.new.class_lists.previous.items
-            self.new.class_lists.class.items }
-        ensures count { length self.new.class_lists.class.items
-            ≡ length self.old.class_lists.class.items }
-        ensures listed { AreDone
+        requires places { HasPlaces rows.now self.old }
+        ensures keeps { KeepsNumbers self.old self.new }
+        ensures listed { AreRenewed
             (IsOfClass (from_entries self.old.numbers.entries) rows.now.aggregations
             rows.now.records) rows.now.records (is_in container)
             self.old.class_lists.class.items self.new.class_lists.class.items }
     {
-        let mut at = records_in.last(container);
+        let mut at = directory.records_in.last(container);
         while at != 0 {
             self.reindex(rows, at);
-            at = records_in.before(at);
+            at = directory.records_in.before(at);
         }
     }
 }
@@ -158,9 +120,6 @@ fn numbered_classes(alloc: Global, classes: &BTreeMap<Code, Class>) -> Result<Cl
     ensures numbers { IfOk result
         (λ it. HaveNumbers (from_entries classes.now.entries) (from_entries it.numbers.entries)
         (length it.class_lists.first.items)) }
-    ensures class_lists { IfOk result
-        (λ it. AreClassLists it.class_lists.first.items it.class_lists.next.items
-        it.class_lists.previous.items it.class_lists.class.items) }
     ensures class { IfOk result (λ it. it.class_lists.class.items ≡ []) }
 {
     let mut class_index = ClassIndex::new(alloc);
@@ -175,8 +134,8 @@ pub(crate) fn class_index_of(alloc: Global, rows: &Rows<'_>) -> Result<ClassInde
     requires { IsSound rows.now }
     ensures { IfOk result
         (λ it. AreListed rows.now.classes rows.now.aggregations rows.now.records
-        (from_entries it.numbers.entries) it.class_lists.first.items it.class_lists.next.items
-        it.class_lists.previous.items it.class_lists.class.items) }
+        (from_entries it.numbers.entries) (length it.class_lists.first.items)
+        it.class_lists.class.items) }
 {
     let mut class_index = numbered_classes(alloc, rows.classes)?;
     for i in 0..rows.records.len() {

@@ -1,7 +1,8 @@
 //! The records of each class, on a list of their own.
-ghost use Rattle.std.specs.Prelude.{◌≡◌, ◌++◌, ◌∷◌, ◌+◌, ◌<◌, ◌≤◌, ◌≢◌, [], OnOk, Some, length, vec_len, vec_capacity};
+ghost use Rattle.std.specs.Prelude.{◌≡◌, ◌++◌, ◌∷◌, ◌+◌, ◌<◌, ◌≤◌, ◌≢◌, [], OnOk, Some, length};
 ghost use Rattle.office_terms.specs.Lists.{numbered, put};
-ghost use Rattle.office_tree.specs.ClassLists.{AreClassLists};
+ghost use Rattle.office_tree.specs.ClassLists.{AreClassLists, HaveRoom};
+ghost use Rattle.office_tree.specs.Rooms.{HasRoom};
 
 use crate::pushing::push_row;
 use office_base::Memory;
@@ -21,6 +22,7 @@ pub(crate) struct ClassLists {
     pub(crate) next: Vec<RecordNo>,
     pub(crate) previous: Vec<RecordNo>,
     pub(crate) class: Vec<ClassNo>,
+    ghost linked: { AreClassLists first.items next.items previous.items class.items },
 }
 
 /// Writes under a number that is there, and nothing under 0.
@@ -58,8 +60,6 @@ fn link_over(
 impl ClassLists {
     /// No classes and no records.
     pub(crate) fn new(alloc: Global) -> ClassLists
-        ensures class_lists { AreClassLists result.first.items result.next.items
-            result.previous.items result.class.items }
         ensures first { result.first.items ≡ [] }
         ensures class { result.class.items ≡ [] }
     {
@@ -110,10 +110,8 @@ impl ClassLists {
     /// Makes room for one more class.
     pub(crate) fn make_class_room(&mut self) -> Result<(), Memory>
         ensures first { self.new.first.items ≡ self.old.first.items }
-        ensures next { self.new.next.items ≡ self.old.next.items }
-        ensures previous { self.new.previous.items ≡ self.old.previous.items }
         ensures class { self.new.class.items ≡ self.old.class.items }
-        ensures room { OnOk result (vec_len self.new.first < vec_capacity self.new.first) }
+        ensures room { OnOk result (HasRoom self.new.first) }
     {
         self.first.try_reserve(1)?;
         Ok(())
@@ -122,13 +120,8 @@ impl ClassLists {
     /// Makes room for one more record.
     pub(crate) fn make_record_room(&mut self) -> Result<(), Memory>
         ensures first { self.new.first.items ≡ self.old.first.items }
-        ensures next { self.new.next.items ≡ self.old.next.items }
-        ensures previous { self.new.previous.items ≡ self.old.previous.items }
         ensures class { self.new.class.items ≡ self.old.class.items }
-        ensures next_room { OnOk result (vec_len self.new.next < vec_capacity self.new.next) }
-        ensures previous_room { OnOk result
-            (vec_len self.new.previous < vec_capacity self.new.previous) }
-        ensures class_room { OnOk result (vec_len self.new.class < vec_capacity self.new.class) }
+        ensures room { OnOk result (HaveRoom self.new.next self.new.previous self.new.class) }
     {
         self.next.try_reserve(1)?;
         self.previous.try_reserve(1)?;
@@ -138,11 +131,7 @@ impl ClassLists {
 
     /// Adds the next class, for which there is room, with no records.
     pub(crate) fn add_class(&mut self)
-        requires class_lists { AreClassLists self.old.first.items self.old.next.items
-            self.old.previous.items self.old.class.items }
-        requires room { vec_len self.old.first < vec_capacity self.old.first }
-        ensures class_lists { AreClassLists self.new.first.items self.new.next.items
-            self.new.previous.items self.new.class.items }
+        requires { HasRoom self.old.first }
         ensures classes { length self.new.first.items ≡ length self.old.first.items + 1 }
         ensures class { self.new.class.items ≡ self.old.class.items }
     {
@@ -151,12 +140,8 @@ impl ClassLists {
 
     /// Takes the record off its list, if it is on one.
     fn take_off(&mut self, record_no: RecordNo)
-        requires class_lists { AreClassLists self.old.first.items self.old.next.items
-            self.old.previous.items self.old.class.items }
         requires low { 0 < record_no }
         requires high { record_no ≤ length self.old.class.items }
-        ensures class_lists { AreClassLists self.new.first.items self.new.next.items
-            self.new.previous.items self.new.class.items }
         ensures classes { length self.new.first.items ≡ length self.old.first.items }
         ensures class { self.new.class.items ≡ put self.old.class.items record_no 0 }
     {
@@ -172,13 +157,9 @@ impl ClassLists {
 
     /// Puts the record, which is on no list, at the head of the class's list.
     fn put_on(&mut self, record_no: RecordNo, class: ClassNo)
-        requires class_lists { AreClassLists self.old.first.items self.old.next.items
-            self.old.previous.items self.old.class.items }
         requires off { numbered self.old.class.items record_no ≡ Some 0 }
         requires low { 0 < class }
         requires high { class ≤ length self.old.first.items }
-        ensures class_lists { AreClassLists self.new.first.items self.new.next.items
-            self.new.previous.items self.new.class.items }
         ensures classes { length self.new.first.items ≡ length self.old.first.items }
         ensures class { self.new.class.items ≡ put self.old.class.items record_no class }
     {
@@ -192,13 +173,9 @@ impl ClassLists {
     /// The record is on the list of that class now, or on none where the class is 0. Nothing is
     /// written where it is there already.
     pub(crate) fn put(&mut self, record_no: RecordNo, class: ClassNo)
-        requires class_lists { AreClassLists self.old.first.items self.old.next.items
-            self.old.previous.items self.old.class.items }
         requires low { 0 < record_no }
         requires high { record_no ≤ length self.old.class.items }
         requires there { class ≤ length self.old.first.items }
-        ensures class_lists { AreClassLists self.new.first.items self.new.next.items
-            self.new.previous.items self.new.class.items }
         ensures classes { length self.new.first.items ≡ length self.old.first.items }
         ensures class { self.new.class.items ≡ put self.old.class.items record_no class }
         ensures same { numbered self.old.class.items record_no ≡ Some class → self.new ≡ self.old }
@@ -214,13 +191,7 @@ impl ClassLists {
 
     /// Adds the next record, for which there is room, on no list.
     pub(crate) fn add(&mut self)
-        requires class_lists { AreClassLists self.old.first.items self.old.next.items
-            self.old.previous.items self.old.class.items }
-        requires next_room { vec_len self.old.next < vec_capacity self.old.next }
-        requires previous_room { vec_len self.old.previous < vec_capacity self.old.previous }
-        requires class_room { vec_len self.old.class < vec_capacity self.old.class }
-        ensures class_lists { AreClassLists self.new.first.items self.new.next.items
-            self.new.previous.items self.new.class.items }
+        requires { HaveRoom self.old.next self.old.previous self.old.class }
         ensures classes { length self.new.first.items ≡ length self.old.first.items }
         ensures class { self.new.class.items ≡ self.old.class.items ++ 0 ∷ [] }
     {

@@ -201,10 +201,13 @@ impl Tree {
         ensures yes { IsTrue result → RefsDiffer self.now.aggregations self.now.records }
         ensures no { result ≡ false → RefsDiffer self.now.aggregations self.now.records → ⊥ }
     {
-        if !do_aggregation_refs_differ(&self.by_aggregation_ref, &self.aggregations) {
+        if !do_aggregation_refs_differ(
+            &self.derived.directory.by_aggregation_ref,
+            &self.aggregations,
+        ) {
             return false;
         }
-        do_record_refs_differ(&self.by_record_ref, &self.records)
+        do_record_refs_differ(&self.derived.directory.by_record_ref, &self.records)
     }
 
     /// Makes known to proofs that all that is in the tree is of its form: a call changes nothing.

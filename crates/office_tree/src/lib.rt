@@ -9,6 +9,13 @@
 //! [`Memory`] and leaves the tree as it was. Readings take no memory. Rows that were stored come
 //! back by `put_..`, which asks that the tree stays sound, and that what never changes in a row
 //! stays.
+//!
+//! The office goes by `check_..` and `put_..`: it stores the rows that an act writes, and puts the
+//! same rows in. `apply_..` is for callers that store nothing, as a plan. Both make one private
+//! change: a push of a new row, or an edit of one that is there.
+//!
+//! A tree is its rows and what is derived from them (`Derived`): a directory of the rows, and
+//! what is cached of each record.
 #![tactic(auto)]
 
 mod applying;
@@ -22,12 +29,15 @@ mod class_index;
 mod class_lists;
 mod classifying;
 mod confirming;
+mod derived;
+mod directory;
 mod editing;
 mod examining;
 mod finding;
 mod groups;
 mod indexing;
 mod loading;
+mod per_record;
 mod placing;
 mod pushing;
 mod record_cache;

@@ -7,25 +7,14 @@ ghost use Rattle.std.specs.Option.{unwrap_or};
 ghost use Rattle.office_terms.specs.Loading.{is_aggregation_named, is_placed, is_record_named, is_there, is_within_limits, tree_of};
 ghost use Rattle.office_terms.specs.Lists.{numbered};
 ghost use Rattle.office_terms.specs.Sound.{IsSound, NamesExist, RootsHaveClasses};
-ghost use Rattle.office_tree.specs.ClassIndex.{AreListed};
-ghost use Rattle.office_tree.specs.ChildLists.{HasChildren};
-ghost use Rattle.office_tree.specs.Stored.{IsStored};
 ghost use Rattle.office_terms.specs.Tree.{chain, chain_of, code_cmp};
 ghost use Rattle.office_terms.specs.declared.aggregation.Aggregation.{Aggregation};
 
 use crate::Tree;
-use crate::child_lists::{ChildLists, link_aggregations, link_records};
-use crate::class_index::{ClassIndex, class_index_of};
-use crate::indexing::{index_of_aggregations, index_of_records};
-use crate::record_caches::RecordCaches;
-use crate::refreshing::record_caches_of;
+use crate::derived::Derived;
 use crate::rows::Rows;
-use crate::schedule_numbers::{ScheduleNumbers, schedule_numbers_of};
-use crate::summary::{AggregationSummary, summaries_of};
 use office_base::Memory;
-use office_terms::{
-    AggNo, Aggregation, Class, Code, Event, Record, RecordNo, Schedule, Status, Text,
-};
+use office_terms::{AggNo, Aggregation, Class, Code, Event, Record, RecordNo, Schedule, Status};
 use std::alloc::Global;
 use std::collections::BTreeMap;
 
@@ -262,56 +251,6 @@ fn are_sound(
     statuses.len() == records.len()
 }
 
-/// What is derived beside the rows of a tree.
-#[derive(Drop)]
-struct Kept {
-    by_aggregation_ref: BTreeMap<Text, AggNo>,
-    by_record_ref: BTreeMap<Text, RecordNo>,
-    schedule_numbers: ScheduleNumbers,
-    record_caches: RecordCaches,
-    summaries: Vec<AggregationSummary>,
-    records_in: ChildLists,
-    aggregations_in: ChildLists,
-    class_index: ClassIndex,
-}
-
-/// What is to be derived beside the rows.
-fn kept_of(alloc: Global, rows: &Rows<'_>) -> Result<Kept, Memory>
-    requires { IsSound rows.now }
-    ensures stored { IfOk result
-        (λ kept. IsStored rows.now (from_entries kept.by_aggregation_ref.entries)
-        (from_entries kept.by_record_ref.entries) kept.schedule_numbers
-        kept.record_caches.rows.items kept.summaries.items kept.records_in.last.items
-        kept.records_in.before.items) }
-    ensures class_index { IfOk result
-        (λ kept. AreListed rows.now.classes rows.now.aggregations rows.now.records
-        (from_entries kept.class_index.numbers.entries) kept.class_index.class_lists.first.items
-        kept.class_index.class_lists.next.items kept.class_index.class_lists.previous.items
-        kept.class_index.class_lists.class.items) }
-    ensures aggregations_in { IfOk result
-        (λ kept. HasChildren rows.now.aggregations kept.aggregations_in.last.items
-        kept.aggregations_in.before.items) }
-{
-    let schedule_numbers = schedule_numbers_of(alloc, rows.schedules)?;
-    let summaries = summaries_of(alloc, rows.aggregations, rows.records, rows.statuses)?;
-    let record_caches = record_caches_of(alloc, rows, &schedule_numbers, &summaries)?;
-    let by_aggregation_ref = index_of_aggregations(alloc, rows.aggregations)?;
-    let by_record_ref = index_of_records(alloc, rows.records)?;
-    let records_in = link_records(alloc, rows.aggregations.len(), rows.records)?;
-    let aggregations_in = link_aggregations(alloc, rows.aggregations)?;
-    let class_index = class_index_of(alloc, rows)?;
-    Ok(Kept {
-        by_aggregation_ref,
-        by_record_ref,
-        schedule_numbers,
-        record_caches,
-        summaries,
-        records_in,
-        aggregations_in,
-        class_index,
-    })
-}
-
 impl Tree {
     /// The tree of these parts, with what is derived from them; `None` exactly where they do not
     /// hang together. They do where there are no more of each than the office takes, all that is
@@ -354,7 +293,7 @@ impl Tree {
             statuses: &statuses,
             events: &events,
         };
-        let kept = kept_of(alloc, &rows)?;
+        let derived = Derived::of(alloc, &rows)?;
         Ok(Some(Tree {
             schedules,
             classes,
@@ -362,14 +301,7 @@ impl Tree {
             records,
             statuses,
             events,
-            by_aggregation_ref: kept.by_aggregation_ref,
-            by_record_ref: kept.by_record_ref,
-            schedule_numbers: kept.schedule_numbers,
-            record_caches: kept.record_caches,
-            summaries: kept.summaries,
-            records_in: kept.records_in,
-            aggregations_in: kept.aggregations_in,
-            class_index: kept.class_index,
+            derived,
         }))
     }
 }

@@ -47,7 +47,7 @@ impl Tree {
         ensures err { OnErr result (self.new ≡ self.old) }
     {
         let alloc = *self.records.allocator();
-        self.schedule_numbers.add(alloc, &code)?;
+        self.derived.directory.schedule_numbers.add(alloc, &code)?;
         self.schedules.insert(code, schedule)?;
         Ok(())
     }
@@ -61,8 +61,10 @@ impl Tree {
     {
         self.events.insert(record_no, event)?;
         let rows = rows_of!(self);
-        self.record_caches
-            .refresh(&rows, &self.schedule_numbers, &self.summaries, record_no);
+        self.derived
+            .per_record
+            .record_caches
+            .refresh(&rows, &self.derived.directory, record_no);
         Ok(())
     }
 

@@ -1,51 +1,30 @@
 //! What is derived of a record, or of some, computed anew from the rows after a change.
-ghost use Rattle.std.specs.Prelude.{◌≡◌, ◌≢◌, ◌<◌, ◌≤◌, ◌&&◌, ℕ, IfOk, IsTrue, Some, length};
-ghost use Rattle.std.specs.FinMap.{from_entries};
-ghost use Rattle.office_tree.specs.ClassIndex.{HaveNumbers, IsOfClass};
-ghost use Rattle.office_tree.specs.ChildLists.{HasChildren, HasLinks};
+ghost use Rattle.std.specs.Prelude.{◌≡◌, ◌<◌, ◌≤◌, ◌&&◌, IfOk, IsTrue, length};
+ghost use Rattle.office_tree.specs.Derived.{AreClassRight, AreRenewed, CanCache, CanRefresh, HasPlaces, IsPutRight, IsRenewed};
 ghost use Rattle.office_tree.specs.Inheriting.{is_heir, is_reached};
-ghost use Rattle.office_terms.specs.Lists.{numbered};
-ghost use Rattle.office_tree.specs.ClassLists.{AreClassLists};
 ghost use Rattle.office_tree.specs.RecordCaches.{AreRecordCaches, IsRecordCache};
-ghost use Rattle.office_tree.specs.ScheduleNumbers.{AreNumbered};
-ghost use Rattle.office_terms.specs.Sound.{IsSound};
-ghost use Rattle.office_tree.specs.Stored.{AreDone, AreRefreshed, is_in};
-ghost use Rattle.office_tree.specs.Summaries.{AreLastAdditions};
+ghost use Rattle.office_tree.specs.Stored.{is_in};
 ghost use Rattle.office_terms.specs.Tree.{has_aggregation, has_record};
-ghost use Rattle.office_tree.specs.declared.record_cache.RecordCache.{RecordCache};
 
-use crate::child_lists::ChildLists;
-use crate::class_index::ClassIndex;
 use crate::class_lists::{ClassLists, ClassNo};
+use crate::directory::Directory;
+use crate::per_record::PerRecord;
 use crate::record_caches::RecordCaches;
 use crate::rows::Rows;
-use crate::schedule_numbers::ScheduleNumbers;
-use crate::summary::AggregationSummary;
 use office_base::Memory;
 use office_terms::{AggNo, RecordNo};
 use std::alloc::Global;
 
 impl RecordCaches {
     /// Computes anew what is cached of one record.
-    pub(crate) fn refresh(
-        &mut self,
-        rows: &Rows<'_>,
-        schedule_numbers: &ScheduleNumbers,
-        summaries: &[AggregationSummary],
-        record_no: RecordNo,
-    )
-        requires sound { IsSound rows.now }
+    pub(crate) fn refresh(&mut self, rows: &Rows<'_>, directory: &Directory, record_no: RecordNo)
+        requires ready { CanCache rows.now directory.now }
         requires there { IsTrue (has_record rows.now record_no) }
-        requires schedules { AreNumbered rows.now.schedules schedule_numbers.now }
-        requires last { AreLastAdditions summaries.now rows.now.aggregations rows.now.records }
         requires many { length self.old.rows.items ≡ length rows.now.records }
-        ensures count { length self.new.rows.items ≡ length self.old.rows.items }
-        ensures here { (it : RecordCache) → numbered self.new.rows.items record_no ≡ Some it
-            → IsRecordCache schedule_numbers.now rows.now record_no it }
-        ensures others { (r : ℕ) → r ≢ record_no
-            → numbered self.new.rows.items r ≡ numbered self.old.rows.items r }
+        ensures { IsPutRight (IsRecordCache directory.now.schedule_numbers rows.now record_no)
+            record_no self.old.rows.items self.new.rows.items }
     {
-        let record_cache = rows.record_cache(schedule_numbers, summaries, record_no);
+        let record_cache = rows.record_cache(directory, record_no);
         self.put(record_no, record_cache);
     }
 
@@ -53,30 +32,20 @@ impl RecordCaches {
     pub(crate) fn refresh_class(
         &mut self,
         rows: &Rows<'_>,
-        schedule_numbers: &ScheduleNumbers,
-        summaries: &[AggregationSummary],
+        directory: &Directory,
         class_lists: &ClassLists,
         class: ClassNo,
     )
-        requires sound { IsSound rows.now }
-        requires schedules { AreNumbered rows.now.schedules schedule_numbers.now }
-        requires last { AreLastAdditions summaries.now rows.now.aggregations rows.now.records }
+        requires ready { CanCache rows.now directory.now }
         requires many { length self.old.rows.items ≡ length rows.now.records }
-        requires class_lists { AreClassLists class_lists.now.first.items class_lists.now.next.items
-            class_lists.now.previous.items class_lists.now.class.items }
         requires all { length class_lists.now.class.items ≡ length rows.now.records }
-        requires low { 0 < class }
-        requires high { class ≤ length class_lists.now.first.items }
-        ensures count { length self.new.rows.items ≡ length self.old.rows.items }
-        ensures here { (r : ℕ) → numbered class_lists.now.class.items r ≡ Some class
-            → (it : RecordCache) → numbered self.new.rows.items r ≡ Some it
-            → IsRecordCache schedule_numbers.now rows.now r it }
-        ensures others { (r : ℕ) → numbered class_lists.now.class.items r ≢ Some class
-            → numbered self.new.rows.items r ≡ numbered self.old.rows.items r }
+        requires there { (0 < class) × (class ≤ length class_lists.now.first.items) }
+        ensures { AreClassRight (IsRecordCache directory.now.schedule_numbers rows.now)
+            class_lists.now.class.items class self.old.rows.items self.new.rows.items }
     {
         let mut at = class_lists.first(class);
         while at != 0 {
-            self.refresh(rows, schedule_numbers, summaries, at);
+            self.refresh(rows, directory, at);
             at = class_lists.next(at);
         }
     }
@@ -86,152 +55,71 @@ impl RecordCaches {
     pub(crate) fn refresh_container(
         &mut self,
         rows: &Rows<'_>,
-        schedule_numbers: &ScheduleNumbers,
-        summaries: &[AggregationSummary],
-        records_in: &ChildLists,
+        directory: &Directory,
         container: AggNo,
     )
-        requires sound { IsSound rows.now }
-        requires schedules { AreNumbered rows.now.schedules schedule_numbers.now }
-        requires last { AreLastAdditions summaries.now rows.now.aggregations rows.now.records }
-        requires many { length self.old.rows.items ≡ length rows.now.records }
-        requires linked { HasLinks rows.now records_in.now.last.items
-            records_in.now.before.items }
+        requires ready { CanRefresh rows.now directory.now }
         requires there { IsTrue (has_aggregation rows.now container) }
-        ensures count { length self.new.rows.items ≡ length self.old.rows.items }
-        ensures refreshed { AreRefreshed schedule_numbers.now rows.now (is_in container)
-            self.old.rows.items self.new.rows.items }
+        requires many { length self.old.rows.items ≡ length rows.now.records }
+        ensures { AreRenewed (IsRecordCache directory.now.schedule_numbers rows.now)
+            rows.now.records (is_in container) self.old.rows.items self.new.rows.items }
     {
-        let mut at = records_in.last(container);
+        let mut at = directory.records_in.last(container);
         while at != 0 {
-            self.refresh(rows, schedule_numbers, summaries, at);
-            at = records_in.before(at);
+            self.refresh(rows, directory, at);
+            at = directory.records_in.before(at);
         }
     }
 }
 
-/// Computes anew what is cached of the records that are in the aggregation or inherit from it, puts
-/// them on the lists of their classes, and goes through these alone: what has a class of its own is
-/// passed with all below it.
-pub(crate) fn refresh_inheriting(
-    record_caches: &mut RecordCaches,
-    class_index: &mut ClassIndex,
-    rows: &Rows<'_>,
-    schedule_numbers: &ScheduleNumbers,
-    summaries: &[AggregationSummary],
-    records_in: &ChildLists,
-    aggregations_in: &ChildLists,
-    from: AggNo,
-)
-    requires sound { IsSound rows.now }
-    requires schedules { AreNumbered rows.now.schedules schedule_numbers.now }
-    requires last { AreLastAdditions summaries.now rows.now.aggregations rows.now.records }
-    requires many { length record_caches.old.rows.items ≡ length rows.now.records }
-    requires linked { HasLinks rows.now records_in.now.last.items records_in.now.before.items }
-    requires aggregations_in { HasChildren rows.now.aggregations aggregations_in.now.last.items
-        aggregations_in.now.before.items }
-    requires there { IsTrue (has_aggregation rows.now from) }
-    requires numbers { HaveNumbers rows.now.classes (from_entries class_index.old.numbers.entries)
-        (length class_index.old.class_lists.first.items) }
-    requires class_lists { AreClassLists class_index.old.class_lists.first.items
-        class_index.old.class_lists.next.items class_index.old.class_lists.previous.items
-        class_index.old.class_lists.class.items }
-    requires classed { length class_index.old.class_lists.class.items ≡ length rows.now.records }
-    ensures count { length record_caches.new.rows.items ≡ length record_caches.old.rows.items }
-    ensures refreshed { AreRefreshed schedule_numbers.now rows.now
-        (is_heir rows.now.aggregations from) record_caches.old.rows.items
-        record_caches.new.rows.items }
-    ensures same { class_index.new.numbers ≡ class_index.old.numbers }
-    ensures first { length class_index.new.class_lists.first.items
-        ≡ length class_index.old.class_lists.first.items }
-    ensures class_lists { AreClassLists class_index.new.class_lists.first.items
-        class_index.new.class_lists.next.items class_index.new.class_lists.previous.items
-        class_index.new.class_lists.class.items }
-    ensures classed { length class_index.new.class_lists.class.items
-        ≡ length class_index.old.class_lists.class.items }
-    ensures listed { AreDone
-        (IsOfClass (from_entries class_index.old.numbers.entries) rows.now.aggregations
-        rows.now.records) rows.now.records (is_heir rows.now.aggregations from)
-        class_index.old.class_lists.class.items class_index.new.class_lists.class.items }
-{
-    record_caches.refresh_container(rows, schedule_numbers, summaries, records_in, from);
-    class_index.reindex_container(rows, records_in, from);
-    let mut child = aggregations_in.last(from);
-    while child != 0 {
-        if !rows.has_own_class(child) {
-            refresh_inheriting(
-                record_caches,
-                class_index,
-                rows,
-                schedule_numbers,
-                summaries,
-                records_in,
-                aggregations_in,
-                child,
-            );
+impl PerRecord {
+    /// Computes anew what is cached of the records that are in the aggregation or inherit from it,
+    /// puts them on the lists of their classes, and goes through these alone: what has a class of
+    /// its own is passed with all below it.
+    pub(crate) fn refresh_inheriting(&mut self, rows: &Rows<'_>, directory: &Directory, from: AggNo)
+        requires ready { CanRefresh rows.now directory.now }
+        requires there { IsTrue (has_aggregation rows.now from) }
+        requires many { length self.old.record_caches.rows.items ≡ length rows.now.records }
+        requires places { HasPlaces rows.now self.old.class_index }
+        ensures { IsRenewed rows.now directory.now.schedule_numbers
+            (is_heir rows.now.aggregations from) (is_heir rows.now.aggregations from)
+            self.old self.new }
+    {
+        self.record_caches.refresh_container(rows, directory, from);
+        self.class_index.reindex_container(rows, directory, from);
+        let mut child = directory.aggregations_in.last(from);
+        while child != 0 {
+            if !rows.has_own_class(child) {
+                self.refresh_inheriting(rows, directory, child);
+            }
+            child = directory.aggregations_in.before(child);
         }
-        child = aggregations_in.before(child);
     }
-}
 
-/// Computes anew what is cached of the records that an edited aggregation reaches: those in it,
-/// and, where its own class may be another, those that inherit from it.
-pub(crate) fn refresh_reached(
-    record_caches: &mut RecordCaches,
-    class_index: &mut ClassIndex,
-    rows: &Rows<'_>,
-    schedule_numbers: &ScheduleNumbers,
-    summaries: &[AggregationSummary],
-    records_in: &ChildLists,
-    aggregations_in: &ChildLists,
-    aggregation: AggNo,
-    reclassifies: bool,
-)
-    requires sound { IsSound rows.now }
-    requires schedules { AreNumbered rows.now.schedules schedule_numbers.now }
-    requires last { AreLastAdditions summaries.now rows.now.aggregations rows.now.records }
-    requires many { length record_caches.old.rows.items ≡ length rows.now.records }
-    requires linked { HasLinks rows.now records_in.now.last.items records_in.now.before.items }
-    requires aggregations_in { HasChildren rows.now.aggregations aggregations_in.now.last.items
-        aggregations_in.now.before.items }
-    requires there { IsTrue (has_aggregation rows.now aggregation) }
-    requires numbers { HaveNumbers rows.now.classes (from_entries class_index.old.numbers.entries)
-        (length class_index.old.class_lists.first.items) }
-    requires class_lists { AreClassLists class_index.old.class_lists.first.items
-        class_index.old.class_lists.next.items class_index.old.class_lists.previous.items
-        class_index.old.class_lists.class.items }
-    requires classed { length class_index.old.class_lists.class.items ≡ length rows.now.records }
-    ensures count { length record_caches.new.rows.items ≡ length record_caches.old.rows.items }
-    ensures refreshed { AreRefreshed schedule_numbers.now rows.now
-        (is_reached rows.now.aggregations aggregation reclassifies) record_caches.old.rows.items
-        record_caches.new.rows.items }
-    ensures same { class_index.new.numbers ≡ class_index.old.numbers }
-    ensures first { length class_index.new.class_lists.first.items
-        ≡ length class_index.old.class_lists.first.items }
-    ensures class_lists { AreClassLists class_index.new.class_lists.first.items
-        class_index.new.class_lists.next.items class_index.new.class_lists.previous.items
-        class_index.new.class_lists.class.items }
-    ensures classed { length class_index.new.class_lists.class.items
-        ≡ length class_index.old.class_lists.class.items }
-    ensures listed { AreDone
-        (IsOfClass (from_entries class_index.old.numbers.entries) rows.now.aggregations
-        rows.now.records) rows.now.records
-        (λ head. reclassifies && is_heir rows.now.aggregations aggregation head)
-        class_index.old.class_lists.class.items class_index.new.class_lists.class.items }
-{
-    if reclassifies {
-        refresh_inheriting(
-            record_caches,
-            class_index,
-            rows,
-            schedule_numbers,
-            summaries,
-            records_in,
-            aggregations_in,
-            aggregation,
-        );
-    } else {
-        record_caches.refresh_container(rows, schedule_numbers, summaries, records_in, aggregation);
+    /// Computes anew what is cached of the records that an edited aggregation reaches: those in it,
+    /// and, where its own class may be another, those that inherit from it.
+    pub(crate) fn refresh_reached(
+        &mut self,
+        rows: &Rows<'_>,
+        directory: &Directory,
+        aggregation: AggNo,
+        reclassifies: bool,
+    )
+        requires ready { CanRefresh rows.now directory.now }
+        requires there { IsTrue (has_aggregation rows.now aggregation) }
+        requires many { length self.old.record_caches.rows.items ≡ length rows.now.records }
+        requires places { HasPlaces rows.now self.old.class_index }
+        ensures { IsRenewed rows.now directory.now.schedule_numbers
+            (is_reached rows.now.aggregations aggregation reclassifies)
+            (λ head. reclassifies && is_heir rows.now.aggregations aggregation head)
+            self.old self.new }
+    {
+        if reclassifies {
+            self.refresh_inheriting(rows, directory, aggregation);
+        } else {
+            self.record_caches
+                .refresh_container(rows, directory, aggregation);
+        }
     }
 }
 
@@ -239,18 +127,15 @@ pub(crate) fn refresh_reached(
 pub(crate) fn record_caches_of(
     alloc: Global,
     rows: &Rows<'_>,
-    schedule_numbers: &ScheduleNumbers,
-    summaries: &[AggregationSummary],
+    directory: &Directory,
 ) -> Result<RecordCaches, Memory>
-    requires sound { IsSound rows.now }
-    requires schedules { AreNumbered rows.now.schedules schedule_numbers.now }
-    requires last { AreLastAdditions summaries.now rows.now.aggregations rows.now.records }
+    requires { CanCache rows.now directory.now }
     ensures { IfOk result
-        (λ record_caches. AreRecordCaches schedule_numbers.now rows.now record_caches.rows.items) }
+        (λ it. AreRecordCaches directory.now.schedule_numbers rows.now it.rows.items) }
 {
     let mut record_caches = RecordCaches::new(alloc);
     for i in 0..rows.records.len() {
-        let record_cache = rows.record_cache(schedule_numbers, summaries, i as RecordNo + 1);
+        let record_cache = rows.record_cache(directory, i as RecordNo + 1);
         record_caches.add(record_cache)?;
     }
     Ok(record_caches)

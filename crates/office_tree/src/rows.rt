@@ -1,5 +1,5 @@
 //! The rows of a tree, borrowed while what is derived from them is computed anew.
-ghost use Rattle.std.specs.Prelude.{◌≡◌, ◌&&◌, IsTrue, Some, length};
+ghost use Rattle.std.specs.Prelude.{◌≡◌, ◌&&◌, IsTrue, Some};
 ghost use Rattle.std.specs.FinMap.{get};
 ghost use Rattle.std.specs.Ordering.{int_eq};
 ghost use Rattle.office_terms.specs.Disposal.{is_disposal, same_action};
@@ -7,16 +7,14 @@ ghost use Rattle.office_tree.specs.Inheriting.{has_own_class};
 ghost use Rattle.office_terms.specs.Lists.{holds_of};
 ghost use Rattle.office_terms.specs.Candidates.{candidate_by};
 ghost use Rattle.office_tree.specs.RecordCaches.{IsRecordCache};
-ghost use Rattle.office_tree.specs.ScheduleNumbers.{AreNumbered};
+ghost use Rattle.office_tree.specs.Derived.{CanCache};
 ghost use Rattle.office_terms.specs.Sound.{IsSound};
-ghost use Rattle.office_tree.specs.Summaries.{AreLastAdditions};
 ghost use Rattle.office_terms.specs.Tree.{has_aggregation, has_record, plan_of, schedule_of};
 
 use crate::classifying::class_in;
+use crate::directory::Directory;
 use crate::record_cache::RecordCache;
-use crate::schedule_numbers::ScheduleNumbers;
 use crate::scheduling::{due_by, start_in};
-use crate::summary::AggregationSummary;
 use office_days::DueDay;
 use office_terms::{
     Action, AggNo, Aggregation, Class, Code, Confirmation, Event, Record, RecordNo, Schedule,
@@ -146,31 +144,24 @@ impl<'a> Rows<'a> {
     }
 
     /// What is to be cached of the record.
-    pub(crate) fn record_cache(
-        &self,
-        schedule_numbers: &ScheduleNumbers,
-        summaries: &[AggregationSummary],
-        record_no: RecordNo,
-    ) -> RecordCache
-        requires sound { IsSound self.now }
+    pub(crate) fn record_cache(&self, directory: &Directory, record_no: RecordNo) -> RecordCache
+        requires ready { CanCache self.now directory.now }
         requires there { IsTrue (has_record self.now record_no) }
-        requires schedules { AreNumbered self.now.schedules schedule_numbers.now }
-        requires last { AreLastAdditions summaries.now self.now.aggregations self.now.records }
-        ensures { IsRecordCache schedule_numbers.now self.now record_no result }
+        ensures { IsRecordCache directory.now.schedule_numbers self.now record_no result }
     {
         let at = record_no as usize - 1;
         let plan = self.plan_of(record_no);
         let schedule = self.schedule(record_no, plan);
         let start = start_in(
             self.aggregations,
-            summaries,
+            &directory.summaries,
             self.records,
             self.events,
             *schedule,
             record_no,
         );
         let mut record_cache = RecordCache {
-            plan: schedule_numbers.number_of(plan),
+            plan: directory.schedule_numbers.number_of(plan),
             due: due_by(*schedule, start),
             is_candidate: false,
         };

@@ -101,7 +101,7 @@ impl Tree {
         ensures due { result.due ≡ due_of self.now record_no }
         ensures candidate { result.is_candidate ≡ is_candidate self.now record_no }
     {
-        self.record_caches.rows[record_no as usize - 1]
+        self.derived.per_record.record_caches.rows[record_no as usize - 1]
     }
 
     /// The code of the record's plan: its own schedule, else the schedule of its class (MoReq2010,
@@ -110,8 +110,9 @@ impl Tree {
         requires { IsTrue (has_record self.now record_no) }
         ensures { plan_of self.now record_no ≡ Some result.now }
     {
-        self.schedule_numbers
-            .code(self.record_caches.rows[record_no as usize - 1].plan)
+        self.derived.directory.schedule_numbers.code(
+            self.derived.per_record.record_caches.rows[record_no as usize - 1].plan,
+        )
     }
 
     /// The schedule of the record's plan. The record must be there.
@@ -134,7 +135,7 @@ impl Tree {
         let schedule = self.schedule_of(record_no);
         start_in(
             &self.aggregations,
-            &self.summaries,
+            &self.derived.directory.summaries,
             &self.records,
             &self.events,
             schedule,
@@ -168,6 +169,6 @@ impl Tree {
         ensures found { IfSome result (IsNextCandidate self.now above) }
         ensures none { IfNone result (HasNoCandidateAbove self.now above) }
     {
-        self.record_caches.next_candidate(above)
+        self.derived.per_record.record_caches.next_candidate(above)
     }
 }

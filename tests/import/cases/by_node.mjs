@@ -4,6 +4,7 @@ import { pathToFileURL } from "node:url";
 
 const module = (name) => import(pathToFileURL(`${process.argv[2]}/${name}`));
 const { turned } = await module("sheet/turning.js");
+const { catalogueOf } = await module("sheet/lookups.js");
 const { outcomeOf } = await module("turned.js");
 const cases = JSON.parse(readFileSync(0, "utf8"));
-process.stdout.write(JSON.stringify(cases.map((it) => outcomeOf(turned, it))));
+process.stdout.write(JSON.stringify(cases.map((it) => outcomeOf(turned, catalogueOf, it))));

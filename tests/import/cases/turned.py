@@ -2,6 +2,7 @@
 from __future__ import annotations
 
 import base64
+import datetime
 import pathlib
 import re
 import sys
@@ -9,8 +10,12 @@ import sys
 HERE = pathlib.Path(__file__).resolve().parent
 sys.path.insert(0, str(HERE.parent.parent.parent / "tools"))
 
-from spreadsheet.columns import columns_of, known  # noqa: E402
-from spreadsheet.sheet import Unreadable, decoded, separated  # noqa: E402
+from spreadsheet.acts import ActTurner, Asked  # noqa: E402
+from spreadsheet.catalogue import catalogue_of  # noqa: E402
+from spreadsheet.columns import RECORD, Columns, columns_of  # noqa: E402
+from spreadsheet.kinds import form_of  # noqa: E402
+from spreadsheet.members import Pending, Things  # noqa: E402
+from spreadsheet.sheet import Row, Unreadable, decoded, separated  # noqa: E402
 from spreadsheet.turning import Turner  # noqa: E402
 
 ENCODINGS = {
@@ -37,18 +42,44 @@ def bytes_of(case: Case) -> bytes:
     return expanded(str(case["text"])).encode(str(case.get("as", "utf-8")))
 
 
+# what is after today is to be looked at: of all cases today is this day
+TODAY = "2026-11-28"
+
+
 def turned(case: Case) -> Case:
     """What comes of it: the rows that are good, what is wrong with the others, or why the sheet cannot be read."""
-    options: dict = dict(case.get("options", {}))  # type: ignore[call-overload]
-    header, years = options.get("header", 1), options.get("years")
+    options: dict = {"today": TODAY, **dict(case.get("options", {}))}  # type: ignore[call-overload]
+    header, kind = options.get("header", 1), options.get("kind", "add-record")
+    form = RECORD if kind == "add-record" else form_of(kind)
     try:
         text, encoding = decoded(bytes_of(case), options.get("encoding"))
-        separator, rows = separated(text, known, header, options.get("separator"))
-        columns = columns_of(rows, header, options.get("columns", {}), options.get("set", {}))
-        turner = Turner(columns, None, years, options.get("joinLines", False))
-        found = turner.all(rows[header:], options.get("days"))
+        separator, rows = separated(text, form.known, header, options.get("separator"))
+        columns = columns_of(rows, header, options.get("columns", {}), options.get("set", {}), form)
+        made = records(columns, rows[header:], options) if form is RECORD else acts(kind, columns, rows[header:], options)
     except Unreadable as why:
         return {"unreadable": why.kind}
-    return {"encoding": ENCODINGS.get(encoding, encoding), "separator": separator, "order": turner.order.name,
-            "columns": columns.places, "empty": found.empty, "rows": [[row, *values] for row, values in found.good],
+    return {"encoding": ENCODINGS.get(encoding, encoding), "separator": separator, "columns": columns.places, **made}
+
+
+def records(columns: Columns, rows: list[Row], options: dict) -> Case:
+    today = datetime.date.fromisoformat(options["today"])
+    catalogue = catalogue_of(options["catalogue"]) if "catalogue" in options else None
+    turner = Turner(columns, None, options.get("years"), options.get("joinLines", False), today, catalogue)
+    found = turner.all(rows, options.get("days"))
+    return {"order": turner.order.name, "empty": found.empty, "rows": [[row, *values] for row, values in found.good],
             "wrong": [list(it) for it in found.kinds], "looks": [list(it) for it in found.looks]}
+
+
+def acts(kind: str, columns: Columns, rows: list[Row], options: dict) -> Case:
+    """The acts without their days, which a sheet on the page does not say; a number that is still to come is its ref."""
+    today = datetime.date.fromisoformat(options["today"])
+    catalogue = catalogue_of(options["catalogue"]) if "catalogue" in options else None
+    turner = ActTurner(kind, columns, Things(catalogue),
+                       Asked(today, options.get("days"), options.get("years"), options.get("joinLines", False)))
+    turner.gather([it for it in rows if not it.is_empty()])
+    found = turner.all(rows)
+    good = [[it.number, {name: {"ref": value.ref} if isinstance(value, Pending) else value
+                         for name, value in it.act.items() if name != "day"}] for it in found.good]
+    order = turner.orders["occurred"].name if "occurred" in turner.orders else "ymd"
+    return {"order": order, "empty": found.empty, "rows": good, "wrong": [list(it) for it in found.kinds],
+            "looks": [list(it) for it in found.looks], "left": [found.refused, found.undecided]}

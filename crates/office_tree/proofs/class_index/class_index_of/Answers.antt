@@ -20,16 +20,15 @@ pub loop-i-preserved : goal.loop-i-preserved
 loop-i-preserved c =
     let at = (goal.at.loop-i-preserved c).After-add in
     let numbers = from_entries {R = code_cmp} c.loop-i.class_index.numbers.entries in
-    let same = c.reindex.ensures.same in
-    let lists : length c.loop-i.class_index.class_lists.first.items ≡ length c.reindex.new.self.class_lists.first.items = sym (c.reindex.ensures.first ∙ c.add.ensures.classes ∙ ap length c.make_record_room.ensures.first) in
+    let same = c.reindex.ensures.keeps.same in
+    let lists : length c.loop-i.class_index.class_lists.first.items ≡ length c.reindex.new.self.class_lists.first.items = sym (c.reindex.ensures.keeps.lists ∙ c.add.ensures.classes ∙ ap length c.make_record_room.ensures.first) in
     let old = c.loop-i.class_index.class_lists.class.items in
     let added = c.add.new.self.class.items in
     let IsRight : ℕ → ℕ → Type 0 = IsOfClass numbers c.args.rows.now.aggregations c.args.rows.now.records in
-    subst (λ (them : NumberMap). ListedTo c.args.rows.now.classes c.args.rows.now.aggregations c.args.rows.now.records (c.loop-i.i + 1) them c.reindex.new.self.class_lists.first.items c.reindex.new.self.class_lists.next.items c.reindex.new.self.class_lists.previous.items c.reindex.new.self.class_lists.class.items) (λ i. from_entries {R = code_cmp} (sym same i).entries) (record {
+    subst (λ (them : NumberMap). ListedTo c.args.rows.now.classes c.args.rows.now.aggregations c.args.rows.now.records (c.loop-i.i + 1) them (length c.reindex.new.self.class_lists.first.items) c.reindex.new.self.class_lists.class.items) (λ i. from_entries {R = code_cmp} (sym same i).entries) (record {
       numbers_agree = subst (λ (n : ℕ). HaveNumbers c.args.rows.now.classes numbers n) lists c.loop-i.invariant.numbers_agree;
-      class_lists = c.reindex.ensures.class_lists;
-      count = c.reindex.ensures.count ∙ many at;
+      count = c.reindex.ensures.listed.count ∙ many at;
       each = each_of IsRight added c.reindex.new.self.class_lists.class.items (c.loop-i.i + 1)
           (λ q k apart e. c.loop-i.invariant.each q k (pushed_other old added 0 (c.loop-i.i + 1) q k (more at) (ap (λ n. n + 1) (sym c.loop-i.invariant.count)) apart e))
-          c.reindex.ensures.here c.reindex.ensures.others;
+          c.reindex.ensures.listed.here c.reindex.ensures.listed.others;
     })

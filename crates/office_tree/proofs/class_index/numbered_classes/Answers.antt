@@ -19,12 +19,8 @@ pub loop-code-init : goal.loop-code-init
 loop-code-init c = record {
   named = All-nil (λ (code : Bor (List ℕ)). IsSome (get (from_entries {R = code_cmp} c.new-class_index.result.numbers.entries) code.now));
   numbers = subst (λ (numbers : NumberMap). HaveNumbers empty numbers (length c.new-class_index.result.class_lists.first.items)) (sym c.new-class_index.ensures.numbers) (subst (λ (n : ℕ). HaveNumbers empty empty n) (sym (ap length c.new-class_index.ensures.first)) numbers_none);
-  class_lists = c.new-class_index.ensures.class_lists;
   class = c.new-class_index.ensures.class;
 }
-
-pub add_class-requires : goal.add_class-requires
-add_class-requires c = record { class_lists = c.loop-code.invariant.class_lists }
 
 pub loop-code-preserved : goal.loop-code-preserved
 loop-code-preserved c =
@@ -36,7 +32,6 @@ loop-code-preserved c =
           (All-weaker (λ (code : Bor (List ℕ)). IsSome (get old code.now)) (λ (code : Bor (List ℕ)). IsSome (get new code.now)) (λ code there. stays_named old new code.now c.add_class.ensures.kept there) c.loop-code.yielded c.loop-code.invariant.named)
           c.in_ok-add_class.ensures.named;
       numbers = c.add_class.ensures.numbers empty c.loop-code.invariant.numbers;
-      class_lists = c.add_class.ensures.class_lists;
       class = c.add_class.ensures.class ∙ c.loop-code.invariant.class;
     }
 

@@ -3,7 +3,6 @@ use Rattle.std.specs.FinMap.{empty, from_entries, get}
 use Rattle.std.specs.List.{All}
 use Rattle.std.specs.Prelude.{IsSome}
 use Rattle.office_tree.specs.ClassIndex.{HaveNumbers}
-use Rattle.office_tree.specs.ClassLists.{AreClassLists}
 use Rattle.office_terms.specs.Tree.{code_cmp}
 use Rattle.office_tree.proofs.class_index.numbered_classes.Given as goal
 
@@ -12,6 +11,5 @@ abbrev pub invariant-loop-code : goal.invariant-loop-code
 invariant-loop-code l = record {
   named : All (λ code. IsSome (get (from_entries {R = code_cmp} l.class_index.numbers.entries) code.now)) l.yielded;
   numbers : HaveNumbers empty (from_entries l.class_index.numbers.entries) (length l.class_index.class_lists.first.items);
-  class_lists : AreClassLists l.class_index.class_lists.first.items l.class_index.class_lists.next.items l.class_index.class_lists.previous.items l.class_index.class_lists.class.items;
   class : l.class_index.class_lists.class.items ≡ [];
 }

@@ -20,19 +20,14 @@ number_of-number-requires c =
     let code = c.class_in-class.result.now in
     c.requires.numbers.each code (class_there tree.schedules tree.classes tree.aggregations tree.records c.args.record_no code c.requires.sound.names (classed (goal.at.number_of-number-requires c).After-class_in-class))
 
-pub returns-clause-count : goal.returns-clause-count
-returns-clause-count c =
-    let within = record_within c.args.rows.now c.args.record_no c.requires.there in
-    ap length c.put.ensures.class ∙ length-put c.args.self.now.class_lists.class.items c.args.record_no c.number_of-number.result c.requires.on_list
-
-pub returns-clause-here : goal.returns-clause-here
-returns-clause-here c = λ k e.
+pub returns-clause-listed : goal.returns-clause-listed
+returns-clause-listed c =
     let within = record_within c.args.rows.now c.args.record_no c.requires.there in
     let old = c.args.self.now.class_lists.class.items in
-    let is : Some c.number_of-number.result ≡ Some k = sym (put_here old c.args.record_no c.number_of-number.result within.0 c.requires.on_list) ∙ sym (ap (λ its. numbered its c.args.record_no) c.put.ensures.class) ∙ e in
-    ap (option_and_then (get (from_entries {R = code_cmp} c.args.self.now.numbers.entries))) (classed (goal.at.returns-clause-here c).After-class_in-class) ∙ c.number_of-number.ensures ∙ is
-
-pub returns-clause-others : goal.returns-clause-others
-returns-clause-others c = λ q other.
-    let within = record_within c.args.rows.now c.args.record_no c.requires.there in
-    ap (λ its. numbered its q) c.put.ensures.class ∙ put_kept c.args.self.now.class_lists.class.items c.args.record_no c.number_of-number.result q c.requires.on_list other
+    record {
+      count = ap length c.put.ensures.class ∙ length-put old c.args.record_no c.number_of-number.result c.requires.on_list;
+      here = λ k e.
+          let is : Some c.number_of-number.result ≡ Some k = sym (put_here old c.args.record_no c.number_of-number.result within.0 c.requires.on_list) ∙ sym (ap (λ its. numbered its c.args.record_no) c.put.ensures.class) ∙ e in
+          ap (option_and_then (get (from_entries {R = code_cmp} c.args.self.now.numbers.entries))) (classed (goal.at.returns-clause-listed c).After-class_in-class) ∙ c.number_of-number.ensures ∙ is;
+      others = λ q other. ap (λ its. numbered its q) c.put.ensures.class ∙ put_kept old c.args.record_no c.number_of-number.result q c.requires.on_list other;
+    }

@@ -1,16 +1,13 @@
-use Rattle.std.proofs.Common.{◌≡◌, length}
 use Rattle.std.specs.FinMap.{from_entries}
 use Rattle.office_tree.specs.ClassIndex.{IsOfClass}
-use Rattle.office_tree.specs.ClassLists.{AreClassLists}
+use Rattle.office_tree.specs.Derived.{KeepsNumbers}
 use Rattle.office_tree.proofs.Refreshed.{DoneAbove}
 use Rattle.office_tree.proofs.class_index.ClassIndex.reindex_container.Given as goal
 
 -- the records of that container with higher numbers are on the lists of their classes
 abbrev pub invariant-loop-at : goal.invariant-loop-at
 invariant-loop-at l = record {
-  same : l.self.numbers ≡ l.initial.self.numbers;
-  first : length l.self.class_lists.first.items ≡ length l.initial.self.class_lists.first.items;
-  class_lists : AreClassLists l.self.class_lists.first.items l.self.class_lists.next.items l.self.class_lists.previous.items l.self.class_lists.class.items;
+  keeps : KeepsNumbers l.initial.self l.self;
   done : DoneAbove (IsOfClass (from_entries l.initial.self.numbers.entries) l.rows.aggregations l.rows.records) l.rows.records l.container l.at l.initial.self.class_lists.class.items l.self.class_lists.class.items;
 }
 

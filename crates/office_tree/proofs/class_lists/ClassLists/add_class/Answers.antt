@@ -3,9 +3,11 @@ use Rattle.office_tree.proofs.Linking.{class_lists_class}
 use Rattle.office_tree.proofs.Relinked.{class_lists_same}
 use Rattle.office_tree.proofs.class_lists.ClassLists.add_class.Goals as goal
 
-pub returns-clause-class_lists : goal.returns-clause-class_lists
-returns-clause-class_lists c =
-    let s = c.args.self.now in
-    class_lists_same (s.first.items ++ 0 ∷ []) s.next.items s.previous.items s.class.items c.push_row.new.rows.items s.next.items s.previous.items s.class.items
-    c.push_row.ensures refl refl refl
-    (class_lists_class s.first.items s.next.items s.previous.items s.class.items c.requires.class_lists)
+pub invariant_of-self : goal.invariant_of-self
+invariant_of-self c = record {
+  linked =
+      let s = c.args.self.now in
+      class_lists_same (s.first.items ++ 0 ∷ []) s.next.items s.previous.items s.class.items c.push_row.new.rows.items s.next.items s.previous.items s.class.items
+      c.push_row.ensures refl refl refl
+      (class_lists_class s.first.items s.next.items s.previous.items s.class.items c.args.self.now.linked);
+}

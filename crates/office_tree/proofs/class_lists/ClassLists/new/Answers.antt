@@ -3,5 +3,5 @@ use Rattle.office_tree.proofs.Linking.{class_lists_none}
 use Rattle.office_tree.proofs.Relinked.{class_lists_same}
 use Rattle.office_tree.proofs.class_lists.ClassLists.new.Goals as goal
 
-pub returns-clause-class_lists : goal.returns-clause-class_lists
-returns-clause-class_lists c = class_lists_same [] [] [] [] c.new.result.items c.new-2.result.items c.new-3.result.items c.new-4.result.items c.new.ensures.items c.new-2.ensures.items c.new-3.ensures.items c.new-4.ensures.items class_lists_none
+pub invariant_of-result : goal.invariant_of-result
+invariant_of-result c = record { linked = class_lists_same [] [] [] [] c.new.result.items c.new-2.result.items c.new-3.result.items c.new-4.result.items c.new.ensures.items c.new-2.ensures.items c.new-3.ensures.items c.new-4.ensures.items class_lists_none }

@@ -18,6 +18,6 @@ returns c =
       count = ap length put ∙ length-set looks (r - 1) look;
       here = λ it e.
           let at = ap (λ its. numbered its r) (sym put) ∙ e in
-          subst (λ (o : RecordCache). IsRecordCache c.args.schedule_numbers.now c.args.rows.now r o) (written_here looks r look it within.0 high at) c.record_cache-record_cache.ensures;
+          subst (λ (o : RecordCache). IsRecordCache c.args.directory.now.schedule_numbers c.args.rows.now r o) (written_here looks r look it within.0 high at) c.record_cache-record_cache.ensures;
       others = λ q other. ap (λ its. numbered its q) put ∙ written_other looks r look q within.0 high other;
     }

@@ -10,7 +10,7 @@ use Rattle.office_tree.proofs.record_caches.RecordCaches.refresh_container.Goals
 use Rattle.office_tree.proofs.record_caches.RecordCaches.refresh_container.Goals.{After-before-at}
 
 pub loop-at-init : goal.loop-at-init
-loop-at-init c = done_last (IsRecordCache c.args.schedule_numbers.now c.args.rows.now) c.args.rows.now.records c.args.container c.last-at.result c.args.self.now.rows.items (c.requires.linked.lasts c.args.container c.last-at.result c.last-at.ensures)
+loop-at-init c = done_last (IsRecordCache c.args.directory.now.schedule_numbers c.args.rows.now) c.args.rows.now.records c.args.container c.last-at.result c.args.self.now.rows.items (c.requires.ready.linked.lasts c.args.container c.last-at.result c.last-at.ensures)
 
 pub refresh-requires-clause-there : goal.refresh-requires-clause-there
 refresh-requires-clause-there c =
@@ -20,19 +20,22 @@ refresh-requires-clause-there c =
 pub before-at-requires-clause-high : goal.before-at-requires-clause-high
 before-at-requires-clause-high c =
     let within = numbered_within (containers_of c.args.rows.now.records) c.loop-at.at c.args.container (c.loop-at.invariant.there (omega (arith, c.loop-at-test.true))) in
-    omega (arith, within.1, c.requires.linked.things)
+    omega (arith, within.1, c.requires.ready.linked.things)
 
 -- the one before
 next : (c : After-before-at) → IsLastBelow (containers_of c.args.rows.now.records) c.args.container c.loop-at.at c.before-at.result
-next c = c.requires.linked.befores c.loop-at.at c.args.container c.before-at.result (aggregation_within c.args.rows.now c.args.container c.requires.there).0 (c.loop-at.invariant.there (omega (arith, c.loop-at-test.true))) c.before-at.ensures
+next c = c.requires.ready.linked.befores c.loop-at.at c.args.container c.before-at.result (aggregation_within c.args.rows.now c.args.container c.requires.there).0 (c.loop-at.invariant.there (omega (arith, c.loop-at-test.true))) c.before-at.ensures
 
 pub loop-at-smaller : goal.loop-at-smaller
 loop-at-smaller c = (next (goal.at.loop-at-smaller c).After-before-at).below
 
 pub loop-at-preserved : goal.loop-at-preserved
 loop-at-preserved c =
-    done_before (IsRecordCache c.args.schedule_numbers.now c.args.rows.now) c.args.rows.now.records c.args.container c.loop-at.at c.before-at.result c.args.self.now.rows.items c.loop-at.self.rows.items c.refresh.new.self.rows.items c.loop-at.invariant c.refresh.ensures.count c.refresh.ensures.here c.refresh.ensures.others
+    done_before (IsRecordCache c.args.directory.now.schedule_numbers c.args.rows.now) c.args.rows.now.records c.args.container c.loop-at.at c.before-at.result c.args.self.now.rows.items c.loop-at.self.rows.items c.refresh.new.self.rows.items c.loop-at.invariant c.refresh.ensures.count c.refresh.ensures.here c.refresh.ensures.others
     (next (goal.at.loop-at-preserved c).After-before-at)
 
-pub returns-clause-refreshed : goal.returns-clause-refreshed
-returns-clause-refreshed c = done_container (IsRecordCache c.args.schedule_numbers.now c.args.rows.now) c.args.rows.now.records c.args.container c.loop-at.at c.args.self.now.rows.items c.loop-at.self.rows.items c.loop-at.invariant (omega (arith, c.loop-at-test.false))
+pub returns : goal.returns
+returns c = record {
+  count = c.loop-at.invariant.count;
+  done = done_container (IsRecordCache c.args.directory.now.schedule_numbers c.args.rows.now) c.args.rows.now.records c.args.container c.loop-at.at c.args.self.now.rows.items c.loop-at.self.rows.items c.loop-at.invariant (omega (arith, c.loop-at-test.false));
+}

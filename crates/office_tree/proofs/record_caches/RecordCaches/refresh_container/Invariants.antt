@@ -4,7 +4,7 @@ use Rattle.office_tree.proofs.record_caches.RecordCaches.refresh_container.Given
 
 -- the records of that container with higher numbers are computed anew
 abbrev pub invariant-loop-at : goal.invariant-loop-at
-invariant-loop-at l = DoneAbove (IsRecordCache l.schedule_numbers l.rows) l.rows.records l.container l.at l.initial.self.rows.items l.self.rows.items
+invariant-loop-at l = DoneAbove (IsRecordCache l.directory.schedule_numbers l.rows) l.rows.records l.container l.at l.initial.self.rows.items l.self.rows.items
 
 -- the record before has a lower number
 abbrev pub decreases-loop-at : goal.decreases-loop-at

@@ -19,7 +19,7 @@ aggregation_read rows tree a x same there e =
 pub chain_of-requires-clause-low : goal.chain_of-requires-clause-low
 chain_of-requires-clause-low c =
     let rows = c.self.inside.aggregations.items in
-    let sound = c.self.invariant.0.sound in
+    let sound = c.self.invariant.stored.sound in
     let it = aggregation_read rows c.args.self.now c.args.aggregation c.index.result.now (ap (λ t. t.aggregations) c.self.view_is) c.requires c.index.ensures in
     let placed = placed_in rows sound.forest sound.names.root_classes c.args.aggregation c.index.result.now it.2 in
     (rw c.in-Some.is at (parent_fits rows c.args.aggregation c.index.result.now.parent c.index.result.now it.1 refl placed)).0
@@ -27,7 +27,7 @@ chain_of-requires-clause-low c =
 pub chain_of-requires-clause-high : goal.chain_of-requires-clause-high
 chain_of-requires-clause-high c =
     let rows = c.self.inside.aggregations.items in
-    let sound = c.self.invariant.0.sound in
+    let sound = c.self.invariant.stored.sound in
     let it = aggregation_read rows c.args.self.now c.args.aggregation c.index.result.now (ap (λ t. t.aggregations) c.self.view_is) c.requires c.index.ensures in
     let placed = placed_in rows sound.forest sound.names.root_classes c.args.aggregation c.index.result.now it.2 in
     subst (λ (xs : List Aggregation). c.in-Some.parent ≤ length xs) (sym c.deref.ensures.value)
@@ -37,7 +37,7 @@ pub returns-in-Some : goal.returns-in-Some
 returns-in-Some c =
     let rows = c.self.inside.aggregations.items in
     let a = c.args.aggregation in
-    let sound = c.self.invariant.0.sound in
+    let sound = c.self.invariant.stored.sound in
     let same = ap (λ t. t.aggregations) c.self.view_is in
     let it = aggregation_read rows c.args.self.now a c.index.result.now same c.requires c.index.ensures in
     let step = up_step rows (placed_in rows sound.forest sound.names.root_classes) a c.index.result.now it.0 it.2 in
@@ -50,7 +50,7 @@ pub returns-in-None : goal.returns-in-None
 returns-in-None c =
     let rows = c.self.inside.aggregations.items in
     let a = c.args.aggregation in
-    let sound = c.self.invariant.0.sound in
+    let sound = c.self.invariant.stored.sound in
     let same = ap (λ t. t.aggregations) c.self.view_is in
     let it = aggregation_read rows c.args.self.now a c.index.result.now same c.requires c.index.ensures in
     let step = up_step rows (placed_in rows sound.forest sound.names.root_classes) a c.index.result.now it.0 it.2 in

@@ -25,5 +25,5 @@ returns-then-not-has_documents-clause-no c reported all =
 pub returns-clause-yes : goal.returns-clause-yes
 returns-clause-yes c reported =
     let t = zip_end c.args.self.now.records c.args.self.now.statuses c.loop-head.yielded c.into_iter-head-iterator.result c.loop-head.head-iterator c.next.new.self c.next.result (cc) (cc) c.loop-head.yielded_by c.in-None.is c.next.ensures.steps in
-    let as_many = (subst IsSound c.self.view_is c.self.invariant.0.sound).statuses in
+    let as_many = (subst IsSound c.self.view_is c.self.invariant.stored.sound).statuses in
     documents_all c.args.self.now.records c.args.self.now.statuses (length c.loop-head.yielded) (omega (arith, t, as_many)) c.loop-head.invariant

@@ -1,0 +1,56 @@
+"""The seals in a folder, each in a folder of its own, and each of the text of a certificate and of the seal before.
+
+    000003/certificate-2.txt  the certificate      000003/seal.txt      its SHA-256, and that of the seal before
+    000003/seal.txt.sig       a signature of it    000003/seal.txt.tsr  a time stamp of the signature, if there is one
+"""
+import hashlib
+import pathlib
+import re
+from dataclasses import dataclass
+
+from office_seal.errors import WRONG, Refused
+
+FIRST = "0" * 64
+FORM = re.compile(r"SEAL ([1-9][0-9]*)\nOFFICE ([A-Za-z0-9._-]+)\nCERTIFICATE ([1-9][0-9]*)\nSHA256 ([0-9a-f]{64})\n"
+                  r"PREVIOUS ([0-9a-f]{64})\nAT ([0-9T:Z-]{20})\nWHY (closed|restored|key)\n")
+
+
+@dataclass(frozen=True)
+class Seal:
+    """A seal: its folder, its number, and what it says."""
+
+    folder: pathlib.Path
+    number: int
+    office: str
+    certificate: int
+    digest: str
+    previous: str
+    own: str
+
+
+def digest(data: bytes) -> str:
+    return hashlib.sha256(data).hexdigest()
+
+
+def text(number: int, office: str, certificate: int, sealed: str, previous: str, at: str, why: str) -> bytes:
+    """The text of a seal, which is signed."""
+    return (f"SEAL {number}\nOFFICE {office}\nCERTIFICATE {certificate}\nSHA256 {sealed}\nPREVIOUS {previous}\n"
+            f"AT {at}\nWHY {why}\n").encode()
+
+
+def read(seals: pathlib.Path, office: str) -> list[Seal]:
+    """Reads all seals of a folder, which must be one chain of this office."""
+    found: list[Seal] = []
+    for at, folder in enumerate(sorted(it for it in seals.iterdir() if re.fullmatch("[0-9]{6}", it.name)), 1):
+        try:
+            data = (folder / "seal.txt").read_bytes()
+        except OSError as why:
+            raise Refused(WRONG, f"{folder} has no seal: {why.strerror}") from why
+        said = FORM.fullmatch(data.decode(errors="replace"))
+        before = found[-1].own if found else FIRST
+        if said is None or (int(said[1]), folder.name, said[5]) != (at, f"{at:06}", before):
+            raise Refused(WRONG, f"the chain of seals is broken at {folder}: bring the folder back from its copy")
+        if said[2] != office:
+            raise Refused(WRONG, f"{folder} is of the office {said[2]}, and not of {office}")
+        found.append(Seal(folder, at, said[2], int(said[3]), said[4], said[5], digest(data)))
+    return found

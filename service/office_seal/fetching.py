@@ -1,0 +1,65 @@
+"""Gets the certificates of an office, one after another, and keeps each as a file beside the office."""
+import hashlib
+import http.client
+import pathlib
+import re
+
+from office_seal import durable
+from office_seal.errors import IMPOSSIBLE, WRONG, Refused
+
+SECONDS = 300
+NAME = re.compile(r"certificate-([1-9][0-9]{0,9})\.txt")
+LAST = len(b"SHA256 \n") + 64
+ADVICE = ("was a backup restored, or was FILE changed by somebody else? Find out which, with the text that is kept; "
+          "only after a restore: office-seal fetch --restored, and office-seal sign --restored")
+
+
+def kept(folder: pathlib.Path) -> dict[int, pathlib.Path]:
+    """The certificates in a folder, by their numbers in order."""
+    found = {int(name[1]): it for it in folder.iterdir() if (name := NAME.fullmatch(it.name))}
+    return dict(sorted(found.items()))
+
+
+def asked(port: int, number: int) -> bytes | None:
+    """Asks the office for a certificate; None if it has none of this number."""
+    conn = http.client.HTTPConnection("127.0.0.1", port, timeout=SECONDS)
+    try:
+        conn.request("GET", f"/certificates/{number}")
+        answer = conn.getresponse()
+        body = answer.read()
+    except (OSError, http.client.HTTPException) as why:
+        raise Refused(IMPOSSIBLE, f"the office at port {port} does not answer: {why}") from why
+    finally:
+        conn.close()
+    if answer.status == 404 and body == b'{"error":"certificate"}':
+        return None
+    if answer.status != 200:
+        raise Refused(IMPOSSIBLE, f"the office answers {answer.status} for certificate {number}")
+    last = f"SHA256 {hashlib.sha256(body[:-LAST]).hexdigest()}\n".encode()
+    if not body.startswith(f"CERTIFICATE {number}\n".encode()) or body[-LAST:] != last:
+        raise Refused(WRONG, f"certificate {number} of the office is not the one that its last line seals")
+    return body
+
+
+def fetch(port: int, folder: pathlib.Path, is_restored: bool) -> int:
+    """Keeps each certificate that is not there yet: how many. The position is the last one that is there.
+
+    The office must still have that one with the same bytes. After a restore, and only with the word for it, all are
+    compared, and those that the office has no more are taken out: their seals keep them.
+    """
+    with durable.locked(folder):
+        there = kept(folder)
+        last = max(there, default=0)
+        if last and not is_restored and asked(port, last) != there[last].read_bytes():
+            raise Refused(WRONG, f"the office has another certificate {last} than {there[last]}, or has it no more: "
+                                 f"{ADVICE}")
+        number, new = (0 if is_restored else last) + 1, 0
+        while (text := asked(port, number)) is not None:
+            if number not in there or there[number].read_bytes() != text:
+                durable.write(folder / f"certificate-{number}.txt", text)
+                new += 1
+            number += 1
+        for beyond in (it for it in there if it >= number):
+            there[beyond].unlink()
+        durable.sync(folder)
+        return new

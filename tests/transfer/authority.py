@@ -1,0 +1,82 @@
+"""A time-stamping authority (RFC 3161) of the trial's own, made by openssl."""
+import http.server
+import pathlib
+import subprocess
+import threading
+
+from place import free_port
+
+CONFIG = """
+[tsa]
+default_tsa = at
+[at]
+serial = {folder}/serial
+signer_cert = {folder}/tsa.pem
+signer_key = {folder}/tsa.key
+certs = {folder}/ca.pem
+signer_digest = sha256
+default_policy = 1.2.3.4.1
+digests = sha256
+accuracy = secs:1
+ordering = no
+tsa_name = yes
+ess_cert_id_chain = no
+ess_cert_id_alg = sha256
+[tsa_ext]
+basicConstraints = critical,CA:FALSE
+keyUsage = critical,digitalSignature
+extendedKeyUsage = critical,timeStamping
+"""
+
+
+class Authority:
+    """An authority at a port, with its certificate in a file."""
+
+    def __init__(self, folder: pathlib.Path) -> None:
+        folder.mkdir(parents=True)
+        self.folder, self.certificate = folder, folder / "ca.pem"
+        self.refuses = self.replays = False
+        (folder / "conf").write_text(CONFIG.format(folder=folder))
+        (folder / "serial").write_text("01\n")
+        self.openssl("req", "-x509", "-newkey", "rsa:2048", "-nodes", "-days", "2", "-subj", f"/CN=CA {folder.name}",
+                     "-keyout", "ca.key", "-out", "ca.pem")
+        self.openssl("req", "-newkey", "rsa:2048", "-nodes", "-subj", "/CN=TSA", "-keyout", "tsa.key", "-out", "tsa.csr")
+        self.openssl("x509", "-req", "-in", "tsa.csr", "-CA", "ca.pem", "-CAkey", "ca.key", "-CAcreateserial", "-days", "2",
+                     "-extfile", "conf", "-extensions", "tsa_ext", "-out", "tsa.pem")
+
+    def openssl(self, *words: str) -> None:
+        subprocess.run(["openssl", *words], cwd=self.folder, check=True, capture_output=True)
+
+    def reply(self, query: bytes) -> bytes:
+        """The stamp of a query, or of one of its own in its place if it replays."""
+        (self.folder / "query").write_bytes(query)
+        if self.replays:
+            self.openssl("ts", "-query", "-data", "conf", "-sha256", "-cert", "-out", "query")
+        self.openssl("ts", "-reply", "-config", "conf", "-section", "at", "-queryfile", "query", "-out", "reply")
+        return (self.folder / "reply").read_bytes()
+
+    def __enter__(self) -> "Authority":
+        authority = self
+
+        class Handler(http.server.BaseHTTPRequestHandler):
+            def do_POST(self) -> None:
+                query = self.rfile.read(int(self.headers["Content-Length"]))
+                body = b"no" if authority.refuses else authority.reply(query)
+                self.send_response(200)
+                self.send_header("Content-Type", "application/timestamp-reply")
+                self.send_header("Content-Length", str(len(body)))
+                self.end_headers()
+                self.wfile.write(body)
+
+            def log_message(self, *_: object) -> None:
+                pass
+
+        port = free_port()
+        self.url = f"http://127.0.0.1:{port}/"
+        self.server = http.server.ThreadingHTTPServer(("127.0.0.1", port), Handler)
+        threading.Thread(target=self.server.serve_forever, daemon=True).start()
+        return self
+
+    def __exit__(self, *_: object) -> None:
+        self.server.shutdown()
+        self.server.server_close()

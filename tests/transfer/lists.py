@@ -1,0 +1,110 @@
+"""Lists of an archive in every form, against a small bag with a manifest of two large files."""
+import json
+import pathlib
+from collections.abc import Callable
+
+from bags import transfer
+from fake import Fake, digest
+from judging import judge
+from place import TOOLS, Done, run
+
+BIG, SCAN = b"big", b"scan"
+PARTS = {"data/000001_A_One.txt": b"one", "data/000003_C_One-again.txt": b"one", "data/000004_D_Four.txt": b"four",
+         "data/000002_B_Two/0001_big.txt": BIG, "data/000002_B_Two/0002_scan.txt": SCAN}
+
+
+def made(folder: pathlib.Path) -> tuple[pathlib.Path, dict[str, str]]:
+    """A bag of four records, and a package of them: the place of the bag, and the digests of its payload."""
+    manifest = "".join(f"SHA256 {digest(it)}\nLENGTH {len(it)}\nPLACE {name}\n"
+                       for it, name in ((BIG, "big"), (SCAN, "scan"))).encode()
+    with Fake() as fake:
+        fake.answers |= {"/records/2/files/1": (200, BIG), "/records/2/files/2": (200, SCAN)}
+        fake.close(1, [fake.record(1, "A", "One", b"one"), fake.record(2, "B", "Two", manifest),
+                       fake.record(3, "C", "One again", b"one"), fake.record(4, "D", "Four", b"four")])
+        done = [transfer(fake, folder / "bag"), transfer(fake, folder / "package", "--form", "eark")]
+        judge("the bag and the package for the lists are made", [it.status for it in done] == [0, 0], done)
+    every = {**PARTS, "data/000002_B_Two/manifest.txt": manifest}
+    return folder / "bag", {name: digest(data) for name, data in every.items()}
+
+
+def receipts(bag: pathlib.Path, text: str | bytes, *words: object) -> tuple[list[int], Done]:
+    """The records that get a receipt, and how the command ended."""
+    file = bag.parent / "list"
+    file.write_bytes(text if isinstance(text, bytes) else text.encode())
+    done = run(TOOLS / "receipts", bag, file, "--by", "M. Vane", "--day", "2024-03-18", *words)
+    acts = json.loads(done.out) if done.out else []
+    return [it["record"] for it in acts], done
+
+
+def lists(folder: pathlib.Path) -> None:
+    bag, sums = made(folder)
+    plain = "".join(f"{it}  {name}\n" for name, it in sums.items())
+    manifest, content = sums["data/000002_B_Two/manifest.txt"], sums["data/000004_D_Four.txt"]
+    large = f"B,{sums['data/000002_B_Two/0001_big.txt']}\nB,{sums['data/000002_B_Two/0002_scan.txt']}\n"
+    forms: dict[str, tuple[str | bytes, list[int]]] = {
+        "the bag's own manifest": ((bag / "manifest-sha256.txt").read_bytes(), [1, 2, 3, 4]),
+        "capital digits, stars, line ends of Windows": (plain.upper().replace("DATA/", "data/").replace("  ", " *")
+                                                        and "".join(f"{it.upper()} *{name}\r\n" for name, it in sums.items()),
+                                                        [1, 2, 3, 4]),
+        "a mark at the beginning, and a folder of the archive's": (
+            "\ufeff" + "".join(f"{it}  ./AIP-7/{name}\n" for name, it in sums.items()), [1, 2, 3, 4]),
+        "from inside of data, with backslashes": (
+            "".join(f"{it}  {name[5:]}\n".replace("/", "\\") for name, it in sums.items()), [1, 2, 3, 4]),
+        "names of the archive's own": ("".join(f"{it}  x{at}\n" for at, it in enumerate(sums.values())), [1, 2, 3, 4]),
+        "one line for two records with the same bytes": (f"{sums['data/000001_A_One.txt']}  x\n", [1]),
+        "CSV by ref": ("ref,sha256\nA,{0}\nC,{0}\nD,{1}\nB,{2}\n".format(digest(b"one"), content, manifest) + large,
+                       [1, 2, 3, 4]),
+        "CSV by number, semicolons": (f"Record;Title;SHA256\n4;a;{content}\n1;b;{digest(b'one')}\n", [1, 4]),
+        "a record without one of its large files": (f"ref,digest\nB,{manifest}\n" + large.split("\n")[0] + "\n", []),
+        "a record of which only the manifest is there": (f"ref,digest\nB,{manifest}\n", []),
+        "a record of which only the large files are there": ("ref,digest\n" + large, []),
+        "another digest, and the right one": (f"ref,digest\nD,{'0' * 64}\nD,{content}\n", []),
+        "the same line twice": (f"{content}  data/000004_D_Four.txt\n" * 2, [4]),
+    }
+    for name, (text, wanted) in forms.items():
+        found, done = receipts(bag, text)
+        judge(f"{name}: receipts of {wanted}", found == wanted and done.status == (0 if len(wanted) == 4 else 1), done)
+    found, done = receipts(folder / "package", plain.replace("data/", "representations/rep1/data/"))
+    judge("the list of a package makes receipts too", (found, done.status) == ([1, 2, 3, 4], 0), done)
+    table = folder / "package/metadata/descriptive/records.csv"
+    table.write_bytes(table.read_bytes().replace(b"One", b"Two"))
+    _, done = receipts(folder / "package", plain)
+    judge("but not if its table was changed", (done.status, done.out) == (1, "") and "was changed" in done.err, done)
+    told(bag, content)
+    refused(bag, content)
+    changed(bag, plain, receipts)
+
+
+def told(bag: pathlib.Path, content: str) -> None:
+    """What makes no receipt is named."""
+    _, done = receipts(bag, f"{'0' * 64}  data/000001_A_One.txt\n{content}  data/000004_D_Four.txt\n"
+                            f"{content}  data/000004_D_Four.txt\n{'1' * 64}  elsewhere.txt\nno digest\n")
+    for what in ("differs: record 1, A: data/000001_A_One.txt", "missing: record 3, C", "missing: record 2, B: data/",
+                 "twice: record 4, D: data/000004_D_Four.txt: lines 2, 3", "not used: line 4, elsewhere.txt",
+                 "not used: line 5 has no SHA-256"):
+        judge(f"named: {what}", what in done.err, done.err)
+    judge("and counted", "records: 4, receipts: 1, had one: 0, missing: 4, differing: 1, twice: 1, not used: 2" in done.err,
+          done.err)
+
+
+def refused(bag: pathlib.Path, content: str) -> None:
+    for name, text, words in (
+        ("an empty list", "", ()), ("a list of MD5", "0" * 32 + "  data/000001_A_One.txt\n", ()),
+        ("a CSV without digests", "ref,title\nA,One\n", ()), ("bytes that are no UTF-8", b"\xff\xfe\x00", ()),
+        ("a day that has not come", f"{content}  x\n", ("--day", "2999-01-01")),
+        ("a name with a control character", f"{content}  x\n", ("--by", "a\tb")),
+        ("a name of 201 bytes", f"{content}  x\n", ("--by", "a" * 201)),
+    ):
+        found, done = receipts(bag, text, *words)
+        judge(f"{name}: status 2, and no act", (done.status, done.out) == (2, "") and "Traceback" not in done.err, done)
+    done = run(TOOLS / "receipts", bag.parent, bag / "manifest-sha256.txt", "--by", "x")
+    judge("a folder that is no bag: status 2", done.status == 2, done)
+
+
+def changed(bag: pathlib.Path, plain: str, ask: Callable[..., tuple[list[int], Done]]) -> None:
+    """A table that was changed after the bag was written makes no receipt."""
+    table = bag / "metadata/records.csv"
+    table.write_bytes(table.read_bytes().replace(digest(b"four").encode(), b"0" * 64))
+    _, done = ask(bag, plain)
+    judge("a table that was changed makes no receipt", (done.status, done.out) == (1, "") and "was changed" in done.err,
+          done)

@@ -1,0 +1,63 @@
+"""The refs and titles of aggregations, which the catalogue of an office lists and its paths do not."""
+from __future__ import annotations
+
+import gzip
+from dataclasses import dataclass
+from pathlib import Path
+from typing import Any
+
+from transferring.failing import Failed
+from transferring.office import Office, json_of
+
+NAME = "aggregations.json"
+
+
+@dataclass(frozen=True)
+class Aggregation:
+    """An aggregation's ref and title."""
+
+    ref: str
+    title: str
+
+
+Aggregations = dict[int, Aggregation]
+
+
+def read(place: str | None, office: Office) -> Aggregations | None:
+    """Reads the catalogue in a folder or at an address; None if the caller goes without one.
+
+    Without a place it is where nginx serves it: in the folder `catalogue` of the office's address.
+    """
+    if place == "none":
+        return None
+    if place is None or place.startswith(("http://", "https://")):
+        at = office if place is None else Office(place, office.login, office.authority)
+        found = in_address(at, f"catalogue/{NAME}" if place is None else NAME)
+    else:
+        found = in_folder(Path(place))
+    try:
+        return {int(it["number"]): Aggregation(it["ref"], it["title"]) for it in found["aggregations"]}
+    except (KeyError, TypeError, ValueError) as why:
+        raise Failed(f"the catalogue's {NAME} has another form: {why!r}") from why
+
+
+def in_address(at: Office, path: str) -> Any:
+    try:
+        found = at.json(path)
+    except Failed as why:
+        raise Failed(f"there is no catalogue: {why}; name its folder by --catalogue, or go without refs and titles of "
+                     "aggregations by --catalogue none") from why
+    if found is None:
+        raise Failed(f"there is no catalogue at {at.address}/{path}: see --catalogue")
+    return found
+
+
+def in_folder(folder: Path) -> Any:
+    file = next((it for it in (folder / f"{NAME}.gz", folder / NAME) if it.is_file()), None)
+    if file is None:
+        raise Failed(f"there is no {NAME} in {folder}: see --catalogue")
+    try:
+        data = file.read_bytes()
+        return json_of(gzip.decompress(data) if file.suffix == ".gz" else data, str(file))
+    except (OSError, EOFError) as why:
+        raise Failed(f"{file} cannot be read: {why}") from why

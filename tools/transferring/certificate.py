@@ -1,0 +1,68 @@
+"""Reads the certificate of a run, as docs/MODEL.md describes it, and compares it with its last line."""
+from __future__ import annotations
+
+import hashlib
+import re
+from dataclasses import dataclass
+
+from transferring.failing import WRONG, Failed
+
+HEAD = re.compile(r"CERTIFICATE ([1-9][0-9]*)\nDAY ([0-9]{4}-[0-9]{2}-[0-9]{2})\nBY ([^\n]*)\n"
+                  r"ENDED [0-9]+\nSENT ([0-9]+)\nSKIPPED [0-9]+\n")
+LAST = re.compile(rb"SHA256 ([0-9a-f]{64})\n")
+DIGEST = re.compile(r"[0-9a-f]{64}")
+WORDS = 11
+
+
+@dataclass(frozen=True)
+class Entry:
+    """What a run did with a record: a line of its certificate."""
+
+    record: int
+    outcome: str
+    ref: str
+    class_code: str
+    schedule: str
+    due: str
+    confirmed_by: str
+    length: int
+    digest: str
+
+
+@dataclass(frozen=True)
+class Certificate:
+    """The certificate of a run: its text, and what the text says."""
+
+    text: bytes
+    run: int
+    day: str
+    by: str
+    entries: tuple[Entry, ...]
+
+    def digest(self) -> str:
+        """The SHA-256 of the whole text."""
+        return hashlib.sha256(self.text).hexdigest()
+
+
+def read(text: bytes, run: int) -> Certificate:
+    """Reads the certificate of this run."""
+    body, last = text[:-len("SHA256 \n") - 64], LAST.fullmatch(text[-len("SHA256 \n") - 64:])
+    if last is None or hashlib.sha256(body).hexdigest() != last[1].decode():
+        raise Failed(f"the certificate of run {run} is not the one that its last line seals", WRONG)
+    try:
+        lines = body.decode()
+        head = HEAD.match(lines)
+        entries = tuple(entry(it) for it in lines.split("\n") if it.startswith("ENTRY\t"))
+    except ValueError as why:
+        raise Failed(f"the certificate of run {run} has another form: {why}", WRONG) from why
+    if head is None or int(head[1]) != run or len([it for it in entries if it.outcome == "sent"]) != int(head[4]):
+        raise Failed(f"what the office answers is no certificate of run {run}", WRONG)
+    return Certificate(text, run, head[2], head[3], entries)
+
+
+def entry(line: str) -> Entry:
+    words = line.split("\t")
+    if len(words) != WORDS or not DIGEST.fullmatch(words[-1]):
+        raise ValueError(f"an entry has other words: {line[:80]!r}")
+    record, length = int(words[1]), int(words[9])
+    return Entry(record, *words[2:7], confirmed_by=words[8], length=length, digest=words[10])

@@ -1,0 +1,67 @@
+"""What an archive must confirm of a bag or package: each content, and each large file of its manifest."""
+from __future__ import annotations
+
+import csv
+import hashlib
+import io
+from dataclasses import dataclass
+from pathlib import Path
+
+from transferring import bag, package
+from transferring.failing import USAGE, WRONG, Failed
+
+# where the tables are in a bag, and in a package
+PLACES = ("metadata", "metadata/descriptive")
+
+
+@dataclass(frozen=True)
+class Part:
+    """A file of a record: its path in the bag, which is empty if the bag lacks it, and its digest."""
+
+    path: str
+    digest: str
+
+
+@dataclass(frozen=True)
+class Sent:
+    """A record of the bag: the first of its parts is its content, of which a receipt names the digest."""
+
+    number: int
+    ref: str
+    parts: tuple[Part, ...]
+
+
+def read(at: Path) -> list[Sent]:
+    """Reads the tables of a bag or package, which must be those that its manifests seal."""
+    base = next((at / it for it in PLACES if (at / it / "records.csv").is_file()), None)
+    if base is None:
+        raise Failed(f"{at} is no bag or package of tools/transfer: it lacks records.csv", USAGE)
+    sealed = sealed_in(at)
+    larges: dict[int, list[Part]] = {}
+    if (base / "files.csv").is_file():
+        for row in rows(at, base / "files.csv", sealed):
+            larges.setdefault(int(row["record"]), []).append(Part(row["path"], row["sha256"]))
+    found = [Sent(int(row["record"]), row["ref"],
+                  (Part(row["path"], row["sha256"]), *larges.get(int(row["record"]), [])))
+             for row in rows(at, base / "records.csv", sealed)]
+    if not found:
+        raise Failed(f"{at} has no records", WRONG)
+    return found
+
+
+def sealed_in(at: Path) -> dict[str, str]:
+    """The digests of the files of metadata."""
+    try:
+        return bag.listed(at, bag.MANIFESTS[1]) if (at / "bagit.txt").is_file() else package.metadata(at)
+    except (OSError, ValueError, SyntaxError) as why:
+        raise Failed(f"the manifests of {at} cannot be read: {why}", WRONG) from why
+
+
+def rows(at: Path, file: Path, sealed: dict[str, str]) -> list[dict[str, str]]:
+    data = file.read_bytes()
+    if hashlib.sha256(data).hexdigest() != sealed.get(file.relative_to(at).as_posix()):
+        raise Failed(f"{file} was changed after it was written", WRONG)
+    try:
+        return list(csv.DictReader(io.StringIO(data.decode(), newline="")))
+    except (UnicodeDecodeError, csv.Error) as why:
+        raise Failed(f"{file} cannot be read: {why}", WRONG) from why

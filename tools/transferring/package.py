@@ -1,0 +1,64 @@
+"""An information package after E-ARK CSIP of what a run sent, and what is wrong with one that was written."""
+from __future__ import annotations
+
+import hashlib
+import xml.etree.ElementTree as tree
+from pathlib import Path
+from urllib.parse import unquote
+
+from transferring import mets
+from transferring.certificate import Certificate
+from transferring.folder import Folder
+from transferring.payload import CSV, PLAIN, Payload, Sources, fill, tables
+from transferring.premis import PROGRAM, premis
+
+REP = "representations/rep1"
+XML = "text/xml"
+HREF = "{http://www.w3.org/1999/xlink}href"
+
+
+def write(folder: Folder, sources: Sources, of: Certificate, sender: str, identifier: str, version: str) -> Payload:
+    """Writes a whole package. Nothing in it depends on the clock."""
+    about = mets.Package(identifier, of.day, sender, PROGRAM, version)
+    found = fill(folder, sources, of, f"{REP}/data")
+    payload = list(folder.files)
+    descriptive = [folder.put(f"metadata/descriptive/{name}", [data], CSV) for name, data in tables(found).items()]
+    preservation = folder.put("metadata/preservation/premis.xml", [premis(payload, of)], XML)
+    certificate = folder.put(f"metadata/other/certificate-{of.run}.txt", [of.text], PLAIN)
+    rep = folder.put(f"{REP}/METS.xml", [mets.representation(about, f"{REP}/", found.groups)], XML)
+    # the METS of the package comes last, because a folder without it is no package
+    folder.put("METS.xml", [mets.package(about, descriptive, preservation, certificate, rep)], XML)
+    return found
+
+
+def faults(at: Path) -> list[str]:
+    """What is wrong with a package as the disk has it: each file is named by a METS, with its SHA-256 and length."""
+    found: list[str] = []
+    named = {"METS.xml"}
+    for name in ("METS.xml", f"{REP}/METS.xml"):
+        base = name.removesuffix("METS.xml")
+        for it in tree.parse(at / name).iter():
+            digest, place = it.get("CHECKSUM"), it.get(HREF) or next((below.get(HREF) for below in it), None)
+            if digest is not None and place is not None:
+                named.add(base + unquote(place))
+                found += wrong_in(at, base + unquote(place), digest, it.get("SIZE"))
+    there = {it.relative_to(at).as_posix() for it in at.rglob("*") if not it.is_dir()}
+    return found + [f"no METS names {it}" for it in sorted(there - named)]
+
+
+def wrong_in(at: Path, name: str, digest: str, length: str | None) -> list[str]:
+    if not (at / name).is_file():
+        return [f"{name} is missing"]
+    with (at / name).open("rb") as file:
+        is_same = hashlib.file_digest(file, "sha256").hexdigest() == digest
+    return [] if is_same and str((at / name).stat().st_size) == length else [f"{name} has another SHA-256 or length"]
+
+
+def metadata(at: Path) -> dict[str, str]:
+    """The SHA-256 of each file that the METS of the package names, by its name."""
+    found = {}
+    for it in tree.parse(at / "METS.xml").iter():
+        digest, place = it.get("CHECKSUM"), it.get(HREF)
+        if digest is not None and place is not None:
+            found[unquote(place)] = digest
+    return found

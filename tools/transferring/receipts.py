@@ -1,0 +1,104 @@
+"""Which receipts an archive's list makes: of a record if its content and each file of its manifest are confirmed."""
+from __future__ import annotations
+
+from collections import Counter
+from dataclasses import dataclass, field
+
+from transferring.expected import Part, Sent
+from transferring.lists import Line, Read
+
+Key = tuple[int, int]
+
+
+@dataclass
+class Judged:
+    """What a list comes to: the records that are wholly confirmed, and a sentence for everything else."""
+
+    confirmed: list[Sent] = field(default_factory=list)
+    missing: list[str] = field(default_factory=list)
+    differing: list[str] = field(default_factory=list)
+    twice: list[str] = field(default_factory=list)
+    others: list[str] = field(default_factory=list)
+
+
+class Index:
+    """Finds the part of a bag that a line speaks of: by its path, or by its record and digest."""
+
+    def __init__(self, sent: list[Sent]) -> None:
+        self.parts = {(at, place): part for at, record in enumerate(sent) for place, part in enumerate(record.parts)}
+        self.numbers = {record.number: at for at, record in enumerate(sent)}
+        self.refs = {record.ref: at for at, record in enumerate(sent)}
+        # an archive may put the bag into a folder, or list it from inside: the ends of paths decide if they are unique
+        ends: dict[str, list[Key]] = {}
+        for key, part in self.parts.items():
+            for end in ends_of(part.path):
+                ends.setdefault(end, []).append(key)
+        self.ends = {end: keys[0] for end, keys in ends.items() if len(keys) == 1}
+
+    def find(self, line: Line) -> Key | None:
+        """The part that the line is of; None if it names nothing of the bag."""
+        by_path = next((self.ends[end] for end in ends_of(line.path) if end in self.ends), None)
+        if by_path is not None:
+            return by_path
+        record = self.refs.get(line.ref) if line.number is None else self.numbers.get(line.number)
+        if record is None:
+            return None
+        places = [key for key in self.parts if key[0] == record]
+        # a digest that none of its parts has is compared with that of the content, and differs
+        return next((key for key in places if self.parts[key].digest == line.digest), (record, 0))
+
+
+def ends_of(path: str) -> list[str]:
+    """The path, and what is left of it without its first folder, its first two, and so on."""
+    words = path.split("/") if path else []
+    return ["/".join(words[at:]) for at in range(len(words))]
+
+
+def judge(sent: list[Sent], read: Read) -> Judged:
+    """Compares a list with what was sent."""
+    found, index = Judged(), Index(sent)
+    found.others += read.wrong
+    said: dict[Key, list[Line]] = {}
+    elsewhere: list[Line] = []
+    for line in read.lines:
+        key = index.find(line)
+        if key is None:
+            elsewhere.append(line)
+        else:
+            said.setdefault(key, []).append(line)
+    renamed = Counter(it.digest for it in elsewhere)
+    for at, record in enumerate(sent):
+        verdicts = [part_is_there(record, part, said.get((at, place), []), renamed, found)
+                    for place, part in enumerate(record.parts)]
+        if all(verdicts):
+            found.confirmed.append(record)
+    for line in elsewhere:
+        if renamed[line.digest] > 0:
+            renamed[line.digest] -= 1
+            found.others.append(f"line {line.at}, {line.name()}: nothing of the bag")
+    return found
+
+
+def part_is_there(record: Sent, part: Part, lines: list[Line], renamed: Counter[str], found: Judged) -> bool:
+    """Whether the archive has a part: by its lines, or by a line with its digest under a name of the archive's own."""
+    name = f"record {record.number}, {record.ref}{f': {part.path}' if part.path else ''}"
+    digests = {it.digest for it in lines}
+    if len(lines) > 1:
+        found.twice.append(f"{name}: lines {', '.join(str(it.at) for it in lines)}")
+    if digests == {part.digest}:
+        return True
+    if digests:
+        other = ", ".join(sorted(digests - {part.digest}))
+        found.differing.append(f"{name}: the archive has {other}, and {part.digest} was sent")
+        return False
+    if renamed[part.digest] > 0:
+        renamed[part.digest] -= 1
+        return True
+    found.missing.append(f"{name}: {part.digest}")
+    return False
+
+
+def acts(records: list[Sent], day: str, by: str) -> list[dict[str, object]]:
+    """The receipt of each record, as an act of docs/ACTS.md."""
+    return [{"act": "receipt", "by": by, "day": day, "digest": it.parts[0].digest, "record": it.number}
+            for it in records]

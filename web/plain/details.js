@@ -1,0 +1,46 @@
+// What the office reports of each record beside its ref and title, as the catalogue has it: in columns of numbers, since there
+// may be 200,000 records.
+
+const MILLISECONDS = 86400000;
+
+/** A day by its number, 1970-01-01 being 0. */
+export const dayOf = (number) => new Date(number * MILLISECONDS).toISOString().slice(0, 10);
+export const numberOfDay = (day) => Date.parse(`${day}T00:00:00Z`) / MILLISECONDS;
+
+/** The columns of the catalogue's part `details`, in their order. */
+const COLUMNS = ["originated", "added", "class", "schedule", "length", "due"];
+const DAYS = ["originated", "added", "due"];
+
+export class Details {
+  /**
+   * @param {(number | null)[][]} columns a number for each record, by position; of a code its place among all codes
+   * @param {string[]} classes the codes of all classes
+   * @param {string[]} schedules
+   */
+  constructor(columns, classes, schedules) {
+    this.columns = Object.fromEntries(COLUMNS.map((name, at) => [name, columns[at]]));
+    this.codes = { class: classes, schedule: schedules };
+  }
+
+  /** A detail of the record at a position; null where there is none. */
+  value(name, at) {
+    const number = this.columns[name][at] ?? null;
+    if (number === null) return null;
+    if (name in this.codes) return this.codes[name][number];
+    return DAYS.includes(name) ? dayOf(number) : number;
+  }
+
+  /** All details of the record at a position, by their names. */
+  at(position) {
+    return Object.fromEntries(COLUMNS.map((name) => [name, this.value(name, position)]));
+  }
+
+  /** The years in which records originated, the last one first. */
+  years() {
+    const days = new Set(this.columns.originated);
+    return [...new Set([...days].map((day) => dayOf(day).slice(0, 4)))].sort().reverse();
+  }
+}
+
+/** The details of no record, as long as none are read. */
+export const NO_DETAILS = Object.fromEntries(COLUMNS.map((name) => [name, null]));
