@@ -161,8 +161,15 @@ function forgetWrong(form) {
   if (!form.dataset.busy && place?.classList.contains("wrong")) quiet(place);
 }
 
-/** Does something with a form's values once they are right. A form that is at work is not sent a second time. */
-export function onSubmit(form, work) {
+/**
+ * Does something with a form's values once they are right. A form that is at work is not sent a second time. What `taken`
+ * returns when the button is pressed, such as what is marked then, comes with the values: the server's clock is asked for
+ * in between, and what is marked meanwhile was not meant.
+ * @param {HTMLFormElement} form
+ * @param {function(Object<string, string>, any): any} work
+ * @param {function(): any} [taken]
+ */
+export function onSubmit(form, work, taken) {
   form.noValidate = true;
   form.addEventListener("input", () => forgetWrong(form));
   form.addEventListener("submit", async (event) => {
@@ -170,6 +177,7 @@ export function onSubmit(form, work) {
     if (form.dataset.busy) return;
     let values = valuesOf(form);
     if (!values) return;
+    const there = taken?.();
     form.dataset.busy = "yes";
     form.setAttribute("aria-busy", "true");
     try {
@@ -178,7 +186,7 @@ export function onSubmit(form, work) {
         await askTime();
         values = valuesOf(form);
       }
-      if (values) await work(values);
+      if (values) await work(values, there);
     } finally {
       delete form.dataset.busy;
       form.removeAttribute("aria-busy");

@@ -1,8 +1,10 @@
 // The page: it reads its words, starts its views, and shows the one that the address names, as #record?number=8.
 import * as warning from "./clock_warning.js";
 import { field, renewDays } from "./fields.js";
+import * as officeName from "./name.js";
 import * as offers from "./offers.js";
 import { byId, made, translate } from "./page.js";
+import * as rights from "./rights.js";
 import { all, load, t } from "./texts.js";
 import * as catalogue from "./views/catalogue.js";
 import * as certificate from "./views/certificate.js";
@@ -16,9 +18,11 @@ import * as overdue from "./views/overdue.js";
 import * as plan from "./views/plan.js";
 import * as record from "./views/record.js";
 import * as run from "./views/run.js";
+import * as todo from "./views/todo.js";
 
 /** The views, in the order of the navigation. */
 const VIEWS = {
+  todo,
   due,
   overdue,
   outlook,
@@ -33,16 +37,17 @@ const VIEWS = {
   fault,
 };
 
-/** The view and the words that an address names; due, where it names none. */
+/** The view and the words that an address names; what is to do, where it names none. */
 function named(hash) {
   const [name, words] = hash.replace(/^#/, "").split("?");
-  return [Object.hasOwn(VIEWS, name) ? name : "due", new URLSearchParams(words)];
+  return [Object.hasOwn(VIEWS, name) ? name : "todo", new URLSearchParams(words)];
 }
 
 /** What is said of days is said anew: the day may be another one by now. */
 function renew() {
   renewDays();
   warning.tellClocks();
+  rights.tellRights();
 }
 
 /** The same on a page that somebody comes back to; a list of today may be that of an earlier day. */
@@ -60,7 +65,7 @@ function show(focus) {
     else link.removeAttribute("aria-current");
   }
   renew();
-  document.title = t("page.title", { view: t(`${name}.title`) });
+  document.title = officeName.titleOf(t(`${name}.title`));
   VIEWS[name].show(words);
   if (!focus) return;
   scrollTo(0, 0);
@@ -96,7 +101,7 @@ function addLinks() {
 }
 
 async function begin() {
-  await load(navigator.languages);
+  await Promise.all([load(navigator.languages), officeName.load(), rights.load()]);
   document.documentElement.lang = all().lang;
   for (const place of document.querySelectorAll("[data-field]")) field(place);
   addLinks();
@@ -104,6 +109,7 @@ async function begin() {
   // the views come first, so that a list is whole before its links are left out
   for (const view of Object.values(VIEWS)) view.start();
   warning.start();
+  officeName.start();
   offers.start();
   byId("skip").addEventListener("click", skip);
   addEventListener("hashchange", () => show(true));

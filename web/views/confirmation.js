@@ -55,13 +55,12 @@ function tellFate(place, answer, acts) {
 const seenOf = (rows) => JSON.stringify(rows.map((row) => CONFIRMED_FOR.map((name) => row[name])));
 
 /**
- * Confirms what is marked in a list, in one request, if all of it is as it is shown; says what came of it, and has the list
- * read anew.
+ * Confirms rows of a list, those that were marked when the button was pressed, in one request, if all of them are as they
+ * are shown; says what came of it, and has the list read anew.
  */
-export async function confirmMarked(list, values) {
+export async function confirmMarked(list, values, marked) {
   const place = list.part("panel-outcome");
   const [day, by] = ["confirm-day", "confirm-by"].map((name) => values[list.part(name).id]);
-  const marked = list.markedRows();
   const acts = marked.map((row) => confirm(row, day, by));
   if (!acts.length) return say(place, "wrong", paragraph(t("due.nothingMarked")));
   const body = bodyOf(acts);

@@ -170,9 +170,8 @@ function markRows(ready) {
   return first;
 }
 
-async function fileAll(values) {
+async function fileAll(values, ready) {
   const place = byId("file-send-outcome");
-  const ready = entries.filter(isToBeFiled);
   if (!ready.length) return say(place, "wrong", paragraph(t("file.nothing")));
   const inRows = markRows(ready);
   const wrong = markCommon(ready) ?? inRows;
@@ -221,7 +220,7 @@ export function start() {
     remove(entries.filter(isSettled));
     byId("file-choose").focus();
   });
-  onSubmit(byId("file-send"), fileAll);
+  onSubmit(byId("file-send"), fileAll, () => entries.filter(isToBeFiled));
 }
 
 /** Shows the files that are listed. */

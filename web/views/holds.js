@@ -1,4 +1,4 @@
-// Holds: place one, put a target on, take one off, lift it. No path shows a hold, so each act's answer is all that is known.
+// Holds: shows one, places one, puts a target on, takes one off, lifts it. No path shows a hold: the catalogue does.
 import { post } from "../ask.js";
 import { mark, onSubmit, untick } from "../fields.js";
 import { asking, byId, failed, made, paragraph, say, told } from "../page.js";
@@ -6,6 +6,7 @@ import { bodyOf, holdOff, holdOn, liftHold, placeHold } from "../plain/acts.js";
 import { isCode } from "../plain/forms.js";
 import { fatesOf } from "../plain/outcomes.js";
 import { t } from "../texts.js";
+import * as shown from "./hold_shown.js";
 
 const targetOf = (values, form) => `${byId(`${form}-kind`).value}:${values[`${form}-target`]}`;
 
@@ -18,8 +19,8 @@ function carry(code, forms) {
 }
 
 /**
- * The four forms: the act that each asks for, what is said once it is done, and what where that is unknown; `after` is
- * called once it is done.
+ * The four forms: the act that each asks for, what is said once it is done, and what where that is unknown; `isAsSeen`
+ * says before whether the act would do what was shown, and `after` is called once it is done.
  */
 const FORMS = {
   "hold-place": {
@@ -42,16 +43,19 @@ const FORMS = {
     act: (values) => liftHold(values["hold-lift-day"], values["hold-lift-code"]),
     done: (act) => t("holds.lifted", act),
     lost: "holds.lostLift",
+    isAsSeen: shown.isAsSeen,
+    after: () => shown.renewForecast(),
   },
 };
 
 /** Asks for one act, and says what came of it. */
 async function ask(name, values) {
   const place = byId(`${name}-outcome`);
-  const { act, done, lost, after } = FORMS[name];
+  const { act, done, lost, after, isAsSeen } = FORMS[name];
   const asked = act(values);
   asking(place);
   untick(byId(name));
+  if (isAsSeen && !(await isAsSeen(place))) return;
   const answer = await post("acts", bodyOf([asked]));
   const { answers, end } = fatesOf(answer, 1);
   if (end === "unknown") say(place, "unknown", ...told(answer), paragraph(t(lost)));
@@ -61,6 +65,7 @@ async function ask(name, values) {
 }
 
 export function start() {
+  shown.start();
   for (const name of Object.keys(FORMS)) onSubmit(byId(name), (values) => ask(name, values));
   for (const form of ["hold-on", "hold-off"]) {
     const kinds = ["class", "aggregation", "record"].map((kind) => made("option", { value: kind }, t(`fields.kinds.${kind}`)));
@@ -68,9 +73,13 @@ export function start() {
   }
 }
 
-/** Writes the code that the address names into the forms for a hold that is there. */
+/** Shows the hold that the address names, and writes its code into the forms for a hold that is there. */
 export function show(words) {
   const code = words.get("code");
-  if (code === null || !isCode(code)) return;
+  if (code === null || !isCode(code)) {
+    shown.showNone();
+    return shown.renewForecast();
+  }
   carry(code, ["hold-on", "hold-off", "hold-lift"]);
+  return Promise.all([shown.show(code), shown.renewForecast()]);
 }

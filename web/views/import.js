@@ -175,9 +175,8 @@ function progressed() {
   showTotals();
 }
 
-async function importAll(values) {
+async function importAll(values, ready) {
   const place = byId("import-send-outcome");
-  const ready = left();
   if (!ready.length) return say(place, "wrong", paragraph(t("import.nothing")));
   quiet(place);
   untick(byId("import-send"));
@@ -214,7 +213,7 @@ export function start() {
   reading.start(changed);
   preview.start();
   byId("import-save").addEventListener("click", saveRefused);
-  onSubmit(byId("import-send"), importAll);
+  onSubmit(byId("import-send"), importAll, left);
 }
 
 /** Shows the sheet that was chosen. */
