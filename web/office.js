@@ -4,6 +4,7 @@ import { field, renewDays } from "./fields.js";
 import * as officeName from "./name.js";
 import * as offers from "./offers.js";
 import { byId, made, translate } from "./page.js";
+import * as paper from "./paper.js";
 import * as rights from "./rights.js";
 import { all, load, t } from "./texts.js";
 import * as catalogue from "./views/catalogue.js";
@@ -78,21 +79,6 @@ function skip(event) {
   byId("main").focus();
 }
 
-/** On paper a link leads nowhere; and of many links a browser that prints looks for each one's goal on each page, for minutes. */
-function withoutLinks() {
-  for (const link of document.querySelectorAll("main a[href]")) {
-    link.dataset.href = link.getAttribute("href");
-    link.removeAttribute("href");
-  }
-}
-
-function withLinks() {
-  for (const link of document.querySelectorAll("main a[data-href]")) {
-    link.setAttribute("href", link.dataset.href);
-    delete link.dataset.href;
-  }
-}
-
 /** The links to the views. The one that tells the faults is reached from the view Run. */
 function addLinks() {
   const names = Object.keys(VIEWS).filter((name) => name !== "fault");
@@ -110,12 +96,11 @@ async function begin() {
   for (const view of Object.values(VIEWS)) view.start();
   warning.start();
   officeName.start();
+  paper.start();
   offers.start();
   byId("skip").addEventListener("click", skip);
   addEventListener("hashchange", () => show(true));
   addEventListener("focus", comeBack);
-  addEventListener("beforeprint", withoutLinks);
-  addEventListener("afterprint", withLinks);
   byId("loading").remove();
   document.body.classList.add("ready");
   show(false);

@@ -98,6 +98,8 @@ export function told(answer) {
 export function say(place, kind, ...nodes) {
   place.className = `outcome ${kind}`;
   place.replaceChildren(...nodes);
+  // below a form it may be out of sight
+  if (kind !== "waiting" && place.closest(".step, .inset")) place.scrollIntoView({ block: "nearest" });
 }
 
 export function quiet(place) {

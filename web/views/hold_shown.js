@@ -59,7 +59,7 @@ function listOf(rows) {
   const names = ["record", "ref", "class", "schedule", "action", "due"];
   const cells = (row) => [link(`#record?number=${row.record}`, row.record), visible(row.ref), row.class, row.schedule, t(`actions.${row.action}`), row.due];
   const table = tableOf(t("forecast.lift.caption", { count: grouped(rows.length) }), names.map((name) => t(`due.columns.${name}`)), rows.slice(0, MOST).map(cells), "lifted");
-  return made("details", {}, made("summary", {}, t("todo.list")), table);
+  return made("details", { class: "listed" }, made("summary", {}, t("todo.list")), table);
 }
 
 /** Since when what would be destroyed is confirmed, by what the office reports of each record. */

@@ -34,6 +34,13 @@ const openIn = (order, number) => (order.within.get(number) ?? []).filter(({ clo
 
 const nameOf = (it) => t("forecast.close.name", { number: it.number, ref: visible(it.ref), title: visible(it.title) });
 
+/** Which aggregations have to be closed first, each with a link that writes it into the form. */
+function openWords(children) {
+  if (!children.length) return [];
+  const list = children.slice(0, SHOWN).map((child) => made("li", {}, link(`#plan?close=${child.number}`, nameOf(child))));
+  return [paragraph(plural("forecast.close.children", children.length), "grave"), made("ul", {}, ...list)];
+}
+
 /** The due days that follow, as a table, or that none does. */
 function followTable(rows) {
   if (!rows.length) return paragraph(t("forecast.close.none"));
@@ -59,10 +66,7 @@ async function makeClosing() {
   const numbers = await recordsIn(number);
   const nodes = [made("p", {}, made("strong", {}, nameOf(it)))];
   if (it.closed !== null) nodes.push(paragraph(t("forecast.close.closed", { day: it.closed }), "grave"));
-  if (children.length) {
-    const list = children.slice(0, SHOWN).map((child) => made("li", {}, link(`#plan?close=${child.number}`, nameOf(child))));
-    nodes.push(paragraph(plural("forecast.close.children", children.length), "grave"), made("ul", {}, ...list));
-  }
+  nodes.push(...openWords(children));
   const there = await recordsOf(numbers, MOST);
   if (there === null) return null;
   nodes.push(paragraph(plural("forecast.close.holds", numbers.length)));
@@ -137,12 +141,13 @@ const seenOf = (name) => async (act, place) => ((await forecasts[name].isAsSeen(
 export const ofClosing = seenOf("close");
 export const ofRule = seenOf("rule");
 
-/** What a closed aggregation is called, in the answer; then the form is for another one. */
+/** What a closed aggregation is called, in the answer; then the form is for another one. What keeps it open is said too. */
 export async function closed(act, fate) {
   const it = (await aggregations())?.rows[act.aggregation - 1];
   const place = byId("plan-close-outcome");
-  if (fate === "done" && it) place.firstChild.after(paragraph(nameOf(it)));
+  if (it && fate === "refused") place.append(...openWords(openIn(await tree(), it.number)));
   if (fate !== "done") return;
+  if (it) place.firstChild.after(paragraph(nameOf(it)));
   clear(byId("plan-close-aggregation"));
   forecasts.close.renew();
 }

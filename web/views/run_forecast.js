@@ -58,7 +58,7 @@ function listOf(rows) {
   const left = rows.length - MOST;
   const more = left > 0 ? [paragraph(t("forecast.run.more", { count: grouped(left) }), "hint")] : [];
   const table = tableOf(t("forecast.run.caption", { count: grouped(rows.length) }), heads, rows.slice(0, MOST).map(cells), "taken");
-  return made("details", {}, made("summary", {}, t("todo.list")), table, ...more);
+  return made("details", { class: "listed" }, made("summary", {}, t("todo.list")), table, ...more);
 }
 
 /** What is not certain of the forecast. */

@@ -46,7 +46,7 @@ function officeTasks(day, due, overdue) {
 function taskNode({ name, count, values = {}, links = [], more = [] }) {
   const words = plural(`todo.tasks.${name}`, count, values);
   const to = links.map(([href, key]) => link(href, t("todo.goTo", { view: t(key) })));
-  const details = more.length ? [made("details", {}, made("summary", {}, t("todo.list")), ...more)] : [];
+  const details = more.length ? [made("details", { class: "listed" }, made("summary", {}, t("todo.list")), ...more)] : [];
   return made(
     "article",
     { class: "task", "data-task": name },
