@@ -10,6 +10,7 @@ import { glimpsed, turned } from "../sheet/turning.js";
 import { Unreadable } from "../sheet/unreadable.js";
 import { t } from "../texts.js";
 import { addPanel, onDrop, sayFates, send, showSums, whereAggregation } from "./filing.js";
+import { addLooks } from "./import_looks.js";
 import * as reading from "./import_reading.js";
 import * as preview from "./import_rows.js";
 import { notTaken } from "./import_saved.js";
@@ -101,6 +102,13 @@ function refresh() {
   if (!sheet.found) return;
   preview.take(rows());
   showTotals();
+  lookMore(sheet.found);
+}
+
+/** Adds what is to be looked at by the catalogue and the calendar, unless another sheet is shown by then. */
+async function lookMore(found) {
+  await addLooks(found.rows, found.columns);
+  if (found === sheet.found) preview.draw();
 }
 
 /** Takes what somebody says of the sheet, and reads it anew. */
