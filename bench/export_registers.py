@@ -1,7 +1,7 @@
 #!/usr/bin/env python3
 """The registers of an office's file, by Python's csv and sqlite3, of the records that `make` gives it.
 
-export_registers.py make FOLDER COUNT  the acts after which an office of COUNT records, as save_records.py writes it, has all of them
+export_registers.py make FOLDER COUNT  the acts after which an office of COUNT records, as tests/save_records.py writes it, has all of them
                                        confirmed and each tenth held, as far as one hold can have targets (held.json), those that leave each second record
                                        without a confirmation (half.json), and those that open a run (run.json)
 export_registers.py due FILE DAY       what is due on DAY; each schedule begins with the day of addition and takes years

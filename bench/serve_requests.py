@@ -3,7 +3,7 @@
 
 serve_requests.py FILE PORT COUNT   prints its line, then serves COUNT connections of 127.0.0.1, one after another
 
-FILE is one that `save_records.py each` wrote. GET /records/N is read from its tables; POST /acts adds the records of its acts,
+FILE is one that `tests/save_records.py each` wrote. GET /records/N is read from its tables; POST /acts adds the records of its acts,
 each in a transaction of its own, journal WAL, synchronous FULL. The bytes of these answers are the office's. Nothing else is
 there: no check, no refusal, no other act, and no due day but that of a number of years after adding.
 """

@@ -1,5 +1,5 @@
 // A sheet as rows of an import: what each row will be, and what is wrong with its cells. The command line has the same
-// in examples/import/convert, and examples/import/cases/run compares both.
+// in tools/convert, and tests/import/cases/run compares both.
 import { decoded } from "./bytes.js";
 import { codeCell, contentOf, inOneLine, noteOf, numberOf, textOf } from "./cells.js";
 import { NAMES, columnsOf, known, matched, nameless } from "./columns.js";

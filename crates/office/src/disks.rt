@@ -3,7 +3,7 @@ ghost use Rattle.std.specs.Prelude.{◌≡◌};
 ghost use Rattle.office_words.specs.Disks.{finishes_sectors};
 
 use crate::ended;
-use office_run::{Ending, Routes, open_and_run, open_and_serve};
+use office_commands::{Ending, Routes, open_and_run, open_and_serve};
 use office_store::Fault;
 use office_words::{Disk, Order, UnknownDisk, disk_of};
 use sqlite::{Start, Unknown, Wary};

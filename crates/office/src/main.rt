@@ -1,7 +1,7 @@
 //! The program `office` of the records disposal office.
 //!
 //! Its words are read by `office_words`. The commands that open no office are done by
-//! `office_plan`; those on the office in a file by `office_run`, which opens it (`disks`). What is
+//! `office_plan`; those on the office in a file by `office_commands`, which opens it (`disks`). What is
 //! here joins the process's own streams, files and socket to them: for `serve` a port is bound
 //! first.
 #![tactic(auto)]
@@ -12,7 +12,7 @@ use crate::disks::{Place, disk_of_process, run_from, serve_in};
 use clap::error::ErrorKind;
 use office_base::{Stop, read_whole};
 use office_plan::{due_to, plan_to};
-use office_run::{Ending, report};
+use office_commands::{Ending, report};
 use office_store::Fault;
 use office_words::{Disk, Order, Words, order_of, read_words};
 use std::fs::File;

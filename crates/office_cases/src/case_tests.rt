@@ -4,7 +4,9 @@ use crate::hold_tests::{COVERED, LEAVING, LIFTED, STAYING, TREE};
 use crate::office_tests::{BASE, EVENTS, FEW_OF_MANY, HELD, HERE, NOTHING_TO_DO, RUN, SPENDING};
 use crate::request_tests::{BODIES, HEADS};
 use crate::rows::{Subject, must_hold};
-use crate::{answer_tests, due_tests, plan_tests, proof_tests, reply_tests, word_tests};
+use crate::{
+    answer_tests, calls, due_tests, machine_calls, plan_tests, proof_tests, reply_tests, word_tests,
+};
 use std::alloc::Global;
 use std::test::Fail;
 
@@ -51,9 +53,16 @@ fn requests(alloc: Global) -> Result<(), Fail> {
     Ok(())
 }
 
+/// The public calls.
+fn calls(alloc: Global) -> Result<(), Fail> {
+    calls::parts(alloc).ok_or("a call of the tree, of holds or of certificates")?;
+    Ok(machine_calls::machine(alloc).ok_or("a call of the office in memory")?)
+}
+
 #[test]
 fn cases(rt: HostRuntime) -> Result<(), Fail> {
     let alloc = rt.alloc();
+    calls(alloc)?;
     acts(alloc)?;
     words(alloc)?;
     holds(alloc)?;

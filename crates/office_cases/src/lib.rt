@@ -20,11 +20,15 @@ mod answer_tests;
 #[cfg(test)]
 mod answering;
 #[cfg(test)]
+mod calls;
+#[cfg(test)]
 mod case_tests;
 #[cfg(test)]
 mod due_tests;
 #[cfg(test)]
 mod hold_tests;
+#[cfg(test)]
+mod machine_calls;
 #[cfg(test)]
 mod office_tests;
 #[cfg(test)]

@@ -1,9 +1,10 @@
 //! The register of what is due on a day.
-ghost use Rattle.std.specs.Prelude.{◌≡◌, ◌∷◌, [], IfOk, OnOk};
+ghost use Rattle.std.specs.Prelude.{◌≡◌, ◌∷◌, [], IfOk, OnErr, OnOk};
 ghost use Rattle.std.specs.Fmt.{decimal};
 ghost use Rattle.std.specs.Io.KnownBytes.{Appends};
 ghost use Rattle.std.specs.Option.{option_copied, unwrap_or};
 ghost use Rattle.std.specs.String.{string_bytes};
+ghost use Rattle.office_base.specs.Output.{AppendsSome};
 ghost use Rattle.office_terms.specs.Words.{action_word};
 ghost use Rattle.office_rules.specs.Registers.{due_reported};
 ghost use Rattle.office_csv.specs.Registers.{day_field, due_columns, due_line, row_of, yes_or_no};
@@ -29,9 +30,13 @@ pub(crate) fn action_of<'a>(reported: &'a DueRow<'a>) -> &'a str
 }
 
 /// Writes the header of the due register. `Memory` comes where memory was refused, and then nothing
-/// was written; `Io` where the writer answered an error, and some of the header may have gone out.
+/// was written; `Io` where the writer answered an error, and the first bytes of the header, or none,
+/// went out.
 pub fn write_due_header<W: Write>(alloc: Global, out: &mut W) -> Result<(), Stop>
-    ensures { OnOk result (Appends (W.contents out.old) (W.contents out.new) (row_of due_columns)) }
+    ensures ok { OnOk result
+        (Appends (W.contents out.old) (W.contents out.new) (row_of due_columns)) }
+    ensures err { OnErr result
+        (AppendsSome (W.contents out.old) (W.contents out.new) (row_of due_columns)) }
 {
     put_fields(
         alloc,
@@ -74,8 +79,15 @@ fn put_line<'a, W: Write>(
     texts: &'a DueTexts,
     out: &mut W,
 ) -> Result<(), Stop>
-    ensures { OnOk result
+    ensures ok { OnOk result
         (Appends (W.contents out.old) (W.contents out.new)
+        (row_of (string_bytes texts.now.number ∷ reported.now.ref_text.now
+        ∷ reported.now.class.now ∷ reported.now.schedule.now
+        ∷ action_word reported.now.action ∷ texts.now.due.items
+        ∷ unwrap_or (option_copied reported.now.held) [] ∷ yes_or_no reported.now.counts
+        ∷ []))) }
+    ensures err { OnErr result
+        (AppendsSome (W.contents out.old) (W.contents out.new)
         (row_of (string_bytes texts.now.number ∷ reported.now.ref_text.now
         ∷ reported.now.class.now ∷ reported.now.schedule.now
         ∷ action_word reported.now.action ∷ texts.now.due.items
@@ -98,16 +110,17 @@ fn put_line<'a, W: Write>(
     )
 }
 
-/// Writes the line of a record that is due. `Memory` and `Io` come as of the header: at `Io` some
-/// of the line may have gone out.
-#[tactic(auto, unfolding(crate::specs::Registers::due_line))]
+/// Writes the line of a record that is due. `Memory` and `Io` come as of the header.
+#[tactic(auto, using(crate::proofs::Unwritten::none_some), unfolding(crate::specs::Registers::due_line))]
 pub fn write_due_line<W: Write>(
     alloc: Global,
     reported: &DueRow<'_>,
     out: &mut W,
 ) -> Result<(), Stop>
-    ensures { OnOk result
+    ensures ok { OnOk result
         (Appends (W.contents out.old) (W.contents out.new) (due_line (due_reported reported.now))) }
+    ensures err { OnErr result (AppendsSome (W.contents out.old) (W.contents out.new)
+        (due_line (due_reported reported.now))) }
 {
     let texts = due_texts(alloc, reported)?;
     put_line(alloc, reported, &texts, out)

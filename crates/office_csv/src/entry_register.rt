@@ -1,9 +1,10 @@
 //! The register of the entries of all runs.
-ghost use Rattle.std.specs.Prelude.{◌≡◌, ◌∷◌, [], IfOk, OnOk};
+ghost use Rattle.std.specs.Prelude.{◌≡◌, ◌∷◌, [], IfOk, OnErr, OnOk};
 ghost use Rattle.std.specs.Fmt.{decimal};
 ghost use Rattle.std.specs.Io.KnownBytes.{Appends};
 ghost use Rattle.std.specs.Option.{unwrap_or};
 ghost use Rattle.std.specs.String.{string_bytes};
+ghost use Rattle.office_base.specs.Output.{AppendsSome};
 ghost use Rattle.hex.specs.Hex.{encode_lower};
 ghost use Rattle.office_proof.specs.Outcomes.{outcome_word};
 ghost use Rattle.office_rules.specs.Registers.{entry_view};
@@ -17,11 +18,13 @@ use std::alloc::Global;
 use std::io::Write;
 
 /// Writes the header of the register of entries. `Memory` comes where memory was refused, and then
-/// nothing was written; `Io` where the writer answered an error, and some of the header may have
-/// gone out.
+/// nothing was written; `Io` where the writer answered an error, and the first bytes of the
+/// header, or none, went out.
 pub fn write_entry_header<W: Write>(alloc: Global, out: &mut W) -> Result<(), Stop>
-    ensures { OnOk result
+    ensures ok { OnOk result
         (Appends (W.contents out.old) (W.contents out.new) (row_of entry_columns)) }
+    ensures err { OnErr result
+        (AppendsSome (W.contents out.old) (W.contents out.new) (row_of entry_columns)) }
 {
     put_fields(
         alloc,
@@ -85,8 +88,16 @@ fn put_line<W: Write>(
     texts: &Written,
     out: &mut W,
 ) -> Result<(), Stop>
-    ensures { OnOk result
+    ensures ok { OnOk result
         (Appends (W.contents out.old) (W.contents out.new)
+        (row_of (string_bytes texts.now.run ∷ string_bytes texts.now.number
+        ∷ reported.now.ref_text.now ∷ outcome_word reported.now.entry.now.outcome
+        ∷ reported.now.entry.now.class ∷ reported.now.entry.now.schedule
+        ∷ texts.now.due.items ∷ unwrap_or reported.now.entry.now.hold []
+        ∷ reported.now.entry.now.confirmed_by ∷ string_bytes texts.now.length
+        ∷ string_bytes texts.now.digest ∷ []))) }
+    ensures err { OnErr result
+        (AppendsSome (W.contents out.old) (W.contents out.new)
         (row_of (string_bytes texts.now.run ∷ string_bytes texts.now.number
         ∷ reported.now.ref_text.now ∷ outcome_word reported.now.entry.now.outcome
         ∷ reported.now.entry.now.class ∷ reported.now.entry.now.schedule
@@ -114,16 +125,17 @@ fn put_line<W: Write>(
     )
 }
 
-/// Writes the line of an entry. `Memory` and `Io` come as of the header: at `Io` some of the line
-/// may have gone out.
-#[tactic(auto, unfolding(crate::specs::Registers::entry_line))]
+/// Writes the line of an entry. `Memory` and `Io` come as of the header.
+#[tactic(auto, using(crate::proofs::Unwritten::none_some), unfolding(crate::specs::Registers::entry_line))]
 pub fn write_entry_line<W: Write>(
     alloc: Global,
     reported: &EntryRow<'_>,
     out: &mut W,
 ) -> Result<(), Stop>
-    ensures { OnOk result
+    ensures ok { OnOk result
         (Appends (W.contents out.old) (W.contents out.new) (entry_line (entry_view reported.now))) }
+    ensures err { OnErr result (AppendsSome (W.contents out.old) (W.contents out.new)
+        (entry_line (entry_view reported.now))) }
 {
     let texts = texts_of(alloc, reported)?;
     put_line(alloc, reported, &texts, out)

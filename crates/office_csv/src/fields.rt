@@ -1,13 +1,14 @@
 //! The fields of a register's row as text, and the row of them.
-ghost use Rattle.std.specs.Prelude.{◌≡◌, [], IfOk, OnOk, map};
+ghost use Rattle.std.specs.Prelude.{◌≡◌, [], IfOk, OnErr, OnOk, map};
 ghost use Rattle.std.specs.Fmt.{decimal};
 ghost use Rattle.std.specs.Io.KnownBytes.{Appends};
 ghost use Rattle.std.specs.Option.{option_copied, unwrap_or};
 ghost use Rattle.std.specs.String.{string_bytes};
+ghost use Rattle.office_base.specs.Output.{AppendsSome};
 ghost use Rattle.office_csv.specs.Registers.{day_field, row_of};
 
 use csv::WriterBuilder;
-use office_base::{Memory, Stop};
+use office_base::{Memory, Stop, put_bytes};
 use office_days::{Deadline, DueDay};
 use office_terms::Code;
 use std::alloc::Global;
@@ -60,12 +61,16 @@ fn row_of(alloc: Global, fields: &[&[u8]]) -> Result<Vec<u8>, Memory>
     }
 }
 
-/// Writes the row of these fields.
+/// Writes the row of these fields. At an error the first bytes of it, or none, went out.
+#[tactic(auto, using(crate::proofs::Unwritten::none_some))]
 pub(crate) fn put_fields<W: Write>(alloc: Global, fields: &[&[u8]], out: &mut W) -> Result<(), Stop>
-    ensures { OnOk result
+    ensures ok { OnOk result
         (Appends (W.contents out.old) (W.contents out.new)
+        (row_of (map (λ field. field.now) fields.now))) }
+    ensures err { OnErr result
+        (AppendsSome (W.contents out.old) (W.contents out.new)
         (row_of (map (λ field. field.now) fields.now))) }
 {
     let row = row_of(alloc, fields)?;
-    out.write_all(&row).or(Err(Stop::Io))
+    put_bytes(row.as_slice(), out).or(Err(Stop::Io))
 }

@@ -1,8 +1,9 @@
 //! The register of what is overdue on a day.
-ghost use Rattle.std.specs.Prelude.{◌≡◌, ◌∷◌, [], IfOk, OnOk};
+ghost use Rattle.std.specs.Prelude.{◌≡◌, ◌∷◌, [], IfOk, OnErr, OnOk};
 ghost use Rattle.std.specs.Io.KnownBytes.{Appends};
 ghost use Rattle.std.specs.Option.{option_copied, unwrap_or};
 ghost use Rattle.std.specs.String.{string_bytes};
+ghost use Rattle.office_base.specs.Output.{AppendsSome};
 ghost use Rattle.office_days.specs.Due.{deadline_from};
 ghost use Rattle.office_terms.specs.Words.{action_word};
 ghost use Rattle.office_rules.specs.Registers.{due_reported};
@@ -17,11 +18,13 @@ use std::alloc::Global;
 use std::io::Write;
 
 /// Writes the header of the overdue register. `Memory` comes where memory was refused, and then
-/// nothing was written; `Io` where the writer answered an error, and some of the header may have
-/// gone out.
+/// nothing was written; `Io` where the writer answered an error, and the first bytes of the
+/// header, or none, went out.
 pub fn write_overdue_header<W: Write>(alloc: Global, out: &mut W) -> Result<(), Stop>
-    ensures { OnOk result
+    ensures ok { OnOk result
         (Appends (W.contents out.old) (W.contents out.new) (row_of overdue_columns)) }
+    ensures err { OnErr result
+        (AppendsSome (W.contents out.old) (W.contents out.new) (row_of overdue_columns)) }
 {
     put_fields(
         alloc,
@@ -54,8 +57,13 @@ fn put_line<'a, W: Write>(
     deadline: &'a [u8],
     out: &mut W,
 ) -> Result<(), Stop>
-    ensures { OnOk result
+    ensures ok { OnOk result
         (Appends (W.contents out.old) (W.contents out.new)
+        (row_of (string_bytes texts.now.number ∷ row.now.ref_text.now ∷ row.now.class.now
+        ∷ row.now.schedule.now ∷ action_word row.now.action ∷ texts.now.due.items
+        ∷ deadline.now ∷ unwrap_or (option_copied row.now.held) [] ∷ []))) }
+    ensures err { OnErr result
+        (AppendsSome (W.contents out.old) (W.contents out.new)
         (row_of (string_bytes texts.now.number ∷ row.now.ref_text.now ∷ row.now.class.now
         ∷ row.now.schedule.now ∷ action_word row.now.action ∷ texts.now.due.items
         ∷ deadline.now ∷ unwrap_or (option_copied row.now.held) [] ∷ []))) }
@@ -77,16 +85,19 @@ fn put_line<'a, W: Write>(
 }
 
 /// Writes the line of a record that is overdue, so many days after its due day. `Memory` and `Io`
-/// come as of the header: at `Io` some of the line may have gone out.
-#[tactic(auto, unfolding(crate::specs::Registers::overdue_line))]
+/// come as of the header.
+#[tactic(auto, using(crate::proofs::Unwritten::none_some), unfolding(crate::specs::Registers::overdue_line))]
 pub fn write_overdue_line<W: Write>(
     alloc: Global,
     row: &DueRow<'_>,
     days: ConfirmDays,
     out: &mut W,
 ) -> Result<(), Stop>
-    ensures { OnOk result
+    ensures ok { OnOk result
         (Appends (W.contents out.old) (W.contents out.new)
+        (overdue_line days (due_reported row.now))) }
+    ensures err { OnErr result
+        (AppendsSome (W.contents out.old) (W.contents out.new)
         (overdue_line days (due_reported row.now))) }
 {
     let texts = due_texts(alloc, row)?;

@@ -13,3 +13,4 @@ pub mod RunSteps
 pub mod StepFates
 pub mod StepsSoFar
 pub mod Ended
+pub mod Outcomes

@@ -217,13 +217,6 @@ PerformsOne g a result old new =
     Asked g old new (result ≡ Err fault.Reopen) (OnOk result (new.is_poisoned ≡ false))
     (λ s At. PerformedOne g s a result old new At)
 
--- a list of acts is performed
-abbrev pub PerformsAll : {S T : Type 0} (g : Ghosts S) (acts : List Act) (given found : List Answer)
-    (result : Result T Fault) (old new : DeskState S) → Type 0
-PerformsAll g acts given found result old new =
-    Asked g old new ((result ≡ Err fault.Reopen) × (found ≡ given)) (OnOk result (new.is_poisoned ≡ false))
-    (λ s At. Performed g s acts given found result new At)
-
 -- the open run is resumed
 abbrev pub ResumesRun : {S : Type 0} (g : Ghosts S) (result : Result Answer Fault) (old new : DeskState S) → Type 0
 ResumesRun g result old new =

@@ -7,16 +7,18 @@ use Rattle.office_rules.specs.Acts.{after, answers}
 use Rattle.office_rules.specs.State.{State}
 use Rattle.office_rules.specs.declared.act.Act.{Act}
 use Rattle.office_rules.specs.declared.answer.Answer.{Answer}
-use Rattle.office_desk.specs.Calling.{AreDone, WasAt}
 use Rattle.office_desk.specs.Desk.{DeskState}
 use Rattle.office_desk.specs.Leaving.{IsAt}
+use Rattle.office_desk.specs.Outcomes.{ActsCameTo, AreAnswered, all_done}
 
 -- a desk at the state did all of the acts, over a clean disk, and answered them behind what was answered before
 pub record DidAll {S : Type 0} (g : Ghosts S) (s : State) (acts : List Act) (given found : List Answer)
     (old new : DeskState S) : Type 0 where
   pub clean : HasCleanDisk (state g new.held)
   pub began : IsAt g s old
-  pub done : AreDone g s acts given found new (WasAt g s old new)
+  pub told : List Answer
+  pub answered : AreAnswered s acts (all_done told) given found new
+  pub came : ActsCameTo s acts (all_done told) (state g new.held)
 
 -- offices that do the entries of one log in order
 pub record OneLog {S : Type 0} (g : Ghosts S) : Type 0 where

@@ -106,16 +106,16 @@ own_class o = option_and_then (λ (head : Record). head.class) o
 
 pub above-with_head : (xs : List Aggregation) (records : List Record) (q : ℕ) (f : Record → Record) → ((head : Record) → (f head).aggregation ≡ head.aggregation) → (r : ℕ) → above_in xs (edited records q f) r ≡ above_in xs records r
 unfolding above_in
-above-with_head xs records q f child_lists r = seen_edited (above_head xs) records q r f (λ x. ap (chain_of xs) (child_lists x))
+above-with_head xs records q f containers r = seen_edited (above_head xs) records q r f (λ x. ap (chain_of xs) (containers x))
 
 pub class-with_head : (xs : List Aggregation) (records : List Record) (q : ℕ) (f : Record → Record) → ((head : Record) → (f head).aggregation ≡ head.aggregation) → ((head : Record) → (f head).class ≡ head.class) → (r : ℕ) → class_in xs (edited records q f) r ≡ class_in xs records r
 unfolding class_in
-class-with_head xs records q f child_lists classes r =
-    λ i. first_some (seen_edited own_class records q r f classes i ∷ own_classes xs (above-with_head xs records q f child_lists r i))
+class-with_head xs records q f containers classes r =
+    λ i. first_some (seen_edited own_class records q r f classes i ∷ own_classes xs (above-with_head xs records q f containers r i))
 
 pub held-with_head : (holds : HoldMap) (tree : TreeState) (q : ℕ) (f : Record → Record) → ((head : Record) → (f head).aggregation ≡ head.aggregation) → ((head : Record) → (f head).class ≡ head.class) → (r : ℕ) → is_held holds (with_head tree q f) r ≡ is_held holds tree r
-held-with_head holds tree q f child_lists classes r =
-    λ i. held_in holds r (above-with_head tree.aggregations tree.records q f child_lists r i) (class-with_head tree.aggregations tree.records q f child_lists classes r i)
+held-with_head holds tree q f containers classes r =
+    λ i. held_in holds r (above-with_head tree.aggregations tree.records q f containers r i) (class-with_head tree.aggregations tree.records q f containers classes r i)
 
 pub held-set_record_schedule : (holds : HoldMap) (tree : TreeState) (q : ℕ) (schedule : Option (List ℕ)) (r : ℕ) → is_held holds tree r ≡ true → is_held holds (with_record_schedule tree q schedule) r ≡ true
 held-set_record_schedule holds tree q schedule r e = held-with_head holds tree q (λ head. record head { schedule = schedule }) (λ _. refl) (λ _. refl) r ∙ e
@@ -240,7 +240,7 @@ ContainerFits xs (Some head) = (0 < head.aggregation) × (head.aggregation ≤ l
 
 pub container_fits : (tree : TreeState) → IsSound tree → (r : ℕ) (o : Option Record) → numbered tree.records r ≡ o → ContainerFits tree.aggregations o
 container_fits tree sound r None e = tt
-container_fits tree sound r (Some head) e = sound.names.child_lists r head e
+container_fits tree sound r (Some head) e = sound.names.containers r head e
 
 above_pushed : (xs : List Aggregation) (x : Aggregation) → ArePlaced xs → (o : Option Record) → ContainerFits xs o → above_head (xs ++ x ∷ []) o ≡ above_head xs o
 above_pushed xs x placed None w = refl

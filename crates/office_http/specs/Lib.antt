@@ -3,6 +3,8 @@ pub mod Fields
 pub mod Messages
 pub mod Numbers
 pub mod Paths
-pub mod RequestPlans
+pub mod Receiving
 pub mod Replies
+pub mod RequestPlans
 pub mod Requests
+pub mod Sides

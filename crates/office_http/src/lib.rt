@@ -7,10 +7,17 @@
 //! body that a head announces. The answer is a [`Reply`], and [`write_reply`] writes it;
 //! [`check_reply`] and [`failure_reply`] give the answers whose bytes are fixed. What is asked for
 //! is done by others, who know the office: here are heads, fields, paths and lengths alone.
+//!
+//! [`receive`] reads all of a request from a stream, within its limits: what it asks for is an
+//! [`Operation`], and the bytes of its acts are an [`ActsBody`], of which no act is looked at yet.
+//! [`Timed`] is a side of a connection that has [`LONGEST`] seconds for all that is read of it, or
+//! written to it.
 #![tactic(auto)]
 
+mod acts_body;
 mod body;
 mod check;
+mod deadline;
 mod failure;
 mod fields;
 mod fixed;
@@ -18,18 +25,22 @@ mod method;
 mod numbers;
 mod paths;
 mod reading;
+mod receiving;
 mod reply;
 mod request_plan;
 mod status;
 mod want;
 mod writing;
 
+pub use acts_body::ActsBody;
 pub use body::read_body;
 pub use check::Check;
+pub use deadline::{LONGEST, Timed};
 pub use failure::Failure;
 pub use fixed::{check_reply, failure_reply};
 pub use paths::Routes;
 pub use reading::{Head, LONGEST_HEAD, MOST_FIELDS, law_of_requests, read_head};
+pub use receiving::{Asked, Operation, ReceiveStop, Received, receive};
 pub use reply::{Allow, Body, Kind, Reply};
 pub use request_plan::{RequestPlan, is_head_in, plan_in};
 pub use status::Status;

@@ -29,7 +29,7 @@ chain_there xs forest (suc m) (Some a) there = (there, chain_there xs forest m (
 
 head_there : (tree : TreeState) → IsSound tree → (r : ℕ) (o : Option Record) → numbered tree.records r ≡ o → AllByRecursion (IsThere tree.aggregations) (above_head tree.aggregations o)
 head_there tree sound r None at = tt
-head_there tree sound r (Some head) at = chain_there tree.aggregations sound.forest head.aggregation (Some head.aggregation) (sound.names.child_lists r head at)
+head_there tree sound r (Some head) at = chain_there tree.aggregations sound.forest head.aggregation (Some head.aggregation) (sound.names.containers r head at)
 
 pub above_there : (tree : TreeState) → IsSound tree → (r : ℕ) → All (λ a. (0 < a) × (a ≤ length tree.aggregations)) (above tree r)
 unfolding above_in

@@ -5,6 +5,6 @@
 
 pub use office_base::Io;
 pub use office_plan::{PlanStop, due_to, plan_to};
-pub use office_run::run_on;
+pub use office_commands::run_on;
 pub use office_wire::{Service, serve_all};
 pub use office_words::{Order, Words, order_of, read_words};

@@ -66,7 +66,7 @@ sound_empty = record {
       class_schedules = λ code class e. none_found code_cmp code class _ e;
       aggregation_classes = λ a it e. none_numbered a it _ e;
       root_classes = λ a it e up. none_numbered a it _ e;
-      child_lists = λ r head e. none_numbered r head _ e;
+      containers = λ r head e. none_numbered r head _ e;
       record_classes = λ r head e. none_numbered r head _ e;
       record_schedules = λ r head e. none_numbered r head _ e;
     };

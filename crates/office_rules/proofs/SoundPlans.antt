@@ -52,7 +52,7 @@ class_by : (tree : TreeState) → ArePlaced tree.aggregations → NamesExist tre
 class_by tree placed names r head (Some code) e own =
     (code, class_own tree.aggregations tree.records r head code e own, named_is tree.classes head.class code own (names.record_classes r head e))
 class_by tree placed names r head None e own =
-    let container = names.child_lists r head e in
+    let container = names.containers r head e in
     let of_container = class_from tree placed names head.aggregation head.aggregation container.0 (omega arith) container.1 in
     (of_container.0, class_above tree.aggregations tree.records r head e own ∙ of_container.1, of_container.2)
 

@@ -1,7 +1,7 @@
 -- One table more has rows of its form, after those that are taken in before it. Source: own.
 use Rattle.std.proofs.Common.{All, map, take}
 use Rattle.sqlite_trees.specs.Tree.{Trees}
-use Rattle.office_saving.specs.Encoded.{entry_shown}
+use Rattle.office_store.specs.Encoded.{entry_shown}
 use Rattle.office_sql.specs.Bags.{rows_of}
 use Rattle.office_sql.specs.Editions.{schedules_of}
 use Rattle.office_sql.specs.declared.editions.Edition.{Edition}

@@ -19,7 +19,7 @@ use Rattle.office_sql.specs.declared.editions.Edition.TheVariants as edition
 use Rattle.office_sql.specs.Reads.{IsByKey, bag_of, key_of}
 use Rattle.office_sql.specs.declared.tables.OfficeTable.{OfficeTable}
 use Rattle.office_sql.specs.declared.tables.OfficeTable.TheVariants as table
-use Rattle.office_saving.specs.Encoded.{entry_shown}
+use Rattle.office_store.specs.Encoded.{entry_shown}
 use Rattle.office_store.specs.Adopted.{HoldNoOffice}
 use Rattle.office_store.specs.RepresentsRows.{RepresentsRowsIn, events_in}
 use Rattle.office_store.specs.Stored.{AllReadable, IsCertificateRow, IsRowOf, IsSchedulePair, aggregation_pair, class_pair, event_pair, hold_pair, number_row, record_pair, run_pair, schedule_pair, target_pair, text_row}

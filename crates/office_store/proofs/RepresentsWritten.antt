@@ -23,7 +23,7 @@ use Rattle.office_rules.specs.declared.rows.RowWrite.TheVariants as row_write
 use Rattle.office_rules.proofs.FreeRefs.{refs_free}
 use Rattle.office_rules.proofs.RowWrites.{EachHasStatus, follow_has_place, follow_has_status, put_has_place, put_has_status, written}
 use Rattle.office_rules.proofs.SoundMaps.{entry_total}
-use Rattle.office_saving.specs.Written.{AreWritten, IsWritten}
+use Rattle.office_store.specs.Written.{AreWritten, IsWritten}
 use Rattle.office_store.specs.RepresentsRows.{RepresentsRows}
 use Rattle.office_store.proofs.RowsInOrder.{in_entries, in_numbered, rows_in_order}
 use Rattle.office_store.proofs.TargetRows.{IsShortTarget}

@@ -4,7 +4,7 @@ use Rattle.sqlite.specs.State.{State}
 use Rattle.sqlite_value.specs.Order.{Row}
 use Rattle.office_rules.specs.Tables.{TableLists}
 use Rattle.office_rules.specs.declared.table_row.Row.{Row as TableRow}
-use Rattle.office_saving.specs.Encoded.{entry_shown}
+use Rattle.office_store.specs.Encoded.{entry_shown}
 use Rattle.office_sql.specs.Editions.{IsTableOf, schedules_table}
 use Rattle.office_sql.specs.Office.{IsAtRestOver}
 use Rattle.office_sql.specs.declared.editions.Edition.{Edition}

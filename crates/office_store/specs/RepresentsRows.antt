@@ -20,8 +20,8 @@ use Rattle.office_sql.specs.declared.editions.Edition.TheVariants as edition
 use Rattle.office_sql.specs.Office.{IsAtRest, IsAtRestOver, IsOfficeIn}
 use Rattle.office_sql.specs.Schema.{aggregations, certificates, classes, contents, entries, events, holds, office, records, runs, schedules, targets}
 use Rattle.office_sql.specs.Shown.{certificate_row, content_row, office_row}
-use Rattle.office_saving.specs.Written.{AreWritten}
-use Rattle.office_saving.specs.Encoded.{aggregation_shown, class_shown, entry_shown, event_shown, hold_shown, record_shown, run_shown, schedule_shown, target_shown}
+use Rattle.office_store.specs.Written.{AreWritten}
+use Rattle.office_store.specs.Encoded.{aggregation_shown, class_shown, entry_shown, event_shown, hold_shown, record_shown, run_shown, schedule_shown, target_shown}
 
 -- the table has these rows and no others, in any order
 abbrev pub Has : Table → Trees → List Row → Type 0

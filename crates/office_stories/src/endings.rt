@@ -2,7 +2,7 @@
 use crate::failures::must;
 use crate::repeating::unescaped;
 use office_base::Refusal;
-use office_run::Ending;
+use office_commands::Ending;
 use office_store::Fault;
 use std::alloc::Global;
 use std::test::Fail;

@@ -43,7 +43,7 @@ NamesExist-set_class_schedule tree class schedule sound there = record {
       ];
   aggregation_classes = λ a it e. Names-amended tree.classes class (as_scheduled schedule) it.class (sound.names.aggregation_classes a it e);
   root_classes = sound.names.root_classes;
-  child_lists = sound.names.child_lists;
+  containers = sound.names.containers;
   record_classes = λ r head e. Names-amended tree.classes class (as_scheduled schedule) head.class (sound.names.record_classes r head e);
   record_schedules = sound.names.record_schedules;
 }
@@ -81,9 +81,9 @@ NamesExist-with_head tree r change sound fit = record {
   class_schedules = sound.names.class_schedules;
   aggregation_classes = sound.names.aggregation_classes;
   root_classes = sound.names.root_classes;
-  child_lists = λ n head e.
+  containers = λ n head e.
       let came = numbered_edited tree.records r change head n e in
-      let container = sound.names.child_lists n came.0 came.1 in
+      let container = sound.names.containers n came.0 came.1 in
       elim came.2 [
         | inl same ↦ subst (λ (k : Record). (0 < k.aggregation) × (k.aggregation ≤ length tree.aggregations)) (sym same) container
         | inr changed ↦

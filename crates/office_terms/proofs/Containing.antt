@@ -34,7 +34,7 @@ head_place : (tree : TreeState) → IsSound tree → (r n : ℕ) (o : Option Rec
     → slice_get (above_head tree.aggregations o) n ≡ reached tree.aggregations n (option_and_then (λ (head : Record). Some head.aggregation) o)
 head_place tree sound r n None e = sym (reached_none tree.aggregations n)
 head_place tree sound r n (Some head) e =
-    let container = sound.names.child_lists r head e in
+    let container = sound.names.containers r head e in
     chain_place tree.aggregations sound.forest head.aggregation n (Some head.aggregation) (λ a is. let same : head.aggregation ≡ a = cc in (omega (arith, container.0, same), omega (arith, same)))
 
 -- place n above a record has what n steps from its own aggregation lead to

@@ -44,7 +44,7 @@ NamesExist-add_schedule tree code schedule sound = record {
   class_schedules = λ c class e. insert_keeps tree.schedules code schedule class.schedule (sound.names.class_schedules c class e);
   aggregation_classes = sound.names.aggregation_classes;
   root_classes = sound.names.root_classes;
-  child_lists = sound.names.child_lists;
+  containers = sound.names.containers;
   record_classes = sound.names.record_classes;
   record_schedules = λ r head e. Names-insert tree.schedules code schedule head.schedule (sound.names.record_schedules r head e);
 }
@@ -77,7 +77,7 @@ NamesExist-add_class tree code class sound there = record {
   ];
   aggregation_classes = λ a it e. Names-insert tree.classes code class it.class (sound.names.aggregation_classes a it e);
   root_classes = sound.names.root_classes;
-  child_lists = sound.names.child_lists;
+  containers = sound.names.containers;
   record_classes = λ r head e. Names-insert tree.classes code class head.class (sound.names.record_classes r head e);
   record_schedules = sound.names.record_schedules;
 }
@@ -171,7 +171,7 @@ NamesExist-add_aggregation tree x sound named own = record {
     | inr new ↦ subst (λ (k : Aggregation). Names tree.classes k.class) new.1 named
   ];
   root_classes = roots_push tree.aggregations x sound.names.root_classes own;
-  child_lists = λ r head e. let container = sound.names.child_lists r head e in (container.0, omega (arith, container.1, length-append tree.aggregations (x ∷ [])));
+  containers = λ r head e. let container = sound.names.containers r head e in (container.0, omega (arith, container.1, length-append tree.aggregations (x ∷ [])));
   record_classes = sound.names.record_classes;
   record_schedules = sound.names.record_schedules;
 }
@@ -261,7 +261,7 @@ NamesExist-edited tree a f sound named roots = record {
         | inr changed ↦ subst (λ (k : Aggregation). Names tree.classes k.class) (sym changed.1) (named came.0 old)
       ];
   root_classes = roots;
-  child_lists = λ r head e. let container = sound.names.child_lists r head e in (container.0, omega (arith, container.1, length-edited tree.aggregations a f));
+  containers = λ r head e. let container = sound.names.containers r head e in (container.0, omega (arith, container.1, length-edited tree.aggregations a f));
   record_classes = sound.names.record_classes;
   record_schedules = sound.names.record_schedules;
 }
@@ -293,8 +293,8 @@ NamesExist-add_record tree head sound container class schedule = record {
   class_schedules = sound.names.class_schedules;
   aggregation_classes = sound.names.aggregation_classes;
   root_classes = sound.names.root_classes;
-  child_lists = λ r it e. elim (numbered_push tree.records head it r e) [
-    | inl old ↦ sound.names.child_lists r it old
+  containers = λ r it e. elim (numbered_push tree.records head it r e) [
+    | inl old ↦ sound.names.containers r it old
     | inr new ↦ subst (λ (k : Record). (0 < k.aggregation) × (k.aggregation ≤ length tree.aggregations)) new.1 container
   ];
   record_classes = λ r it e. elim (numbered_push tree.records head it r e) [
@@ -355,7 +355,7 @@ IsSound-empty = record {
     class_schedules = λ c class e. absurd (no_class c class e);
     aggregation_classes = λ a it e. absurd (nothing a it e);
     root_classes = λ a it e root. absurd (nothing a it e);
-    child_lists = λ r head e. absurd (nothing r head e);
+    containers = λ r head e. absurd (nothing r head e);
     record_classes = λ r head e. absurd (nothing r head e);
     record_schedules = λ r head e. absurd (nothing r head e);
   };

@@ -147,7 +147,7 @@ names_hold schedules es aggregations records of_classes of_aggregations of_recor
       class_schedules = λ code class e. at_codes (λ it. contains_key schedules it.schedule ≡ true) es of_classes code class e;
       aggregation_classes = λ a it e. names_of_there (from_entries es) it.class (named a it e).0;
       root_classes = λ a it e none. root_of it.parent it.class (named a it e).1 none;
-      child_lists = λ r head e. (le_of 1 head.aggregation (headed r head e).0, le_of head.aggregation (length aggregations) (headed r head e).1);
+      containers = λ r head e. (le_of 1 head.aggregation (headed r head e).0, le_of head.aggregation (length aggregations) (headed r head e).1);
       record_classes = λ r head e. names_of_there (from_entries es) head.class (headed r head e).2;
       record_schedules = λ r head e. names_of_there schedules head.schedule (headed r head e).3;
     }
@@ -162,5 +162,5 @@ aggregations_pass schedules classes aggregations records names = from_numbers (�
 pub records_pass : (schedules : FinMap code_cmp Schedule) (classes : FinMap code_cmp Class) (aggregations : List Aggregation) (records : List Record) → NamesExist schedules classes aggregations records → All (λ head. is_record_named schedules classes (length aggregations) head ≡ true) records
 records_pass schedules classes aggregations records names = from_numbers (λ head. is_record_named schedules classes (length aggregations) head ≡ true) records
     (λ r head e. all_4 (nat_le 1 head.aggregation) (nat_le head.aggregation (length aggregations)) (is_there classes head.class) (is_there schedules head.schedule)
-    (le_to 1 head.aggregation (names.child_lists r head e).0) (le_to head.aggregation (length aggregations) (names.child_lists r head e).1)
+    (le_to 1 head.aggregation (names.containers r head e).0) (le_to head.aggregation (length aggregations) (names.containers r head e).1)
     (there_of_names classes head.class (names.record_classes r head e)) (there_of_names schedules head.schedule (names.record_schedules r head e)))

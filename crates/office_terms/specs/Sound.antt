@@ -39,7 +39,7 @@ pub record NamesExist (schedules : FinMap code_cmp Schedule) (classes : FinMap c
       → IsSome (get schedules class.schedule)
   pub aggregation_classes : (a : ℕ) (it : Aggregation) → numbered aggregations a ≡ Some it → Names classes it.class
   pub root_classes : RootsHaveClasses aggregations
-  pub child_lists : (r : ℕ) (head : Record) → numbered records r ≡ Some head
+  pub containers : (r : ℕ) (head : Record) → numbered records r ≡ Some head
       → (0 < head.aggregation) × (head.aggregation ≤ length aggregations)
   pub record_classes : (r : ℕ) (head : Record) → numbered records r ≡ Some head → Names classes head.class
   pub record_schedules : (r : ℕ) (head : Record) → numbered records r ≡ Some head → Names schedules head.schedule

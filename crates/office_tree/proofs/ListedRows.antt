@@ -95,7 +95,7 @@ listed_aggregations classes xs others records numbers first next previous class 
 reached : (tree : TreeState) (a : ℕ) (old new : Aggregation) (reclassifies : Bool) → IsSound tree → numbered tree.aggregations a ≡ Some old → AggregationStays old new → LeavesClass reclassifies old new → (r : ℕ) (head : Record) → numbered tree.records r ≡ Some head
     → (reclassifies && is_heir (put tree.aggregations a new) a head) ≡ false → class_in (put tree.aggregations a new) tree.records r ≡ class_in tree.aggregations tree.records r
 reached tree a old new true sound there stays leaves r head here apart =
-    class_left tree.aggregations a new old tree.records r head (placed_in tree.aggregations sound.forest sound.names.root_classes) here (sound.names.child_lists r head here) there stays.parent apart
+    class_left tree.aggregations a new old tree.records r head (placed_in tree.aggregations sound.forest sound.names.root_classes) here (sound.names.containers r head here) there stays.parent apart
 reached tree a old new false sound there stays leaves r head here apart = class_put tree a new old r head sound here there stays.parent (leaves refl)
 
 -- an aggregation that was edited, with those that it reaches on the lists of their classes

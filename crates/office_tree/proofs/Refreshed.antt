@@ -4,7 +4,7 @@ use Rattle.std.specs.Prelude.{◌⊎◌, false}
 use Rattle.std.specs.Option.{option_map}
 use Rattle.std.proofs.lemmas.Bool.{cases_lt}
 use Rattle.std.proofs.lemmas.Bool.Decides.{nat_tests}
-use Rattle.office_tree.specs.ChildLists.{IsLastBelow, child_lists_of}
+use Rattle.office_tree.specs.ChildLists.{IsLastBelow, containers_of}
 use Rattle.office_terms.specs.Lists.{numbered, put}
 use Rattle.office_tree.specs.RecordCaches.{AreRecordCaches, IsRecordCache}
 use Rattle.office_tree.specs.Stored.{AreDone, is_in}
@@ -45,7 +45,7 @@ head_at records others i head same low is =
 
 pub record DoneAbove {A : Type 0} (IsRight : ℕ → A → Type 0) (records : List Record) (container at : ℕ) (old new : List A) : Type 0 where
   pub count : length new ≡ length old
-  pub there : 0 < at → numbered (child_lists_of records) at ≡ Some container
+  pub there : 0 < at → numbered (containers_of records) at ≡ Some container
   pub done : (r : ℕ) (it : A) (head : Record) → at < r → numbered new r ≡ Some it → numbered records r ≡ Some head
       → IsRight r it ⊎ ((is_in container head ≡ false) × (numbered old r ≡ Some it))
   pub left : (r : ℕ) → r ≤ at → numbered new r ≡ numbered old r
@@ -53,28 +53,28 @@ pub record DoneAbove {A : Type 0} (IsRight : ℕ → A → Type 0) (records : Li
 is_same : (m n : ℕ) → (m == n) ≡ true → m ≡ n
 is_same m n h = grind (arith, nat_tests)
 
-container_reported : (records : List Record) (r : ℕ) (head : Record) → numbered records r ≡ Some head → numbered (child_lists_of records) r ≡ Some head.aggregation
+container_reported : (records : List Record) (r : ℕ) (head : Record) → numbered records r ≡ Some head → numbered (containers_of records) r ≡ Some head.aggregation
 container_reported records r head there = numbered_map (λ (it : Record). it.aggregation) records r ∙ ap (option_map (λ (it : Record). it.aggregation)) there
 
 -- a record that is not of that container is not meant
-not_meant : (records : List Record) (container r : ℕ) (head : Record) → numbered records r ≡ Some head → (numbered (child_lists_of records) r ≡ Some container → ⊥) → (b : Bool) → (head.aggregation == container) ≡ b → (head.aggregation == container) ≡ false
+not_meant : (records : List Record) (container r : ℕ) (head : Record) → numbered records r ≡ Some head → (numbered (containers_of records) r ≡ Some container → ⊥) → (b : Bool) → (head.aggregation == container) ≡ b → (head.aggregation == container) ≡ false
 not_meant records container r head there apart true test = absurd (apart (container_reported records r head there ∙ ap Some (is_same head.aggregation container test)))
 not_meant records container r head there apart false test = test
 
 -- none are yet
-pub done_last : {A : Type 0} (IsRight : ℕ → A → Type 0) (records : List Record) (container at : ℕ) (old : List A) → IsLastBelow (child_lists_of records) container (length (child_lists_of records) + 1) at → DoneAbove IsRight records container at old old
+pub done_last : {A : Type 0} (IsRight : ℕ → A → Type 0) (records : List Record) (container at : ℕ) (old : List A) → IsLastBelow (containers_of records) container (length (containers_of records) + 1) at → DoneAbove IsRight records container at old old
 done_last IsRight records container at old is = record {
   count = λ _. length old;
   there = is.there;
   done = λ r it head low e there.
-      let within = numbered_within (child_lists_of records) r head.aggregation (container_reported records r head there) in
+      let within = numbered_within (containers_of records) r head.aggregation (container_reported records r head there) in
       inr (not_meant records container r head there (is.last r low (omega (arith, within.1))) (head.aggregation == container) refl, e);
   left = λ r low. λ _. numbered old r;
 }
 
 -- one record more, and the one before it is the next
 pub done_before : {A : Type 0} (IsRight : ℕ → A → Type 0) (records : List Record) (container at before : ℕ) (old new next : List A) → DoneAbove IsRight records container at old new → length next ≡ length new
-    → ((it : A) → numbered next at ≡ Some it → IsRight at it) → ((r : ℕ) → r ≢ at → numbered next r ≡ numbered new r) → IsLastBelow (child_lists_of records) container at before
+    → ((it : A) → numbered next at ≡ Some it → IsRight at it) → ((r : ℕ) → r ≢ at → numbered next r ≡ numbered new r) → IsLastBelow (containers_of records) container at before
     → DoneAbove IsRight records container before old next
 done_before {A} IsRight records container at before old new next so_far many here others is = record {
   count = many ∙ so_far.count;

@@ -264,7 +264,7 @@ container_kept xs ys n forest same a (Some head) low =
     ap (list_any (λ b. b == a)) (chain_kept xs ys n forest same head.aggregation (Some head.aggregation) (λ b e. let is : head.aggregation ≡ b = cc in omega (arith, is, low head refl)))
 
 container_low : (tree : TreeState) → IsSound tree → (r : ℕ) (head : Record) → numbered tree.records r ≡ Some head → head.aggregation ≤ length tree.aggregations
-container_low tree sound r head e = (sound.names.child_lists r head e).1
+container_low tree sound r head e = (sound.names.containers r head e).1
 
 -- aggregations that keep the parents of those of a sound tree keep what is below each
 below_kept : (tree : TreeState) (ys : List Aggregation) → IsSound tree → ((a : ℕ) → a ≤ length tree.aggregations → parent_of (numbered ys a) ≡ parent_of (numbered tree.aggregations a))

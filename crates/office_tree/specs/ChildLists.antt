@@ -8,31 +8,31 @@ use Rattle.office_terms.specs.declared.aggregation.Aggregation.{Aggregation}
 use Rattle.office_terms.specs.declared.head.Record.{Record}
 
 -- the container of each record: the aggregation that it is in
-abbrev pub child_lists_of : List Record → List ℕ
-child_lists_of records = map (λ head. head.aggregation) records
+abbrev pub containers_of : List Record → List ℕ
+containers_of records = map (λ head. head.aggregation) records
 
 -- the container of each aggregation: its parent, 0 where it has none
 abbrev pub parents_of : List Aggregation → List ℕ
 parents_of aggregations = map (λ it. unwrap_or it.parent 0) aggregations
 
 -- of the things below n, the last of that container has the number q; 0 where there is none
-pub record IsLastBelow (child_lists : List ℕ) (container n q : ℕ) : Type 0 where
+pub record IsLastBelow (containers : List ℕ) (container n q : ℕ) : Type 0 where
   pub below : q < n
-  pub there : 0 < q → numbered child_lists q ≡ Some container
-  pub last : (r : ℕ) → q < r → r < n → numbered child_lists r ≡ Some container → ⊥
+  pub there : 0 < q → numbered containers q ≡ Some container
+  pub last : (r : ℕ) → q < r → r < n → numbered containers r ≡ Some container → ⊥
 
 -- the last thing of each of so many aggregations, and the one before each thing in its aggregation, if it is in one
-pub record AreLinked (child_lists : List ℕ) (count : ℕ) (last before : List ℕ) : Type 0 where
+pub record AreLinked (containers : List ℕ) (count : ℕ) (last before : List ℕ) : Type 0 where
   pub aggregations : length last ≡ count
-  pub things : length before ≡ length child_lists
-  pub within : (r a : ℕ) → numbered child_lists r ≡ Some a → a ≤ count
-  pub lasts : (a q : ℕ) → numbered last a ≡ Some q → IsLastBelow child_lists a (length child_lists + 1) q
-  pub befores : (r a q : ℕ) → 0 < a → numbered child_lists r ≡ Some a → numbered before r ≡ Some q
-      → IsLastBelow child_lists a r q
+  pub things : length before ≡ length containers
+  pub within : (r a : ℕ) → numbered containers r ≡ Some a → a ≤ count
+  pub lasts : (a q : ℕ) → numbered last a ≡ Some q → IsLastBelow containers a (length containers + 1) q
+  pub befores : (r a q : ℕ) → 0 < a → numbered containers r ≡ Some a → numbered before r ≡ Some q
+      → IsLastBelow containers a r q
 
 -- so the records of a tree are linked
 abbrev pub HasLinks : TreeState → List ℕ → List ℕ → Type 0
-HasLinks tree last before = AreLinked (child_lists_of tree.records) (length tree.aggregations) last before
+HasLinks tree last before = AreLinked (containers_of tree.records) (length tree.aggregations) last before
 
 -- and so are aggregations in theirs
 abbrev pub HasChildren : List Aggregation → List ℕ → List ℕ → Type 0

@@ -1,7 +1,7 @@
 //! What is in each aggregation, as linked lists: its records, or the aggregations in it.
 ghost use Rattle.std.specs.Prelude.{◌≡◌, ◌++◌, ◌∷◌, ◌+◌, ◌<◌, ◌≤◌, ℕ, List, [], IfOk, IfSome, OnOk, Some, length, vec_len, vec_capacity};
 ghost use Rattle.std.specs.Option.{unwrap_or};
-ghost use Rattle.office_tree.specs.ChildLists.{AreLinked, HasChildren, child_lists_of};
+ghost use Rattle.office_tree.specs.ChildLists.{AreLinked, HasChildren, containers_of};
 ghost use Rattle.office_terms.specs.Lists.{numbered};
 ghost use Rattle.office_terms.specs.declared.aggregation.Aggregation.{Aggregation};
 ghost use Rattle.office_terms.specs.declared.head.Record.{Record};
@@ -88,9 +88,9 @@ impl ChildLists {
     /// Adds the next aggregation, for which there is room.
     pub(crate) fn add_container(&mut self)
         requires { vec_len self.old.last < vec_capacity self.old.last }
-        ensures linked { (child_lists : List ℕ) (count : ℕ)
-            → AreLinked child_lists count self.old.last.items self.old.before.items
-            → AreLinked child_lists (count + 1) self.new.last.items self.new.before.items }
+        ensures linked { (containers : List ℕ) (count : ℕ)
+            → AreLinked containers count self.old.last.items self.old.before.items
+            → AreLinked containers (count + 1) self.new.last.items self.new.before.items }
         ensures before { self.new.before ≡ self.old.before }
     {
         push_row(&mut self.last, 0);
@@ -102,9 +102,9 @@ impl ChildLists {
         requires few { length self.old.before.items ≤ 200_000 }
         requires low { 0 < container }
         requires high { container ≤ length self.old.last.items }
-        ensures { (child_lists : List ℕ) (count : ℕ)
-            → AreLinked child_lists count self.old.last.items self.old.before.items
-            → AreLinked (child_lists ++ container ∷ []) count self.new.last.items
+        ensures { (containers : List ℕ) (count : ℕ)
+            → AreLinked containers count self.old.last.items self.old.before.items
+            → AreLinked (containers ++ container ∷ []) count self.new.last.items
             self.new.before.items }
     {
         let before = self.last(container);
@@ -115,9 +115,9 @@ impl ChildLists {
     /// Adds the next thing, for which there is room, which is in no aggregation.
     pub(crate) fn add_outside(&mut self)
         requires { vec_len self.old.before < vec_capacity self.old.before }
-        ensures { (child_lists : List ℕ) (count : ℕ)
-            → AreLinked child_lists count self.old.last.items self.old.before.items
-            → AreLinked (child_lists ++ 0 ∷ []) count self.new.last.items self.new.before.items }
+        ensures { (containers : List ℕ) (count : ℕ)
+            → AreLinked containers count self.old.last.items self.old.before.items
+            → AreLinked (containers ++ 0 ∷ []) count self.new.last.items self.new.before.items }
     {
         push_row(&mut self.before, 0);
     }
@@ -128,9 +128,9 @@ impl ChildLists {
         requires room { vec_len self.old.before < vec_capacity self.old.before }
         requires few { length self.old.before.items ≤ 200_000 }
         requires within { IfSome parent (λ p. (0 < p) × (p ≤ length self.old.last.items)) }
-        ensures { (child_lists : List ℕ) (count : ℕ)
-            → AreLinked child_lists count self.old.last.items self.old.before.items
-            → AreLinked (child_lists ++ unwrap_or parent 0 ∷ []) count self.new.last.items
+        ensures { (containers : List ℕ) (count : ℕ)
+            → AreLinked containers count self.old.last.items self.old.before.items
+            → AreLinked (containers ++ unwrap_or parent 0 ∷ []) count self.new.last.items
             self.new.before.items }
     {
         match parent {
@@ -154,7 +154,7 @@ fn empty_child_lists(alloc: Global, count: usize) -> Result<ChildLists, Memory>
 }
 
 /// So many aggregations with these records.
-pub(crate) fn child_lists_of(
+pub(crate) fn link_records(
     alloc: Global,
     count: usize,
     records: &[Record],
@@ -163,7 +163,7 @@ pub(crate) fn child_lists_of(
         → (0 < head.aggregation) × (head.aggregation ≤ count) }
     requires few { length records.now ≤ 200_000 }
     ensures { IfOk result
-        (λ child_lists. AreLinked (child_lists_of records.now) count child_lists.last.items
+        (λ child_lists. AreLinked (containers_of records.now) count child_lists.last.items
         child_lists.before.items) }
 {
     let mut child_lists = empty_child_lists(alloc, count)?;
@@ -175,7 +175,10 @@ pub(crate) fn child_lists_of(
 }
 
 /// These aggregations, each in its parent.
-pub(crate) fn children_of(alloc: Global, aggregations: &[Aggregation]) -> Result<ChildLists, Memory>
+pub(crate) fn link_aggregations(
+    alloc: Global,
+    aggregations: &[Aggregation],
+) -> Result<ChildLists, Memory>
     requires within { (a : ℕ) (it : Aggregation) → numbered aggregations.now a ≡ Some it
         → IfSome it.parent (λ p. (0 < p) × (p ≤ length aggregations.now)) }
     requires few { length aggregations.now ≤ 50_000 }

@@ -119,12 +119,12 @@ impl ClassIndex {
     pub(crate) fn reindex_container(
         &mut self,
         rows: &Rows<'_>,
-        child_lists: &ChildLists,
+        records_in: &ChildLists,
         container: AggNo,
     )
         requires sound { IsSound rows.now }
-        requires linked { HasLinks rows.now child_lists.now.last.items
-            child_lists.now.before.items }
+        requires linked { HasLinks rows.now records_in.now.last.items
+            records_in.now.before.items }
         requires there { IsTrue (has_aggregation rows.now container) }
         requires numbers { HaveNumbers rows.now.classes (from_entries self.old.numbers.entries)
             (length self.old.class_lists.first.items) }
@@ -145,10 +145,10 @@ impl ClassIndex {
             rows.now.records) rows.now.records (is_in container)
             self.old.class_lists.class.items self.new.class_lists.class.items }
     {
-        let mut at = child_lists.last(container);
+        let mut at = records_in.last(container);
         while at != 0 {
             self.reindex(rows, at);
-            at = child_lists.before(at);
+            at = records_in.before(at);
         }
     }
 }

@@ -14,7 +14,7 @@ ghost use Rattle.office_terms.specs.Tree.{chain, chain_of, code_cmp};
 ghost use Rattle.office_terms.specs.declared.aggregation.Aggregation.{Aggregation};
 
 use crate::Tree;
-use crate::child_lists::{ChildLists, child_lists_of, children_of};
+use crate::child_lists::{ChildLists, link_aggregations, link_records};
 use crate::class_index::{ClassIndex, class_index_of};
 use crate::indexing::{index_of_aggregations, index_of_records};
 use crate::record_caches::RecordCaches;
@@ -270,8 +270,8 @@ struct Kept {
     schedule_numbers: ScheduleNumbers,
     record_caches: RecordCaches,
     summaries: Vec<AggregationSummary>,
-    child_lists: ChildLists,
-    children: ChildLists,
+    records_in: ChildLists,
+    aggregations_in: ChildLists,
     class_index: ClassIndex,
 }
 
@@ -281,24 +281,24 @@ fn kept_of(alloc: Global, rows: &Rows<'_>) -> Result<Kept, Memory>
     ensures stored { IfOk result
         (λ kept. IsStored rows.now (from_entries kept.by_aggregation_ref.entries)
         (from_entries kept.by_record_ref.entries) kept.schedule_numbers
-        kept.record_caches.rows.items kept.summaries.items kept.child_lists.last.items
-        kept.child_lists.before.items) }
+        kept.record_caches.rows.items kept.summaries.items kept.records_in.last.items
+        kept.records_in.before.items) }
     ensures class_index { IfOk result
         (λ kept. AreListed rows.now.classes rows.now.aggregations rows.now.records
         (from_entries kept.class_index.numbers.entries) kept.class_index.class_lists.first.items
         kept.class_index.class_lists.next.items kept.class_index.class_lists.previous.items
         kept.class_index.class_lists.class.items) }
-    ensures children { IfOk result
-        (λ kept. HasChildren rows.now.aggregations kept.children.last.items
-        kept.children.before.items) }
+    ensures aggregations_in { IfOk result
+        (λ kept. HasChildren rows.now.aggregations kept.aggregations_in.last.items
+        kept.aggregations_in.before.items) }
 {
     let schedule_numbers = schedule_numbers_of(alloc, rows.schedules)?;
     let summaries = summaries_of(alloc, rows.aggregations, rows.records, rows.statuses)?;
     let record_caches = record_caches_of(alloc, rows, &schedule_numbers, &summaries)?;
     let by_aggregation_ref = index_of_aggregations(alloc, rows.aggregations)?;
     let by_record_ref = index_of_records(alloc, rows.records)?;
-    let child_lists = child_lists_of(alloc, rows.aggregations.len(), rows.records)?;
-    let children = children_of(alloc, rows.aggregations)?;
+    let records_in = link_records(alloc, rows.aggregations.len(), rows.records)?;
+    let aggregations_in = link_aggregations(alloc, rows.aggregations)?;
     let class_index = class_index_of(alloc, rows)?;
     Ok(Kept {
         by_aggregation_ref,
@@ -306,8 +306,8 @@ fn kept_of(alloc: Global, rows: &Rows<'_>) -> Result<Kept, Memory>
         schedule_numbers,
         record_caches,
         summaries,
-        child_lists,
-        children,
+        records_in,
+        aggregations_in,
         class_index,
     })
 }
@@ -367,8 +367,8 @@ impl Tree {
             schedule_numbers: kept.schedule_numbers,
             record_caches: kept.record_caches,
             summaries: kept.summaries,
-            child_lists: kept.child_lists,
-            children: kept.children,
+            records_in: kept.records_in,
+            aggregations_in: kept.aggregations_in,
             class_index: kept.class_index,
         }))
     }

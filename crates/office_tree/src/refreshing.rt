@@ -36,7 +36,7 @@ impl RecordCaches {
     )
         requires sound { IsSound rows.now }
         requires there { IsTrue (has_record rows.now record_no) }
-        requires planned { AreNumbered rows.now.schedules schedule_numbers.now }
+        requires schedules { AreNumbered rows.now.schedules schedule_numbers.now }
         requires last { AreLastAdditions summaries.now rows.now.aggregations rows.now.records }
         requires many { length self.old.rows.items ≡ length rows.now.records }
         ensures count { length self.new.rows.items ≡ length self.old.rows.items }
@@ -59,7 +59,7 @@ impl RecordCaches {
         class: ClassNo,
     )
         requires sound { IsSound rows.now }
-        requires planned { AreNumbered rows.now.schedules schedule_numbers.now }
+        requires schedules { AreNumbered rows.now.schedules schedule_numbers.now }
         requires last { AreLastAdditions summaries.now rows.now.aggregations rows.now.records }
         requires many { length self.old.rows.items ≡ length rows.now.records }
         requires class_lists { AreClassLists class_lists.now.first.items class_lists.now.next.items
@@ -88,24 +88,24 @@ impl RecordCaches {
         rows: &Rows<'_>,
         schedule_numbers: &ScheduleNumbers,
         summaries: &[AggregationSummary],
-        child_lists: &ChildLists,
+        records_in: &ChildLists,
         container: AggNo,
     )
         requires sound { IsSound rows.now }
-        requires planned { AreNumbered rows.now.schedules schedule_numbers.now }
+        requires schedules { AreNumbered rows.now.schedules schedule_numbers.now }
         requires last { AreLastAdditions summaries.now rows.now.aggregations rows.now.records }
         requires many { length self.old.rows.items ≡ length rows.now.records }
-        requires linked { HasLinks rows.now child_lists.now.last.items
-            child_lists.now.before.items }
+        requires linked { HasLinks rows.now records_in.now.last.items
+            records_in.now.before.items }
         requires there { IsTrue (has_aggregation rows.now container) }
         ensures count { length self.new.rows.items ≡ length self.old.rows.items }
         ensures refreshed { AreRefreshed schedule_numbers.now rows.now (is_in container)
             self.old.rows.items self.new.rows.items }
     {
-        let mut at = child_lists.last(container);
+        let mut at = records_in.last(container);
         while at != 0 {
             self.refresh(rows, schedule_numbers, summaries, at);
-            at = child_lists.before(at);
+            at = records_in.before(at);
         }
     }
 }
@@ -119,17 +119,17 @@ pub(crate) fn refresh_inheriting(
     rows: &Rows<'_>,
     schedule_numbers: &ScheduleNumbers,
     summaries: &[AggregationSummary],
-    child_lists: &ChildLists,
-    children: &ChildLists,
+    records_in: &ChildLists,
+    aggregations_in: &ChildLists,
     from: AggNo,
 )
     requires sound { IsSound rows.now }
-    requires planned { AreNumbered rows.now.schedules schedule_numbers.now }
+    requires schedules { AreNumbered rows.now.schedules schedule_numbers.now }
     requires last { AreLastAdditions summaries.now rows.now.aggregations rows.now.records }
     requires many { length record_caches.old.rows.items ≡ length rows.now.records }
-    requires linked { HasLinks rows.now child_lists.now.last.items child_lists.now.before.items }
-    requires children { HasChildren rows.now.aggregations children.now.last.items
-        children.now.before.items }
+    requires linked { HasLinks rows.now records_in.now.last.items records_in.now.before.items }
+    requires aggregations_in { HasChildren rows.now.aggregations aggregations_in.now.last.items
+        aggregations_in.now.before.items }
     requires there { IsTrue (has_aggregation rows.now from) }
     requires numbers { HaveNumbers rows.now.classes (from_entries class_index.old.numbers.entries)
         (length class_index.old.class_lists.first.items) }
@@ -154,9 +154,9 @@ pub(crate) fn refresh_inheriting(
         rows.now.records) rows.now.records (is_heir rows.now.aggregations from)
         class_index.old.class_lists.class.items class_index.new.class_lists.class.items }
 {
-    record_caches.refresh_container(rows, schedule_numbers, summaries, child_lists, from);
-    class_index.reindex_container(rows, child_lists, from);
-    let mut child = children.last(from);
+    record_caches.refresh_container(rows, schedule_numbers, summaries, records_in, from);
+    class_index.reindex_container(rows, records_in, from);
+    let mut child = aggregations_in.last(from);
     while child != 0 {
         if !rows.has_own_class(child) {
             refresh_inheriting(
@@ -165,12 +165,12 @@ pub(crate) fn refresh_inheriting(
                 rows,
                 schedule_numbers,
                 summaries,
-                child_lists,
-                children,
+                records_in,
+                aggregations_in,
                 child,
             );
         }
-        child = children.before(child);
+        child = aggregations_in.before(child);
     }
 }
 
@@ -182,18 +182,18 @@ pub(crate) fn refresh_reached(
     rows: &Rows<'_>,
     schedule_numbers: &ScheduleNumbers,
     summaries: &[AggregationSummary],
-    child_lists: &ChildLists,
-    children: &ChildLists,
+    records_in: &ChildLists,
+    aggregations_in: &ChildLists,
     aggregation: AggNo,
     reclassifies: bool,
 )
     requires sound { IsSound rows.now }
-    requires planned { AreNumbered rows.now.schedules schedule_numbers.now }
+    requires schedules { AreNumbered rows.now.schedules schedule_numbers.now }
     requires last { AreLastAdditions summaries.now rows.now.aggregations rows.now.records }
     requires many { length record_caches.old.rows.items ≡ length rows.now.records }
-    requires linked { HasLinks rows.now child_lists.now.last.items child_lists.now.before.items }
-    requires children { HasChildren rows.now.aggregations children.now.last.items
-        children.now.before.items }
+    requires linked { HasLinks rows.now records_in.now.last.items records_in.now.before.items }
+    requires aggregations_in { HasChildren rows.now.aggregations aggregations_in.now.last.items
+        aggregations_in.now.before.items }
     requires there { IsTrue (has_aggregation rows.now aggregation) }
     requires numbers { HaveNumbers rows.now.classes (from_entries class_index.old.numbers.entries)
         (length class_index.old.class_lists.first.items) }
@@ -226,18 +226,12 @@ pub(crate) fn refresh_reached(
             rows,
             schedule_numbers,
             summaries,
-            child_lists,
-            children,
+            records_in,
+            aggregations_in,
             aggregation,
         );
     } else {
-        record_caches.refresh_container(
-            rows,
-            schedule_numbers,
-            summaries,
-            child_lists,
-            aggregation,
-        );
+        record_caches.refresh_container(rows, schedule_numbers, summaries, records_in, aggregation);
     }
 }
 
@@ -249,7 +243,7 @@ pub(crate) fn record_caches_of(
     summaries: &[AggregationSummary],
 ) -> Result<RecordCaches, Memory>
     requires sound { IsSound rows.now }
-    requires planned { AreNumbered rows.now.schedules schedule_numbers.now }
+    requires schedules { AreNumbered rows.now.schedules schedule_numbers.now }
     requires last { AreLastAdditions summaries.now rows.now.aggregations rows.now.records }
     ensures { IfOk result
         (λ record_caches. AreRecordCaches schedule_numbers.now rows.now record_caches.rows.items) }

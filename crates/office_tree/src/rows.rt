@@ -154,7 +154,7 @@ impl<'a> Rows<'a> {
     ) -> RecordCache
         requires sound { IsSound self.now }
         requires there { IsTrue (has_record self.now record_no) }
-        requires planned { AreNumbered self.now.schedules schedule_numbers.now }
+        requires schedules { AreNumbered self.now.schedules schedule_numbers.now }
         requires last { AreLastAdditions summaries.now self.now.aggregations self.now.records }
         ensures { IsRecordCache schedule_numbers.now self.now record_no result }
     {

@@ -155,7 +155,7 @@ fn note_additions(
 )
     requires forest { IsForest aggregations.now }
     requires roots { RootsHaveClasses aggregations.now }
-    requires child_lists { (r : ℕ) (head : Record) → numbered records.now r ≡ Some head
+    requires containers { (r : ℕ) (head : Record) → numbered records.now r ≡ Some head
         → (0 < head.aggregation) × (head.aggregation ≤ length aggregations.now) }
     requires few { length records.now ≤ 200_000 }
     requires statuses { length statuses.now ≡ length records.now }
@@ -185,7 +185,7 @@ pub(crate) fn summaries_of(
 ) -> Result<Vec<AggregationSummary>, Memory>
     requires forest { IsForest aggregations.now }
     requires roots { RootsHaveClasses aggregations.now }
-    requires child_lists { (r : ℕ) (head : Record) → numbered records.now r ≡ Some head
+    requires containers { (r : ℕ) (head : Record) → numbered records.now r ≡ Some head
         → (0 < head.aggregation) × (head.aggregation ≤ length aggregations.now) }
     requires few { length records.now ≤ 200_000 }
     requires statuses { length statuses.now ≡ length records.now }

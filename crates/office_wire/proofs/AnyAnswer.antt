@@ -7,24 +7,11 @@ use Rattle.office_desk.specs.Desk.{DeskState}
 use Rattle.office_json.specs.Lists.{NoActs, not_json, bad_act}
 use Rattle.office_http.specs.Replies.{Response}
 use Rattle.office_wire.specs.Answering.{AnyAnswer, ArePerformed, PerformsAsked, Resumes, Serves, RunsOutOfMemory, ReportsCertificate, ReportsContent, ReportsDue, ReportsOverdue, ReportsRecord}
-use Rattle.office_requests.specs.Receiving.{Wanted, refused, cut, acts, resumption, record_reported, content_reported, due_reported, overdue_reported, certificate_reported}
+use Rattle.office_http.specs.Receiving.{Wanted, refused, cut, acts, resumption, record_reported, content_reported, due_reported, overdue_reported, certificate_reported}
 use Rattle.office_wire.specs.Serving.{IsServed, LeavesServed}
 
 performed_any : {S : Type 0} (Reported : Response → Type 0) (g : Ghosts S) (t : State) (done : List Act) (desk : DeskState S) → ArePerformed Reported g t done desk → ArePerformed AnyAnswer g t done desk
-performed_any Reported g t done desk (inl it) = inl (record { formed = it.formed; reported = tt; represents = it.represents; fates = it.fates })
-performed_any Reported g t done desk (inr it) = inr (
-  it.0,
-  it.1,
-  record {
-    formed = it.2.formed;
-    within = it.2.within;
-    one_more = it.2.one_more;
-    reported = tt;
-    stops = it.2.stops;
-    leaves = it.2.leaves;
-    fates = it.2.fates;
-  },
-)
+performed_any Reported g t done desk it = record { outcome = it.outcome; reported = tt; leads = it.leads; came = it.came }
 
 asked_any : {S : Type 0} (Reported : Response → Type 0) (g : Ghosts S) (t : State) (asked : Result (List Act) NoActs) (desk : DeskState S) → PerformsAsked Reported g t asked desk → PerformsAsked AnyAnswer g t asked desk
 asked_any Reported g t (Ok done) desk it = performed_any Reported g t done desk it

@@ -1,7 +1,6 @@
 pub mod AnyAnswer
 pub mod Calls
 pub mod Connected
-pub mod ImportLines
 pub mod Imported
 pub mod Performed
 pub mod Replied

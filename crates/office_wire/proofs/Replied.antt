@@ -1,6 +1,6 @@
 -- The answer to a request that was received.
 use Rattle.std.proofs.Common.{◌≡◌, ◌⊎◌, ◌∙◌, ap, refl, subst, sym, inl, inr, ℕ, Bool, false, List, Option, Some, None, Result, Ok, Err}
-use Rattle.std.specs.Prelude.{IfSome, IsSome}
+use Rattle.std.specs.Prelude.{IfSome}
 use Rattle.std.proofs.lemmas.Result.{IfOk-weaker}
 use Rattle.httparse.specs.Grammar.{RequestHead}
 use Rattle.sqlite_trees.specs.declared.store.Store.{Ghosts}
@@ -16,11 +16,11 @@ use Rattle.office_http.proofs.PostedActs.{acts_are_no_head}
 use Rattle.office_base.specs.declared.output.Io.{Io}
 use Rattle.office_wire.specs.Calling.{AnsweredAt, CalledAt}
 use Rattle.office_wire.specs.Connections.{IsVisited}
-use Rattle.office_requests.specs.Receiving.{HasActs, IsAskedBy, IsReceived, IsOutOfMemory, Wanted, asked_for, cut}
-use Rattle.office_wire.specs.Serving.{AnswersNext, Breaks, GoneReplies, HasReply, InHalves, IsFailed, IsGoneReply, IsGoneServed, IsGoneToSend, IsNextReady, IsOneServed, IsReply, IsSent, IsServed, IsToSend, Replies, Sends, ServesOne, ReportsUnavailable}
-use Rattle.office_requests.specs.declared.receiving.Asked.{Asked}
-use Rattle.office_requests.specs.declared.receiving.Received.TheVariants as received
-use Rattle.office_requests.specs.declared.receiving.ReceiveStop.TheVariants as stop
+use Rattle.office_http.specs.Receiving.{HasActs, IsAskedBy, IsReceived, IsOutOfMemory, Wanted, asked_for, cut}
+use Rattle.office_wire.specs.Serving.{AnswersNext, Breaks, GoneReplies, HasReply, InHalves, IsFailed, IsGoneReply, IsGoneServed, IsGoneToSend, IsNextReady, IsOneServed, IsReply, IsSent, IsServed, IsSomeSent, IsToSend, Replies, Sends, ServesOne, ReportsUnavailable}
+use Rattle.office_http.specs.declared.receiving.Asked.{Asked}
+use Rattle.office_http.specs.declared.receiving.Received.TheVariants as received
+use Rattle.office_http.specs.declared.receiving.ReceiveStop.TheVariants as stop
 use Rattle.office_wire.specs.declared.serving.OutgoingReply.{OutgoingReply}
 use Rattle.office_wire.proofs.AnyAnswer.{served_leaves}
 use Rattle.office_wire.proofs.Calls.{answered, called, not_answered}
@@ -178,12 +178,12 @@ module _ {R W S : Type 0} (g : Ghosts S) (all : R → Option (List ℕ)) (reader
   undone None P same untouched = tt
   undone (Some it) P same untouched = inl (same, untouched)
 
-  broken : (bytes : Option (List ℕ)) (it : Option OutgoingReply) → IsSome it → CalledAt g old new (λ t. IsNextReady g t bytes (left ≡ reader) (Ok it) new)
-      → IfSome bytes (λ b. ((new ≡ old) × (after ≡ writer)) ⊎ CalledAt g old new (λ t. Breaks g t b (left ≡ reader) new))
+  broken : (bytes : Option (List ℕ)) (it : Option OutgoingReply) → IsSomeSent it (contents writer) (contents after) → CalledAt g old new (λ t. IsNextReady g t bytes (left ≡ reader) (Ok it) new)
+      → IfSome bytes (λ b. ((new ≡ old) × (after ≡ writer)) ⊎ CalledAt g old new (λ t. Breaks g t b (left ≡ reader) (contents writer) (contents after) new))
   broken None it some first = tt
-  broken (Some b) None some first = absurd (let wrong = some in cc)
+  broken (Some b) None some first = absurd some
   broken (Some b) (Some sent) some first =
-      inr (called g old new (λ t. IsNextReady g t (Some b) (left ≡ reader) (Ok (Some sent)) new) (λ t. Breaks g t b (left ≡ reader) new) first (λ t ready. (sent.is_head, response sent.reply, ready.ok)))
+      inr (called g old new (λ t. IsNextReady g t (Some b) (left ≡ reader) (Ok (Some sent)) new) (λ t. Breaks g t b (left ≡ reader) (contents writer) (contents after) new) first (λ t ready. (sent.is_head, response sent.reply, ready.ok, some)))
 
   pub halves_failed : (e : Io) → AnswersNext g all reader left (Err e) old new → new ≡ old → after ≡ writer → InHalves g all reader left contents writer after (Err e) old new
   halves_failed e next same untouched =
@@ -192,7 +192,7 @@ module _ {R W S : Type 0} (g : Ghosts S) (all : R → Option (List ℕ)) (reader
         first = next;
         unserved = (refl, same, untouched);
         second = tt;
-        err = undone (all reader) (λ bytes. CalledAt g old new (λ t. Breaks g t bytes (left ≡ reader) new)) same untouched;
+        err = undone (all reader) (λ bytes. CalledAt g old new (λ t. Breaks g t bytes (left ≡ reader) (contents writer) (contents after) new)) same untouched;
       }
 
   pub halves_sent : (it : Option OutgoingReply) (status : Result ℕ Io) → AnswersNext g all reader left (Ok it) old new → Sends it status (contents writer) (contents after)

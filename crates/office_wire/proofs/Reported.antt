@@ -10,7 +10,7 @@ use Rattle.office_http.specs.Replies.{Response, failure_response}
 use Rattle.office_http.specs.declared.failure.Failure.TheVariants as failure
 use Rattle.office_http.specs.declared.reply.Reply.{Reply}
 use Rattle.office_wire.specs.Answering.{AnyAnswer, ArePerformed, ArePerformedBy, IsAnswered, IsGiven, IsGivenAt, IsGivenUnavailable, IsGoneGiven, IsPerformed, IsUnavailable, PerformsAsked, RunsOutOfMemory, Serves, TakesMemory, gone_acts, gone_response}
-use Rattle.office_requests.specs.Receiving.{Wanted, acts, resumption}
+use Rattle.office_http.specs.Receiving.{Wanted, acts, resumption}
 use Rattle.office_wire.specs.Serving.{HasReply}
 use Rattle.office_wire.proofs.Calls.{answered}
 use Rattle.office_wire.proofs.Unavailable.{memory_unavailable}

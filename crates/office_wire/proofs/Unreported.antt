@@ -12,7 +12,7 @@ use Rattle.office_desk.specs.Desk.{DeskState}
 use Rattle.office_desk.specs.Leaving.{LeavesRowsOf}
 use Rattle.office_http.specs.Replies.{Response, response}
 use Rattle.office_http.specs.declared.reply.Reply.{Reply}
-use Rattle.office_requests.specs.Receiving.{content_reported}
+use Rattle.office_http.specs.Receiving.{content_reported}
 use Rattle.office_wire.specs.Answering.{AnyAnswer, IsGivenAt, IsUnreported}
 use Rattle.office_wire.specs.Replies.{fault_response}
 

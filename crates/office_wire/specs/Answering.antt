@@ -1,10 +1,9 @@
 -- What is answered to what is asked of the office, and where the desk is then. Source: own.
 use Rattle.std.specs.FinMap.{get}
-use Rattle.std.specs.Prelude.{◌≡◌, ◌≢◌, ◌⊎◌, ◌+◌, ◌≤◌, ℕ, ℤ, suc, IfOk, IsSome, IsTrue, List, MatchResult, [], length, take, Option, Some, None, Result, Ok, Err}
+use Rattle.std.specs.Prelude.{◌≡◌, ◌≢◌, ◌⊎◌, ℕ, ℤ, suc, IfOk, IsSome, IsTrue, List, MatchResult, [], Option, Some, None, Result, Ok, Err}
 use Rattle.sqlite.specs.Held.{state}
 use Rattle.sqlite_trees.specs.declared.store.Store.{Ghosts}
 use Rattle.office_base.specs.declared.refusal.Refusal.TheVariants as refusal
-use Rattle.office_rules.specs.Acts.{after, answers}
 use Rattle.office_rules.specs.Readings.{ending_entry, record_view}
 use Rattle.office_rules.specs.Registers.{AreDueRows, AreOverdueRows, DueRowView}
 use Rattle.office_rules.specs.Runs.{IsMidway, after_steps, open_run, whole}
@@ -16,9 +15,9 @@ use Rattle.office_store.specs.RepresentsRows.{LeavesOffices}
 use Rattle.office_store.specs.declared.fault.Fault.{Fault}
 use Rattle.office_store.specs.declared.fault.Fault.TheVariants as fault
 use Rattle.office_desk.specs.Desk.{DeskState}
-use Rattle.office_desk.specs.Fates.{LeavesFates, LeavesStepFates}
-use Rattle.office_desk.specs.Headline.{AreWellFormed}
-use Rattle.office_desk.specs.Leaving.{IsContentReported, IsOtherContent, LeavesOne, LeavesRowsOf, IsAt, StopsAt, StopsLeaving}
+use Rattle.office_desk.specs.Fates.{LeavesStepFates}
+use Rattle.office_desk.specs.Leaving.{IsContentReported, IsOtherContent, LeavesRowsOf, IsAt, StopsAt, StopsLeaving}
+use Rattle.office_desk.specs.Outcomes.{ActsCameTo, ActsLead, ActsOutcome, all_done, stopped}
 use Rattle.office_desk.specs.Resuming.{LeavesMidway}
 use Rattle.office_json.specs.Lists.{NoActs, not_json, bad_act, acts_in}
 use Rattle.office_http.specs.Replies.{Response, check_response, failure_response, response}
@@ -28,33 +27,23 @@ use Rattle.office_http.specs.declared.reply.Reply.{Reply}
 use Rattle.office_http.specs.declared.status.Status.TheVariants as status
 use Rattle.office_wire.specs.Calling.{AnsweredAt}
 use Rattle.office_wire.specs.declared.answering.Reported.{Reported}
-use Rattle.office_requests.specs.Receiving.{Wanted, refused, cut, acts, resumption, record_reported, content_reported, due_reported, overdue_reported, certificate_reported}
+use Rattle.office_http.specs.Receiving.{Wanted, refused, cut, acts, resumption, record_reported, content_reported, due_reported, overdue_reported, certificate_reported}
 use Rattle.office_wire.specs.Replies.{acts_response, answer_response, bad_act_response, certificate_response, content_response, due_response, fault_response, overdue_response, record_response, stopped_response}
 
 -- ---- acts; Reported says which answer is given
 
--- all acts were done, and a crash leaves the tables after them
-pub record AreDone {S : Type 0} (Reported : Response → Type 0) (g : Ghosts S) (t : State) (done : List Act)
+-- the answer to acts that came to this
+abbrev pub acts_reply : ActsOutcome → Response
+acts_reply (all_done told) = acts_response told
+acts_reply (stopped told f) = stopped_response told f
+
+-- acts were performed: they came to this, and that is answered
+pub record ArePerformed {S : Type 0} (Reported : Response → Type 0) (g : Ghosts S) (t : State) (done : List Act)
     (desk : DeskState S) : Type 0 where
-  pub formed : AreWellFormed done
-  pub reported : Reported (acts_response (answers t done))
-  pub represents : IsAt g (after t done) desk
-  pub fates : LeavesFates t done (state g desk.held)
-
--- a fault stopped them after so many: a crash leaves the tables after these or after one more
-pub record AreStopped {S : Type 0} (Reported : Response → Type 0) (g : Ghosts S) (t : State) (done : List Act)
-    (f : Fault) (n : ℕ) (desk : DeskState S) : Type 0 where
-  pub formed : AreWellFormed done
-  pub within : n ≤ length done
-  pub one_more : LeavesOne f n done
-  pub reported : Reported (stopped_response (answers t (take n done)) f)
-  pub stops : StopsAt (after t (take n done)).office f desk
-  pub leaves : StopsLeaving (after t (take n done)) (after t (take (n + 1) done)) f (state g desk.held)
-  pub fates : LeavesFates t done (state g desk.held)
-
-abbrev pub ArePerformed : {S : Type 0} → (Response → Type 0) → Ghosts S → State → List Act → DeskState S → Type 0
-ArePerformed Reported g t done desk =
-    AreDone Reported g t done desk ⊎ ((f : Fault) × (n : ℕ) × AreStopped Reported g t done f n desk)
+  pub outcome : ActsOutcome
+  pub reported : Reported (acts_reply outcome)
+  pub leads : ActsLead t done outcome desk
+  pub came : ActsCameTo t done outcome (state g desk.held)
 
 -- what bytes ask for, by what is read of them
 abbrev pub PerformsAsked : {S : Type 0} → (Response → Type 0) → Ghosts S → State → Result (List Act) NoActs

@@ -1,6 +1,7 @@
 -- How the writing of a register ends. Source: own.
-use Rattle.std.specs.Prelude.{◌≡◌, ◌⊎◌, ℕ, ℤ, IfErr, IsTrue, List, OnOk, Option, Result, Err}
+use Rattle.std.specs.Prelude.{◌≡◌, ◌⊎◌, ℕ, ℤ, IfErr, IsTrue, List, OnErr, OnOk, Option, Result, Err}
 use Rattle.std.specs.Io.KnownBytes.{Appends}
+use Rattle.office_base.specs.Output.{AppendsSome}
 use Rattle.office_rules.specs.Registers.{AreDueRows, AreOverdueRows, DueRowView, entry_rows}
 use Rattle.office_rules.specs.State.{Office}
 use Rattle.office_csv.specs.Registers.{due_register, entry_register, overdue_register}
@@ -22,6 +23,11 @@ IsOverdueRegister day days office text =
 abbrev pub IsEntryRegister : Office → List ℕ → Type 0
 IsEntryRegister office text = text ≡ entry_register (entry_rows office)
 
+-- nothing went out, or the first bytes of a register of the office
+abbrev pub IsSomeOut : (Office → List ℕ → Type 0) → Office → Option (List ℕ) → Option (List ℕ) → Type 0
+IsSomeOut IsText office written after =
+    (after ≡ written) ⊎ ((text : List ℕ) × IsText office text × AppendsSome written after text)
+
 -- the writer failed, or memory ran out, or the desk was poisoned before
 abbrev pub IsExportStopped : {S : Type 0} → DeskState S → ExportStop → Type 0
 IsExportStopped old why =
@@ -32,5 +38,6 @@ pub record Exports {S W : Type 0} (IsText : Office → List ℕ → Type 0) (con
     (ended : Result (Unit {0}) ExportStop) (old new : DeskState S) : Type 0 where
   pub ok : OnOk ended ((text : List ℕ) × IsText old.office text × Appends (contents out) (contents after) text)
   pub err : IfErr ended (λ why. IsExportStopped old why)
+  pub some : OnErr ended (IsSomeOut IsText old.office (contents out) (contents after))
   pub kept : new ≡ old
   pub gone : IsTrue old.is_poisoned → (ended ≡ Err (stop.Fault fault.Reopen)) × (after ≡ out)

@@ -1,5 +1,5 @@
 -- Records that are added by the rows of a text of CSV. Source: own; the text is that of RFC 4180.
-use Rattle.std.specs.Prelude.{◌≡◌, ◌≢◌, ◌⊎◌, ◌+◌, ◌≤◌, ℕ, ℤ, Bool, true, false, IsTrue, List, MatchResult, [], ◌∷◌, ◌++◌, codes, length, option_map, take, Option, Result, Ok, Err}
+use Rattle.std.specs.Prelude.{◌≡◌, ◌≢◌, ◌⊎◌, ◌+◌, ℕ, ℤ, Bool, true, false, IsTrue, List, MatchResult, [], ◌∷◌, ◌++◌, codes, length, option_map, Option, Result, Ok, Err}
 use Rattle.std.specs.Fmt.{decimal}
 use Rattle.std.specs.Io.KnownBytes.{Appends}
 use Rattle.csv.specs.Reading.{strip_bom}
@@ -7,6 +7,7 @@ use Rattle.csv.specs.declared.parser.State.{State as Reading}
 use Rattle.csv.specs.declared.parser.State.TheVariants.{StartRecord}
 use Rattle.sqlite.specs.Held.{state}
 use Rattle.sqlite_trees.specs.declared.store.Store.{Ghosts}
+use Rattle.office_base.specs.Output.{AppendsSome}
 use Rattle.office_base.specs.Refusals.{refusal_number}
 use Rattle.office_base.specs.declared.refusal.Refusal.{Refusal}
 use Rattle.office_rules.specs.Acts.{step}
@@ -68,10 +69,6 @@ line_of number (kind.Refused why) = line_with number (codes " refused ") (refusa
 line_of number kind.Done = decimal number ++ codes "\n"
 line_of number (kind.Step r outcome) = decimal number ++ codes "\n"
 line_of number (kind.RunClosed n) = decimal number ++ codes "\n"
-
--- the first of these bytes were written, or none
-abbrev pub AppendsSome : Option (List ℕ) → Option (List ℕ) → List ℕ → Type 0
-AppendsSome old new bytes = (n : ℕ) × (n ≤ length bytes) × Appends old new (take n bytes)
 
 -- what stopped a row of seven fields: a fault, or its line could not be written whole
 abbrev pub DoStops : {S : Type 0} → Ghosts S → ℤ → State → ℕ → Fields → ImportStop → DeskState S → Option (List ℕ)

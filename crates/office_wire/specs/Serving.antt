@@ -1,8 +1,9 @@
 -- One request and its answer. Source: own; requests and the form of answers are those of RFC 9112.
-use Rattle.std.specs.Prelude.{◌≡◌, ◌⊎◌, ℕ, Bool, false, List, IfErr, IfOk, IfSome, IsSome, OnErr, Option, Some, None, Result, Err}
+use Rattle.std.specs.Prelude.{◌≡◌, ◌⊎◌, ℕ, Bool, false, List, IfErr, IfOk, IfSome, OnErr, Option, Some, None, Result, Err}
 use Rattle.std.specs.Io.KnownBytes.{Appends}
 use Rattle.httparse.specs.Grammar.{RequestHead}
 use Rattle.sqlite_trees.specs.declared.store.Store.{Ghosts}
+use Rattle.office_base.specs.Output.{AppendsSome}
 use Rattle.office_base.specs.declared.output.Io.{Io}
 use Rattle.office_rules.specs.State.{State}
 use Rattle.office_desk.specs.Desk.{DeskState}
@@ -15,7 +16,7 @@ use Rattle.office_http.specs.Requests.{Request, IsRequest, nothing, headless, as
 use Rattle.office_http.specs.declared.failure.Failure.TheVariants as failure
 use Rattle.office_wire.specs.Answering.{Answers, AnyAnswer, IsUnavailable, RunsOutOfMemory, Serves, TakesMemory, gone_response}
 use Rattle.office_wire.specs.Calling.{AnsweredAt, CalledAt}
-use Rattle.office_requests.specs.Receiving.{HasActs, Wanted, wanted}
+use Rattle.office_http.specs.Receiving.{HasActs, Wanted, wanted}
 
 -- an answer is written, to HEAD its head alone, and the status is its
 abbrev pub Writes : Bool → Response → ℕ → Option (List ℕ) → Option (List ℕ) → Type 0
@@ -59,9 +60,12 @@ Replies g t bytes unread status written after desk =
     ⊎ ((is_head : Bool) × (r : Response) × IsReply g t bytes unread is_head r desk
     × Writes is_head r status written after)
 
--- it was perhaps not written whole, as where the writer answered an error, and the desk is as if it had been
-abbrev pub Breaks : {S : Type 0} → Ghosts S → State → List ℕ → Type 0 → DeskState S → Type 0
-Breaks g t bytes unread desk = (is_head : Bool) × (r : Response) × IsReply g t bytes unread is_head r desk
+-- the first bytes of it were written, or none, as where the writer answered an error, and the desk is as if all had been
+abbrev pub Breaks : {S : Type 0} → Ghosts S → State → List ℕ → Type 0 → Option (List ℕ) → Option (List ℕ) → DeskState S
+    → Type 0
+Breaks g t bytes unread written after desk =
+    (is_head : Bool) × (r : Response) × IsReply g t bytes unread is_head r desk
+    × AppendsSome written after (response_text is_head r)
 
 -- ---- a poisoned desk
 
@@ -120,12 +124,16 @@ abbrev pub IsSent : Option OutgoingReply → ℕ → Option (List ℕ) → Optio
 IsSent None status written after = (status ≡ 0) × (after ≡ written)
 IsSent (Some it) status written after = Writes it.is_head (response it.reply) status written after
 
+-- the first bytes of it were written, or none; where nothing is to be written, nothing fails
+abbrev pub IsSomeSent : Option OutgoingReply → Option (List ℕ) → Option (List ℕ) → Type 0
+IsSomeSent None written after = ⊥
+IsSomeSent (Some it) written after = AppendsSome written after (response_text it.is_head (response it.reply))
+
 -- so the half of serving after it ends
 pub record Sends (sending : Option OutgoingReply) (status : Result ℕ Io) (written after : Option (List ℕ)) : Type 0
   where
     pub ok : IfOk status (λ code. IsSent sending code written after)
-    -- nothing is written where nothing is to be, so nothing fails
-    pub err : OnErr status (IsSome sending)
+    pub err : OnErr status (IsSomeSent sending written after)
 
 -- ---- calls at a desk
 
@@ -180,4 +188,5 @@ pub record InHalves {R W S : Type 0} (g : Ghosts S) (all : R → Option (List �
   -- so at an error nothing was done and nothing written, or the desk is as if the answer had been written
   pub err : OnErr status
       (IfSome (all reader)
-      (λ bytes. ((new ≡ old) × (after ≡ writer)) ⊎ CalledAt g old new (λ t. Breaks g t bytes (left ≡ reader) new)))
+      (λ bytes. ((new ≡ old) × (after ≡ writer)) ⊎ CalledAt g old new
+      (λ t. Breaks g t bytes (left ≡ reader) (contents writer) (contents after) new)))

@@ -3,7 +3,7 @@ ghost use Rattle.std.specs.FinMap.{get};
 ghost use Rattle.std.specs.Prelude.{◌≡◌, ◌⊎◌, IfErr, IfOk, IsTrue, false, option_map, string_bytes};
 ghost use Rattle.office_rules.specs.Readings.{ending_entry, record_view};
 ghost use Rattle.office_wire.specs.Answering.{ArePerformedBy, IsAnswered, IsPerformed, IsRead, IsReportedOf};
-ghost use Rattle.office_requests.specs.Receiving.{acts, asked_for, certificate_reported, content_reported, due_reported, overdue_reported, record_reported, resumption};
+ghost use Rattle.office_http.specs.Receiving.{acts, asked_for, certificate_reported, content_reported, due_reported, overdue_reported, record_reported, resumption};
 
 use crate::replies::{
     acts_reply, answer_reply, bad_act_reply, certificate_reply, content_reply, due_reply,
@@ -12,10 +12,9 @@ use crate::replies::{
 use office_base::Memory;
 use office_days::{ConfirmDays, Day};
 use office_desk::Desk;
-use office_http::{Failure, Reply, check_reply, failure_reply};
+use office_http::{Failure, Operation, Reply, check_reply, failure_reply};
 use office_json::{ListFault, read_acts};
 use office_proof::Entry;
-use office_requests::Operation;
 use office_rules::laws::resuming::law_of_resumption;
 use office_rules::{Act, RecordView};
 use office_store::Fault;

@@ -3,10 +3,9 @@ ghost use Rattle.std.specs.Prelude.{◌≡◌, ◌||◌, IfOk, OnErr};
 ghost use Rattle.office_wire.specs.Connections.{Ends, ServesAll, Turn, has_failed};
 
 use crate::serving::serve_with;
-use office_base::{Io, Memory};
+use office_base::{Io, Memory, is_interrupted};
 use office_desk::Desk;
-use office_http::Routes;
-use office_requests::{Timed, is_interrupted};
+use office_http::{Routes, Timed};
 use sqlite::Alter;
 use std::alloc::Global;
 use std::io::{BufWriter, Read, Write};

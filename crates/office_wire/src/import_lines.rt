@@ -2,38 +2,13 @@
 ghost use Rattle.std.specs.Prelude.{◌++◌, OnErr, OnOk, codes};
 ghost use Rattle.std.specs.Fmt.{decimal};
 ghost use Rattle.std.specs.Io.KnownBytes.{Appends};
-ghost use Rattle.office_wire.specs.Importing.{AppendsSome, line_of, line_with};
+ghost use Rattle.office_base.specs.Output.{AppendsSome};
+ghost use Rattle.office_wire.specs.Importing.{line_of, line_with};
 
 use itoa::Buffer;
-use office_base::Io;
-use office_requests::is_interrupted;
+use office_base::{Io, put_bytes};
 use office_rules::Answer;
 use std::io::Write;
-
-/// Writes bytes. A write that a signal interrupted is tried again. `Io` comes where the writer
-/// answered another error, or took no byte; the first of the bytes, or none, went out then.
-fn put_bytes<W: Write>(bytes: &[u8], out: &mut W) -> Result<(), Io>
-    ensures ok { OnOk result (Appends (W.contents out.old) (W.contents out.new) bytes.now) }
-    ensures err { OnErr result
-        (AppendsSome (W.contents out.old) (W.contents out.new) bytes.now) }
-{
-    let mut rest = bytes;
-    for _ in 0..u32::MAX {
-        if rest.is_empty() {
-            return Ok(());
-        }
-        match out.write(rest) {
-            Ok(0) => return Err(Io),
-            Ok(count) => rest = &rest[count..],
-            Err(error) => {
-                if !is_interrupted(&error) {
-                    return Err(Io);
-                }
-            }
-        }
-    }
-    Err(Io)
-}
 
 /// Writes a number in decimal digits.
 fn put_number<W: Write>(number: u64, out: &mut W) -> Result<(), Io>
@@ -46,7 +21,7 @@ fn put_number<W: Write>(number: u64, out: &mut W) -> Result<(), Io>
 }
 
 /// Writes a number, and the end of its line.
-#[tactic(auto, using(crate::proofs::ImportLines::all_then, crate::proofs::ImportLines::some_then, crate::proofs::ImportLines::some_before))]
+#[tactic(auto, using(office_base::proofs::Written::all_then, office_base::proofs::Written::some_then, office_base::proofs::Written::some_before))]
 fn put_last<W: Write>(number: u64, out: &mut W) -> Result<(), Io>
     ensures ok { OnOk result
         (Appends (W.contents out.old) (W.contents out.new) (decimal number ++ codes "\n")) }
@@ -58,7 +33,7 @@ fn put_last<W: Write>(number: u64, out: &mut W) -> Result<(), Io>
 }
 
 /// Writes a word, and the number at the end of its line.
-#[tactic(auto, using(crate::proofs::ImportLines::all_then, crate::proofs::ImportLines::some_then, crate::proofs::ImportLines::some_before))]
+#[tactic(auto, using(office_base::proofs::Written::all_then, office_base::proofs::Written::some_then, office_base::proofs::Written::some_before))]
 fn put_word<W: Write>(word: &[u8], n: u64, out: &mut W) -> Result<(), Io>
     ensures ok { OnOk result (Appends (W.contents out.old) (W.contents out.new)
         (word.now ++ (decimal n ++ codes "\n"))) }
@@ -70,7 +45,7 @@ fn put_word<W: Write>(word: &[u8], n: u64, out: &mut W) -> Result<(), Io>
 }
 
 /// Writes a line of a number, a word and another number.
-#[tactic(auto, using(crate::proofs::ImportLines::all_then, crate::proofs::ImportLines::some_then, crate::proofs::ImportLines::some_before))]
+#[tactic(auto, using(office_base::proofs::Written::all_then, office_base::proofs::Written::some_then, office_base::proofs::Written::some_before))]
 fn put_line<W: Write>(number: u64, word: &[u8], n: u64, out: &mut W) -> Result<(), Io>
     ensures ok { OnOk result
         (Appends (W.contents out.old) (W.contents out.new) (line_with number word.now n)) }

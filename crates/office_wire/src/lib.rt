@@ -1,7 +1,7 @@
 //! The office on the wire: one request of HTTP is read, what it asks for is done at the desk, and
 //! the answer is written.
 //!
-//! [`receive`] of `office_requests` reads all of a request and touches no desk; [`answer`] does
+//! [`receive`] of `office_http` reads all of a request and touches no desk; [`answer`] does
 //! what it asks for and reads nothing; [`answer_next`] joins them and writes nothing, [`send`]
 //! writes the answer and touches no desk, and [`serve_one`] is these two. Acts and answers in JSON
 //! are those of `office_json`, heads and the bytes of an answer those of `office_http`.
@@ -21,8 +21,9 @@ pub use answering::answer;
 pub use connections::{Service, serve_all, serve_each};
 pub use importing::{ImportStop, import_records};
 pub use office_base::Io;
-pub use office_http::Routes;
+pub use office_http::{
+    ActsBody, Asked, LONGEST, Operation, ReceiveStop, Received, Routes, receive,
+};
 pub use office_json::{ReadFault, answer_value, read_act};
-pub use office_requests::{ActsBody, Asked, LONGEST, Operation, ReceiveStop, Received, receive};
 pub use registers::{ExportStop, export_due, export_entries, export_overdue};
 pub use serving::{OutgoingReply, answer_next, send, serve_one, serve_with};

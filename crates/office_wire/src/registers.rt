@@ -1,6 +1,7 @@
 //! The registers of the office, written as CSV.
-ghost use Rattle.std.specs.Prelude.{◌≡◌, ◌⊎◌, [], OnOk};
+ghost use Rattle.std.specs.Prelude.{◌≡◌, ◌⊎◌, [], OnErr, OnOk};
 ghost use Rattle.std.specs.Io.KnownBytes.{Appends};
+ghost use Rattle.office_base.specs.Output.{AppendsSome};
 ghost use Rattle.office_csv.specs.Registers.{due_register, entry_register, overdue_register};
 ghost use Rattle.office_wire.specs.Exporting.{Exports, IsDueRegister, IsEntryRegister, IsOverdueRegister};
 
@@ -16,7 +17,7 @@ use sqlite::Alter;
 use std::alloc::Global;
 use std::io::Write;
 
-/// Why a register was not written to its end; some of it may have gone out.
+/// Why a register was not written to its end; its first bytes may have gone out.
 #[derive(Clone, Copy, PartialEq, Eq, Debug)]
 pub enum ExportStop {
     /// The desk reported this fault, or lack of memory.
@@ -36,21 +37,23 @@ fn stopped(stop: Stop) -> ExportStop
 }
 
 /// Sends out what was written.
+#[tactic(auto, using(office_json::proofs::Appending::appends_none))]
 fn flush<W: Write>(out: &mut W) -> Result<(), Stop>
-    ensures { OnOk result (Appends (W.contents out.old) (W.contents out.new) []) }
+    ensures { Appends (W.contents out.old) (W.contents out.new) [] }
 {
     out.flush().or(Err(Stop::Io))
 }
 
 /// Writes the due register: its header, and a line for each row.
-#[tactic(auto, using(office_json::proofs::Appending::appends_both, office_json::proofs::Appending::appends_none))]
 fn write_due_register<W: Write>(
     alloc: Global,
     mut rows: DueRows<'_>,
     out: &mut W,
 ) -> Result<(), Stop>
-    ensures { OnOk result
+    ensures ok { OnOk result
         (Appends (W.contents out.old) (W.contents out.new) (due_register rows.entry)) }
+    ensures err { OnErr result
+        (AppendsSome (W.contents out.old) (W.contents out.new) (due_register rows.entry)) }
 {
     write_due_header(alloc, out)?;
     while let Some(row) = rows.next_row() {
@@ -60,15 +63,16 @@ fn write_due_register<W: Write>(
 }
 
 /// Writes the overdue register, each row with its deadline.
-#[tactic(auto, using(office_json::proofs::Appending::appends_both, office_json::proofs::Appending::appends_none))]
 fn write_overdue_register<W: Write>(
     alloc: Global,
     mut rows: DueRows<'_>,
     days: ConfirmDays,
     out: &mut W,
 ) -> Result<(), Stop>
-    ensures { OnOk result
+    ensures ok { OnOk result
         (Appends (W.contents out.old) (W.contents out.new) (overdue_register days rows.entry)) }
+    ensures err { OnErr result
+        (AppendsSome (W.contents out.old) (W.contents out.new) (overdue_register days rows.entry)) }
 {
     write_overdue_header(alloc, out)?;
     while let Some(row) = rows.next_row() {
@@ -78,14 +82,15 @@ fn write_overdue_register<W: Write>(
 }
 
 /// Writes the register of entries.
-#[tactic(auto, using(office_json::proofs::Appending::appends_both, office_json::proofs::Appending::appends_none))]
 fn write_entry_register<W: Write>(
     alloc: Global,
     mut rows: EntryRows<'_>,
     out: &mut W,
 ) -> Result<(), Stop>
-    ensures { OnOk result
+    ensures ok { OnOk result
         (Appends (W.contents out.old) (W.contents out.new) (entry_register rows.entry)) }
+    ensures err { OnErr result
+        (AppendsSome (W.contents out.old) (W.contents out.new) (entry_register rows.entry)) }
 {
     write_entry_header(alloc, out)?;
     while let Some(row) = rows.next_row() {
@@ -99,8 +104,8 @@ fn write_entry_register<W: Write>(
 /// and due on that day or before it, by due day, then number. Each line goes out before the next is
 /// made, and at `Ok` all of them were sent out. It changes nothing. `Fault(Memory)` comes where
 /// memory was refused, `Fault(Reopen)` where the desk was poisoned, and then nothing is written;
-/// `Io` where the writer answered an error. At `Fault(Memory)` and `Io` some of the register may
-/// have gone out.
+/// `Io` where the writer answered an error. At `Fault(Memory)` and `Io` the first bytes of the
+/// register, or none, went out.
 pub fn export_due<S: Alter, W: Write>(
     alloc: Global,
     desk: &mut Desk<S>,

@@ -2,14 +2,16 @@
 //! one has no writer and the other no desk.
 ghost use Rattle.std.specs.Prelude.{◌≡◌, OnErr};
 ghost use Rattle.office_http.specs.Replies.{response};
-ghost use Rattle.office_requests.specs.Receiving.{asked_for};
+ghost use Rattle.office_http.specs.Receiving.{asked_for};
 ghost use Rattle.office_wire.specs.Serving.{AnswersNext, HasReply, InHalves, IsFailed, Sends, ServesOne};
 
 use crate::answering::answer;
 use office_base::Io;
 use office_desk::Desk;
-use office_http::{Failure, Reply, Routes, failure_reply, write_reply};
-use office_requests::{Asked, Operation, ReceiveStop, Received, receive};
+use office_http::{
+    Asked, Failure, Operation, ReceiveStop, Received, Reply, Routes, failure_reply, receive,
+    write_reply,
+};
 use sqlite::Alter;
 use std::alloc::Global;
 use std::io::{Read, Write};
@@ -78,8 +80,8 @@ pub fn answer_next<R: Read, S: Alter>(
 }
 
 /// The half of serving after it: writes an answer, if there is one, and gives its status, or 0.
-/// `Io` comes where the writer answered an error; no desk is here, so it is as if the answer had
-/// been written.
+/// `Io` comes where the writer answered an error, and the first bytes of the answer, or none, went
+/// out; no desk is here, so it is as if the answer had been written.
 pub fn send<W: Write>(sending: Option<OutgoingReply>, writer: &mut W) -> Result<u16, Io>
     ensures { Sends sending result (W.contents writer.old) (W.contents writer.new) }
 {
@@ -94,8 +96,8 @@ pub fn send<W: Write>(sending: Option<OutgoingReply>, writer: &mut W) -> Result<
 /// connection had no byte. The answer does not depend on how the bytes were cut.
 ///
 /// It is [`answer_next`] and then [`send`]. `Io` comes where the reader answered an error, and then
-/// nothing was done and nothing written; or where the writer did, and then the desk is as if the
-/// answer had been written. Where the reader does not report its bytes, as a socket's does not, the
+/// nothing was done and nothing written; or where the writer did, and then the first bytes of the
+/// answer, or none, went out, and the desk is as if all had been written. Where the reader does not report its bytes, as a socket's does not, the
 /// desk still is where serving something leaves it.
 ///
 /// A poisoned desk stays as it is, and fault 32 is reported in place of all that it would do or

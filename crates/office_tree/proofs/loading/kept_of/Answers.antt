@@ -20,7 +20,7 @@ summaries_of-requires c =
     record {
       forest = sound.forest;
       roots = sound.names.root_classes;
-      child_lists = sound.names.child_lists;
+      containers = sound.names.containers;
       few = sound.limits.records_few;
       statuses = sound.statuses;
     }
@@ -31,16 +31,16 @@ planned c = subst (λ (schedules : FinMap code_cmp Schedule). AreNumbered schedu
 tallied : (c : After-deref) → AreSummaries c.args.rows.now c.in_ok-summaries.summaries.items
 tallied c = c.in_ok-summaries.ensures c.args.rows.now c.requires (sym (ap (λ t. t.aggregations) c.rows.view_is)) (sym (ap (λ t. t.records) c.rows.view_is)) (sym (ap (λ t. t.statuses) c.rows.view_is))
 
-pub record_caches_of-requires-clause-planned : goal.record_caches_of-requires-clause-planned
-record_caches_of-requires-clause-planned c = planned (goal.at.record_caches_of-requires-clause-planned c).After-deref
+pub record_caches_of-requires-clause-schedules : goal.record_caches_of-requires-clause-schedules
+record_caches_of-requires-clause-schedules c = planned (goal.at.record_caches_of-requires-clause-schedules c).After-deref
 
 pub record_caches_of-requires-clause-last : goal.record_caches_of-requires-clause-last
 record_caches_of-requires-clause-last c =
     subst (λ (summaries : List AggregationSummary). AreLastAdditions summaries c.args.rows.now.aggregations c.args.rows.now.records) (sym c.deref.ensures.value)
     (last_additions c.args.rows.now c.in_ok-summaries.summaries.items (tallied (goal.at.record_caches_of-requires-clause-last c).After-deref))
 
-pub children_of-requires-clause-within : goal.children_of-requires-clause-within
-children_of-requires-clause-within c = λ a it there.
+pub link_aggregations-requires-clause-within : goal.link_aggregations-requires-clause-within
+link_aggregations-requires-clause-within c = λ a it there.
     let xs = c.rows.inside.aggregations.now in
     let sound = subst IsSound (sym c.rows.view_is) c.requires in
     parent_low xs a (length xs) it sound.forest there (omega (arith, (numbered_within xs a it there).1))
@@ -53,5 +53,5 @@ returns-clause-stored c = record {
   schedule_numbers = planned (goal.at.returns-clause-stored c).After-deref;
   record_caches = c.in_ok-record_caches.ensures;
   summaries = tallied (goal.at.returns-clause-stored c).After-deref;
-  child_lists = subst (λ (t : TreeState). HasLinks t c.in_ok-child_lists.child_lists.last.items c.in_ok-child_lists.child_lists.before.items) c.rows.view_is c.in_ok-child_lists.ensures;
+  records_in = subst (λ (t : TreeState). HasLinks t c.in_ok-records_in.records_in.last.items c.in_ok-records_in.records_in.before.items) c.rows.view_is c.in_ok-records_in.ensures;
 }

@@ -16,7 +16,7 @@ use Rattle.office_tree.proofs.refreshing.+refresh_inheriting.Goals as goal
 pub loop-child-init : goal.loop-child-init
 loop-child-init t c =
     let rows = c.args.rows.now in
-    let last = c.requires.children.lasts c.args.from c.last-child.result c.last-child.ensures in
+    let last = c.requires.aggregations_in.lasts c.args.from c.last-child.result c.last-child.ensures in
     record {
       looks = heirs_last (IsRecordCache c.args.schedule_numbers.now rows) rows.records rows.aggregations c.args.from c.last-child.result c.args.record_caches.now.rows.items c.refresh_container.new.self.rows.items c.refresh_container.ensures.count c.refresh_container.ensures.refreshed last;
       same = c.reindex_container.ensures.same;
@@ -30,7 +30,7 @@ loop-child-init t c =
 -- the child before
 before : (t : ℕ) (c : After-before-child t) → IsLastBelow (parents_of c.args.rows.now.aggregations) c.args.from c.loop-child.child c.before-child.result
 before t c =
-    c.requires.children.befores c.loop-child.child c.args.from c.before-child.result (aggregation_within c.args.rows.now c.args.from c.requires.there).0
+    c.requires.aggregations_in.befores c.loop-child.child c.args.from c.before-child.result (aggregation_within c.args.rows.now c.args.from c.requires.there).0
     (c.loop-child.invariant.looks.there (omega (arith, c.loop-child-test.true))) c.before-child.ensures
 
 pub loop-child-smaller : goal.loop-child-smaller

@@ -21,11 +21,11 @@ loop-i-init c = subst (λ (summaries : List AggregationSummary). AreSummaries (r
 
 pub note_addition-requires-clause-low : goal.note_addition-requires-clause-low
 note_addition-requires-clause-low c =
-    (c.requires.child_lists (c.loop-i.i + 1) c.index-records-i.result (read_at c.args.records.now c.loop-i.i c.index-records-i.result c.loop-i-test.true c.index-records-i.is)).0
+    (c.requires.containers (c.loop-i.i + 1) c.index-records-i.result (read_at c.args.records.now c.loop-i.i c.index-records-i.result c.loop-i-test.true c.index-records-i.is)).0
 
 pub note_addition-requires-clause-high : goal.note_addition-requires-clause-high
 note_addition-requires-clause-high c =
-    (c.requires.child_lists (c.loop-i.i + 1) c.index-records-i.result (read_at c.args.records.now c.loop-i.i c.index-records-i.result c.loop-i-test.true c.index-records-i.is)).1
+    (c.requires.containers (c.loop-i.i + 1) c.index-records-i.result (read_at c.args.records.now c.loop-i.i c.index-records-i.result c.loop-i-test.true c.index-records-i.is)).1
 
 pub note_addition-requires-clause-few : goal.note_addition-requires-clause-few
 note_addition-requires-clause-few c =

@@ -1,7 +1,7 @@
 use Rattle.std.proofs.Common.{inl, refl, sym, rules, Some}
 use Rattle.std.specs.Prelude.{option_map}
 use Rattle.office_http.specs.Replies.{response}
-use Rattle.office_requests.specs.Receiving.{content_reported}
+use Rattle.office_http.specs.Receiving.{content_reported}
 use Rattle.office_wire.proofs.Reported.{gone_given}
 use Rattle.office_wire.proofs.Unreported.{unreported_at}
 use Rattle.office_wire.proofs.Unavailable.{fault_unavailable}

@@ -1,4 +1,4 @@
-use Rattle.office_wire.proofs.ImportLines.{err_then}
+use Rattle.office_base.proofs.Written.{err_then}
 use Rattle.office_wire.proofs.import_lines.put_last.Goals as goal
 
 pub returns-clause-err : goal.returns-clause-err

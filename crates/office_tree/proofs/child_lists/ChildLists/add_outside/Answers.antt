@@ -4,6 +4,6 @@ use Rattle.office_tree.proofs.Linked.{linked_alone}
 use Rattle.office_tree.proofs.child_lists.ChildLists.add_outside.Goals as goal
 
 pub returns : goal.returns
-returns c child_lists count right =
-    subst (λ (before : List ℕ). AreLinked (child_lists ++ 0 ∷ []) count c.args.self.now.last.items before) (sym c.push_row.ensures)
-    (linked_alone child_lists count c.args.self.now.last.items c.args.self.now.before.items right)
+returns c containers count right =
+    subst (λ (before : List ℕ). AreLinked (containers ++ 0 ∷ []) count c.args.self.now.last.items before) (sym c.push_row.ensures)
+    (linked_alone containers count c.args.self.now.last.items c.args.self.now.before.items right)

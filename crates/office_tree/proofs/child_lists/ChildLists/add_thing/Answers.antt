@@ -6,7 +6,7 @@ use Rattle.office_terms.proofs.Putting.{put_within}
 use Rattle.office_tree.proofs.child_lists.ChildLists.add_thing.Goals as goal
 
 pub returns : goal.returns
-returns c child_lists count right =
+returns c containers count right =
     let last = c.args.self.now.last.items in
     let before = c.args.self.now.before.items in
     let container = c.args.container in
@@ -14,6 +14,6 @@ returns c child_lists count right =
     let number : n ≡ c.len.result = omega (arith, c.len.ensures, ap length c.push_row.ensures, length-append before (c.last-before.result ∷ [])) in
     let high : container ≤ count = omega (arith, c.requires.high, right.aggregations) in
     let written : put last container n ≡ set last (container - 1) c.len.result = put_within last container (container - 1) n (omega (arith, c.requires.low)) c.requires.high ∙ ap (set last (container - 1)) number in
-    let linked = linked_record child_lists count last before container c.last-before.result right c.requires.low high c.last-before.ensures in
-    subst (λ (its : List ℕ). AreLinked (child_lists ++ container ∷ []) count (set last (container - 1) c.len.result) its) (sym c.push_row.ensures)
-    (subst (λ (its : List ℕ). AreLinked (child_lists ++ container ∷ []) count its (before ++ c.last-before.result ∷ [])) written linked)
+    let linked = linked_record containers count last before container c.last-before.result right c.requires.low high c.last-before.ensures in
+    subst (λ (its : List ℕ). AreLinked (containers ++ container ∷ []) count (set last (container - 1) c.len.result) its) (sym c.push_row.ensures)
+    (subst (λ (its : List ℕ). AreLinked (containers ++ container ∷ []) count its (before ++ c.last-before.result ∷ [])) written linked)

@@ -2,7 +2,7 @@ use Rattle.std.proofs.Common.{◌∙◌, refl, subst, arith}
 use Rattle.std.proofs.lemmas.List.{length-map}
 use Rattle.std.specs.FinMap.{from_entries}
 use Rattle.office_tree.specs.ClassIndex.{IsOfClass, NumberMap}
-use Rattle.office_tree.specs.ChildLists.{IsLastBelow, child_lists_of}
+use Rattle.office_tree.specs.ChildLists.{IsLastBelow, containers_of}
 use Rattle.office_terms.specs.Tree.{code_cmp}
 use Rattle.office_terms.specs.declared.head.Record.{Record}
 use Rattle.office_terms.proofs.Places.{numbered_within}
@@ -21,21 +21,21 @@ loop-at-init c = record {
 
 pub reindex-requires-clause-there : goal.reindex-requires-clause-there
 reindex-requires-clause-there c =
-    let within = numbered_within (child_lists_of c.args.rows.now.records) c.loop-at.at c.args.container (c.loop-at.invariant.done.there (omega (arith, c.loop-at-test.true))) in
+    let within = numbered_within (containers_of c.args.rows.now.records) c.loop-at.at c.args.container (c.loop-at.invariant.done.there (omega (arith, c.loop-at-test.true))) in
     record_there c.args.rows.now c.loop-at.at (within.0, omega (arith, within.1, length-map c.args.rows.now.records (λ (head : Record). head.aggregation)))
 
 pub reindex-requires-clause-on_list : goal.reindex-requires-clause-on_list
 reindex-requires-clause-on_list c =
-    let within = numbered_within (child_lists_of c.args.rows.now.records) c.loop-at.at c.args.container (c.loop-at.invariant.done.there (omega (arith, c.loop-at-test.true))) in
+    let within = numbered_within (containers_of c.args.rows.now.records) c.loop-at.at c.args.container (c.loop-at.invariant.done.there (omega (arith, c.loop-at-test.true))) in
     omega (arith, within.1, length-map c.args.rows.now.records (λ (head : Record). head.aggregation), c.requires.count, c.loop-at.invariant.done.count)
 
 pub before-at-requires-clause-high : goal.before-at-requires-clause-high
 before-at-requires-clause-high c =
-    let within = numbered_within (child_lists_of c.args.rows.now.records) c.loop-at.at c.args.container (c.loop-at.invariant.done.there (omega (arith, c.loop-at-test.true))) in
+    let within = numbered_within (containers_of c.args.rows.now.records) c.loop-at.at c.args.container (c.loop-at.invariant.done.there (omega (arith, c.loop-at-test.true))) in
     omega (arith, within.1, c.requires.linked.things)
 
 -- the one before
-next : (c : After-before-at) → IsLastBelow (child_lists_of c.args.rows.now.records) c.args.container c.loop-at.at c.before-at.result
+next : (c : After-before-at) → IsLastBelow (containers_of c.args.rows.now.records) c.args.container c.loop-at.at c.before-at.result
 next c = c.requires.linked.befores c.loop-at.at c.args.container c.before-at.result (aggregation_within c.args.rows.now c.args.container c.requires.there).0 (c.loop-at.invariant.done.there (omega (arith, c.loop-at-test.true))) c.before-at.ensures
 
 pub loop-at-smaller : goal.loop-at-smaller

@@ -1,6 +1,6 @@
 use Rattle.std.proofs.Common.{arith}
 use Rattle.std.proofs.lemmas.List.{length-map}
-use Rattle.office_tree.specs.ChildLists.{IsLastBelow, child_lists_of}
+use Rattle.office_tree.specs.ChildLists.{IsLastBelow, containers_of}
 use Rattle.office_tree.specs.RecordCaches.{IsRecordCache}
 use Rattle.office_terms.specs.declared.head.Record.{Record}
 use Rattle.office_terms.proofs.Places.{numbered_within}
@@ -14,16 +14,16 @@ loop-at-init c = done_last (IsRecordCache c.args.schedule_numbers.now c.args.row
 
 pub refresh-requires-clause-there : goal.refresh-requires-clause-there
 refresh-requires-clause-there c =
-    let within = numbered_within (child_lists_of c.args.rows.now.records) c.loop-at.at c.args.container (c.loop-at.invariant.there (omega (arith, c.loop-at-test.true))) in
+    let within = numbered_within (containers_of c.args.rows.now.records) c.loop-at.at c.args.container (c.loop-at.invariant.there (omega (arith, c.loop-at-test.true))) in
     record_there c.args.rows.now c.loop-at.at (within.0, omega (arith, within.1, length-map c.args.rows.now.records (λ (head : Record). head.aggregation)))
 
 pub before-at-requires-clause-high : goal.before-at-requires-clause-high
 before-at-requires-clause-high c =
-    let within = numbered_within (child_lists_of c.args.rows.now.records) c.loop-at.at c.args.container (c.loop-at.invariant.there (omega (arith, c.loop-at-test.true))) in
+    let within = numbered_within (containers_of c.args.rows.now.records) c.loop-at.at c.args.container (c.loop-at.invariant.there (omega (arith, c.loop-at-test.true))) in
     omega (arith, within.1, c.requires.linked.things)
 
 -- the one before
-next : (c : After-before-at) → IsLastBelow (child_lists_of c.args.rows.now.records) c.args.container c.loop-at.at c.before-at.result
+next : (c : After-before-at) → IsLastBelow (containers_of c.args.rows.now.records) c.args.container c.loop-at.at c.before-at.result
 next c = c.requires.linked.befores c.loop-at.at c.args.container c.before-at.result (aggregation_within c.args.rows.now c.args.container c.requires.there).0 (c.loop-at.invariant.there (omega (arith, c.loop-at-test.true))) c.before-at.ensures
 
 pub loop-at-smaller : goal.loop-at-smaller

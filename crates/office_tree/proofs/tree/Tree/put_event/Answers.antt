@@ -30,6 +30,6 @@ invariant_of-self-2 c =
     let by_record_ref = from_entries {R = code_cmp} c.self.inside.by_record_ref.entries in
     let new = event_inserted c.self.inside.events.entries c.insert.new.self.entries r event c.in_ok-insert.ensures.updates.0 in
     let here = λ (it : RecordCache) (e : numbered c.refresh.new.self.rows.items r ≡ Some it). subst (λ (t : TreeState). IsRecordCache c.self.inside.schedule_numbers t r it) (λ i. record tree { aggregations = c.deref.ensures.value i; records = c.deref-2.ensures.value i; statuses = c.deref-3.ensures.value i; events = new i }) (c.refresh.ensures.here it e) in
-    let kept = event_stored tree by_aggregation_ref by_record_ref c.self.inside.schedule_numbers c.self.inside.record_caches.rows.items c.refresh.new.self.rows.items c.self.inside.summaries.items c.self.inside.child_lists.last.items c.self.inside.child_lists.before.items r event
+    let kept = event_stored tree by_aggregation_ref by_record_ref c.self.inside.schedule_numbers c.self.inside.record_caches.rows.items c.refresh.new.self.rows.items c.self.inside.summaries.items c.self.inside.records_in.last.items c.self.inside.records_in.before.items r event
     c.self.invariant.0 c.refresh.ensures.count here c.refresh.ensures.others in
-    (subst (λ (t : TreeState). IsStored t by_aggregation_ref by_record_ref c.self.inside.schedule_numbers c.refresh.new.self.rows.items c.self.inside.summaries.items c.self.inside.child_lists.last.items c.self.inside.child_lists.before.items) (sym (ap (λ events. record tree { events = events }) new)) kept, c.self.invariant.1, c.self.invariant.2)
+    (subst (λ (t : TreeState). IsStored t by_aggregation_ref by_record_ref c.self.inside.schedule_numbers c.refresh.new.self.rows.items c.self.inside.summaries.items c.self.inside.records_in.last.items c.self.inside.records_in.before.items) (sym (ap (λ events. record tree { events = events }) new)) kept, c.self.invariant.1, c.self.invariant.2)

@@ -1,0 +1,18 @@
+-- How the reporting of a certificate ends.
+use Rattle.std.proofs.Common.{◌≡◌, ◌⊎◌, inl, inr, ℕ, Bool, true, false, IsTrue, List, Option}
+use Rattle.office_rules.specs.State.{State}
+use Rattle.office_store.specs.declared.fault.Fault.{Fault}
+use Rattle.office_store.specs.declared.fault.Fault.TheVariants as fault
+use Rattle.office_commands.specs.Certifying.{Certifies}
+use Rattle.office_commands.specs.declared.ending.Ending.{Ending}
+
+-- a reporting that is so of the states that are reported in one way is so of those reported in another
+pub certifies_of : (Of Others : (State → Type 0) → Type 0) → ((P : State → Type 0) → Of P → Others P) → (run : ℕ) (written after : Option (List ℕ)) (e : Ending) → Certifies Of run written after e → Certifies Others run written after e
+certifies_of Of Others to run written after e (inl (text, it, reported)) = inl (text, to _ it, reported)
+certifies_of Of Others to run written after e (inr memory) = inr memory
+
+-- a desk that is open reports no fault but that of memory
+pub memory_alone : (f : Fault) (is_poisoned : Bool) → is_poisoned ≡ false → (f ≡ fault.Memory) ⊎ (f ≡ fault.Reopen) × IsTrue is_poisoned → f ≡ fault.Memory
+memory_alone f true still reported = absurd cc
+memory_alone f false still (inl memory) = memory
+memory_alone f false still (inr gone) = let no : false ≡ true = gone.1 in absurd cc

@@ -1,0 +1,17 @@
+pub mod Applications
+pub mod Callings
+pub mod Certificates
+pub mod Closings
+pub mod Desks
+pub mod Exports
+pub mod Imports
+pub mod KeptRest
+pub mod LeftTables
+pub mod NextFiles
+pub mod NextService
+pub mod NextStates
+pub mod Openings
+pub mod Reopenings
+pub mod Resumptions
+pub mod Services
+pub mod Unopened

@@ -1,0 +1,111 @@
+-- What the two files hold after a word, by what a crash leaves of its connection.
+use Rattle.std.proofs.Common.{inl, inr, ℕ, IsTrue, IfSome, List, Option, Some, None, sym, subst, arith}
+use Rattle.std.proofs.Math.Logic.{∥∥₁_elim, ∥∥₁_map}
+use Rattle.sqlite_disk.specs.declared.Disk.{Ghosts}
+use Rattle.sqlite_disk.specs.declared.Files.{Files}
+use Rattle.sqlite_store.specs.FileStore.{recovers, view}
+use Rattle.sqlite_store.specs.declared.store.FileStore.{FileStore}
+use Rattle.sqlite_trees.specs.Props.{Trees-set}
+use Rattle.sqlite_trees.specs.Tree.{Trees}
+use Rattle.sqlite_wal.specs.Reads.{AreClean}
+use Rattle.sqlite_wal.specs.Recovery.{Image}
+use Rattle.sqlite.specs.Files.{file_state, over_files}
+use Rattle.sqlite.specs.Held.{AreDatabases, Held}
+use Rattle.sqlite.specs.State.{HasCleanDisk}
+use Rattle.sqlite.specs.declared.file.Leftover.{Leftover}
+use Rattle.sqlite.specs.declared.file.Leftover.TheVariants as leftover
+use Rattle.office_rules.specs.Rows.{rows_of}
+use Rattle.office_rules.specs.State.{State}
+use Rattle.office_store.specs.RepresentsRows.{RepresentsRowsIn}
+use Rattle.office_words.specs.Orders.{Ordered}
+use Rattle.office_commands.specs.Files.{HeldOffice, IsClosedCopy, IsLeftOf, IsUnclosed, IsUnopenedLeft, RunsInFiles, ServesInFiles}
+use Rattle.office_commands.specs.NextWord.{HoldsOfficeAt, HoldsWholeOffice, IsLeftBy, IsOfficeAt, IsServedTo, LeavesAt, LeavesFilesAt, StaysOffice}
+use Rattle.office_commands.specs.Tables.{HoldsTables, SparesTables}
+use Rattle.office_commands.proofs.LeftTables.{database_of, leaves_tables}
+use Rattle.office_commands.specs.declared.ending.Ending.{Ending}
+use Rattle.office_commands.specs.declared.opening.FilesLeft.{FilesLeft}
+use Rattle.office_commands.specs.declared.opening.FilesLeft.TheVariants as files
+use Rattle.office_commands.proofs.NextService.{service_left}
+use Rattle.office_commands.proofs.NextStates.{IsEnded, IsOneDatabase, StaySound, word_left}
+
+-- an office of which each page has its sum is one
+pub whole_office : (image : Image) (s : State) → HoldsWholeOffice image s → HoldsOfficeAt image s
+whole_office image s it = record { trees = it.trees; held = ∥∥₁_map it.held (λ (h : HoldsTables image it.trees). database_of image it.trees h); office = it.office }
+
+module _ {D : Type 0} {g : Ghosts D} (old : Image) (s : State) (Is : State → Type 0) where
+  -- ---- of files that were not opened
+
+  stays_office : (rest : Leftover D g) → SparesTables old rest → HoldsWholeOffice old s → StaysOffice s rest
+  stays_office (leftover.Files it) spared whole = λ clean image may.
+      record { trees = whole.trees; held = ∥∥₁_map whole.held (λ (h : HoldsTables old whole.trees). spared clean image may whole.trees h); office = whole.office }
+  stays_office (leftover.Unopened it) spared whole = λ clean image may.
+      record { trees = whole.trees; held = ∥∥₁_map whole.held (λ (h : HoldsTables old whole.trees). spared clean image may whole.trees h); office = whole.office }
+  stays_office (leftover.Store it) spared whole = λ clean trees may.
+      subst (λ (t : Trees). IsOfficeAt t s) (sym (∥∥₁_elim whole.held (Trees-set _ _) (λ (h : HoldsTables old whole.trees). spared clean trees whole.trees may h))) whole.office
+
+  some_stays : (rest : Option (Leftover D g)) → IfSome rest (λ it. SparesTables old it) → (HoldsWholeOffice old s → IfSome rest (λ it. StaysOffice s it))
+  some_stays None spared = λ whole. tt
+  some_stays (Some rest) spared = λ whole. stays_office rest spared whole
+
+  pub unopened_at : (left : FilesLeft D g) → IsUnopenedLeft old left → LeavesFilesAt old s Is left
+  unopened_at (files.Unopened rest) spared = some_stays rest spared
+  unopened_at (files.Closed it) none = absurd none
+  unopened_at (files.Unclosed store) none = absurd none
+
+  -- ---- of files that were closed, or not
+
+  module _ (last : Held (FileStore D g)) (leaves : HasCleanDisk (file_state last) → LeavesAt Is (file_state last))
+      (stays : IsTrue (file_state last).is_open → (file_state last).may_leave (file_state last).committed.trees) where
+    closed_at : (it : Files D) → (AreClean g it.log it.db → IsClosedCopy last it) → LeavesFilesAt {g = g} old s Is (files.Closed it)
+    closed_at it copied clean =
+        let copy = copied clean in
+        let trees = (file_state last).committed.trees in
+        let at = leaves copy.copied.was_clean trees (stays copy.copied.was_open) in (
+          at.0,
+          at.1,
+          record { trees = trees; held = copy.now; office = at.2 },
+          λ image may. record { trees = trees; held = copy.left image may; office = at.2 },
+        )
+
+    unclosed_at : (store : FileStore D g) → IsUnclosed last store → LeavesFilesAt {g = g} old s Is (files.Unclosed store)
+    unclosed_at store it clean known image may =
+        let closed = it.closed in
+        let numbered : IsTrue (view store).is_numbered = elim known [ inl on ↦ it.numbered clean on | inr is ↦ is ] in
+        let doubted = closed.quiet.clean in
+        let was_clean : HasCleanDisk (file_state last) = omega (arith, doubted, clean) in
+        let at = λ (db : Trees) (left : recovers store db). leaves was_clean db (closed.quiet.outcomes db left) in
+        let sound : AreDatabases (recovers store) = λ db left. let is = (at db left).2.office in (is.0, is.1.has.database) in
+        ∥∥₁_map (leaves_tables store numbered sound image may) (λ (db : (x : Trees) × recovers store x × HoldsTables image x).
+        let is = at db.0 db.1 in
+        (is.0, is.1, record { trees = db.0; held = ∣ db.2 ∣₁; office = is.2 }))
+
+    pub files_at : (left : FilesLeft D g) → IsLeftOf last left → LeavesFilesAt old s Is left
+    files_at (files.Unopened rest) it = absurd it
+    files_at (files.Closed it) copied = closed_at it copied
+    files_at (files.Unclosed store) closed = unclosed_at store closed
+
+-- each word leaves its files so
+pub word_leaves : IsOneDatabase → StaySound → IsEnded → {D : Type 0} {g : Ghosts D} (image : Image) (s : State) (order : Ordered) (text : List ℕ) (written after : Option (List ℕ)) (ending : Ending) (left : FilesLeft D g)
+    → HoldsOfficeAt image s → RunsInFiles left image order (Some text) written after ending → LeavesFilesAt image s (IsLeftBy order text written after ending s) left
+word_leaves one stay ends image s order text written after ending left holds (inl none) = unopened_at image s (IsLeftBy order text written after ending s) left none.1
+word_leaves one stay ends image s order text written after ending left holds (inr (last, over, is_left)) =
+    let ed = holds.office.edition in
+    let held : HeldOffice ed image holds.trees = record { held = holds.held; office = holds.office.office } in
+    files_at image s (IsLeftBy order text written after ending s) last
+    (λ clean.
+    let was = over.opened.rest clean ed holds.trees held in
+    word_left one stay ends over_files over.was last s clean holds.office.sound ed was.0 (subst (RepresentsRowsIn ed (rows_of s)) (sym was.1) holds.office.rows) order text written after ending over.ends)
+    over.stays left is_left
+
+-- and so does a service
+pub service_leaves : IsOneDatabase → StaySound → IsEnded → {D : Type 0} {g : Ghosts D} (image : Image) (s : State) (port count : ℕ) (written after : Option (List ℕ)) (ending : Ending) (left : FilesLeft D g)
+    → HoldsOfficeAt image s → ServesInFiles left image port count written after ending → LeavesFilesAt image s (IsServedTo s) left
+service_leaves one stay ends image s port count written after ending left holds (inl none) = unopened_at image s (IsServedTo s) left none.1
+service_leaves one stay ends image s port count written after ending left holds (inr (last, over, is_left)) =
+    let ed = holds.office.edition in
+    let held : HeldOffice ed image holds.trees = record { held = holds.held; office = holds.office.office } in
+    files_at image s (IsServedTo s) last
+    (λ clean.
+    let was = over.opened.rest clean ed holds.trees held in
+    service_left one stay ends over_files over.was last s clean holds.office.sound ed was.0 (subst (RepresentsRowsIn ed (rows_of s)) (sym was.1) holds.office.rows) port count written after ending over.ends)
+    over.stays left is_left

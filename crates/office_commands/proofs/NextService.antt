@@ -1,0 +1,171 @@
+-- At which state a service leaves an office, whatever a crash leaves of it.
+use Rattle.std.proofs.Common.{◌⊎◌, inl, inr, ℕ, zero, suc, ◌+◌, IsTrue, Bool, false, List, [], ◌∷◌, ◌++◌, length, take, Option, Some, None, Result, Ok, Err, refl, sym, ap, subst, ◌∙◌}
+use Rattle.sqlite.specs.Held.{Held, state}
+use Rattle.sqlite.specs.State.{HasCleanDisk}
+use Rattle.sqlite_trees.specs.declared.store.Store.{Ghosts}
+use Rattle.office_base.specs.declared.output.Io.{Io}
+use Rattle.office_rules.specs.Acts.{after as after_acts}
+use Rattle.office_rules.specs.Rows.{rows_of}
+use Rattle.office_rules.specs.Runs.{after_steps, candidates, whole}
+use Rattle.office_rules.specs.Sound.{IsSound}
+use Rattle.office_rules.specs.State.{State}
+use Rattle.office_rules.specs.declared.act.Act.{Act}
+use Rattle.office_sql.specs.declared.editions.Edition.{Edition}
+use Rattle.office_sql.specs.declared.editions.Edition.TheVariants as edition
+use Rattle.office_sql.specs.Office.{IsAtRestOver}
+use Rattle.office_store.specs.RepresentsRows.{RepresentsRowsIn}
+use Rattle.office_store.specs.declared.fault.Fault.{Fault}
+use Rattle.office_store.specs.declared.fault.Fault.TheVariants as fault
+use Rattle.office_desk.specs.Desk.{DeskState}
+use Rattle.office_desk.specs.Headline.{AreWellFormed}
+use Rattle.office_desk.specs.Leaving.{IsAt, StopsAt, StopsLeaving}
+use Rattle.office_desk.specs.Outcomes.{ActsCameTo, ActsLead, ActsOutcome, all_done, stopped}
+use Rattle.office_desk.proofs.Found.{after-append}
+use Rattle.office_desk.proofs.StepFates.{after_run, run_steps}
+use Rattle.office_json.specs.Lists.{NoActs, acts_in, bad_act, not_json}
+use Rattle.office_wire.specs.Answering.{AnyAnswer, IsUnreported, PerformsAsked, Resumes, Serves}
+use Rattle.office_wire.specs.Connections.{Turn, Turns}
+use Rattle.office_wire.specs.Serving.{LeavesServed}
+use Rattle.office_http.specs.Receiving.{Wanted, acts, certificate_reported, content_reported, cut, due_reported, overdue_reported, record_reported, refused, resumption}
+use Rattle.office_commands.specs.NextWord.{IsServedTo, LeavesAt}
+use Rattle.office_commands.specs.Serving.{IsDeskOf, ServiceEnds}
+use Rattle.office_commands.specs.declared.ending.Ending.{Ending}
+use Rattle.office_commands.proofs.NextStates.{IsEnded, IsOneDatabase, StaySound, at_rows, at_stop, at_unopened, well_formed_prefix, found_same, sound_acts, sound_steps}
+use Rattle.office_commands.proofs.Services.{clean_turn, clean_turns}
+
+well_formed_steps : (n : ℕ) → AreWellFormed (run_steps n)
+well_formed_steps zero = tt
+well_formed_steps (suc n) = (tt, well_formed_steps n)
+
+formed-append : (xs ys : List Act) → AreWellFormed xs → AreWellFormed ys → AreWellFormed (xs ++ ys)
+formed-append [] ys all more = more
+formed-append (x ∷ xs) ys (is, all) more = (is, formed-append xs ys all more)
+
+-- steps of the open run are acts
+steps_to : (n : ℕ) (s : State) → IsServedTo s (after_steps s n)
+steps_to n s = (run_steps n, well_formed_steps n, sym (after_run n s))
+
+prefix_to : (n : ℕ) (s : State) (done : List Act) → AreWellFormed done → IsServedTo s (after_acts s (take n done))
+prefix_to n s done formed = (take n done, well_formed_prefix n done formed, refl)
+
+-- acts after acts are acts
+further : (s t u : State) → IsServedTo s t → IsServedTo t u → IsServedTo s u
+further s t u (first, formed, is) (more, well_formed_too, then) =
+    (first ++ more, formed-append first more formed well_formed_too, then ∙ ap (λ (x : State). after_acts x more) is ∙ sym (after-append s first more))
+
+module _ (stay : StaySound) (ends : IsEnded) {S : Type 0} (g : Ghosts S) where
+  -- a desk that was served is at a state after acts; or it must be opened again, and a crash leaves such a state
+  abbrev ServedAt : State → DeskState S → Type 0
+  ServedAt s d = ((u : State) × IsServedTo s u × IsAt g u d) ⊎ (IsTrue d.is_poisoned × LeavesAt (IsServedTo s) (state g d.held))
+
+  as_it_was : (s : State) (d : DeskState S) → IsAt g s d → ServedAt s d
+  as_it_was s d represents = inl (s, ([], tt, refl), represents)
+
+  -- a fault stopped it on the way from one state to another
+  stop_served : (s v w : State) → IsServedTo s v → IsServedTo s w → IsSound v → IsSound w → (f : Fault) (d : DeskState S) → StopsAt v.office f d → StopsLeaving v w f (state g d.held) → ServedAt s d
+  stop_served s v w to_v to_w sv sw fault.Memory d stops left = inl (v, to_v, record { is_open = stops.1; office = stops.0; sound = sv; rows = left })
+  stop_served s v w to_v to_w sv sw fault.Store d stops left = inr (
+    stops,
+    λ db may. elim (at_stop (state g d.held) v w fault.Store sv sw left db may) [
+      | inl here ↦ (v, to_v, here)
+      | inr next ↦ (w, to_w, next)
+    ],
+  )
+  stop_served s v w to_v to_w sv sw fault.Reopen d stops left = inr (stops, λ db may. (w, to_w, at_rows (state g d.held) w sw left db may))
+  stop_served s v w to_v to_w sv sw fault.Damaged d stops left = absurd stops
+  stop_served s v w to_v to_w sv sw fault.Version d stops left = absurd stops
+
+  module _ (t : State) (sound : IsSound t) (d : DeskState S) where
+    outcome_served : (done : List Act) (o : ActsOutcome) → ActsLead t done o d → ActsCameTo t done o (state g d.held) → ServedAt t d
+    outcome_served done (all_done told) leads it = inl (after_acts t done, (done, it.formed, refl), record { is_open = leads.1; office = leads.0; sound = it.leaves.sound; rows = it.leaves.rows })
+    outcome_served done (stopped told f) leads it =
+        let n = length told in
+        let sound_at = λ (k : ℕ). sound_acts stay (take k done) t sound (well_formed_prefix k done it.formed) in
+        stop_served t (after_acts t (take n done)) (after_acts t (take (n + 1) done)) (prefix_to n t done it.formed) (prefix_to (n + 1) t done it.formed) (sound_at n) (sound_at (n + 1)) f d leads it.leaves
+
+    acts_served : (asked : Result (List Act) NoActs) → PerformsAsked AnyAnswer g t asked d → ServedAt t d
+    acts_served (Ok done) it = outcome_served done it.outcome it.leads it.came
+    acts_served (Err not_json) it = as_it_was t d it.1
+    acts_served (Err (bad_act place why)) it = as_it_was t d it.1
+
+    run_served : Resumes AnyAnswer g t d → ServedAt t d
+    run_served (inl (run, it)) =
+        let n = suc (length (candidates t.office run)) in
+        inl (whole t run, subst (IsServedTo t) (ends t run it.was_open) (steps_to n t), it.closed)
+    run_served (inr (inl it)) = as_it_was t d it.represents
+    run_served (inr (inr (f, it))) =
+        let n = it.stopped.0 in
+        stop_served t (after_steps t n) (after_steps t (suc n)) (steps_to n t) (steps_to (suc n) t) (sound_steps stay n t sound) (sound_steps stay (suc n) t sound) f d it.stopped.1 it.stopped.2
+
+    unreported_served : (r : ℕ) (f : Fault) → IsUnreported AnyAnswer g t r f d → ServedAt t d
+    unreported_served r fault.Store it = inr (it.poisoned refl, λ db may. (t, ([], tt, refl), record { edition = edition.Two; office = it.offices db may; sound = sound; rows = it.leaves db may }))
+    unreported_served r fault.Memory it = as_it_was t d (it.kept (λ e. cc))
+    unreported_served r fault.Reopen it = as_it_was t d (it.kept (λ e. cc))
+    unreported_served r fault.Damaged it = as_it_was t d (it.kept (λ e. cc))
+    unreported_served r fault.Version it = as_it_was t d (it.kept (λ e. cc))
+
+    wanted_served : (it : Wanted) → Serves AnyAnswer g t it d → ServedAt t d
+    wanted_served (refused check) served = as_it_was t d served.1
+    wanted_served cut served = as_it_was t d served.1
+    wanted_served (acts body) served = acts_served (acts_in body) served
+    wanted_served resumption served = run_served served
+    wanted_served (record_reported None) served = as_it_was t d served.1
+    wanted_served (record_reported (Some r)) served = as_it_was t d served.1
+    wanted_served (content_reported None) served = as_it_was t d served.1
+    wanted_served (content_reported (Some r)) (inl it) = as_it_was t d it.3
+    wanted_served (content_reported (Some r)) (inr (f, it)) = unreported_served r f it
+    wanted_served (due_reported None) served = as_it_was t d served.1
+    wanted_served (due_reported (Some day)) served = as_it_was t d served.1
+    wanted_served (overdue_reported None count) served = as_it_was t d served.1
+    wanted_served (overdue_reported (Some day) None) served = as_it_was t d served.1
+    wanted_served (overdue_reported (Some day) (Some n)) served = as_it_was t d served.1
+    wanted_served (certificate_reported None) served = as_it_was t d served.1
+    wanted_served (certificate_reported (Some run)) served = as_it_was t d served.1
+
+    left_served : LeavesServed g t d → ServedAt t d
+    left_served (it, served) = wanted_served it served
+
+  module _ (s : State) where
+    after_served : (t : State) (d : DeskState S) → IsServedTo s t → ServedAt t d → ServedAt s d
+    after_served t d to (inl (u, more, represents)) = inl (u, further s t u to more, represents)
+    after_served t d to (inr (gone, leaves)) = inr (gone, λ db may. let at = leaves db may in (at.0, further s t at.0 to at.1, at.2))
+
+    turn_served : (status : Result ℕ Io) (old new : DeskState S) → Turn g status old new → HasCleanDisk (state g new.held) → ServedAt s old → ServedAt s new
+    turn_served status old new (inl failed) clean at = subst (ServedAt s) (sym failed.1) at
+    turn_served status old new (inr visited) clean (inl (t, to, represents)) =
+        let left = visited.call.did t clean represents in
+        after_served t new to (left_served t represents.sound new left)
+    turn_served status old new (inr visited) clean (inr (gone, leaves)) = subst (ServedAt s) (sym (visited.kept gone)) (inr (gone, leaves))
+
+    turns_served : (n : ℕ) (failed ended : Bool) (old new : DeskState S) → Turns g n failed ended old new → HasCleanDisk (state g new.held) → ServedAt s old → ServedAt s new
+    unfolding Turns
+    turns_served zero failed ended old new turns clean at = subst (ServedAt s) (sym turns.2) at
+    turns_served (suc n) failed ended old new (m, earlier, status, turns, turn, ended_so, is) clean at =
+        turn_served status m new turn clean (turns_served n earlier false old m turns (clean_turn g status m new turn clean) at)
+
+    left_at : (d : DeskState S) → ServedAt s d → LeavesAt (IsServedTo s) (state g d.held)
+    left_at d (inl (u, to, represents)) db may = (u, to, at_rows (state g d.held) u represents.sound represents.rows db may)
+    left_at d (inr (gone, leaves)) db may = leaves db may
+
+module _ (one : IsOneDatabase) (stay : StaySound) (ends : IsEnded) {S : Type 0} (g : Ghosts S) (old new : Held S) (s : State) (clean : HasCleanDisk (state g new)) (sound : IsSound s) where
+  -- the desk that was opened is at the state at which the office was
+  desk_at : (ed : Edition) (desk : DeskState S) → IsAtRestOver ed (state g old) → RepresentsRowsIn ed (rows_of s) (state g old).now.trees → IsDeskOf g old desk → HasCleanDisk (state g desk.held) → IsAt g s desk
+  desk_at edition.One desk rest rows of clean_desk =
+      let m = of.moved clean_desk rest in
+      subst (λ (t : State). IsAt g t desk) (found_same one stay ends (state g old) (state g new) s clean sound edition.One m.0 rows m.1) m.2
+  desk_at edition.Two desk rest rows of clean_desk =
+      let m = of.found clean_desk rest in
+      subst (λ (t : State). IsAt g t desk) (found_same one stay ends (state g old) (state g new) s clean sound edition.Two m.0 rows m.1) m.2
+
+  pub service_left : (ed : Edition) → IsAtRestOver ed (state g old) → RepresentsRowsIn ed (rows_of s) (state g old).now.trees → (port count : ℕ) (written after : Option (List ℕ)) (ending : Ending) → ServiceEnds g port count old new written after ending
+      → LeavesAt (IsServedTo s) (state g new)
+  service_left ed rest rows port count written after ending (inl none) = λ db may.
+      (s, ([], tt, refl), at_unopened one stay ends (state g old) (state g new) s clean sound ed none.0 rest rows none.2 db may)
+  service_left ed rest rows port count written after ending (inr (first, last, of, inl it, same)) =
+      let clean_last : HasCleanDisk (state g last.held) = subst (λ (h : Held S). HasCleanDisk (state g h)) same clean in
+      let at = desk_at ed first rest rows of (subst (λ (d : DeskState S). HasCleanDisk (state g d.held)) it.1 clean_last) in
+      subst (λ (h : Held S). LeavesAt (IsServedTo s) (state g h)) (sym same) (left_at stay ends g s last (subst (ServedAt stay ends g s) (sym it.1) (as_it_was stay ends g s first at)))
+  service_left ed rest rows port count written after ending (inr (first, last, of, inr (n, failed, ended, reported, turns, few, all, is), same)) =
+      let clean_last : HasCleanDisk (state g last.held) = subst (λ (h : Held S). HasCleanDisk (state g h)) same clean in
+      let at = desk_at ed first rest rows of (clean_turns g n failed ended first last turns clean_last) in
+      subst (λ (h : Held S). LeavesAt (IsServedTo s) (state g h)) (sym same) (left_at stay ends g s last (turns_served stay ends g s n failed ended first last turns clean_last (as_it_was stay ends g s first at)))

@@ -1,0 +1,349 @@
+-- At which state a word leaves an office, whatever a crash leaves of it.
+use Rattle.std.proofs.Common.{◌≡◌, ◌⊎◌, inl, inr, ℕ, ℤ, zero, suc, ◌+◌, List, [], ◌∷◌, ◌++◌, length, take, Option, Some, None, Result, Ok, Err, refl, sym, ap, subst, ◌∙◌, append-nil, arith}
+use Rattle.std.proofs.Math.Seq.{take-length}
+use Rattle.std.specs.Prelude.{option_map}
+use Rattle.std.specs.Io.KnownBytes.{Appends}
+use Rattle.csv.specs.Reading.{strip_bom}
+use Rattle.sqlite_trees.specs.Tree.{Trees}
+use Rattle.sqlite.specs.Held.{Held, state}
+use Rattle.sqlite_trees.specs.declared.store.Store.{Ghosts}
+use Rattle.sqlite.specs.State.{State as FileState, HasCleanDisk}
+use Rattle.office_base.specs.declared.refusal.Refusal.{Refusal}
+use Rattle.office_base.specs.declared.refusal.Refusal.TheVariants as refused
+use Rattle.office_base.specs.Output.{AppendsSome}
+use Rattle.office_rules.specs.Acts.{after as after_acts, answers, step}
+use Rattle.office_rules.specs.Forms.{IsWellFormedAct}
+use Rattle.office_rules.specs.Rows.{rows_of}
+use Rattle.office_rules.specs.Runs.{after_steps, candidates, open_run, whole}
+use Rattle.office_rules.specs.Sound.{IsSound}
+use Rattle.office_rules.specs.State.{State}
+use Rattle.office_rules.specs.declared.act.Act.{Act}
+use Rattle.office_rules.specs.declared.act.Act.TheVariants as act
+use Rattle.office_rules.specs.declared.answer.Answer.{Answer}
+use Rattle.office_sql.specs.declared.editions.Edition.{Edition}
+use Rattle.office_sql.specs.declared.editions.Edition.TheVariants as edition
+use Rattle.office_sql.specs.Office.{IsAtRestOver, IsOfficeIn}
+use Rattle.office_store.specs.RepresentsRows.{HoldsRows, RepresentsRows, RepresentsRowsIn}
+use Rattle.office_store.specs.declared.fault.Fault.{Fault}
+use Rattle.office_store.specs.declared.fault.Fault.TheVariants as fault
+use Rattle.office_desk.specs.Headline.{AreWellFormed}
+use Rattle.office_desk.specs.Leaving.{StopsLeaving}
+use Rattle.office_desk.specs.Opening.{RepresentIn}
+use Rattle.office_desk.specs.Outcomes.{ActsCameTo, ActsOutcome, all_done, stopped, answered_acts}
+use Rattle.office_desk.proofs.RunSteps.{step_run}
+use Rattle.office_json.specs.Answers.{answer_lines}
+use Rattle.office_json.specs.Lists.{acts_in}
+use Rattle.office_csv.specs.ImportRows.{Fields, act_asked}
+use Rattle.office_wire.specs.Importing.{AreLinesOut, ArePrefixRows, AreRowsDone, AreSomeRows, IsAnsweredBy, lines_from}
+use Rattle.office_words.specs.Orders.{Ordered, application_ordered, certificate_ordered, due_day_ordered, exportation_ordered, importation_ordered, init_file_ordered, nothing_ordered, overdue_ordered, plan_file_ordered, resumption_ordered, service_ordered}
+use Rattle.office_words.specs.declared.register.Register.{Register}
+use Rattle.office_words.specs.declared.register.Register.TheVariants as register
+use Rattle.office_commands.specs.Applying.{Applies, Performs}
+use Rattle.office_commands.specs.Certifying.{CertificateEnds}
+use Rattle.office_commands.specs.Exporting.{ExportEnds}
+use Rattle.office_wire.specs.declared.importing.ImportStop.{ImportStop}
+use Rattle.office_wire.specs.declared.importing.ImportStop.TheVariants as import
+use Rattle.office_commands.specs.Importing.{AreImported, ImportsAt, IsRowCut, ending_of_import}
+use Rattle.office_commands.specs.NextWord.{AreActsDone, AreRowsAdded, AreStepsTaken, AreWritten, IsLeftBy, IsOfficeAt, IsUntouched, LeavesAt}
+use Rattle.office_commands.specs.Opening.{IsNotOpened, IsOfOpened, IsOpened, IsRestKept, IsUnopened}
+use Rattle.office_commands.specs.Resuming.{ResumeEnds, Resumes}
+use Rattle.office_commands.specs.Making.{InitEnds}
+use Rattle.office_commands.specs.Running.{RunEnds}
+use Rattle.office_commands.specs.declared.ending.Ending.{Ending}
+use Rattle.office_commands.specs.declared.ending.Ending.TheVariants as how
+
+-- ---- what the laws say
+
+abbrev pub IsOneDatabase : Type 0
+IsOneDatabase = (ed : Edition) (s u : State) (db : Trees) → IsSound s → IsSound u → RepresentsRowsIn ed (rows_of s) db → RepresentsRowsIn ed (rows_of u) db → s ≡ u
+
+abbrev pub StaySound : Type 0
+StaySound = (s : State) (a : Act) → IsSound s → IsWellFormedAct a → IsSound (step s a).1
+
+abbrev pub IsEnded : Type 0
+IsEnded = (s : State) (run : ℕ) → open_run s.office ≡ Some run → after_steps s (suc (length (candidates s.office run))) ≡ whole s run
+
+-- ---- states stay sound
+
+pub well_formed_prefix : (n : ℕ) (acts : List Act) → AreWellFormed acts → AreWellFormed (take n acts)
+well_formed_prefix zero acts all = tt
+well_formed_prefix (suc n) [] all = tt
+well_formed_prefix (suc n) (a ∷ acts) (is, all) = (is, well_formed_prefix n acts all)
+
+module _ (stay : StaySound) where
+  pub sound_acts : (acts : List Act) (s : State) → IsSound s → AreWellFormed acts → IsSound (after_acts s acts)
+  sound_acts [] s sound formed = sound
+  sound_acts (a ∷ acts) s sound (is, rest) = sound_acts acts (step s a).1 (stay s a sound is) rest
+
+  pub sound_steps : (n : ℕ) (s : State) → IsSound s → IsSound (after_steps s n)
+  sound_steps zero s sound = sound
+  sound_steps (suc n) s sound = sound_steps n _ (subst IsSound (step_run s) (stay s act.RunStep sound tt))
+
+  sound_row : (s t : State) (answer : Answer) (x : Result Act Refusal) → IsAnsweredBy s x answer t → IsSound s → IsSound t
+  sound_row s t answer (Ok a) (formed, reported, is) sound = subst IsSound (sym is) (stay s a sound formed)
+  sound_row s t answer (Err why) (reported, is) sound = subst IsSound (sym is) sound
+
+  sound_rows : (day : ℤ) (s t : State) (rows : List Fields) (answers : List Answer) → AreRowsDone day s rows answers t → IsSound s → IsSound t
+  sound_rows day s t [] answers (none, is) sound = subst IsSound (sym is) sound
+  sound_rows day s t (row ∷ rows) answers (answer, rest, m, reported, one, all) sound = sound_rows day m t rows rest all (sound_row s m answer (act_asked day row) one sound)
+
+-- ---- what a crash leaves
+
+-- tables that are those of a state alone
+pub at_rows : (new : FileState) (u : State) → IsSound u → HoldsRows (rows_of u) new → (db : Trees) → new.may_leave db → IsOfficeAt db u
+at_rows new u sound holds db may =
+    let is = sym (holds.rest.only db may) in
+    record {
+      edition = edition.Two;
+      office = subst (λ (t : Trees). IsOfficeIn edition.Two t) is (new.now.schema, holds.rest.office);
+      sound = sound;
+      rows = subst (λ (t : Trees). RepresentsRows (rows_of u) t) is holds.represents;
+    }
+
+-- or those of one of two states, by the fault
+pub at_stop : (new : FileState) (v w : State) (f : Fault) → IsSound v → IsSound w → StopsLeaving v w f new → (db : Trees) → new.may_leave db → IsOfficeAt db v ⊎ IsOfficeAt db w
+at_stop new v w fault.Memory sv sw left db may = inl (at_rows new v sv left db may)
+at_stop new v w fault.Store sv sw left db may = elim (left.either db may) [
+  | inl old ↦ inl (record { edition = edition.Two; office = left.offices db may; sound = sv; rows = old })
+  | inr next ↦ inr (record { edition = edition.Two; office = left.offices db may; sound = sw; rows = next })
+]
+at_stop new v w fault.Reopen sv sw left db may = inr (at_rows new w sw left db may)
+at_stop new v w fault.Damaged sv sw left db may = absurd left
+at_stop new v w fault.Version sv sw left db may = absurd left
+
+module _ (one : IsOneDatabase) (stay : StaySound) (ends : IsEnded) (old new : FileState) (s : State) (clean : HasCleanDisk new) (sound : IsSound s) where
+  -- the state at which the office was found is the one at which it was
+  pub found_same : (ed : Edition) (t : State) → RepresentsRowsIn ed (rows_of s) old.now.trees → RepresentIn ed old.now.trees t → t ≡ s
+  found_same ed t rows found = one ed t s old.now.trees found.sound sound found.rows rows
+
+  pub of_opened : (ed : Edition) (P : State → Type 0) → IsAtRestOver ed old → RepresentsRowsIn ed (rows_of s) old.now.trees → IsOfOpened old new P → P s
+  of_opened edition.One P rest rows it = let m = it.moved clean rest in subst P (found_same edition.One m.0 rows m.1) m.2
+  of_opened edition.Two P rest rows it = let m = it.found clean rest in subst P (found_same edition.Two m.0 rows m.1) m.2
+
+  rows_opened : (ed : Edition) → IsAtRestOver ed old → RepresentsRowsIn ed (rows_of s) old.now.trees → IsOpened old new → HoldsRows (rows_of s) new
+  rows_opened edition.One rest rows it = let m = it.moved clean rest in subst (λ (t : State). HoldsRows (rows_of t) new) (found_same edition.One m.0 rows m.1) m.2
+  rows_opened edition.Two rest rows it = let m = it.found clean rest in subst (λ (t : State). HoldsRows (rows_of t) new) (found_same edition.Two m.0 rows m.1) m.2
+
+  -- what was there before
+  at_before : (ed : Edition) → IsAtRestOver ed old → RepresentsRowsIn ed (rows_of s) old.now.trees → (db : Trees) → old.may_leave db → IsOfficeAt db s
+  at_before ed rest rows db may =
+      let is = sym (rest.only db may) in
+      record {
+        edition = ed;
+        office = subst (λ (t : Trees). IsOfficeIn ed t) is (old.now.schema, rest.office);
+        sound = sound;
+        rows = subst (λ (t : Trees). RepresentsRowsIn ed (rows_of s) t) is rows;
+      }
+
+  pub at_unopened : (ed : Edition) (f : Fault) → IsAtRestOver ed old → RepresentsRowsIn ed (rows_of s) old.now.trees → IsUnopened f old new → (db : Trees) → new.may_leave db → IsOfficeAt db s
+  at_unopened edition.One f rest rows it db may = elim (it.leaves_old clean rest db may) [
+    | inl before ↦ at_before edition.One rest rows db before
+    | inr next ↦ record { edition = edition.Two; office = next.3; sound = sound; rows = subst (λ (t : State). RepresentsRows (rows_of t) db) (found_same edition.One next.0 rows next.1) next.2 }
+  ]
+  at_unopened edition.Two f rest rows it db may = at_before edition.Two rest rows db (it.leaves clean rest db may)
+
+  module _ (ed : Edition) (rest : IsAtRestOver ed old) (rows : RepresentsRowsIn ed (rows_of s) old.now.trees) where
+    -- the state is left
+    same_left : ((db : Trees) → new.may_leave db → IsOfficeAt db s) → LeavesAt (λ u. u ≡ s) new
+    same_left at db may = (s, refl, at db may)
+
+    untouched : (Is : State → Type 0) (written after : Option (List ℕ)) → (IsUntouched written after s s → Is s) → after ≡ written → ((db : Trees) → new.may_leave db → IsOfficeAt db s) → LeavesAt Is new
+    untouched Is written after is same at db may = (s, is (refl, same), at db may)
+
+    not_opened : (written after : Option (List ℕ)) (ending : Ending) → IsNotOpened old new written after ending → ((db : Trees) → new.may_leave db → IsOfficeAt db s) × (after ≡ written)
+    not_opened written after ending it = (at_unopened ed it.0 rest rows it.2, it.3)
+
+    opened_left : IsOpened old new → LeavesAt (λ u. u ≡ s) new
+    opened_left it = same_left (at_rows new s sound (rows_opened ed rest rows it))
+
+    -- ---- init
+
+    init_left : (written after : Option (List ℕ)) (ending : Ending) → InitEnds old new written after ending → LeavesAt (λ u. u ≡ s) new
+    init_left written after ending (inl none) = same_left (not_opened written after ending none).0
+    init_left written after ending (inr done) = opened_left done.0
+
+    -- ---- the readings
+
+    export_left : (it : Register) (written after : Option (List ℕ)) (ending : Ending) → ExportEnds it old new written after ending → LeavesAt (λ u. u ≡ s) new
+    export_left it written after ending (inl none) = same_left (not_opened written after ending none).0
+    export_left it written after ending (inr done) = opened_left done.0
+
+    certificate_left : (run : ℕ) (written after : Option (List ℕ)) (ending : Ending) → CertificateEnds run old new written after ending → LeavesAt (λ u. u ≡ s) new
+    certificate_left run written after ending (inl none) = same_left (not_opened written after ending none).0
+    certificate_left run written after ending (inr done) = opened_left done.0
+
+    -- ---- apply
+
+    module _ (text : List ℕ) (written after : Option (List ℕ)) where
+      abbrev ActsLeft : Ending → State → Type 0
+      ActsLeft ending u = IsUntouched written after s u ⊎ AreActsDone text written after ending s u
+
+      module _ (acts : List Act) (read : acts_in text ≡ Ok acts) where
+        came_left : (ending : Ending) (o : ActsOutcome) → ActsCameTo s acts o new → AreWritten (answer_lines (answers s (answered_acts acts o))) written after ending → LeavesAt (ActsLeft ending) new
+        came_left ending (all_done told) it reported db may =
+            let all : acts ≡ take (length acts) acts = sym (take-length acts) in (
+              after_acts s acts,
+              inr (record {
+                acts = acts;
+                read = read;
+                count = length acts;
+                within = omega arith;
+                answered = subst (λ (xs : List Act). AreWritten (answer_lines (answers s xs)) written after ending) all reported;
+                state = inl (ap (after_acts s) all);
+              }),
+              at_rows new (after_acts s acts) it.leaves.sound it.leaves.rows db may,
+            )
+        came_left ending (stopped told f) it reported db may =
+            let n = length told in
+            let v = after_acts s (take n acts) in
+            let w = after_acts s (take (n + 1) acts) in
+            let sound_at = λ (k : ℕ). sound_acts stay (take k acts) s sound (well_formed_prefix k acts it.formed) in
+            elim (at_stop new v w f (sound_at n) (sound_at (n + 1)) it.leaves db may) [
+              | inl here ↦ (v, inr (record { acts = acts; read = read; count = n; within = it.fits.0; answered = reported; state = inl refl }), here)
+              | inr next ↦ (w, inr (record { acts = acts; read = read; count = n; within = it.fits.0; answered = reported; state = inr refl }), next)
+            ]
+
+        performs_left : (ending : Ending) → Performs (IsOfOpened old new) acts new written after ending → LeavesAt (ActsLeft ending) new
+        performs_left ending it =
+            let came = of_opened ed (λ t. ActsCameTo t acts it.outcome new) rest rows it.came in
+            came_left ending it.outcome came (elim it.reported [
+              | inl all ↦ inl (subst (λ (xs : List Answer). Appends written after (answer_lines xs)) came.answered all.0)
+              | inr some ↦ inr (some.1, subst (λ (xs : List Answer). AppendsSome written after (answer_lines xs)) came.answered some.0)
+            ])
+
+      applies_left : (ending : Ending) → IsNotOpened old new written after ending ⊎ IsRestKept old new × Applies (IsOfOpened old new) text new written after ending → LeavesAt (ActsLeft ending) new
+      applies_left ending (inl none) = let it = not_opened written after ending none in untouched (ActsLeft ending) written after inl it.1 it.0
+      applies_left ending (inr (kept, inl unread)) = untouched (ActsLeft ending) written after inl unread.2 (at_rows new s sound (of_opened ed (λ t. HoldsRows (rows_of t) new) rest rows unread.1))
+      applies_left ending (inr (kept, inr it)) = performs_left it.0 it.1 ending it.2
+
+    -- ---- import
+
+    module _ (day : ℤ) (text written after : Option (List ℕ)) where
+      abbrev RowsLeft : Ending → State → Type 0
+      RowsLeft ending u = IsUntouched written after s u ⊎ AreRowsAdded day text written after ending s u
+
+      -- rows were added, and no more
+      added : (ending : Ending) (fs : List Fields) (reported : List Answer) (u : State) → ArePrefixRows text fs → AreRowsDone day s fs reported u → Appends written after (lines_from 0 reported) ⊎ (ending ≡ how.File) × AreLinesOut reported written after → HoldsRows (rows_of u) new → LeavesAt (RowsLeft ending) new
+      added ending fs reported u prefix done lines holds db may = (
+        u,
+        inr (record {
+          rows = fs;
+          answers = reported;
+          reached = u;
+          begins = ([], subst (ArePrefixRows text) (sym (append-nil fs)) prefix);
+          done = done;
+          answered = lines;
+          state = inl refl;
+        }),
+        at_rows new u (sound_rows stay day s u fs reported done sound) holds db may,
+      )
+
+      cut_row : (ending : Ending) (fs : List Fields) (reported : List Answer) (u : State) (row : Fields) (f : Fault) → AreSomeRows text (fs ++ row ∷ []) → AreRowsDone day s fs reported u → Appends written after (lines_from 0 reported) → IsRowCut day u row f new → LeavesAt (RowsLeft ending) new
+      cut_row ending fs reported u row f some done lines (inl it) db may = (
+        u,
+        inr (record {
+          rows = fs;
+          answers = reported;
+          reached = u;
+          begins = (row ∷ [], inr some);
+          done = done;
+          answered = inl lines;
+          state = inl refl;
+        }),
+        at_rows new u (sound_rows stay day s u fs reported done sound) it.1 db may,
+      )
+      cut_row ending fs reported u row f some done lines (inr (a, is, formed, left)) db may =
+          let sound_u = sound_rows stay day s u fs reported done sound in
+          elim (at_stop new u (step u a).1 f sound_u (stay u a sound_u formed) left db may) [
+            | inl here ↦ (
+              u,
+              inr (record {
+                rows = fs;
+                answers = reported;
+                reached = u;
+                begins = (row ∷ [], inr some);
+                done = done;
+                answered = inl lines;
+                state = inl refl;
+              }),
+              here,
+            )
+            | inr next ↦ (
+              (step u a).1,
+              inr (record {
+                rows = fs;
+                answers = reported;
+                reached = u;
+                begins = (row ∷ [], inr some);
+                done = done;
+                answered = inl lines;
+                state = inr (row, (step u a).0, (rw is (formed, refl, refl)));
+              }),
+              next,
+            )
+          ]
+
+      imports_left : (ending : Ending) (done : Result ℕ ImportStop) → ending ≡ ending_of_import done → AreImported day text done new written after s → LeavesAt (RowsLeft ending) new
+      imports_left ending (Ok refused) is (fs, reported, u, (r, left, first, ended), it, none) = added ending fs reported u (inr (r, left, first)) it.done (inl it.reported) it.saved
+      imports_left ending (Err import.Header) is it = untouched (RowsLeft ending) written after inl it.2 (at_rows new s sound it.1)
+      imports_left ending (Err (import.Row number)) is (fs, reported, u, (r, left, first, bad), it, at) = added ending fs reported u (inr (r, left, first)) it.done (inl it.reported) it.saved
+      imports_left ending (Err (import.Fault f)) is (fs, reported, u, done, lines, inl it) = added ending fs reported u it.1 done (inl lines) it.2
+      imports_left ending (Err (import.Fault f)) is (fs, reported, u, done, lines, inr it) = cut_row ending fs reported u it.0 f it.1 done lines it.2
+      imports_left ending (Err import.Io) is (fs, reported, u, prefix, done, holds, out) = added ending fs reported u prefix done (inr (is, out)) holds
+
+      import_left : (ending : Ending) → IsNotOpened old new written after ending ⊎ ImportsAt (IsOfOpened old new) day text new written after ending → LeavesAt (RowsLeft ending) new
+      import_left ending (inl none) = let it = not_opened written after ending none in untouched (RowsLeft ending) written after inl it.1 it.0
+      import_left ending (inr (done, is, it)) = imports_left ending done is (of_opened ed (AreImported day text done new written after) rest rows it)
+
+    -- ---- resume
+
+    whole_left : (ending : Ending) (run : ℕ) → open_run s.office ≡ Some run → HoldsRows (rows_of (whole s run)) new → LeavesAt (AreStepsTaken ending s) new
+    whole_left ending run is_open holds db may =
+        let n = suc (length (candidates s.office run)) in
+        let is : whole s run ≡ after_steps s n = sym (ends s run is_open) in (
+          whole s run,
+          record { count = n; state = is; closed = λ done. (run, is_open, refl) },
+          at_rows new (whole s run) (subst IsSound (sym is) (sound_steps stay n s sound)) holds db may,
+        )
+
+    none_taken : (ending : Ending) → (ending ≡ how.Done → ⊥) → ((db : Trees) → new.may_leave db → IsOfficeAt db s) → LeavesAt (AreStepsTaken ending s) new
+    none_taken ending other at db may = (s, record { count = 0; state = refl; closed = λ done. absurd (other done) }, at db may)
+
+    resumes_left : (written after : Option (List ℕ)) (ending : Ending) → Resumes (IsOfOpened old new) new written after ending → LeavesAt (AreStepsTaken ending s) new
+    resumes_left written after ending (inl (Some run, it, reported)) = let at = of_opened ed _ rest rows it in whole_left ending run at.was_open at.is_whole
+    resumes_left written after ending (inl (None, it, reported)) = none_taken ending (λ done. let other : how.Refused refused.NoRun ≡ how.Done = sym reported.0 ∙ done in cc) (at_rows new s sound (of_opened ed _ rest rows it).rows)
+    resumes_left written after ending (inr (f, it, is, same)) =
+        let at = of_opened ed _ rest rows it in
+        let n = at.stopped.0 in
+        let not_done : ending ≡ how.Done → ⊥ = λ done. let other : how.Fault f ≡ how.Done = sym is ∙ done in cc in
+        λ db may. elim (at_stop new (after_steps s n) (after_steps s (suc n)) f (sound_steps stay n s sound) (sound_steps stay (suc n) s sound) at.stopped.1 db may) [
+          | inl here ↦ (after_steps s n, record { count = n; state = refl; closed = λ done. absurd (not_done done) }, here)
+          | inr next ↦ (after_steps s (suc n), record { count = suc n; state = refl; closed = λ done. absurd (not_done done) }, next)
+        ]
+
+    resume_left : (written after : Option (List ℕ)) (ending : Ending) → ResumeEnds old new written after ending → LeavesAt (AreStepsTaken ending s) new
+    resume_left written after ending (inl none) = none_taken ending (λ done. let other : how.Fault none.0 ≡ how.Done = sym none.1 ∙ done in cc) (not_opened written after ending none).0
+    resume_left written after ending (inr it) = resumes_left written after ending it.1
+
+-- ---- each word
+
+module _ (one : IsOneDatabase) (stay : StaySound) (ends : IsEnded) {S : Type 0} (g : Ghosts S) (old new : Held S) (s : State) (clean : HasCleanDisk (state g new)) (sound : IsSound s) (ed : Edition) (rest : IsAtRestOver ed (state g old)) (rows : RepresentsRowsIn ed (rows_of s) (state g old).now.trees) where
+  -- where the connection is as it was
+  same_held : new ≡ old → LeavesAt (λ u. u ≡ s) (state g new)
+  same_held same = subst (λ (h : Held S). LeavesAt (λ u. u ≡ s) (state g h)) (sym same) (λ db may. (s, refl, at_before one stay ends (state g old) (state g new) s clean sound ed rest rows db may))
+
+  pub word_left : (order : Ordered) (text : List ℕ) (written after : Option (List ℕ)) (ending : Ending) → RunEnds g order (Some text) old new written after ending → LeavesAt (IsLeftBy order text written after ending s) (state g new)
+  word_left nothing_ordered text written after ending it = same_held it.1
+  word_left (due_day_ordered unit count offset day) text written after ending it = same_held it.1
+  word_left (plan_file_ordered file) text written after ending it = same_held it.1
+  word_left (service_ordered file port count) text written after ending it = same_held it.1
+  word_left (init_file_ordered file) text written after ending it = init_left one stay ends (state g old) (state g new) s clean sound ed rest rows written after ending it
+  word_left (application_ordered file acts) text written after ending (inl none) = λ db may.
+      let here = same_held none.1 db may in
+      (s, inl (refl, none.2), subst (IsOfficeAt db) here.1 here.2)
+  word_left (application_ordered file acts) text written after ending (inr it) = applies_left one stay ends (state g old) (state g new) s clean sound ed rest rows text written after ending it
+  word_left (importation_ordered file day csv) text written after ending it = import_left one stay ends (state g old) (state g new) s clean sound ed rest rows day (option_map strip_bom (Some text)) written after ending it
+  word_left (overdue_ordered file day n) text written after ending it = export_left one stay ends (state g old) (state g new) s clean sound ed rest rows (register.Overdue day n) written after ending it
+  word_left (exportation_ordered file register) text written after ending it = export_left one stay ends (state g old) (state g new) s clean sound ed rest rows register written after ending it
+  word_left (resumption_ordered file) text written after ending it = resume_left one stay ends (state g old) (state g new) s clean sound ed rest rows written after ending it
+  word_left (certificate_ordered file run) text written after ending it = certificate_left one stay ends (state g old) (state g new) s clean sound ed rest rows run written after ending it

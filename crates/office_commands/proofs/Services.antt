@@ -1,0 +1,35 @@
+-- The desk that a service has, and that a disk which is clean after a service was so before.
+use Rattle.std.proofs.Common.{inl, inr, ℕ, zero, suc, Bool, false, List, Option, Result, subst}
+use Rattle.sqlite.specs.Held.{Held, state}
+use Rattle.sqlite.specs.State.{HasCleanDisk}
+use Rattle.sqlite_trees.specs.declared.store.Store.{Ghosts}
+use Rattle.office_base.specs.declared.output.Io.{Io}
+use Rattle.office_sql.specs.declared.editions.Edition.TheVariants as edition
+use Rattle.office_desk.specs.Desk.{DeskState}
+use Rattle.office_desk.specs.Opening.{Opens}
+use Rattle.office_wire.specs.Connections.{Turn, Turns}
+use Rattle.office_commands.specs.Serving.{IsDeskOf, ServesAt}
+use Rattle.office_commands.specs.declared.ending.Ending.{Ending}
+
+-- a desk that was opened over a connection is the one of it that a service has
+pub desk_of : {S : Type 0} (g : Ghosts S) (conn : Held S) (desk : DeskState S) → Opens g conn desk → IsDeskOf g conn desk
+desk_of g conn desk it = record {
+  is_open = it.is_open;
+  made = λ clean blank. (it.finds clean).made blank;
+  found = λ clean rest. (it.finds clean).found edition.Two rest;
+  moved = λ clean rest. (it.finds clean).found edition.One rest;
+}
+
+pub clean_turn : {S : Type 0} (g : Ghosts S) (status : Result ℕ Io) (old new : DeskState S) → Turn g status old new → HasCleanDisk (state g new.held) → HasCleanDisk (state g old.held)
+clean_turn g status old new (inl failed) clean = subst (λ (d : DeskState _). HasCleanDisk (state g d.held)) failed.1 clean
+clean_turn g status old new (inr visited) clean = visited.call.clean clean
+
+pub clean_turns : {S : Type 0} (g : Ghosts S) (n : ℕ) (failed ended : Bool) (old new : DeskState S) → Turns g n failed ended old new → HasCleanDisk (state g new.held) → HasCleanDisk (state g old.held)
+unfolding Turns
+clean_turns g zero failed ended old new turns clean = subst (λ (d : DeskState _). HasCleanDisk (state g d.held)) turns.2 clean
+clean_turns g (suc n) failed ended old new (m, earlier, status, turns, turn, ends, is) clean =
+    clean_turns g n earlier false old m turns (clean_turn g status m new turn clean)
+
+pub clean_served : {S : Type 0} (g : Ghosts S) (port count : ℕ) (old new : DeskState S) (written after : Option (List ℕ)) (e : Ending) → ServesAt g port count old new written after e → HasCleanDisk (state g new.held) → HasCleanDisk (state g old.held)
+clean_served g port count old new written after e (inl it) clean = subst (λ (d : DeskState _). HasCleanDisk (state g d.held)) it.1 clean
+clean_served g port count old new written after e (inr (n, failed, ended, reported, turns, few, all, is)) clean = clean_turns g n failed ended old new turns clean

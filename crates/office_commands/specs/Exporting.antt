@@ -1,0 +1,44 @@
+-- How `export` and `overdue` end. Source: own.
+use Rattle.std.specs.Prelude.{◌≡◌, ◌⊎◌, ℕ, List, Option, Result, Ok, Err}
+use Rattle.std.specs.Io.KnownBytes.{Appends}
+use Rattle.sqlite.specs.State.{State as FileState}
+use Rattle.office_rules.specs.State.{Office, State}
+use Rattle.office_store.specs.declared.fault.Fault.TheVariants as fault
+use Rattle.office_wire.specs.Exporting.{IsDueRegister, IsEntryRegister, IsOverdueRegister, IsSomeOut}
+use Rattle.office_wire.specs.declared.registers.ExportStop.{ExportStop}
+use Rattle.office_wire.specs.declared.registers.ExportStop.TheVariants as export
+use Rattle.office_words.specs.declared.register.Register.{Register}
+use Rattle.office_words.specs.declared.register.Register.TheVariants as register
+use Rattle.office_commands.specs.declared.ending.Ending.{Ending}
+use Rattle.office_commands.specs.declared.ending.Ending.TheVariants as how
+use Rattle.office_commands.specs.Opening.{IsNotOpened, IsOfOpened, IsOpened}
+
+-- what stopped an export is reported as such
+abbrev pub ending_of_export : Result (Unit {0}) ExportStop → Ending
+ending_of_export (Ok done) = how.Done
+ending_of_export (Err (export.Fault f)) = how.Fault f
+ending_of_export (Err export.Io) = how.File
+
+-- the text of a register of the office
+abbrev pub IsRegisterText : Register → Office → List ℕ → Type 0
+IsRegisterText register.Entries = IsEntryRegister
+IsRegisterText (register.Due day) = IsDueRegister day
+IsRegisterText (register.Overdue day n) = IsOverdueRegister day n
+
+-- the register of the office was written
+abbrev pub IsRegister : Register → Option (List ℕ) → Option (List ℕ) → Office → Type 0
+IsRegister it written after s = (text : List ℕ) × IsRegisterText it s text × Appends written after text
+
+-- a register was written at an open desk; or the writer failed, or memory ran out, and its first bytes went out, or none;
+-- Of P is that P holds of the state at which the desk was
+abbrev pub Exports : ((State → Type 0) → Type 0) → Register → Option (List ℕ) → Option (List ℕ) → Ending → Type 0
+Exports Of it written after ending =
+    (ending ≡ how.Done) × Of (λ s. IsRegister it written after s.office)
+    ⊎ ((ending ≡ how.File) ⊎ (ending ≡ how.Fault fault.Memory))
+    × Of (λ s. IsSomeOut (IsRegisterText it) s.office written after)
+
+-- `export FILE entries`, `export FILE DAY` or `overdue FILE DAY COUNT`, by its ending; an office of version 2 that was
+-- opened stays as it was
+abbrev pub ExportEnds : Register → FileState → FileState → Option (List ℕ) → Option (List ℕ) → Ending → Type 0
+ExportEnds it old new written after ending =
+    IsNotOpened old new written after ending ⊎ IsOpened old new × Exports (IsOfOpened old new) it written after ending

@@ -1,0 +1,98 @@
+-- What is done with the office in a file, by what its two files held as they were opened. Source: own.
+use Rattle.std.specs.Prelude.{◌≡◌, ◌⊎◌, ℕ, IfSome, IsTrue, List, Option}
+use Rattle.sqlite_disk.specs.declared.Disk.{Ghosts}
+use Rattle.sqlite_disk.specs.declared.Files.{Files}
+use Rattle.sqlite_store.specs.FileStore.{view}
+use Rattle.sqlite_store.specs.declared.store.FileStore.{FileStore}
+use Rattle.sqlite_trees.specs.Tree.{Trees}
+use Rattle.sqlite_trees.specs.View.{IsClean}
+use Rattle.sqlite_wal.specs.Files.{outcomes}
+use Rattle.sqlite_wal.specs.Reads.{AreClean}
+use Rattle.sqlite_wal.specs.Recovery.{Image}
+use Rattle.sqlite.specs.Closing.{IsCopied}
+use Rattle.sqlite.specs.Files.{AreFoundIn, HoldsDatabase, IsClosed, IsEmpty, file_state, image_of, over_files}
+use Rattle.sqlite.specs.Held.{Held}
+use Rattle.sqlite.specs.State.{State as FileState, HasCleanDisk}
+use Rattle.office_sql.specs.declared.editions.Edition.{Edition}
+use Rattle.office_sql.specs.Office.{IsAtRestOver, IsBlank, IsOfficeIn}
+use Rattle.office_store.specs.declared.fault.Fault.TheVariants as fault
+use Rattle.office_words.specs.Orders.{Ordered}
+use Rattle.office_commands.specs.Running.{RunEnds}
+use Rattle.office_commands.specs.Serving.{ServiceEnds}
+use Rattle.office_commands.specs.Tables.{HoldsTables, SparesTables}
+use Rattle.office_commands.specs.declared.ending.Ending.{Ending}
+use Rattle.office_commands.specs.declared.ending.Ending.TheVariants as how
+use Rattle.office_commands.specs.declared.opening.FilesLeft.{FilesLeft}
+use Rattle.office_commands.specs.declared.opening.FilesLeft.TheVariants as files
+
+-- the two files held this database, which has the office's tables of that version, beside whatever else
+pub record HeldOffice (ed : Edition) (image : Image) (trees : Trees) : Type 0 where
+  pub held : ∥ HoldsDatabase image trees ∥₁
+  pub office : IsOfficeIn ed trees
+
+-- whatever tables a crash leaves, they are an office's, of one version or the other
+abbrev pub LeavesAnOffice : FileState → Type 0
+LeavesAnOffice s = (db : Trees) → s.may_leave db → (ed : Edition) × IsOfficeIn ed db
+
+-- files that held this were opened as that connection, as far as a later one is clean: it is at rest over the office
+-- that they held, or has room for one where it found nothing
+pub record IsOpenedFrom {D : Type 0} {g : Ghosts D} (image : Image) (was last : Held (FileStore D g)) : Type 0 where
+  pub found : HasCleanDisk (file_state last) → AreFoundIn image (file_state was).now.trees
+  pub rest : HasCleanDisk (file_state last) → (ed : Edition) (trees : Trees) → HeldOffice ed image trees
+      → IsAtRestOver ed (file_state was) × ((file_state was).now.trees ≡ trees)
+  pub blank : HasCleanDisk (file_state last) → IsEmpty (file_state was).now.trees → IsBlank (file_state was)
+
+-- files that held this were opened, and so it ended over the connection, which is this one then; where it is open, a
+-- crash may leave its last commit
+pub record EndsOver {D : Type 0} {g : Ghosts D} (image : Image)
+    (Ends : Held (FileStore D g) → Held (FileStore D g) → Type 0) (last : Held (FileStore D g)) : Type 0 where
+  pub was : Held (FileStore D g)
+  pub opened : IsOpenedFrom image was last
+  pub ends : Ends was last
+  pub stays : IsTrue (file_state last).is_open → (file_state last).may_leave (file_state last).committed.trees
+
+-- what a closing copies: the last commit, into the database file alone; and the two files hold it, as they read now and
+-- after any crash
+pub record IsClosedCopy {D : Type 0} {g : Ghosts D} (last : Held (FileStore D g)) (it : Files D) : Type 0 where
+  pub copied : IsCopied last it
+  pub now : ∥ HoldsTables (image_of g it) (file_state last).committed.trees ∥₁
+  pub left : (image : Image) → outcomes g it.log it.db image → ∥ HoldsTables image (file_state last).committed.trees ∥₁
+
+-- what a closing that failed leaves: no more than what a crash left before; and the store is numbered, where it is open
+pub record IsUnclosed {D : Type 0} {g : Ghosts D} (last : Held (FileStore D g)) (store : FileStore D g) : Type 0 where
+  pub closed : IsClosed last store
+  pub numbered : IsClean (view store) → IsTrue (view store).is_open → IsTrue (view store).is_numbered
+
+-- what a connection leaves of its files as it is closed
+abbrev pub IsLeftOf : {D : Type 0} {g : Ghosts D} → Held (FileStore D g) → FilesLeft D g → Type 0
+IsLeftOf last (files.Unopened left) = ⊥
+IsLeftOf {g = g} last (files.Closed it) = AreClean g it.log it.db → IsClosedCopy last it
+IsLeftOf last (files.Unclosed store) = IsUnclosed last store
+
+-- files that held this were not opened, and what is left of them keeps it; where the system refused them, there is none
+abbrev pub IsUnopenedLeft : {D : Type 0} {g : Ghosts D} → Image → FilesLeft D g → Type 0
+IsUnopenedLeft image (files.Unopened left) = IfSome left (λ it. SparesTables image it)
+IsUnopenedLeft image (files.Closed it) = ⊥
+IsUnopenedLeft image (files.Unclosed store) = ⊥
+
+-- files that held this were not opened, which is fault 31, with nothing written; or so it ended over their connection,
+-- which was closed
+abbrev pub EndsInFiles : {D : Type 0} {g : Ghosts D} → FilesLeft D g → Image
+    → (Held (FileStore D g) → Held (FileStore D g) → Type 0) → Option (List ℕ) → Option (List ℕ) → Ending → Type 0
+EndsInFiles {D} {g} left image Ends written after ending =
+    ((ending ≡ how.Fault fault.Store) × IsUnopenedLeft image left × (after ≡ written))
+    ⊎ ((last : Held (FileStore D g)) × EndsOver image Ends last × IsLeftOf last left)
+
+-- an order on the office in files that held this, where the reader reports the text that it reads
+abbrev pub RunsInFiles : {D : Type 0} {g : Ghosts D} → FilesLeft D g → Image → Ordered → Option (List ℕ)
+    → Option (List ℕ) → Option (List ℕ) → Ending → Type 0
+RunsInFiles left image order text written after ending =
+    EndsInFiles left image (λ was last. RunEnds over_files order text was last written after ending) written after
+    ending
+
+-- a service of the office in files that held this, at a port and for so many connections
+abbrev pub ServesInFiles : {D : Type 0} {g : Ghosts D} → FilesLeft D g → Image → ℕ → ℕ → Option (List ℕ)
+    → Option (List ℕ) → Ending → Type 0
+ServesInFiles left image port count written after ending =
+    EndsInFiles left image (λ was last. ServiceEnds over_files port count was last written after ending) written after
+    ending

@@ -1,0 +1,15 @@
+pub mod Applying
+pub mod Calling
+pub mod Certifying
+pub mod Endings
+pub mod Exporting
+pub mod Files
+pub mod Importing
+pub mod Making
+pub mod NextWord
+pub mod Opening
+pub mod Reopening
+pub mod Resuming
+pub mod Running
+pub mod Serving
+pub mod Tables

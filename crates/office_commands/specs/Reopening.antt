@@ -1,0 +1,60 @@
+-- What the laws say from one run of the program over an office's files to the next. Source: own.
+use Rattle.std.specs.Prelude.{ℕ, List, Option, Some}
+use Rattle.sqlite_disk.specs.declared.Disk.{Ghosts}
+use Rattle.sqlite_disk.specs.declared.Files.{Files}
+use Rattle.sqlite_store.specs.FileStore.{state as store_state}
+use Rattle.sqlite_store.specs.declared.store.FileStore.{FileStore}
+use Rattle.sqlite_trees.specs.Tree.{Trees}
+use Rattle.sqlite_wal.specs.Files.{outcomes}
+use Rattle.sqlite_wal.specs.Reads.{AreClean}
+use Rattle.sqlite_wal.specs.Recovery.{Image}
+use Rattle.sqlite.specs.Files.{file_state, image_of}
+use Rattle.sqlite.specs.Held.{Held}
+use Rattle.office_sql.specs.declared.editions.Edition.{Edition}
+use Rattle.office_sql.specs.Office.{IsOfficeIn}
+use Rattle.office_rules.specs.State.{State}
+use Rattle.office_words.specs.Orders.{Ordered}
+use Rattle.office_commands.specs.Files.{HeldOffice, IsLeftOf, LeavesAnOffice, RunsInFiles, ServesInFiles}
+use Rattle.office_commands.specs.NextWord.{HoldsOfficeAt, HoldsWholeOffice, IsLeftBy, IsServedTo, LeavesFilesAt}
+use Rattle.office_commands.specs.declared.ending.Ending.{Ending}
+use Rattle.office_commands.specs.declared.opening.FilesLeft.{FilesLeft}
+use Rattle.office_commands.specs.declared.opening.FilesLeft.TheVariants as files
+
+-- two files hold these tables of an office, as they read now and after any crash
+pub record KeepOffice {D : Type 0} (g : Ghosts D) (ed : Edition) (it : Files D) (trees : Trees) : Type 0 where
+  pub now : HeldOffice ed (image_of g it) trees
+  pub after_a_crash : (image : Image) → outcomes g it.log it.db image → HeldOffice ed image trees
+
+-- a connection whose last commit is an office's was closed: its files hold that office
+abbrev pub ClosedFilesKeepOffice : {D : Type 0} → Ghosts D → Type 0
+ClosedFilesKeepOffice {D} g =
+    (last : Held (FileStore D g)) (it : Files D) (ed : Edition) → IsLeftOf last (files.Closed it)
+    → AreClean g it.log it.db
+    → IsOfficeIn ed (file_state last).committed.trees → KeepOffice g ed it (file_state last).committed.trees
+
+-- the process ended with a connection of which a crash leaves an office, whatever it leaves: the files hold one of
+-- those offices
+abbrev pub CrashHoldsOffice : {D : Type 0} {g : Ghosts D} → Held (FileStore D g) → Type 0
+CrashHoldsOffice last =
+    LeavesAnOffice (file_state last) → (left : Image) → (store_state last.store).may_leave left
+    → ∥ ((trees : Trees) × (ed : Edition) × (file_state last).may_leave trees × HeldOffice ed left trees) ∥₁
+
+-- over files that hold an office at a state a word was run: they hold one at a state at which the word leaves it
+abbrev pub WordLeavesOffice : {D : Type 0} → Ghosts D → Type 0
+WordLeavesOffice {D} g =
+    (image : Image) (s : State) (order : Ordered) (text : List ℕ) (written after : Option (List ℕ)) (ending : Ending)
+    (left : FilesLeft D g)
+    → HoldsOfficeAt image s → RunsInFiles left image order (Some text) written after ending
+    → LeavesFilesAt image s (IsLeftBy order text written after ending s) left
+
+-- the same of a service, which leaves the office after some acts
+abbrev pub ServiceLeavesOffice : {D : Type 0} → Ghosts D → Type 0
+ServiceLeavesOffice {D} g =
+    (image : Image) (s : State) (port count : ℕ) (written after : Option (List ℕ)) (ending : Ending)
+    (left : FilesLeft D g)
+    → HoldsOfficeAt image s → ServesInFiles left image port count written after ending
+    → LeavesFilesAt image s (IsServedTo s) left
+
+-- an office of which each page has its sum, if the file has sums, is one
+abbrev pub WholeIsOffice : Type 0
+WholeIsOffice = (image : Image) (s : State) → HoldsWholeOffice image s → HoldsOfficeAt image s

@@ -1,0 +1,45 @@
+-- How a service ends. Source: own.
+use Rattle.std.specs.Prelude.{◌≡◌, ◌⊎◌, ◌≤◌, ℕ, Bool, false, List, Option}
+use Rattle.std.specs.Io.KnownBytes.{Appends}
+use Rattle.sqlite_trees.specs.declared.store.Store.{Ghosts}
+use Rattle.sqlite.specs.Held.{Held, state}
+use Rattle.sqlite.specs.State.{HasCleanDisk}
+use Rattle.office_rules.specs.State.{State, empty_state}
+use Rattle.office_sql.specs.declared.editions.Edition.TheVariants as edition
+use Rattle.office_sql.specs.Office.{IsAtRest, IsAtRestOver, IsBlank}
+use Rattle.office_desk.specs.Desk.{DeskState}
+use Rattle.office_desk.specs.Leaving.{IsAt}
+use Rattle.office_desk.specs.Opening.{OldRepresent, RepresentState}
+use Rattle.office_wire.specs.Connections.{Turns}
+use Rattle.office_commands.specs.declared.ending.Ending.{Ending}
+use Rattle.office_commands.specs.declared.ending.Ending.TheVariants as how
+use Rattle.office_commands.specs.Endings.{ending_of_service}
+use Rattle.office_commands.specs.Opening.{IsNotOpened}
+use Rattle.office_commands.specs.Running.{listening_line}
+
+-- a desk was opened over a connection: it is at the state of a new office where there was none, else at one that the
+-- tables represent
+pub record IsDeskOf {S : Type 0} (g : Ghosts S) (conn : Held S) (desk : DeskState S) : Type 0 where
+  pub is_open : desk.is_poisoned ≡ false
+  pub made : HasCleanDisk (state g desk.held) → IsBlank (state g conn) → IsAt g empty_state desk
+  pub found : HasCleanDisk (state g desk.held) → IsAtRest (state g conn)
+      → (s : State) × RepresentState (state g conn).now.trees s × IsAt g s desk
+  pub moved : HasCleanDisk (state g desk.held) → IsAtRestOver edition.One (state g conn)
+      → (s : State) × OldRepresent (state g conn).now.trees s × IsAt g s desk
+
+-- a desk was served, by the ending: where it listens was not reported, and nothing is served; or connections were, one
+-- after another, as many as were asked for or fewer where the desk was poisoned
+abbrev pub ServesAt : {S : Type 0} → Ghosts S → ℕ → ℕ → DeskState S → DeskState S → Option (List ℕ) → Option (List ℕ)
+    → Ending → Type 0
+ServesAt g port count old new written after ending =
+    ((ending ≡ how.File) × (new ≡ old))
+    ⊎ ((n : ℕ) × (failed ended : Bool) × Appends written after (listening_line port) × Turns g n failed ended old new
+    × (n ≤ count) × (ended ≡ false → n ≡ count) × (ending ≡ ending_of_service failed ended))
+
+-- `serve FILE PORT COUNT` over a connection, by its ending
+abbrev pub ServiceEnds : {S : Type 0} → Ghosts S → ℕ → ℕ → Held S → Held S → Option (List ℕ) → Option (List ℕ) → Ending
+    → Type 0
+ServiceEnds {S} g port count old new written after ending =
+    IsNotOpened (state g old) (state g new) written after ending
+    ⊎ ((first last : DeskState S) × IsDeskOf g old first × ServesAt g port count first last written after ending
+    × (new ≡ last.held))

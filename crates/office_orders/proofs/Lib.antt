@@ -1,9 +1,0 @@
-pub mod Applications
-pub mod Callings
-pub mod Certificates
-pub mod DeskActs
-pub mod Desks
-pub mod Endings
-pub mod KeptRest
-pub mod Resumptions
-pub mod Unopened

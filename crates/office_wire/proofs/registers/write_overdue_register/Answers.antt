@@ -1,0 +1,29 @@
+use Rattle.std.proofs.Common.{arith, subst, sym}
+use Rattle.std.specs.Io.KnownBytes.{Appends}
+use Rattle.office_base.specs.Output.{AppendsSome}
+use Rattle.office_base.proofs.Written.{appends_both, on_err, some_before, some_then}
+use Rattle.office_csv.specs.Registers.{overdue_lines}
+use Rattle.office_wire.proofs.registers.write_overdue_register.Goals as goal
+
+pub returns-in_err-write_overdue_header-clause-err : goal.returns-in_err-write_overdue_header-clause-err
+returns-in_err-write_overdue_header-clause-err g c = on_err _ (some_before _ _ _ _ c.in_err-write_overdue_header.ensures.err)
+
+pub returns-in_err-write_overdue_line-clause-err : goal.returns-in_err-write_overdue_line-clause-err
+returns-in_err-write_overdue_line-clause-err g c =
+    on_err _ (some_then _ _ _ _ _ c.in_ok-write_overdue_header.ensures.ok ((c.loop-row.invariant _).1
+    (subst (λ (x : _). AppendsSome (g.W.Write.contents c.loop-row.out) (g.W.Write.contents c.write_overdue_line.new.out) (overdue_lines c.args.days x)) (sym c.in-Some.ensures.some) (some_before _ _ _ _ c.in_err-write_overdue_line.ensures.err))))
+
+pub loop-row-preserved : goal.loop-row-preserved
+loop-row-preserved g c = λ new.
+    let next = sym c.in-Some.ensures.some in (
+      λ left. (c.loop-row.invariant new).0 (subst (λ (x : _). Appends (g.W.Write.contents c.loop-row.out) new (overdue_lines c.args.days x)) next (appends_both _ _ _ _ _ c.in_ok-write_overdue_line.ensures.ok left)),
+      λ some. (c.loop-row.invariant new).1 (subst (λ (x : _). AppendsSome (g.W.Write.contents c.loop-row.out) new (overdue_lines c.args.days x)) next (some_then _ _ _ _ _ c.in_ok-write_overdue_line.ensures.ok some)),
+    )
+
+pub returns-clause-ok : goal.returns-clause-ok
+returns-clause-ok g c = appends_both _ _ _ _ _ c.in_ok-write_overdue_header.ensures.ok ((c.loop-row.invariant _).0
+    (subst (λ (x : _). Appends (g.W.Write.contents c.loop-row.out) (g.W.Write.contents c.flush.new.out) (overdue_lines c.args.days x)) (sym c.in_default.ensures.none) c.flush.ensures))
+
+pub returns-clause-err : goal.returns-clause-err
+returns-clause-err g c = on_err _ (some_then _ _ _ _ _ c.in_ok-write_overdue_header.ensures.ok ((c.loop-row.invariant _).1
+    (subst (λ (x : _). AppendsSome (g.W.Write.contents c.loop-row.out) (g.W.Write.contents c.flush.new.out) (overdue_lines c.args.days x)) (sym c.in_default.ensures.none) (record { count = 0; within = omega arith; out = c.flush.ensures }))))

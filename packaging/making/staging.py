@@ -1,0 +1,125 @@
+"""The files of the package, laid out below a folder as they lie on a machine."""
+import gzip
+import os
+import pathlib
+import re
+import shutil
+import subprocess
+from typing import NamedTuple
+
+from making import manual
+from making.changelog import Version, debian
+from making.failing import fail
+from making.words import TOP, table
+
+HERE = TOP / "packaging"
+UNITS = "lib/systemd/system"
+DOC = "usr/share/doc/office"
+# what the examples say of a machine without the package, and what is so with it
+PLACES = [("/usr/local/bin/", "/usr/bin/"), ("/usr/local/share/office", "/usr/share/office")]
+# files in which that is said for the machine; pages tell of both
+MACHINE = (".service", ".timer", ".conf", ".nft", "office-acts")
+
+
+class Listed(NamedTuple):
+    """A line of the list: a file or a folder of the repository, and where it goes."""
+
+    source: pathlib.Path
+    folder: str
+
+
+def listed() -> list[Listed]:
+    lines = [line.split() for line in (HERE / "files").read_text().split("\n") if line and not line.startswith("#")]
+    return [Listed(TOP / source, folder.strip("/")) for source, folder in lines]
+
+
+def units() -> list[str]:
+    """What systemd may have running of the package's units, as patterns."""
+    names = [it.source.name for it in listed() if it.folder == UNITS]
+    return sorted(it.replace("@.", "@*.") for it in names)
+
+
+def files_below(source: pathlib.Path) -> list[pathlib.Path]:
+    if source.is_file():
+        return [source]
+    return sorted(it for it in source.rglob("*") if it.is_file() and "__pycache__" not in it.parts)
+
+
+def put(text: str | bytes, to: pathlib.Path, mode: int = 0o644) -> None:
+    to.parent.mkdir(parents=True, exist_ok=True)
+    to.write_bytes(text if isinstance(text, bytes) else text.encode())
+    to.chmod(mode)
+
+
+def put_packed(text: str, to: pathlib.Path) -> None:
+    """A text as gzip, the same bytes each time."""
+    put(gzip.compress(text.encode(), 9, mtime=0), to)
+
+
+def put_file(source: pathlib.Path, to: pathlib.Path) -> None:
+    """A file of the list, with the places of the package."""
+    data = source.read_bytes()
+    if source.name.endswith(MACHINE):
+        text = data.decode()
+        for before, after in PLACES:
+            text = text.replace(before, after)
+        data = text.encode()
+    put(data, to, 0o755 if os.access(source, os.X_OK) else 0o644)
+
+
+def put_program(program: pathlib.Path, to: pathlib.Path) -> None:
+    """The program, without the names that only a debugger reads."""
+    with open(program, "rb") as file:
+        head = file.read(20)
+    if head[:5] != b"\x7fELF\x02" or head[18:20] != b"\x3e\x00":
+        fail(f"{program} is no program for amd64, so no package is made of it")
+    to.parent.mkdir(parents=True, exist_ok=True)
+    subprocess.run(["strip", "--strip-unneeded", "--remove-section=.comment", "--remove-section=.note", "-o", to,
+                    program], check=True)
+    to.chmod(0o755)
+
+
+def put_completion(to: pathlib.Path) -> None:
+    words = table()
+    operands = "\n".join(f'    {it.name}) words="{" ".join(it.operands)}" ;;' for it in words)
+    text = (HERE / "completion").read_text()
+    put(text.replace("@WORDS@", " ".join(it.name for it in words)).replace("    # @OPERANDS@", operands), to)
+
+
+def put_manuals(top: pathlib.Path, last: Version) -> None:
+    pages = top / "usr/share/man/man1"
+    scripts = sorted(it.source.name for it in listed() if it.folder == "usr/bin")
+    put_packed(manual.office(last.number, str(last.day), scripts), pages / "office.1.gz")
+    for name in scripts:
+        text = (top / "usr/bin" / name).read_text()
+        put_packed(manual.script(name, text, last.number, str(last.day)), pages / f"{name}.1.gz")
+
+
+def stage(top: pathlib.Path, program: pathlib.Path, all_versions: list[Version], maintainer: str) -> None:
+    """Lays out all files below a folder. What is not there any more is left where it lies."""
+    put_program(program, top / "usr/bin/office")
+    for source, folder in listed():
+        if not source.exists():
+            fail(f"packaging/files names {source.relative_to(TOP)}, which is not there")
+        for file in files_below(source):
+            put_file(file, top / folder / file.relative_to(source.parent))
+    put_manuals(top, all_versions[0])
+    put_completion(top / "usr/share/bash-completion/completions/office")
+    put((HERE / "copyright").read_text(), top / DOC / "copyright")
+    put_packed(debian(all_versions, maintainer), top / DOC / "changelog.gz")
+
+
+def hooks() -> dict[str, str]:
+    """What Debian runs before and after, with the names of the units."""
+    names = " ".join(f"'{it}'" for it in units())
+    return {it: re.sub("@UNITS@", names, (HERE / it).read_text()) for it in ("postinst", "prerm", "postrm")}
+
+
+def set_times(top: pathlib.Path, seconds: int) -> None:
+    """Gives all files below a folder one time, so that the package has the same bytes each time."""
+    for it in [*top.rglob("*"), top]:
+        os.utime(it, (seconds, seconds), follow_symlinks=False)
+
+
+def remove(top: pathlib.Path) -> None:
+    shutil.rmtree(top, ignore_errors=True)

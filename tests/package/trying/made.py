@@ -1,0 +1,190 @@
+"""The package as a file: what is in it, what lintian says, and what it is made from."""
+import fnmatch
+import os
+import pathlib
+import re
+import shutil
+import subprocess
+
+from making import staging
+from making.words import TOP, table
+from trying.judging import judge
+from trying.machine import run
+
+PROGRAM = pathlib.Path(os.environ.get("OFFICE", TOP / "crates/office/out/office")).resolve()
+MAKE = TOP / "packaging/make"
+# who makes it, in each trial
+BY = {"DEBFULLNAME": "Office of the trial", "DEBEMAIL": "office@trial.example"}
+
+
+def make(place: pathlib.Path, changelog: pathlib.Path | None = None) -> pathlib.Path:
+    """Makes the package in a folder, and gives its file."""
+    done = run([MAKE, PROGRAM, "package", place], **BY, **({"CHANGELOG": str(changelog)} if changelog else {}))
+    if done.status:
+        raise SystemExit(f"no package was made:\n{done.err}")
+    return pathlib.Path(done.out.strip())
+
+
+def judge_list() -> None:
+    """No file of service is forgotten, and what is listed is there."""
+    sources = {it.source for it in staging.listed()}
+    missing = [it.name for it in sorted((TOP / "service").iterdir()) if it.is_file() and it not in sources]
+    judge("the list has each file of service", not missing, missing)
+    judge("each file of the list is there", all(it.exists() for it in sources))
+
+
+def judge_version(place: pathlib.Path) -> None:
+    """A package of later changes has a version of its own, which names the commit."""
+    last = "## 1.0.0 (2026-11-27)\n\n- A change.\n"
+    commit = run(["git", "-C", TOP, "log", "-1", "--format=%h"]).out.strip()
+    for name, text, wanted in (("released", last, r"1\.0\.0"), ("empty", f"## Next\n\n{last}", r"1\.0\.0"),
+                               ("later", f"## Next\n\n- A later one.\n\n{last}", rf"1\.0\.0\+git\d{{8}}\.{commit}")):
+        file = place / f"{name}.md"
+        file.write_text(f"# Changes\n\n{text}")
+        code = (f"import sys; sys.path.insert(0, '{MAKE.parent}'); from making.changelog import versions; "
+                "print(versions()[0].number)")
+        done = run(["python3", "-B", "-c", code], CHANGELOG=str(file))
+        judge(f"the version of a list of changes, {name}", re.fullmatch(wanted, done.out.strip()), done)
+
+
+def judge_lintian(file: pathlib.Path) -> None:
+    done = run(["lintian", "--fail-on", "error,warning", "--display-info", file])
+    tags = [line for line in done.out.splitlines() if line[:2] in ("E:", "W:", "I:")]
+    print("\n".join(tags))
+    judge("lintian finds no error and no warning", done.status == 0, done.out + done.err)
+
+
+def judge_manual(top: pathlib.Path) -> None:
+    """office(1) has each word of README, without a fault of its form."""
+    pages = sorted((top / "usr/share/man/man1").iterdir())
+    names = sorted(it.name.removesuffix(".1.gz") for it in pages)
+    tools = sorted(it.name for it in (top / "usr/bin").iterdir())
+    judge("each program has its manual page", names == tools, names)
+    for page in pages:
+        done = run(["man", "--warnings", "-E", "ascii", "-l", page], MANWIDTH="100")
+        judge(f"{page.name} has no fault of form", done.status == 0 and done.err == "", done.err)
+        if page.name == "office.1.gz":
+            text = re.sub(r"\s+", " ", re.sub(r".\x08", "", done.out))
+            missing = [call for word in table() for call in word.calls if f"office {call}" not in text]
+            judge("office(1) has each word of README's table", not missing, missing)
+
+
+# what is typed, and what bash offers
+COMPLETED = [
+    ("", {"due", "plan", "init", "serve", "help"}),
+    ("ex", {"export"}),
+    ("due w", {"weeks"}),
+    ("due years 7 from-month-1", {"from-month-1", "from-month-10", "from-month-11", "from-month-12"}),
+    ("export x.db e", {"entries"}),
+    ("serve x.db ", set()),
+]
+
+
+def judge_completion(top: pathlib.Path) -> None:
+    file = top / "usr/share/bash-completion/completions/office"
+    for typed, wanted in COMPLETED:
+        words = ["office", *typed.split(" ")]
+        quoted = " ".join(f"'{it}'" for it in words)
+        script = (f"source {file}; COMP_WORDS=({quoted}); COMP_CWORD={len(words) - 1}; _office; "
+                  'printf "%s\\n" "${COMPREPLY[@]}"')
+        offered = set(run(["bash", "-c", script]).out.split())
+        judge(f"bash completes 'office {typed}'", offered >= wanted if not typed else offered == wanted, offered)
+
+
+def judge_tools(top: pathlib.Path) -> None:
+    """The tools of the pages work where the package puts them: a list of acts is read, and a sheet converted."""
+    here = top / "usr/share/doc/office"
+    done = run(["python3", "-B", here / "tools/check", here / "examples/first/acts.json"])
+    judge("the package's tools/check reads a list", done.status == 0 and done.out.startswith("acts: 6, wrong: 0;"), done)
+    done = run(["python3", "-B", here / "tools/convert", here / "examples/import/letters.csv"])
+    judge("the package's tools/convert reads a sheet", done.status == 0 and done.out.count("\n") > 1, done)
+
+
+def judge_named(top: pathlib.Path) -> None:
+    """What the commands of OPERATING.md copy from service is in the package, but for what it puts elsewhere."""
+    doc, page = top / "usr/share/doc/office", (TOP / "docs/OPERATING.md").read_text()
+    named = set(re.findall(r"(?m)(?<=[ ])service/[\w@./-]+", "\n".join(re.findall(r"(?m)^    .*", page))))
+    elsewhere = {it.source for it in staging.listed() if not f"/{it.folder}".startswith("/usr/share/doc")}
+    missing = sorted(it for it in named if TOP / it not in elsewhere and not (doc / it).exists())
+    judge("the package has the files that OPERATING.md copies", not missing and len(named) > 20, missing or named)
+
+
+def tree(top: pathlib.Path) -> dict[str, tuple[int, bytes]]:
+    """Each file below a folder, with its mode and its bytes."""
+    files = [it for it in top.rglob("*") if it.is_file() and "DEBIAN" not in it.parts]
+    return {str(it.relative_to(top)): (it.stat().st_mode & 0o777, it.read_bytes()) for it in files}
+
+
+def clone(place: pathlib.Path) -> pathlib.Path:
+    """The launcher of a clone in which the program was built. Its sources are one file alone."""
+    top = place / "clone"
+    out = top / "crates/office/out"
+    out.mkdir(parents=True)
+    for name in ("docs", "examples", "packaging", "service", "tools", "web"):
+        shutil.copytree(TOP / name, top / name, ignore=shutil.ignore_patterns("__pycache__"))
+    for name in ("office", "crates.txt", "README.md", "CHANGELOG.md"):
+        shutil.copy(TOP / name, top)
+    shutil.copy(PROGRAM, out / "office")
+    # the package's version names the last commit
+    history = subprocess.run(["git", "rev-parse", "--absolute-git-dir"], cwd=TOP, check=True, stdout=subprocess.PIPE,
+                             text=True)
+    (top / ".git").write_text(f"gitdir: {history.stdout}")
+    sums = subprocess.run(["cksum", "crates.txt"], cwd=top, check=True, stdout=subprocess.PIPE)
+    (out / "launcher.sources").write_bytes(sums.stdout)
+    return top / "office"
+
+
+def judge_launcher(file: pathlib.Path, top: pathlib.Path, place: pathlib.Path) -> None:
+    """`./office package` makes it, and `./office install` lays out the same files."""
+    launcher, here, to = clone(place), place / "here", place / "destination"
+    here.mkdir()
+    to.mkdir()
+    done = run([launcher, "package", here], **BY)
+    made = here / file.name
+    judge("./office package makes it with the same bytes again", done == (0, f"{made}\n", "")
+          and made.read_bytes() == file.read_bytes(), done)
+    done = run([launcher, "install"], DESTDIR=str(to), **BY)
+    judge("./office install puts the same files into the same places", done.status == 0 and tree(to) == tree(top), done)
+    (launcher.parent / "crates.txt").write_text("changed\n")
+    done = run([launcher, "package", here])
+    judge("after a change of a source it says to build", done.status == 2
+          and done.err == "office: the sources changed since this program was built: run ./office build first\n", done)
+    named = re.search(r"^    apt-get install \./(office_\S+)$", (TOP / "docs/OPERATING.md").read_text(), re.M)
+    judge("OPERATING.md installs this file", named and fnmatch.fnmatch(file.name, named[1]), file.name)
+
+
+def refused(name: str, words: list[object], says: str, **env: str) -> None:
+    done = run(words, **env)
+    judge(f"{name}: a line says what to do", done.status == 2 and done.err.startswith("office: ")
+          and says in done.err and done.err.count("\n") == 1, done)
+
+
+def judge_refusals(place: pathlib.Path) -> None:
+    refused("a program that is a script", [MAKE, MAKE, "package", place], "is no program for amd64")
+    bare = place / "bare.md"
+    bare.write_text("# Changes\n")
+    refused("no version", [MAKE, PROGRAM, "package", place], "has no heading as '## 1.0.0", CHANGELOG=str(bare))
+    refused("no tools", ["/usr/bin/env", f"PATH={place}", "/usr/bin/python3", MAKE, PROGRAM, "package", place],
+            "is missing: apt-get install")
+    locked = place / "locked"
+    locked.mkdir()
+    subprocess.run(["mount", "-t", "tmpfs", "-o", "ro", "tmpfs", locked], check=True)
+    try:
+        refused("a folder that cannot be written", [MAKE, PROGRAM, "package", locked], "cannot be written by you")
+    finally:
+        subprocess.run(["umount", locked], check=True)
+
+
+def judge_made(file: pathlib.Path, place: pathlib.Path) -> None:
+    """All of it."""
+    top = place / "unpacked"
+    subprocess.run(["dpkg-deb", "-x", file, top], check=True)
+    judge_list()
+    judge_version(place)
+    judge_lintian(file)
+    judge_manual(top)
+    judge_completion(top)
+    judge_tools(top)
+    judge_named(top)
+    judge_launcher(file, top, place)
+    judge_refusals(place)

@@ -1,0 +1,74 @@
+"""README.md, and what the launcher does where there is no program or an old one."""
+import os
+import shutil
+
+from pages_run.commands import TOP, blocks
+from pages_run.expected import Row, run_page
+from pages_run.files import FIRST, alone
+from pages_run.judging import judge
+from pages_run.launcher import judge_launcher
+from pages_run.shell import Shell
+
+PAGE = "README.md"
+
+
+def is_served(shell: Shell) -> None:
+    judge(f"{PAGE}: serve ends after its count", shell.end() == 0)
+    alone("serve", "first.db", {**FIRST, "runs": 1, "entries": 1, "certificates": 1})(shell)
+
+
+def is_installed(shell: Shell) -> None:
+    """The program is there, and works; a launcher without a program, or with one of other sources, says what to do."""
+    done = shell.run("DIR/office due days 1 none 2024-02-28")
+    judge("the installed program works", done.out == "2024-02-29\n", done.out + done.err)
+    done = shell.run("DIR/office help")
+    judge("its help is that of .ci/help.txt", done == (2, "", (TOP / ".ci/help.txt").read_text()), f"{done}")
+    for file in sorted((TOP / ".ci/help").iterdir()):
+        done = shell.run(f"DIR/office help {file.stem}")
+        judge(f"its help of {file.stem} is that of .ci/help", done == (2, "", file.read_text()), f"{done}")
+    other = shell.path("other")
+    other.mkdir()
+    shutil.copy(shell.path("office"), other / "office")
+    shutil.copy(shell.path("crates.txt"), other / "crates.txt")
+    says(shell, "there is no program yet")
+    shutil.copytree(shell.path("crates"), other / "crates")
+    judge_installs(shell)
+    (other / "crates.txt").write_text("changed\n")
+    says(shell, "the sources changed since this program was built")
+    (other / "crates/office/out/launcher.sources").unlink()
+    says(shell, "the sources changed since this program was built")
+    os.utime(other / "crates.txt", (0, 0))
+    judge_installs(shell)
+
+
+def says(shell: Shell, words: str) -> None:
+    """install ends with 2 and these words, which name the remedy, and builds nothing."""
+    done = shell.run("mkdir -p other/to && PATH=/usr/bin:/bin other/office install other/to")
+    wanted = f"office: {words}: run ./office build first\n"
+    judge(f"install says: {words}", (done.status, done.out, done.err) == (2, "", wanted), f"{done}")
+    judge("and installs nothing", not os.path.exists(shell.path("other/to/office")))
+
+
+def judge_installs(shell: Shell) -> None:
+    done = shell.run("mkdir -p other/there && other/office install other/there && rm other/there/office")
+    judge("install puts a program there that is of the sources", done.status == 0, done.err)
+
+
+ROWS = [
+    Row("./office due", skip="a stub stands in for rt, unless PAGES_PREVIEW is set", then=judge_launcher),
+    Row("./office apply", then=alone("apply", "first.db", {**FIRST, "runs": 1, "entries": 0})),
+    Row("./office resume", then=alone("resume", "first.db", {**FIRST, "runs": 1, "entries": 1, "contents": 0})),
+    Row("./office certificate", then=alone("certificate", "first.db", {**FIRST, "runs": 1, "certificates": 1})),
+    Row("./office serve", serves=True),
+    Row("curl", then=is_served),
+    Row("./office build"),
+    Row("./office package", skip="tests/package/run makes it"),
+    Row("./office install DIR", then=is_installed),
+    Row("rt ci", skip="it takes an hour"),
+]
+
+
+def run(shell: Shell) -> None:
+    acts = (TOP / "examples/first/acts.json").read_text().splitlines()
+    judge(f"{PAGE} shows examples/first/acts.json", acts in blocks(PAGE))
+    run_page(shell, PAGE, ROWS)

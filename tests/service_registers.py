@@ -1,0 +1,120 @@
+"""The register of what is overdue: beside a service, where something is wrong, as a mail (tests/service_scripts)."""
+import email
+import email.message
+import os
+import pathlib
+import shutil
+
+from service_place import (
+    LAST,
+    NOBODY,
+    OFFICE,
+    RECORDS,
+    Served,
+    apply,
+    judge,
+    made,
+    mode_of,
+    path_with,
+    run,
+    run_acts,
+    script,
+)
+
+
+def overdue(folder: pathlib.Path) -> None:
+    file, registers = made(folder, "overdue"), folder / "registers"
+    registers.mkdir(mode=0o700)
+    os.chown(registers, NOBODY, NOBODY)
+    apply(file, run_acts()[:-1], NOBODY)
+    day = {"first": "2025-02-01", "second": "2025-02-02"}
+    wanted = run(OFFICE, "overdue", file, day["second"], 30, user=NOBODY)
+    judge(
+        "the register of the closed FILE has the records that are not confirmed",
+        wanted[0] == 0
+        and len(wanted[1].splitlines()) == RECORDS + 1
+        and wanted[1].splitlines()[1].startswith(f"{RECORDS + 1},r{RECORDS + 1},FIN,D1,destroy,{LAST},{day['first']}"),
+        wanted[2] + wanted[1][:80],
+    )
+    served = Served(file)
+    register = registers / f"overdue-{day['second']}.csv"
+    try:
+        status, out, error = script("office-overdue", file, registers, day["second"], 30, user=NOBODY)
+        judge(
+            "a register beside the service, for its owner alone",
+            (status, out) == (0, f"{register}\n")
+            and mode_of(register) == ("0o600", NOBODY)
+            and register.read_text() == wanted[1],
+            error,
+        )
+        script("office-overdue", file, registers, day["first"], 30, user=NOBODY)
+        header = (registers / f"overdue-{day['first']}.csv").read_text()
+        judge("where nothing is overdue it has the header alone", header == wanted[1].splitlines(True)[0], header)
+        stands = register.read_bytes()
+        full = path_with(folder / "full", "mv", "echo 'No space left on device' >&2\nexit 1")
+        for name, words, how in (
+            ("who is neither root nor the owner", (file, registers, day["second"], 30), {"user": NOBODY - 1}),
+            ("a FILE that is not there", (file.with_name("none.db"), registers, day["second"], 30), {}),
+            ("a day that is none", (file, registers, "2025-02-30", 30), {}),
+            ("a day that is a path", (file, registers, "../2025-02-02", 30), {}),
+            ("too many days", (file, registers, day["second"], 3651), {}),
+            ("a folder that is not there", (file, folder / "none", day["second"], 30), {}),
+            ("a register that is not written", (file, registers, day["second"], 30), {"PATH": full}),
+        ):
+            status, out, error = script("office-overdue", *words, **how)
+            judge(
+                f"{name}: no register, and the old one stays",
+                (status, out) == (1, "") and register.read_bytes() == stands and len(list(registers.glob("*"))) == 2,
+                error.strip(),
+            )
+        judge("the service answers", served.ask("GET", "/records/1") == 200)
+    finally:
+        served.end()
+    judge(
+        "no copy of FILE is left",
+        sorted(it.name for it in registers.iterdir()) == [f"overdue-{it}.csv" for it in day.values()],
+    )
+    mails(folder, register, wanted[1])
+
+
+def mails(folder: pathlib.Path, register: pathlib.Path, wanted: str) -> None:
+    """A register is sent as it is: by a `mail` that notes what it is asked, and by bsd-mailx where it is installed."""
+    subject = f"Records overdue on 2025-02-02: {RECORDS}"
+    sent = folder / "sent"
+    path = path_with(folder / "mail", "mail", f'for word; do echo "$word"; done >{sent}\ncat >{sent}.body')
+    status, _, error = script("office-overdue-mail", register, "a@localhost", "b@localhost", PATH=path)
+    words = sent.read_text().splitlines() if sent.exists() else []
+    judge(
+        "a register is sent to each address, with its day and count",
+        status == 0
+        and words[:2] == ["-s", subject]
+        and words[-2:] == ["a@localhost", "b@localhost"]
+        and pathlib.Path(f"{sent}.body").read_text() == wanted,
+        error + str(words),
+    )
+    sent.unlink(missing_ok=True)
+    for name, words in (
+        ("no address", (register,)),
+        ("an option", (register, "-f")),
+        ("a register that is not there", (folder / "none.csv", "a@localhost")),
+    ):
+        status, _, error = script("office-overdue-mail", *words, PATH=path)
+        judge(f"{name}: nothing is sent", status in (1, 2) and not sent.exists(), error.strip())
+    mailx = shutil.which("bsd-mailx")
+    if not mailx:
+        print("not tried here: bsd-mailx is not installed")
+        return
+    box = folder / "box"
+    queue = folder / "sendmail"
+    queue.write_text(f"#!/bin/sh\ncat >{box}\n")
+    queue.chmod(0o755)
+    (folder / "mailrc").write_text(f"set sendmail={queue}\n")
+    path = path_with(folder / "bsd", "mail", f'exec {mailx} "$@"')
+    status, _, error = script("office-overdue-mail", register, "a@localhost", PATH=path, MAILRC=str(folder / "mailrc"))
+    mail = email.message_from_bytes(box.read_bytes()) if box.exists() else email.message.Message()
+    there = (mail["To"], mail["Subject"], mail.get_content_type(), mail.get_content_charset(), mail.get_payload())
+    judge(
+        "bsd-mailx makes a mail of it",
+        status == 0 and there == ("a@localhost", subject, "text/plain", "utf-8", wanted),
+        error + str(there)[:300],
+    )
