@@ -3,7 +3,6 @@ from __future__ import annotations
 
 import pathlib
 
-import catalogue
 import town
 from browser import Browser
 from judging import judge, same
@@ -125,11 +124,11 @@ def pictures(it: Browser, proxy: Proxy) -> None:
 
 def tell(office: Office, proxy: Proxy, browser: Browser, folder: pathlib.Path) -> None:
     town.fill(office)
-    catalogue.renew(proxy, office)
+    town.renew(proxy, office)
     pictures(browser, proxy)
     story = Story(office, proxy, browser, folder)
     run(browser, proxy, office)
-    catalogue.renew(proxy, office)
+    town.renew(proxy, office)
     lift(browser, proxy, office)
     closing(browser, proxy, story)
     rule(browser, proxy, story)

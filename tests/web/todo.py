@@ -5,7 +5,6 @@ import json
 import pathlib
 import subprocess
 
-import catalogue
 import town
 from browser import Browser
 from judging import judge, same
@@ -72,7 +71,7 @@ def whole(it: Browser, proxy: Proxy, story: Story) -> None:
 def opened(it: Browser, proxy: Proxy, office: Office) -> None:
     """An open run is told first."""
     town.send(office, [{"act": "open-run", "day": after(0), "by": "Registrar"}])
-    catalogue.renew(proxy, office)
+    town.renew(proxy, office)
     it.open(proxy.page)
     same("todo: an open run comes first", next(iter(counts(it))), "run")
     assert office.ask("POST", "/run/resume")[0] == 200
@@ -108,7 +107,7 @@ def tell(office: Office, proxy: Proxy, browser: Browser, folder: pathlib.Path) -
     named(browser, proxy)
     town.fill(office)
     without(browser, proxy, story)
-    catalogue.renew(proxy, office)
+    town.renew(proxy, office)
     whole(browser, proxy, story)
     browser.open(proxy.page)
     paper(browser, folder)

@@ -3,9 +3,13 @@ from __future__ import annotations
 
 import hashlib
 import json
+import pathlib
+import shutil
+import subprocess
 
+import catalogue
 from late import after
-from place import Office
+from place import Office, Proxy
 from story import WHO
 
 DIGEST = hashlib.sha256(b"abc").hexdigest()
@@ -79,3 +83,16 @@ def fill(office: Office) -> None:
     send(office, hold)
     send(office, confirm(after(-400), [1, 3, 4], "destroy") + confirm(after(-300), [2], "destroy"))
     send(office, confirm(after(-300), [15], "transfer"))
+
+
+def renew(proxy: Proxy, office: Office) -> None:
+    """The catalogue of an office that nobody asks just now: a copy of FILE and its log, which sqlite3 puts into one file."""
+    copy = proxy.folder / "copied.db"
+    for end in ("", "-wal", "-shm"):
+        pathlib.Path(f"{copy}{end}").unlink(missing_ok=True)
+    shutil.copy(office.file, copy)
+    log = pathlib.Path(f"{office.file}-wal")
+    if log.exists():
+        shutil.copy(log, f"{copy}-wal")
+    subprocess.run(["sqlite3", copy, "PRAGMA wal_checkpoint(TRUNCATE); PRAGMA journal_mode = DELETE"], check=True, stdout=subprocess.DEVNULL)
+    catalogue.make(proxy, copy)

@@ -5,7 +5,6 @@ import json
 import pathlib
 import subprocess
 
-import catalogue
 import town
 from browser import Browser, browser
 from judging import judge, same
@@ -50,7 +49,7 @@ def hold_on_paper(story: Story) -> None:
     acts += [town.record(after(0), f"INQ/{at}", 1) for at in range(MANY)]
     acts += [{"act": "hold-on", "day": after(0), "hold": "MANY-2026-01", "target": f"record:{22 + at}"} for at in range(MANY)]
     town.send(story.office, acts)
-    catalogue.renew(story.proxy, story.office)
+    town.renew(story.proxy, story.office)
     it = story.browser
     it.open(f"{story.proxy.page}#catalogue?part=holds")
     says("holds: the catalogue says how many targets there are", it.seen("#catalogue-part"), f"{MANY} records")
@@ -139,7 +138,7 @@ def receipt(story: Story) -> None:
 def record(story: Story) -> None:
     """A record leads to its file and to its neighbours; its rule is in words; the form of an event is folded."""
     it = story.browser
-    catalogue.renew(story.proxy, story.office)
+    town.renew(story.proxy, story.office)
     it.open(f"{story.proxy.page}#record?number=3")
     it.wait(lambda: it.all(".neighbours a"), "no neighbours come")
     facts = it.facts("#record-facts")
@@ -251,7 +250,7 @@ def reader(story: Story) -> None:
 
 def tell(office: Office, proxy: Proxy, browser_: Browser, folder: pathlib.Path) -> None:
     town.fill(office)
-    catalogue.renew(proxy, office)
+    town.renew(proxy, office)
     story = Story(office, proxy, browser_, folder)
     for trap in (hold_on_paper, stale, marks, days, receipt, record, manifest, looks, certificates, clock, cards, reader):
         try:
