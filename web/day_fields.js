@@ -33,9 +33,9 @@ function open(input, calendar) {
 export function addCalendar(input) {
   const hidden = { tabindex: "-1", "aria-hidden": "true" };
   const calendar = made("input", { type: "date", class: "calendar", "aria-label": t("fields.calendar"), ...hidden });
-  const button = made("button", { type: "button", class: "quiet pick", title: t("fields.calendar"), ...hidden }, "\u25be");
-  input.after(button, calendar);
-  button.addEventListener("click", () => open(input, calendar));
+  const mark = made("span", { class: "pick", title: t("fields.calendar"), "aria-hidden": "true" }, "\u25be", calendar);
+  input.after(mark);
+  mark.addEventListener("click", () => open(input, calendar));
   calendar.addEventListener("change", () => calendar.value && write(input, calendar.value));
   input.addEventListener("change", () => normalise(input));
   input.addEventListener("keydown", (event) => {

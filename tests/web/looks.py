@@ -9,6 +9,7 @@ from place import TOP
 from shots import SCHEMES, SIZES, shots
 
 VIEWS = {
+    "todo": "#todo",
     "due": "#due?day=2022-05-02",
     "overdue": "#overdue?day=2022-05-02&count=30",
     "outlook": "#outlook",
@@ -153,7 +154,7 @@ def stops(browser, most):
 def keyboard(browser, proxy):
     """The list is asked for, marked and left by the keyboard alone."""
     from selenium.webdriver.common.keys import Keys
-    browser.open(proxy.page)
+    browser.open(f"{proxy.page}#due")
     keys = lambda *them: browser.driver.switch_to.active_element.send_keys(*them)
     focus = lambda: browser.driver.execute_script(FOCUSED)
     keys(Keys.TAB)
@@ -177,7 +178,7 @@ def keyboard(browser, proxy):
             unseen.append(name)
         if not inside:
             hidden.append(name)
-    wanted = ["due-class", "due-schedule", "due-action", "due-held", "due-confirmed", "due-all", "due-mark", "due-unmark", "due-print", "due-skip", "Mark record 19", "due-confirm-day", "due-confirm-by", "due-submit"]
+    wanted = ["due-class", "due-schedule", "due-action", "due-held", "due-confirmed", "due-all", "due-mark", "due-mark-held", "due-unmark", "due-print", "due-skip", "Mark record 19", "due-confirm-day", "due-confirm-by", "due-submit"]
     same("keyboard: each part is reached, in the order of the page", [name for name in stops if name in wanted], wanted)
     same("keyboard: each stop is outlined", unseen, [])
     same("keyboard: and in sight", hidden, [])
@@ -220,7 +221,7 @@ def languages(folder, proxy, open_browser):
     with open_browser(folder, "fr-FR") as other:
         other.know(proxy.page)
         other.open(proxy.page)
-        same("a language without a file is told in English", other.driver.title, "Due · Records disposal office")
+        same("a language without a file is told in English", other.driver.title, "To do · Records disposal office")
 
 
 def paper(browser, proxy, folder):

@@ -287,6 +287,7 @@ def reached(view: View) -> None:
         "overdue-held",
         "overdue-all",
         "overdue-mark",
+        "overdue-mark-held",
         "overdue-unmark",
         "overdue-print",
         "overdue-skip",
@@ -314,6 +315,7 @@ def confirmed(view: View) -> None:
     )
     it.choose("#overdue-class", "LEG")
     it.press("#overdue-mark")
+    it.press("#overdue-mark-held")
     it.press("#overdue-all")
     same(
         "overdue: what is shown and can be confirmed is marked",

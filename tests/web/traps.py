@@ -203,6 +203,7 @@ def certificates(story: Story) -> None:
     town.run(story.office, after(0))
     it.open(f"{story.proxy.page}#certificate?number=3")
     it.wait(lambda: it.all("#certificate-tables details"), "nothing is folded")
+    it.wait(lambda: it.all("#certificate-others a"), "no link to another run comes")
     same("certificate: the last one leads to the one before alone", [a.text for a in it.all("#certificate-others a")], ["Run 2"])
     says("certificate: what was skipped before is folded", it.text("#certificate-tables summary"), "Skipped as in run 2: ")
     says("certificate: and is on paper", printed(it, story.folder), "LET/1")
