@@ -14,7 +14,11 @@ import { catalogueTasks } from "./todo_waiting.js";
 const MONTHS = [6, 12, 24, 36, 60];
 const USUAL_MONTHS = 12;
 
+/** So many milliseconds after it was looked at, it is looked at again once somebody comes back. */
+const LATER = 60000;
+
 let asked = 0;
+let looked = 0;
 
 /**
  * @typedef {object} Task
@@ -89,6 +93,7 @@ async function isEmpty(due) {
 /** Asks what is due and overdue today, reads what the catalogue has, and shows what is to do. */
 async function look() {
   const mine = ++asked;
+  looked = Date.now();
   const place = byId("todo-outcome");
   asking(place);
   const day = today();
@@ -137,5 +142,5 @@ export function start() {
 /** Shows what is to do now. */
 export const show = () => look();
 
-/** Looks again on a page that somebody comes back to. */
-export const renew = () => look();
+/** Looks again on a page that somebody comes back to after a while; what is unfolded stays so until then. */
+export const renew = () => (Date.now() - looked > LATER ? look() : undefined);
