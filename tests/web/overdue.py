@@ -340,6 +340,7 @@ def confirmed(view: View) -> None:
     view.open("2025-04-01", "30")
     it.write(overdue_confirm_day="2025-02-20", overdue_confirm_by=WHO)
     it.press("#overdue-mark")
+    it.press("#overdue-mark-held")
     it.press("#overdue-submit")
     row = TEXTS["refusals"]["15"]
     says(
