@@ -41,7 +41,7 @@ function writePaper() {
 
 /** Reads the name and the colour. Without them the office is called as every one, and has the colour of the page. */
 export async function load() {
-  const answer = await get("name.json");
+  const answer = await get(`name.json`);
   const set = answer.status === 200 ? jsonOf(answer) : undefined;
   if (typeof set?.name === "string" && isText(set.name)) name = visible(set.name);
   if (COLOUR.test(set?.colour ?? "")) {

@@ -198,9 +198,8 @@ class Story:
         it, text = self.browser, self.office.ask("GET", f"/certificates/{number}")[2]
         same(f"certificate {number}: it is the one that stands beside the story", text, certificate(number))
         same(f"certificate {number}: the text", it.text("#certificate-text"), text.decode())
-        by_record = lambda rows: sorted(rows, key=lambda row: int(row[0]))
-        there = by_record(it.table("#certificate-tables .entries"))
-        same(f"certificate {number}: its entries as tables, with what is folded", there, by_record(self.entries(text)))
+        there = sorted(it.table("#certificate-tables .entries"), key=lambda row: int(row[0]))
+        same(f"certificate {number}: its entries as tables, with what is folded", there, self.entries(text))
         spent = [line.split("\t")[1:] for line in text.decode().splitlines() if line.startswith("AGGREGATION\t")]
         same(f"certificate {number}: its spent aggregations", it.table("#certificate-tables .spent"), spent)
         says(f"certificate {number}: agrees", it.seen("#certificate-verdict"), TEXTS["certificate"]["agrees"], TEXTS["certificate"]["wellFormed"])
