@@ -70,9 +70,10 @@ async function makeClosing() {
   const there = await recordsOf(numbers, MOST);
   if (there === null) return null;
   nodes.push(paragraph(plural("forecast.close.holds", numbers.length)));
-  if (numbers.length) nodes.push(followTable(closeForecast(there, await schedulesByCode(), dayOf("plan-close-day"))));
+  const follow = closeForecast(there, await schedulesByCode(), dayOf("plan-close-day"));
+  if (numbers.length) nodes.push(followTable(follow));
   if (numbers.length > MOST) nodes.push(paragraph(t("forecast.some", { count: MOST }), "hint"));
-  return { seen: `${number}`, nodes };
+  return { seen: JSON.stringify([it, children.length, numbers.length, follow]), nodes };
 }
 
 // ---- another schedule of a class
