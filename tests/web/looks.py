@@ -154,15 +154,16 @@ def stops(browser, most):
 def keyboard(browser, proxy):
     """The list is asked for, marked and left by the keyboard alone."""
     from selenium.webdriver.common.keys import Keys
-    browser.open(f"{proxy.page}#due")
+    browser.open(proxy.page)
     keys = lambda *them: browser.driver.switch_to.active_element.send_keys(*them)
     focus = lambda: browser.driver.execute_script(FOCUSED)
     keys(Keys.TAB)
     same("keyboard: the first stop is the link over the heading", focus()[0], "skip")
     keys(Keys.ENTER)
     same("keyboard: it leads to the view", focus()[0], "main")
+    browser.go("#due")
     keys(Keys.TAB)
-    same("keyboard: then comes the day", focus()[0], "due-day")
+    same("keyboard: then comes the day of the list", focus()[0], "due-day")
     keys(Keys.CONTROL, "a")
     keys("2022-05-02", Keys.ENTER)
     browser.settled()

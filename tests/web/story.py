@@ -34,9 +34,9 @@ class Story:
         return json.loads(self.office.ask("GET", path)[2])
 
     def asked_for(self):
-        """How many requests came to nginx but for a list of what is due, which is read anew at each showing."""
+        """How many requests came to nginx but for what is read anew at each showing: lists of what is due, the catalogue."""
         time.sleep(0.1)
-        return sum('"GET /due/' not in line for line in (self.folder / "access.log").read_text().splitlines())
+        return sum(not re.search('"GET /(due|catalogue)/', line) for line in (self.folder / "access.log").read_text().splitlines())
 
     def posted(self):
         """How many POSTs came to nginx with the password. (A browser learns only from a first answer, 401, that a path wants it.)"""
