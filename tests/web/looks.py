@@ -59,7 +59,7 @@ return Array.from(document.querySelectorAll("section:not([hidden]) :is(input, se
 """
 WIDE = "return [document.documentElement.scrollWidth, innerWidth]"
 # the places of the view that is shown at which something is said later
-LIVE = "return Array.from(document.querySelectorAll('section:not([hidden]) [role=status], #clocks'))"
+LIVE = "return Array.from(document.querySelectorAll('section:not([hidden]) [role=status], #clocks, #rights'))"
 # what is behind a summary is looked at too
 UNFOLD = "for (const it of document.querySelectorAll('section:not([hidden]) details')) it.open = true"
 
