@@ -1,4 +1,4 @@
-"""Runs trials of a list one after another, and says of each whether it passed (tests/run, tests/run)."""
+"""Runs trials of a list one after another, and says of each whether it passed (tests/run, bench/all)."""
 import pathlib
 import re
 import signal
@@ -14,10 +14,10 @@ LAST = re.compile(r"^([\d,]+) passed, ([\d,]+) failed$")
 # the parts of the project after whose change a trial is run, by what is in each
 PARTS = {
     "contract": "any clause, comment or mutant",
-    "memory": "office_terms, office_tree, office_holds, office_proof, office_rules, office_loading, office_machine",
+    "memory": "office_machine, and what it stands on but office_base and office_days",
     "tables": "office_sql, office_store, office_desk",
     "wire": "office_json, office_csv, office_http, office_wire, tools",
-    "words": "office_base, office_days, office_plan, office_words, office_commands, office",
+    "words": "all other crates",
     "service": "service, docs/OPERATING.md",
     "pages": "README.md and docs",
     "web": "web, docs/openapi.yaml, docs/ERRORS.md",

@@ -15,7 +15,7 @@ from collections.abc import Callable
 
 from pages_run.commands import TOP, blocks
 from pages_run.judging import judge
-from pages_run.shell import Done, Shell
+from pages_run.shell import PROGRAM, Done, Shell
 
 sys.path.append(str(TOP / "packaging"))
 
@@ -67,6 +67,9 @@ class Trial:
             source = self.top / "crates" / line.partition(":")[0] / "src"
             source.mkdir(parents=True)
             (source / "lib.rt").write_text(f"// {line}\n" * 100)
+        words = self.top / "crates/office_words/src"
+        words.mkdir(parents=True)
+        shutil.copy(TOP / "crates/office_words/src/command.rt", words)
         stub = shell.path("stub/rt")
         stub.parent.mkdir()
         stub.write_text(STUB)
@@ -102,9 +105,15 @@ def line_of_preview() -> str:
     return next(line for line in blocks("README.md")[0] if line.startswith("office: ")) + "\n"
 
 
+def help_of_program(*words: str) -> str:
+    """What the program that is tried prints itself."""
+    done = subprocess.run([PROGRAM, "help", *words], stdin=subprocess.DEVNULL, stderr=subprocess.PIPE, check=False)
+    return done.stderr.decode()
+
+
 def judge_help(trial: Trial) -> None:
-    """Without a program the help is that of .ci/help.txt and .ci/help, and neither it nor the version needs the kit."""
-    wanted = (TOP / ".ci/help.txt").read_text() + "\nCommands of ./office itself:\n"
+    """Without a program the help is the built program's, and neither it nor the version needs the kit."""
+    wanted = help_of_program() + "\nCommands of ./office itself:\n"
     for words in ("", "help", "-h", "--help"):
         done = trial.run(f"clone/office {words}", PATH="/usr/bin:/bin")
         judge(f"office {words} shows the help at once", done[:2] == (2, "") and done.err.startswith(wanted), f"{done}")
@@ -115,7 +124,7 @@ def judge_help(trial: Trial) -> None:
         done = trial.run(f"clone/office {words}", PATH="/usr/bin:/bin")
         judge(f"office {words} is that of CHANGELOG", done.out.startswith(f"office {last[0]} of {last[1]}"), f"{done}")
     for word in table():
-        kept = (2, "", (TOP / f".ci/help/{word.name}.txt").read_text())
+        kept = (2, "", help_of_program(word.name))
         for words in (f"help {word.name}", f"{word.name} --help"):
             done = trial.run(f"clone/office {words}", PATH="/usr/bin:/bin")
             judge(f"office {words} shows its help at once", done == kept, f"{done}")
@@ -147,15 +156,12 @@ def judge_previews(trial: Trial) -> None:
     done = trial.run("clone/office plan crates/none")
     judge("a FILE that is not there is named at once", done == (3, "", "office: crates/none cannot be read: "
           "check its name and its permissions\n") and trial.words.read_text() == words, f"{done}")
-    for few, usage in (("due years", "due UNIT COUNT OFFSET DAY"), ("plan", "plan FILE")):
-        done = trial.run(f"clone/office {few}")
-        judge(f"too few words, {few}, are seen at once", done == (2, "", f"usage: ./office {usage}\n")
-              and trial.words.read_text() == words, f"{done}")
     for word in table():
-        usage = f"usage: ./office {' '.join([word.name, *word.operands])}\n"
+        usage = f"usage: ./{re.findall('Usage: (.*)', help_of_program(word.name))[0]}\n".replace("<", "").replace(">", "")
         for wrong in (word.name, f"{word.name}{' 1' * (len(word.operands) + 1)}"):
             done = trial.run(f"clone/office {wrong}")
-            judge(f"wrong operands, {wrong}, are seen at once", done == (2, "", usage), f"{done}")
+            judge(f"wrong operands, {wrong}, are seen at once", done == (2, "", usage)
+                  and trial.words.read_text() == words, f"{done}")
     for wrong in ("aply", "-V"):
         done = trial.run(f"clone/office {wrong} archive.db acts.json")
         judge(f"a wrong word, {wrong}, is seen at once", done == (2, "", f"office: there is no command '{wrong}': "

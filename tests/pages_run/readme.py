@@ -6,7 +6,7 @@ from pages_run.commands import TOP, blocks
 from pages_run.expected import Row, run_page
 from pages_run.files import FIRST, alone
 from pages_run.judging import judge
-from pages_run.launcher import judge_launcher
+from pages_run.launcher import judge_launcher, table
 from pages_run.shell import Shell
 
 PAGE = "README.md"
@@ -21,11 +21,9 @@ def is_installed(shell: Shell) -> None:
     """The program is there, and works; a launcher without a program, or with one of other sources, says what to do."""
     done = shell.run("DIR/office due days 1 none 2024-02-28")
     judge("the installed program works", done.out == "2024-02-29\n", done.out + done.err)
-    done = shell.run("DIR/office help")
-    judge("its help is that of .ci/help.txt", done == (2, "", (TOP / ".ci/help.txt").read_text()), f"{done}")
-    for file in sorted((TOP / ".ci/help").iterdir()):
-        done = shell.run(f"DIR/office help {file.stem}")
-        judge(f"its help of {file.stem} is that of .ci/help", done == (2, "", file.read_text()), f"{done}")
+    for words in ("help", *(f"help {it.name}" for it in table())):
+        done, declared = shell.run(f"DIR/office {words}"), shell.run(f"{TOP / '.ci/commands.py'} {words}")
+        judge(f"its {words} is that of .ci/commands.py", done == (2, "", declared.out) and declared.status == 0, f"{done}")
     other = shell.path("other")
     other.mkdir()
     shutil.copy(shell.path("office"), other / "office")

@@ -98,7 +98,7 @@ fn add_record(alloc: Global, tree: &mut Tree, day: Day) -> Option<()> {
     if tree
         .check_add_record(
             &head.ref_text,
-            1,
+            head.aggregation,
             head.class.as_ref(),
             head.schedule.as_ref(),
         )

@@ -1,5 +1,5 @@
 -- How the performing of acts ends.
-use Rattle.std.proofs.Common.{◌≡◌, inl, inr, ℕ, List, [], map, Option, Some, None, Result, Ok, Err, refl, sym, subst}
+use Rattle.std.proofs.Common.{◌≡◌, inl, inr, ℕ, List, [], Option, Some, None, Result, Ok, Err, refl, sym, subst}
 use Rattle.std.specs.Prelude.{IfSome}
 use Rattle.sqlite.specs.Held.{Held, state}
 use Rattle.sqlite.specs.State.{State as FileState}
@@ -9,7 +9,6 @@ use Rattle.office_rules.specs.declared.act.Act.{Act}
 use Rattle.office_rules.specs.declared.answer.Answer.{Answer}
 use Rattle.office_store.specs.declared.fault.Fault.{Fault}
 use Rattle.office_desk.specs.Outcomes.{acts_outcome, answers_of}
-use Rattle.office_json.specs.Acts.{asked}
 use Rattle.office_json.specs.Lists.{acts_in}
 use Rattle.office_commands.specs.Applying.{Applies, ApplyEnds, Performs, TextEnds}
 use Rattle.office_commands.specs.declared.ending.Ending.{Ending}
@@ -25,9 +24,9 @@ applies_of Of Others to text new written after e (inl unread) = inl (unread.0, t
 applies_of Of Others to text new written after e (inr (acts, read, it)) = inr (acts, read, record { outcome = it.outcome; reported = it.reported; came = to _ it.came })
 
 -- the acts of a text that were performed were applied
-pub performs_applies : (Of : (State → Type 0) → Type 0) (text : List ℕ) (new : FileState) (written after : Option (List ℕ)) (e : Ending) (acts items : List Act) → acts ≡ items → acts_in text ≡ Ok (map asked items)
+pub performs_applies : (Of : (State → Type 0) → Type 0) (text : List ℕ) (new : FileState) (written after : Option (List ℕ)) (e : Ending) (acts items : List Act) → acts ≡ items → acts_in text ≡ Ok items
     → Performs Of acts new written after e → Applies Of text new written after e
-performs_applies Of text new written after e acts items same is_read done = inr (acts, subst (λ (all : List Act). acts_in text ≡ Ok (map asked all)) (sym same) is_read, done)
+performs_applies Of text new written after e acts items same is_read done = inr (acts, subst (λ (all : List Act). acts_in text ≡ Ok all) (sym same) is_read, done)
 
 -- the text that was read is the one that the reader reports
 pub text_applies : {S : Type 0} (g : Ghosts S) (remaining : Option (List ℕ)) (text : List ℕ) (old new : Held S) (written after : Option (List ℕ)) (e : Ending) → IfSome remaining (λ bytes. text ≡ bytes)

@@ -1,5 +1,5 @@
 -- How `apply` ends. Source: own.
-use Rattle.std.specs.Prelude.{◌≡◌, ◌⊎◌, ℕ, List, map, IfSome, Option, Ok, Err}
+use Rattle.std.specs.Prelude.{◌≡◌, ◌⊎◌, ℕ, List, IfSome, Option, Ok, Err}
 use Rattle.sqlite.specs.Held.{Held, state}
 use Rattle.sqlite.specs.State.{State as FileState}
 use Rattle.sqlite_trees.specs.declared.store.Store.{Ghosts}
@@ -9,7 +9,6 @@ use Rattle.office_rules.specs.declared.act.Act.{Act}
 use Rattle.office_store.specs.RepresentsRows.{HoldsRows}
 use Rattle.office_store.specs.declared.fault.Fault.TheVariants as fault
 use Rattle.office_desk.specs.Outcomes.{ActsCameTo, ActsOutcome, answers_of}
-use Rattle.office_json.specs.Acts.{asked}
 use Rattle.office_json.specs.Answers.{answer_lines}
 use Rattle.office_json.specs.Lists.{NoActs, acts_in, not_json, bad_act}
 use Rattle.office_commands.specs.Calling.{Reports}
@@ -40,7 +39,7 @@ abbrev pub Applies : ((State → Type 0) → Type 0) → List ℕ → FileState 
     → Type 0
 Applies Of text new written after ending =
     IsUnread text ending × Of (λ t. HoldsRows (rows_of t) new) × (after ≡ written)
-    ⊎ ((acts : List Act) × (acts_in text ≡ Ok (map asked acts)) × Performs Of acts new written after ending)
+    ⊎ ((acts : List Act) × (acts_in text ≡ Ok acts) × Performs Of acts new written after ending)
 
 -- `apply FILE ACTS` where the text of acts was read, by the ending; what else the file has is kept
 abbrev pub TextEnds : List ℕ → FileState → FileState → Option (List ℕ) → Option (List ℕ) → Ending → Type 0

@@ -4,7 +4,8 @@ pub mod Connected
 pub mod Imported
 pub mod Performed
 pub mod Replied
-pub mod Resumed
 pub mod Reported
+pub mod Resumed
 pub mod Unavailable
 pub mod Unreported
+pub mod Whatever

@@ -31,6 +31,12 @@ def judge_list() -> None:
     missing = [it.name for it in sorted((TOP / "service").iterdir()) if it.is_file() and it not in sources]
     judge("the list has each file of service", not missing, missing)
     judge("each file of the list is there", all(it.exists() for it in sources))
+    within = {it.relative_to(TOP).parts[0] for it in sources}
+    judge("nothing of it is a trial or a measure", not within & {"tests", "bench"}, within)
+    table = (TOP / "README.md").read_text().split("\n## Where things are\n")[1]
+    users = [line for line in table.split("\n") if re.match(r"\| (keep records|run it|write programs beside it) \|", line)]
+    pages = {TOP / it for it in re.findall(r"\((docs/\w+\.md)", "".join(users))}
+    judge("the list has each page for users", len(users) == 3 and pages <= sources, sorted(pages - sources))
 
 
 def judge_version(place: pathlib.Path) -> None:

@@ -1,8 +1,9 @@
-use Rattle.std.proofs.Common.{arith, subst, sym}
+use Rattle.std.proofs.Common.{arith, refl, subst, sym}
 use Rattle.std.specs.Io.KnownBytes.{Appends}
 use Rattle.office_base.specs.Output.{AppendsSome}
 use Rattle.office_base.proofs.Written.{appends_both, on_err, some_before, some_then}
 use Rattle.office_csv.specs.Registers.{due_lines}
+use Rattle.office_wire.proofs.Whatever.{on_ok}
 use Rattle.office_wire.proofs.registers.write_due_register.Goals as goal
 
 pub returns-in_err-write_due_header-clause-err : goal.returns-in_err-write_due_header-clause-err
@@ -21,9 +22,9 @@ loop-row-preserved g c = λ new.
     )
 
 pub returns-clause-ok : goal.returns-clause-ok
-returns-clause-ok g c = appends_both _ _ _ _ _ c.in_ok-write_due_header.ensures.ok ((c.loop-row.invariant _).0
-    (subst (λ (x : _). Appends (g.W.Write.contents c.loop-row.out) (g.W.Write.contents c.flush.new.out) (due_lines x)) (sym c.in_default.ensures.none) c.flush.ensures))
+returns-clause-ok g c = on_ok _ (appends_both _ _ _ _ _ c.in_ok-write_due_header.ensures.ok ((c.loop-row.invariant _).0
+    (subst (λ (x : _). Appends (g.W.Write.contents c.loop-row.out) (g.W.Write.contents c.flush.new.out) (due_lines x)) (sym (c.in_default.ensures.none refl)) c.flush.ensures)))
 
 pub returns-clause-err : goal.returns-clause-err
 returns-clause-err g c = on_err _ (some_then _ _ _ _ _ c.in_ok-write_due_header.ensures.ok ((c.loop-row.invariant _).1
-    (subst (λ (x : _). AppendsSome (g.W.Write.contents c.loop-row.out) (g.W.Write.contents c.flush.new.out) (due_lines x)) (sym c.in_default.ensures.none) (record { count = 0; within = omega arith; out = c.flush.ensures }))))
+    (subst (λ (x : _). AppendsSome (g.W.Write.contents c.loop-row.out) (g.W.Write.contents c.flush.new.out) (due_lines x)) (sym (c.in_default.ensures.none refl)) (record { count = 0; within = omega arith; out = c.flush.ensures }))))
