@@ -62,7 +62,8 @@ export function forecastOf(form, place, make) {
   const isAsSeen = async (outcome) => {
     const before = seen;
     const now = await renew();
-    if (now !== null && now === before) return true;
+    // where nothing can be shown, as without a catalogue, there is nothing to compare
+    if (now === "" || (now !== null && now === before)) return true;
     say(outcome, "wrong", paragraph(t(now === null ? "changes.unread" : "forecast.changed")));
     return false;
   };
