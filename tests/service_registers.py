@@ -95,7 +95,13 @@ def to_do(folder: pathlib.Path, file: pathlib.Path, register: pathlib.Path) -> N
     sent = folder / "todo-sent"
     path = path_with(folder / "todo-mail", "mail", f"cat >{sent}")
     script("office-overdue-mail", register, "a@localhost", PATH=path)
-    judge("the mail has it before the register", sent.read_text() == f"{written.read_text()}\nOverdue\n\n{register.read_text()}")
+    waits = (register.parent / f"awaiting-{day}.csv").read_text()
+    judge(
+        "the mail has it before the registers, and each once",
+        sent.read_text() == f"{written.read_text()}\nOverdue\n\n{register.read_text()}"
+        f"\nSent to the archive, and awaiting its receipt: 0\n{waits}" and "receipt" not in written.read_text(),
+        sent.read_text(),
+    )
     for name, words in (("a day that is none", ("x", 30)), ("a day that is a query", ("2025-02-0'", 30)), ("too many days", (day, 3651))):
         status, out, error = script("office-todo", file, register.parent, *words, user=NOBODY)
         judge(f"{name}: no list", (status, out) == (1, ""), error.strip())
