@@ -115,7 +115,7 @@ def refused(folder: pathlib.Path, file: pathlib.Path, copy: pathlib.Path, place:
     killed.kill()
     killed.wait()
     judge("one that is killed leaves the one that is there", (place / "now").resolve() in stands
-          and len(list((place / "now").iterdir())) == 12)
+          and len(list((place / "now").iterdir())) == 11)
     for it in place.glob(".office-catalogue.*"):
         judge("and a folder, which a later one removes", it.is_dir())
         os.utime(it, (0, 0))
