@@ -56,7 +56,7 @@ def catalogue(folder: pathlib.Path) -> None:
     script("office-backup", file, copy, user=NOBODY)
     status, _, error = script("office-catalogue", copy, place, user=NOBODY)
     there = read(place / "now")
-    judge("a catalogue", status == 0 and len(there) == 10 and there["awaiting"] == [], error.strip() or list(there))
+    judge("a catalogue", status == 0 and len(there) == 12 and there["awaiting"] == [], error.strip() or list(there))
     moment = there["moments"].pop()
     judge("all of it is of the moment of the copy",
           not there["moments"] and time.strftime("%Y-%m-%dT%H:%M:%SZ", time.gmtime(began)) <= moment
@@ -76,6 +76,8 @@ def catalogue(folder: pathlib.Path) -> None:
                                 "lifted": None, "targets": ["record:41"]}]
         and there["runs"] == [{"number": 1, "day": LAST, "by": "registrar", "closed": True, "ended": RECORDS,
                                "sent": 0, "skipped": 0}], json.dumps({**there, "records": []}, default=list)[:900])
+    judge("what waits: nothing was sent, and one file without an open one in it has no record", there["receipts"] == []
+          and there["todo"] == [{"sent": [], "received": [], "waiting": [], "idle": [[2, None]]}], there["todo"])
     counts = {"schedules": 1, "classes": 1, "aggregations": 2, "holds": 1, "runs": 1, "records": 2 * RECORDS + 1}
     judge("and how many there are", there["about"] == [{"day": LAST, **counts}], there["about"])
     whole = [it for it in (place / "now").resolve().iterdir()]
@@ -113,7 +115,7 @@ def refused(folder: pathlib.Path, file: pathlib.Path, copy: pathlib.Path, place:
     killed.kill()
     killed.wait()
     judge("one that is killed leaves the one that is there", (place / "now").resolve() in stands
-          and len(list((place / "now").iterdir())) == 8)
+          and len(list((place / "now").iterdir())) == 11)
     for it in place.glob(".office-catalogue.*"):
         judge("and a folder, which a later one removes", it.is_dir())
         os.utime(it, (0, 0))

@@ -78,6 +78,33 @@ def overdue(folder: pathlib.Path) -> None:
     waits = (registers / f"awaiting-{day['second']}.csv").read_text()
     judge("nothing was sent, so nothing awaits a receipt", waits == "sent,run,record,ref,class,schedule,length,sha256\n", waits)
     mails(folder, register, wanted[1])
+    to_do(folder, file, register)
+
+
+def to_do(folder: pathlib.Path, file: pathlib.Path, register: pathlib.Path) -> None:
+    """What else is to do, beside the register and before it in the mail."""
+    day = "2025-02-02"
+    status, out, error = script("office-todo", file, register.parent, day, 30, user=NOBODY)
+    written = register.parent / f"todo-{day}.txt"
+    judge("what is to do is written beside the register", (status, out) == (0, f"{written}\n"), error)
+    lines = dict(line.split(":") for line in written.read_text().splitlines() if ":  " in line)
+    there = {name: value.strip() for name, value in lines.items()}
+    wanted = {"Overdue, with 30 days to confirm": str(RECORDS), "Due, neither confirmed nor held": str(RECORDS),
+              "Ready for a run, which would destroy": str(RECORDS), "Open run": "none"}
+    judge("with what is due, ready and open", {**there, **wanted} == there, there)
+    sent = folder / "todo-sent"
+    path = path_with(folder / "todo-mail", "mail", f"cat >{sent}")
+    script("office-overdue-mail", register, "a@localhost", PATH=path)
+    waits = (register.parent / f"awaiting-{day}.csv").read_text()
+    judge(
+        "the mail has it before the registers, and each once",
+        sent.read_text() == f"{written.read_text()}\nOverdue\n\n{register.read_text()}"
+        f"\nSent to the archive, and awaiting its receipt: 0\n{waits}" and "receipt" not in written.read_text(),
+        sent.read_text(),
+    )
+    for name, words in (("a day that is none", ("x", 30)), ("a day that is a query", ("2025-02-0'", 30)), ("too many days", (day, 3651))):
+        status, out, error = script("office-todo", file, register.parent, *words, user=NOBODY)
+        judge(f"{name}: no list", (status, out) == (1, ""), error.strip())
 
 
 def mails(folder: pathlib.Path, register: pathlib.Path, wanted: str) -> None:

@@ -1,6 +1,7 @@
 // Fields and forms: what a field takes, what is wrong in one, and the ticks that a form asks for before anything is sent.
 import { askTime } from "./ask.js";
 import { bothDays } from "./clock.js";
+import { addCalendar, doubtOf, normalise } from "./day_fields.js";
 import { byId, made, paragraph, quiet } from "./page.js";
 import { isCode, isDay, isNumber, isTarget, isText, today } from "./plain/forms.js";
 import { PLAN_KINDS } from "./plain/plan_kinds.js";
@@ -34,6 +35,9 @@ const KINDS = {
   ...PLAN_KINDS,
 };
 
+/** Whether a day is written into a field. */
+const isOfDay = ({ takes, isToday }) => takes === isDay || Boolean(isToday);
+
 /** What a field is written into, or chosen from. */
 function inputOf(id, kind) {
   const told = { id, "aria-describedby": `${id}-hint ${id}-wrong` };
@@ -58,6 +62,7 @@ export function field(place) {
     made("span", { class: "hint", id: `${id}-hint` }, kind.hint ? t(kind.hint) : ""),
     made("strong", { class: "wrong", id: `${id}-wrong` }),
   );
+  if (isOfDay(kind)) addCalendar(input);
   if (dataset.field === "day") watchDay(place, input);
 }
 
@@ -89,7 +94,7 @@ function askLate(input) {
   place.replaceChildren(...(late ? lateWarning(input.id, late) : []));
 }
 
-const daysIn = (part) => part.querySelectorAll("[data-field=day] > input");
+const daysIn = (part) => part.querySelectorAll("[data-field=day] > input:not(.calendar)");
 
 /** Asks for a tick at each day of an act that is late by now, as once the server's clock is known. */
 export function askAllLate() {
@@ -134,15 +139,19 @@ function wrongOf(input) {
   if (may !== undefined && input.value === "") return "";
   if (name === "target") return isTarget(kind.value, input.value) ? "" : t(kind.value === "class" ? "fields.codeWrong" : "fields.numberWrong");
   const { takes, wrong, optional } = kindOf(input);
-  return (optional && input.value === "") || takes(input.value, input.form) ? "" : t(wrong);
+  if ((optional && input.value === "") || takes(input.value, input.form)) return "";
+  return (takes === isDay && doubtOf(input.value)) || t(wrong);
 }
 
 /** The values of a form's fields by their ids, or null where one is wrong: that is said, and the first such has the focus. */
 function valuesOf(form) {
-  for (const input of form.querySelectorAll("input[type=text]")) input.value = input.value.trim();
+  for (const input of form.querySelectorAll("input[type=text]")) {
+    input.value = input.value.trim();
+    if (input.parentElement.matches("[data-field]") && isOfDay(kindOf(input))) normalise(input);
+  }
   // a day may have been written without an event, as by a script
   for (const input of daysIn(form)) askLate(input);
-  const inputs = [...form.querySelectorAll("input")];
+  const inputs = [...form.querySelectorAll("input:not(.calendar)")];
   for (const input of inputs) mark(input, wrongOf(input));
   const first = inputs.find((input) => input.hasAttribute("aria-invalid"));
   first?.focus();
@@ -163,13 +172,21 @@ function forgetWrong(form) {
   if (!form.dataset.busy && place?.classList.contains("wrong")) quiet(place);
 }
 
-/** Does something with a form's values once they are right. A form that is at work is not sent a second time. */
-export function onSubmit(form, work) {
+/**
+ * Does something with a form's values once they are right. A form that is at work is not sent a second time. What `taken`
+ * returns when the button is pressed, such as what is marked then, comes with the values: the server's clock is asked for
+ * in between, and what is marked meanwhile was not meant.
+ * @param {HTMLFormElement} form
+ * @param {function(Object<string, string>, any): any} work
+ * @param {function(): any} [taken]
+ */
+export function onSubmit(form, work, taken) {
   form.noValidate = true;
   form.addEventListener("input", () => forgetWrong(form));
   form.addEventListener("submit", async (event) => {
     event.preventDefault();
     if (form.dataset.busy) return;
+    const there = taken?.();
     form.dataset.busy = "yes";
     form.setAttribute("aria-busy", "true");
     try {
@@ -180,7 +197,7 @@ export function onSubmit(form, work) {
         await askTime();
         values = valuesOf(form);
       }
-      if (values) await work(values);
+      if (values) await work(values, there);
     } finally {
       delete form.dataset.busy;
       form.removeAttribute("aria-busy");

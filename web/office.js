@@ -1,9 +1,12 @@
 // The page: it reads its words, starts its views, and shows the one that the address names, as #record?number=8.
 import * as warning from "./clock_warning.js";
 import { field, renewDays } from "./fields.js";
+import * as officeName from "./name.js";
 import * as offers from "./offers.js";
 import { byId, made, translate } from "./page.js";
+import * as paper from "./paper.js";
 import * as refs from "./refs.js";
+import * as rights from "./rights.js";
 import { all, load, t } from "./texts.js";
 import * as catalogue from "./views/catalogue.js";
 import * as certificate from "./views/certificate.js";
@@ -17,9 +20,11 @@ import * as overdue from "./views/overdue.js";
 import * as plan from "./views/plan.js";
 import * as record from "./views/record.js";
 import * as run from "./views/run.js";
+import * as todo from "./views/todo.js";
 
 /** The views, in the order of the navigation. */
 const VIEWS = {
+  todo,
   due,
   overdue,
   outlook,
@@ -34,16 +39,17 @@ const VIEWS = {
   fault,
 };
 
-/** The view and the words that an address names; due, where it names none. */
+/** The view and the words that an address names; what is to do, where it names none. */
 function named(hash) {
   const [name, words] = hash.replace(/^#/, "").split("?");
-  return [Object.hasOwn(VIEWS, name) ? name : "due", new URLSearchParams(words)];
+  return [Object.hasOwn(VIEWS, name) ? name : "todo", new URLSearchParams(words)];
 }
 
 /** What is said of days is said anew: the day may be another one by now. */
 function renew() {
   renewDays();
   warning.tellClocks();
+  rights.tellRights();
 }
 
 /** The same on a page that somebody comes back to; a list of today may be that of an earlier day. */
@@ -61,7 +67,7 @@ function show(focus) {
     else link.removeAttribute("aria-current");
   }
   renew();
-  document.title = t("page.title", { view: t(`${name}.title`) });
+  document.title = officeName.titleOf(t(`${name}.title`));
   VIEWS[name].show(words);
   if (!focus) return;
   scrollTo(0, 0);
@@ -74,21 +80,6 @@ function skip(event) {
   byId("main").focus();
 }
 
-/** On paper a link leads nowhere; and of many links a browser that prints looks for each one's goal on each page, for minutes. */
-function withoutLinks() {
-  for (const link of document.querySelectorAll("main a[href]")) {
-    link.dataset.href = link.getAttribute("href");
-    link.removeAttribute("href");
-  }
-}
-
-function withLinks() {
-  for (const link of document.querySelectorAll("main a[data-href]")) {
-    link.setAttribute("href", link.dataset.href);
-    delete link.dataset.href;
-  }
-}
-
 /** The links to the views. The one that tells the faults is reached from the view Run. */
 function addLinks() {
   const names = Object.keys(VIEWS).filter((name) => name !== "fault");
@@ -97,7 +88,7 @@ function addLinks() {
 }
 
 async function begin() {
-  await load(navigator.languages);
+  await Promise.all([load(navigator.languages), officeName.load(), rights.load()]);
   document.documentElement.lang = all().lang;
   for (const place of document.querySelectorAll("[data-field]")) field(place);
   addLinks();
@@ -105,13 +96,13 @@ async function begin() {
   // the views come first, so that a list is whole before its links are left out
   for (const view of Object.values(VIEWS)) view.start();
   warning.start();
+  officeName.start();
+  paper.start();
   offers.start();
   refs.start();
   byId("skip").addEventListener("click", skip);
   addEventListener("hashchange", () => show(true));
   addEventListener("focus", comeBack);
-  addEventListener("beforeprint", withoutLinks);
-  addEventListener("afterprint", withLinks);
   byId("loading").remove();
   document.body.classList.add("ready");
   show(false);

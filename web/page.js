@@ -5,11 +5,22 @@ import { all, t } from "./texts.js";
 
 export const byId = (id) => document.getElementById(id);
 
+/** A day in a text, and the elements in which there is no room for another element. */
+const DAY = /(\d{4}-\d{2}-\d{2})/;
+const BARE = ["option", "title", "style"];
+
+/** A text as nodes: each day in it is an element of its own, which no line breaks (office.css). */
+function whole(text) {
+  if (typeof text !== "string" || !DAY.test(text)) return [text];
+  const day = (words) => Object.assign(document.createElement("span"), { className: "day", textContent: words });
+  return text.split(DAY).map((words, at) => (at % 2 ? day(words) : words)).filter((it) => it !== "");
+}
+
 /** An element with these attributes, and these texts and elements in it. */
 export function made(tag, attributes = {}, ...children) {
   const node = document.createElement(tag);
   for (const [name, value] of Object.entries(attributes)) node.setAttribute(name, value);
-  node.append(...children);
+  node.append(...(BARE.includes(tag) ? children : children.flatMap(whole)));
   return node;
 }
 
@@ -37,7 +48,7 @@ export function sentence(key, parts) {
 
 /** Puts the words into all elements that name them by `data-text`. */
 export function translate(root) {
-  for (const node of root.querySelectorAll("[data-text]")) node.textContent = t(node.dataset.text);
+  for (const node of root.querySelectorAll("[data-text]")) node.replaceChildren(...whole(t(node.dataset.text)));
   for (const node of root.querySelectorAll("[data-label]")) node.setAttribute("aria-label", t(node.dataset.label));
 }
 
@@ -87,6 +98,8 @@ export function told(answer) {
 export function say(place, kind, ...nodes) {
   place.className = `outcome ${kind}`;
   place.replaceChildren(...nodes);
+  // below a form it may be out of sight
+  if (kind !== "waiting" && place.closest(".step, .inset")) place.scrollIntoView({ block: "nearest" });
 }
 
 export function quiet(place) {
@@ -109,7 +122,11 @@ export function label(table, words) {
 
 const row = (...cells) => made("tr", { role: "row" }, ...cells);
 const heading = (word) => made("th", { scope: "col", role: "columnheader" }, word);
-const cell = (content, at) => (at === 0 ? made("th", { scope: "row", role: "rowheader" }, content) : made("td", { role: "cell" }, content));
+/** A code is not broken at its hyphens. */
+const CODE = /^[A-Za-z0-9]+(-[A-Za-z0-9]+)+$/;
+const inCell = (content) => (CODE.test(content) && content.length <= 16 && !DAY.test(content) ? made("span", { class: "day" }, content) : content);
+const cell = (content, at) => cellOf(inCell(content), at);
+const cellOf = (content, at) => (at === 0 ? made("th", { scope: "row", role: "rowheader" }, content) : made("td", { role: "cell" }, content));
 
 /**
  * A table with a caption and a heading a column; each row is a list of cells, the first of which names the row. The roles stand

@@ -132,4 +132,9 @@ function alive(r) {
   });
 }
 
-export default { pass, line, alive };
+/** Answers whether the name that logged in may act: the page offers no form to one that may only read. */
+function rights(r) {
+  answer(r, 200, { acts: r.variables.is_actor === "1" });
+}
+
+export default { pass, line, alive, rights };

@@ -175,7 +175,7 @@ def received(view: View) -> None:
     same(
         "receipt: what is no SHA-256 is told at its field",
         view.browser.text("#record-receipt-digest-wrong"),
-        TEXTS["plan"]["fields"]["digestHint"],
+        TEXTS["plan"]["fields"]["digestWrong"],
     )
     says(
         "receipt: another one than the content's is refused, in words",

@@ -169,7 +169,8 @@ def lists(it: Browser, proxy: Proxy, copy: pathlib.Path) -> None:
         ["with the last addition to the aggregation", "3 years", "from the next first of a quarter", "destroy"],
     )
     it.open(f"{proxy.page}#catalogue?part=holds")
-    same("holds: its targets", it.table("#catalogue-part .holds")[0][5], "aggregation 2class FIN-INVrecord 23")
+    says("holds: its targets, with their count", it.table("#catalogue-part .holds")[0][5], "1 record, 1 aggregation, 1 class",
+         "aggregation 2 · EVT/2018-01 · River fair 2018", "class FIN-INV", "record 23")
 
 
 def tree(it: Browser, proxy: Proxy) -> None:

@@ -211,7 +211,7 @@ def away(view: View) -> None:
 def next_day(view: View) -> None:
     """The page stays open over midnight: the list of today is that of the new day, and another one stays."""
     it, day = view.browser, lambda: it.one("#due-day").get_attribute("value")
-    it.open(view.story.proxy.page)
+    it.open(f"{view.story.proxy.page}#due")
     same("changed: the view begins with the list of today", day(), after(0))
     it.go("#holds")
     it.driver.execute_script(CLOCK, 1)

@@ -63,7 +63,7 @@ def browser_ahead(story: Story) -> None:
     it = story.browser
     with it.before_each_page(AHEAD % YEAR):
         said(story, differ(after(365), after(0)))
-        it.open(story.proxy.page)
+        it.open(f"{story.proxy.page}#due")
         same("clocks: a list of the browser's today looks ahead", it.text("#due-ahead"),
              TEXTS["due"]["ahead"].format(today=after(0)))
         for name in FORMS:
@@ -150,7 +150,7 @@ def set_meanwhile(story: Story) -> None:
 
 def pictures(story: Story) -> None:
     with story.browser.before_each_page(AHEAD % YEAR):
-        shots(story.browser, "clocks-due", story.proxy.page)
+        shots(story.browser, "clocks-due", f"{story.proxy.page}#due")
         shots(story.browser, "clocks-holds", f"{story.proxy.page}#holds")
 
 

@@ -71,6 +71,9 @@ class View:
     def record(self, occurred: str) -> int:
         """Writes this day and a name into the form, and presses its button; how many requests were sent."""
         before = self.story.posted()
+        # it is folded where the rule waits for no event
+        if not self.is_offered():
+            self.browser.press(f"{FORM}-part > summary")
         self.browser.write(record_event_occurred=occurred, record_event_by=WHO)
         self.browser.press(f"{FORM} button")
         return self.story.posted() - before

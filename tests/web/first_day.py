@@ -63,6 +63,7 @@ def tell(office: Office, proxy: Proxy, browser: Browser, folder: pathlib.Path) -
          TEXTS["record"]["noDue"]["closed"].format(schedule="LET-3", aggregation=aggregation))
     browser.go("#plan")
     browser.write(plan_close_aggregation=aggregation)
+    browser.press("#plan-close-sure")
     browser.press("#plan-close button")
     says("first day: the aggregation is closed", browser.seen("#plan-close-outcome"),
          PLAN["close"]["done"].format(aggregation=aggregation, day=after(0)))

@@ -139,10 +139,11 @@ class Form:
         return self.browser.text(f"#{self.day}-late")
 
     def press(self) -> int:
-        """Presses the button, with the tick that the lifting of a hold always asks for, and counts what was sent."""
+        """Presses the button, with the tick that a lift and a closing always ask for, and counts what was sent."""
         before = self.story.posted()
-        if self.name == "hold-lift" and not self.browser.one("#hold-sure").is_selected():
-            self.browser.press("#hold-sure")
+        tick = {"hold-lift": "#hold-sure", "plan-close": "#plan-close-sure"}.get(self.name)
+        if tick and not self.browser.one(tick).is_selected():
+            self.browser.press(tick)
         self.browser.press(f"#{self.name} button:not([type])")
         return self.story.posted() - before
 
@@ -163,7 +164,7 @@ def ahead(story: Story) -> None:
         (4, after(0)),
     )
     same("and it says that it looks ahead", it.seen("#due-ahead"), TEXTS["due"]["ahead"].format(today=after(0)))
-    it.open(story.proxy.page)
+    it.open(f"{story.proxy.page}#due")
     same("a list of today does not look ahead", it.text("#due-ahead"), "")
     it.write(due_day=after(4000))
     it.press("#due-form button")

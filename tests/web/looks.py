@@ -9,6 +9,7 @@ from place import TOP
 from shots import SCHEMES, SIZES, shots
 
 VIEWS = {
+    "todo": "#todo",
     "due": "#due?day=2022-05-02",
     "overdue": "#overdue?day=2022-05-02&count=30",
     "outlook": "#outlook",
@@ -58,7 +59,7 @@ return Array.from(document.querySelectorAll("section:not([hidden]) :is(input, se
 """
 WIDE = "return [document.documentElement.scrollWidth, innerWidth]"
 # the places of the view that is shown at which something is said later
-LIVE = "return Array.from(document.querySelectorAll('section:not([hidden]) [role=status], #clocks'))"
+LIVE = "return Array.from(document.querySelectorAll('section:not([hidden]) [role=status], #clocks, #rights'))"
 # what is behind a summary is looked at too
 UNFOLD = "for (const it of document.querySelectorAll('section:not([hidden]) details')) it.open = true"
 
@@ -160,8 +161,9 @@ def keyboard(browser, proxy):
     same("keyboard: the first stop is the link over the heading", focus()[0], "skip")
     keys(Keys.ENTER)
     same("keyboard: it leads to the view", focus()[0], "main")
+    browser.go("#due")
     keys(Keys.TAB)
-    same("keyboard: then comes the day", focus()[0], "due-day")
+    same("keyboard: then comes the day of the list", focus()[0], "due-day")
     keys(Keys.CONTROL, "a")
     keys("2022-05-02", Keys.ENTER)
     browser.settled()
@@ -177,7 +179,7 @@ def keyboard(browser, proxy):
             unseen.append(name)
         if not inside:
             hidden.append(name)
-    wanted = ["due-class", "due-schedule", "due-action", "due-held", "due-confirmed", "due-all", "due-mark", "due-unmark", "due-print", "due-skip", "Mark record 19", "due-confirm-day", "due-confirm-by", "due-submit"]
+    wanted = ["due-class", "due-schedule", "due-action", "due-held", "due-confirmed", "due-all", "due-mark", "due-mark-held", "due-unmark", "due-print", "due-skip", "Mark record 19", "due-confirm-day", "due-confirm-by", "due-submit"]
     same("keyboard: each part is reached, in the order of the page", [name for name in stops if name in wanted], wanted)
     same("keyboard: each stop is outlined", unseen, [])
     same("keyboard: and in sight", hidden, [])
@@ -220,7 +222,7 @@ def languages(folder, proxy, open_browser):
     with open_browser(folder, "fr-FR") as other:
         other.know(proxy.page)
         other.open(proxy.page)
-        same("a language without a file is told in English", other.driver.title, "Due · Records disposal office")
+        same("a language without a file is told in English", other.driver.title, "To do · Records disposal office")
 
 
 def paper(browser, proxy, folder):

@@ -287,6 +287,7 @@ def reached(view: View) -> None:
         "overdue-held",
         "overdue-all",
         "overdue-mark",
+        "overdue-mark-held",
         "overdue-unmark",
         "overdue-print",
         "overdue-skip",
@@ -314,6 +315,7 @@ def confirmed(view: View) -> None:
     )
     it.choose("#overdue-class", "LEG")
     it.press("#overdue-mark")
+    it.press("#overdue-mark-held")
     it.press("#overdue-all")
     same(
         "overdue: what is shown and can be confirmed is marked",
@@ -338,6 +340,7 @@ def confirmed(view: View) -> None:
     view.open("2025-04-01", "30")
     it.write(overdue_confirm_day="2025-02-20", overdue_confirm_by=WHO)
     it.press("#overdue-mark")
+    it.press("#overdue-mark-held")
     it.press("#overdue-submit")
     row = TEXTS["refusals"]["15"]
     says(

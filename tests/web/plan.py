@@ -57,6 +57,8 @@ class Plan:
     def ask(self, act: dict) -> str:
         """Asks for an act through its form; what is said of it."""
         form = self.write(act)
+        if form == "plan-close":
+            self.browser.press("#plan-close-sure")
         self.browser.press(f"#{form} button")
         return self.browser.seen(f"#{form}-outcome")
 

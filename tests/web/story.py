@@ -34,9 +34,9 @@ class Story:
         return json.loads(self.office.ask("GET", path)[2])
 
     def asked_for(self):
-        """How many requests came to nginx but for a list of what is due, which is read anew at each showing."""
+        """How many requests came to nginx but for what is read anew at each showing: lists of what is due, the catalogue."""
         time.sleep(0.1)
-        return sum('"GET /due/' not in line for line in (self.folder / "access.log").read_text().splitlines())
+        return sum(not re.search('"GET /(due|catalogue)/', line) for line in (self.folder / "access.log").read_text().splitlines())
 
     def posted(self):
         """How many POSTs came to nginx with the password. (A browser learns only from a first answer, 401, that a path wants it.)"""
@@ -56,7 +56,7 @@ class Story:
     def due(self):
         it, rows = self.browser, self.told("/due/2022-05-02")
         today = datetime.date.today().isoformat()
-        same("start: the page begins with the list of today", (it.one("#due-day").get_attribute("value"), self.due_table()), (today, self.due_cells(self.told(f"/due/{today}"))))
+        same("start: the list begins with that of today", (it.one("#due-day").get_attribute("value"), self.due_table()), (today, self.due_cells(self.told(f"/due/{today}"))))
         it.write(due_day="2022-05-02")
         it.press("#due-form button")
         same("due: the table is what GET /due tells", self.due_table(), self.due_cells(rows))
@@ -145,7 +145,9 @@ class Story:
         same("confirm: record 8 is confirmed", self.told("/records/8")["confirmed"], {"action": "destroy", "by": WHO, "day": "2021-12-31", "due": "2019-01-30"})
         it.write(due_confirm_day="2022-05-02")
         it.press("#due-mark")
-        same("confirm: all that is shown and not confirmed", it.seen("#due-marked"), "Marked: 21. Not shown among them: 0.")
+        same("confirm: all that is shown, not confirmed and not held", it.seen("#due-marked"), "Marked: 17. Not shown among them: 0.")
+        it.press("#due-mark-held")
+        same("confirm: and what is held, by a button of its own", it.seen("#due-marked"), "Marked: 21. Not shown among them: 0.")
         it.choose("#due-held", "*")
         same("confirm: what is marked and not shown is told", it.seen("#due-marked"), "Marked: 21. Not shown among them: 17.")
         it.press("#due-all")
@@ -196,7 +198,8 @@ class Story:
         it, text = self.browser, self.office.ask("GET", f"/certificates/{number}")[2]
         same(f"certificate {number}: it is the one that stands beside the story", text, certificate(number))
         same(f"certificate {number}: the text", it.text("#certificate-text"), text.decode())
-        same(f"certificate {number}: its entries as a table", it.table("#certificate-tables .entries"), self.entries(text))
+        there = sorted(it.table("#certificate-tables .entries"), key=lambda row: int(row[0]))
+        same(f"certificate {number}: its entries as tables, with what is folded", there, self.entries(text))
         spent = [line.split("\t")[1:] for line in text.decode().splitlines() if line.startswith("AGGREGATION\t")]
         same(f"certificate {number}: its spent aggregations", it.table("#certificate-tables .spent"), spent)
         says(f"certificate {number}: agrees", it.seen("#certificate-verdict"), TEXTS["certificate"]["agrees"], TEXTS["certificate"]["wellFormed"])
@@ -380,7 +383,7 @@ class Story:
         for name in ("1-schedule", "2-holdings", "3-lawsuit"):
             status, _ = self.proxy.ask("POST", "/acts", city(name), {"Origin": self.proxy.address})
             judge(f"a program posts {name} through nginx", status in (200, 409), str(status))
-        self.browser.open(self.proxy.page)
+        self.browser.open(f"{self.proxy.page}#due")
         self.due()
         at["due"]()
         self.wrong_input()

@@ -82,4 +82,16 @@ function compareCount(told, name, there) {
   if (told[name] !== String(there)) told.wrong.push({ word: name.toUpperCase(), told: told[name] ?? "", there });
 }
 
+/**
+ * Which entries are skipped as the run before skipped them, for the same due day and under the same hold.
+ * @param {object[]} entries
+ * @param {object[]} before the entries of the run before
+ */
+export function skippedAgain(entries, before) {
+  const keyOf = ({ record, due, hold }) => JSON.stringify([record, due, hold]);
+  const skipped = new Set(before.filter(({ outcome }) => outcome === "skipped").map(keyOf));
+  const isAgain = (entry) => entry.outcome === "skipped" && skipped.has(keyOf(entry));
+  return { fresh: entries.filter((entry) => !isAgain(entry)), again: entries.filter(isAgain) };
+}
+
 export const sameBytes = (one, other) => one.length === other.length && one.every((byte, at) => byte === other[at]);

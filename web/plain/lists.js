@@ -68,6 +68,17 @@ export function totals(rows) {
   };
 }
 
+/**
+ * What marked rows are to be: how many of each action, and how many of those are held.
+ * @param {object[]} rows
+ * @returns {{ action: string, count: number, held: number }[]} of each action that there is
+ */
+export function actionsOf(rows) {
+  const of = (action) => rows.filter((row) => row.action === action);
+  const sums = (action) => ({ action, count: of(action).length, held: of(action).filter(({ held }) => held !== null).length });
+  return ["destroy", "transfer", "review"].map(sums).filter(({ count }) => count > 0);
+}
+
 /** Whether a row may be confirmed: what is to be reviewed is not. */
 export const canBeConfirmed = (row) => row.action !== "review";
 

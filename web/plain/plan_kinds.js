@@ -12,7 +12,8 @@ function isCount(text, form) {
   return /^[0-9]{1,9}$/.test(text) && Number(text) <= LONGEST[unit];
 }
 
-const isDigest = (text) => /^[0-9a-f]{64}$/.test(text);
+/** The digits of a SHA-256; capitals are made small before they are sent. */
+const isDigest = (text) => /^[0-9a-f]{64}$/i.test(text);
 const label = (name) => `plan.fields.${name}`;
 const code = (name) => ({ label: label(name), hint: "fields.codeHint", wrong: "fields.codeWrong", takes: isCode });
 const there = (name) => ({ ...code(name), hint: "plan.fields.codeHint" });
@@ -54,5 +55,5 @@ export const PLAN_KINDS = {
     takes: isConfirmDays,
     mode: "numeric",
   },
-  digest: own("digest", isDigest),
+  digest: { ...own("digest", isDigest), wrong: label("digestWrong") },
 };

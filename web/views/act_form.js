@@ -13,17 +13,26 @@ import { t } from "../texts.js";
  * @property {Object<string, string>} fields the kind of each field, by its name
  * @property {function(Object<string, any>): object} act the act of these values; a field that was left empty is null
  * @property {string[]} [clears] the fields that are empty again once the act is done
+ * @property {string} [sure] the text of a tick that the form asks for, as of an act that cannot be undone
  * @property {function(object, HTMLElement): Promise<string | null>} [before] what was shown of what the act is for, as a
  *   text; null if that has changed, which it says at this place, and then nothing is sent
  * @property {function(object, string): Promise<void>} [after] is called with the act and its fate
  */
 
+/** A tick that a form asks for. */
+function tickOf(id, key) {
+  const box = made("input", { type: "checkbox", id: `${id}-sure`, "aria-describedby": `${id}-sure-wrong` });
+  const label = made("label", { for: box.id, "data-text": key });
+  return made("div", { class: "field sure" }, box, label, made("strong", { class: "wrong", id: `${box.id}-wrong` }));
+}
+
 /** The parts of a form, without what is around it. */
-export function partsOf({ id, words, fields }) {
+export function partsOf({ id, words, fields, sure }) {
   const places = Object.entries(fields).map(([name, kind]) => made("div", { "data-field": kind, id: `${id}-${name}` }));
   for (const place of places) field(place);
   const hint = (name) => made("p", { class: "hint", "data-text": `${words}.${name}` });
-  return [hint("about"), hint("unrecorded"), ...places, made("button", { "data-text": `${words}.submit` })];
+  const button = made("button", { "data-text": `${words}.submit`, ...(sure && { class: "grave" }) });
+  return [hint("about"), hint("unrecorded"), ...places, ...(sure ? [tickOf(id, sure)] : []), button];
 }
 
 /** The values of a form by the names of its fields. */

@@ -1,13 +1,11 @@
 // A list for approval, on paper: the office, the day, the filter, counts by action, the rows, and lines for signatures.
+import { officeName } from "../name.js";
 import { factsOf, grouped, made, paragraph } from "../page.js";
 import { visible } from "../plain/marks.js";
 import { today } from "../plain/forms.js";
 import { t } from "../texts.js";
 
 const ACTIONS = ["destroy", "transfer", "review"];
-
-/** The name of the office, as the head of the page has it. */
-const officeName = () => document.querySelector("header .name").textContent;
 
 /** How many rows of each action there are, and how many of them are held. */
 function countsOf(rows) {

@@ -46,15 +46,17 @@ function clockOf(moment) {
   return `${today(at)} ${at.toTimeString().slice(0, 5)}`;
 }
 
-/** Says of which moment the catalogue is, and how old that is by the server's clock, which the moment is of too. */
-function tellMoment() {
-  const { moment, day } = aboutIt();
+/** Of which moment the catalogue is, and how old that is by the server's clock, which the moment is of too. */
+export function momentWords() {
+  const { moment } = aboutIt();
   const minutes = Math.max(0, Math.round((serverNow() - Date.parse(moment)) / 60000));
   const hours = Math.round(minutes / 60);
   const age = minutes < 120 ? t("catalogue.minutes", { count: minutes }) : t("catalogue.hours", { count: hours });
-  const time = made("time", { datetime: moment }, t("catalogue.moment", { moment: clockOf(moment), age }));
-  byId("catalogue-moment").replaceChildren(time, ` ${t("catalogue.day", { day })}`);
+  return made("time", { datetime: moment }, t("catalogue.moment", { moment: clockOf(moment), age }));
 }
+
+const tellMoment = () =>
+  byId("catalogue-moment").replaceChildren(momentWords(), ` ${t("catalogue.day", { day: aboutIt().day })}`);
 
 function tellParts() {
   const about = aboutIt();

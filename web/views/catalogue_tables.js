@@ -3,6 +3,7 @@ import { grouped, link, made, tableOf } from "../page.js";
 import { STATUSES } from "../plain/catalogue.js";
 import { visible } from "../plain/marks.js";
 import { t } from "../texts.js";
+import { countLine, saveButton, targetsList } from "./targets.js";
 
 const word = (name) => t(`catalogue.columns.${name}`);
 
@@ -51,16 +52,16 @@ const actionOf = ({ action }) => t(`actions.${action}`);
 /** A schedule in words, as for whoever chooses one. */
 export const scheduleWords = (it) => [periodOf(it), triggerOf(it), actionOf(it)].join(" · ");
 
-function targetLink(target) {
-  const [kind, name] = target.split(":");
-  const words = t(`catalogue.targets.${kind}`, { name });
-  if (kind === "record") return link(`#record?number=${name}`, words);
-  return kind === "aggregation" ? recordsOf(name, words) : words;
-}
-
-/** Each target on a line of its own; of very many they are in a box that scrolls. */
-function targetsOf({ targets }) {
-  return made("ul", { class: "targets" }, ...targets.map((it) => made("li", {}, targetLink(it))));
+/** How many targets there are, then each of them, once the lists that have its ref and title are read. */
+function targetsOf(hold) {
+  const place = made("div", {}, countLine(hold.targets));
+  if (!hold.targets.length) return place;
+  place.setAttribute("aria-busy", "true");
+  targetsList(hold.targets).then((list) => {
+    place.append(list, saveButton(hold));
+    place.removeAttribute("aria-busy");
+  });
+  return place;
 }
 
 const holdLink = ({ code }) => link(`#holds?code=${code}`, code);

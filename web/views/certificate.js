@@ -1,8 +1,9 @@
 // A certificate, of the office or of a file: whether its sum agrees, what it tells, and its text.
 import { get } from "../ask.js";
+import { isThere, part } from "../catalogue.js";
 import { onSubmit } from "../fields.js";
-import { asking, byId, details, factsOf, failed, link, made, paragraph, quiet, save, say, tableOf, told } from "../page.js";
-import { judged, read, sameBytes } from "../plain/certificates.js";
+import { asking, byId, details, factsOf, failed, grouped, link, made, paragraph, quiet, save, say, tableOf, told } from "../page.js";
+import { judged, read, sameBytes, skippedAgain } from "../plain/certificates.js";
 import { isNumber } from "../plain/forms.js";
 import { visible } from "../plain/marks.js";
 import { isMissing } from "../plain/outcomes.js";
@@ -13,7 +14,6 @@ let shown = null;
 let asked = 0;
 
 const code = (text) => made("code", {}, text);
-const LAST_NUMBER = 4294967295;
 
 function wrongLine(wrong) {
   if (wrong.line) return paragraph(t("certificate.badLine", wrong));
@@ -41,10 +41,20 @@ function entryCells(entry) {
   return [link(`#record?number=${entry.record}`, entry.record), t(`outcomes.${entry.outcome}`), ...words, hold, visible(entry.by), entry.length, code(entry.digest)];
 }
 
-function tellTables(certificate) {
+/** What is skipped as the run before skipped it is folded: at each run it is there again. */
+function foldedOf(again, number) {
+  if (!again.length) return [];
+  const words = t("certificate.again", { count: grouped(again.length), number });
+  const table = tableOf(words, Object.values(all().certificate.columns), again.map(entryCells), "entries");
+  return [made("details", { class: "listed" }, made("summary", {}, words), table)];
+}
+
+function tellTables(certificate, before = null) {
   const { columns, aggregationColumns } = all().certificate;
   const { run, entries, aggregations } = certificate;
-  const tables = [tableOf(t("certificate.entries", { number: visible(run ?? "-"), count: entries.length }), Object.values(columns), entries.map(entryCells), "entries")];
+  const { fresh, again } = skippedAgain(entries, before?.entries ?? []);
+  const tables = [tableOf(t("certificate.entries", { number: visible(run ?? "-"), count: entries.length }), Object.values(columns), fresh.map(entryCells), "entries")];
+  tables.push(...foldedOf(again, before?.run));
   const spent = aggregations.map((it) => [it.number, visible(it.ref)]);
   if (spent.length) tables.push(tableOf(t("certificate.aggregations", { count: spent.length }), Object.values(aggregationColumns), spent, "spent"));
   byId("certificate-tables").replaceChildren(...tables);
@@ -57,21 +67,35 @@ async function tellTitles() {
   const mine = asked;
   const title = await titleOf();
   titles.renew();
-  const table = document.querySelector("#certificate-tables .entries");
-  if (mine !== asked || !table) return;
-  for (const { cells } of table.tBodies[0].rows) {
+  if (mine !== asked) return;
+  // what the run before skipped too has a table of its own
+  for (const { cells } of document.querySelectorAll("#certificate-tables .entries tbody tr")) {
     const words = title?.(Number(cells[0].textContent));
     cells[2].querySelector(".of-ref")?.remove();
     if (words) cells[2].append(made("span", { class: "of-ref" }, visible(words)));
   }
 }
 
-/** Links to the certificates of the runs before and after. */
-function tellOthers(number) {
+/** Whether there is a certificate of a run: by the catalogue, or else by asking for it. */
+async function isClosed(number) {
+  const run = isThere() ? (await part("runs"))?.find((it) => it.number === number) : undefined;
+  return run?.closed || (await get(`certificates/${number}`)).status === 200;
+}
+
+/** Links to the certificates of the runs before and after, where there are such. */
+async function tellOthers(number) {
+  const mine = asked;
   const to = (other, key) => link(`#certificate?number=${other}`, t(key, { number: other }));
   const before = number > 1 ? [to(number - 1, "certificate.before")] : [];
-  const after = number < LAST_NUMBER ? [to(number + 1, "certificate.after")] : [];
-  byId("certificate-others").replaceChildren(...before, ...after);
+  const after = (await isClosed(number + 1)) ? [to(number + 1, "certificate.after")] : [];
+  if (mine === asked) byId("certificate-others").replaceChildren(...before, ...after);
+}
+
+/** What the certificate of the run before says, where this one skipped something. */
+async function beforeOf(certificate, number) {
+  if (number < 2 || certificate.skipped === "0") return null;
+  const answer = await get(`certificates/${number - 1}`);
+  return answer.status === 200 ? read(answer.text) : null;
 }
 
 async function tell(heading, bytes, name) {
@@ -103,8 +127,14 @@ async function open(number) {
   if (isMissing(answer, "certificate")) return say(place, "wrong", paragraph(t("run.notClosed", { number })), paragraph(t("run.notClosedDo")), details(answer));
   if (answer.status !== 200) return failed(place, answer);
   quiet(place);
-  await tell(t("certificate.heading", { number }), answer.bytes, t("certificate.file", { number }));
-  tellOthers(Number(number));
+  const certificate = await tell(t("certificate.heading", { number }), answer.bytes, t("certificate.file", { number }));
+  const before = await beforeOf(certificate, Number(number));
+  if (mine !== asked) return;
+  if (before) {
+    tellTables(certificate, before);
+    tellTitles();
+  }
+  await tellOthers(Number(number));
 }
 
 /** Says whether the bytes of a file are those of the office's certificate of that run. */

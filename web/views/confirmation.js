@@ -3,7 +3,7 @@ import { post } from "../ask.js";
 import { untick } from "../fields.js";
 import { asking, failed, link, made, paragraph, quiet, say, tableOf, told } from "../page.js";
 import { MOST_BYTES, bodyOf, bytesOf, confirm, fitting } from "../plain/acts.js";
-import { CONFIRMED_FOR, canBeConfirmed } from "../plain/lists.js";
+import { CONFIRMED_FOR } from "../plain/lists.js";
 import { fatesOf, jsonOf } from "../plain/outcomes.js";
 import { all, t } from "../texts.js";
 import { isAsShown } from "./changes.js";
@@ -55,14 +55,12 @@ function tellFate(place, answer, acts) {
 const seenOf = (rows) => JSON.stringify(rows.map((row) => CONFIRMED_FOR.map((name) => row[name])));
 
 /**
- * Confirms what is marked in a list, in one request, if all of it is as it is shown; says what came of it, and has the list
- * read anew.
+ * Confirms rows of a list, those that were marked when the button was pressed and are none to review, in one request, if all of them are as they
+ * are shown; says what came of it, and has the list read anew.
  */
-export async function confirmMarked(list, values) {
+export async function confirmMarked(list, values, marked) {
   const place = list.part("panel-outcome");
   const [day, by] = ["confirm-day", "confirm-by"].map((name) => values[list.part(name).id]);
-  // what is to be reviewed may be marked too, and stays so
-  const marked = list.markedRows().filter(canBeConfirmed);
   const acts = marked.map((row) => confirm(row, day, by));
   if (!acts.length) return say(place, "wrong", paragraph(t("due.nothingMarked")));
   const body = bodyOf(acts);

@@ -24,7 +24,11 @@ const commonField = (name) => byId(`file-all-${name}`);
 const common = () => Object.fromEntries(COMMON.map((name) => [name, commonField(name).value.trim()]));
 
 /** What the record of a file will be: what is written in its row, else what is written for all. */
-const valuesOf = (entry, shared = common()) => ({ ...forAll(shared, entry.file, entry.place, entry.said), ...entry.own });
+function valuesOf(entry, shared = common()) {
+  const all = forAll(shared, entry.file, entry.place, entry.said);
+  // what is filed is not the file itself
+  return { ...all, ...(entry.hasManifest && { ref: `${all.ref}.manifest` }), ...entry.own };
+}
 
 const isToBeFiled = (entry) => !isSettled(entry) && !isLeftOut(entry);
 
@@ -41,8 +45,9 @@ function showTotals() {
   const { count, bytes, large } = sizes(entries.map(({ file }) => file));
   const filed = entries.filter(isSettled).length;
   const ready = entries.filter(isToBeFiled);
+  const manifests = entries.filter((entry) => entry.hasManifest).length;
   for (const entry of ready) entry.bytes = bytesFor(entry, today());
-  showSums("file", { count, bytes, large, filed, ready: ready.length, requests: batches(ready).length });
+  showSums("file", { count, bytes, large: large - manifests, manifests, filed, ready: ready.length, requests: batches(ready).length });
   byId("file-caption").textContent = t("file.caption", { count: grouped(count) });
   const tried = ready.some(({ fate }) => fate);
   const key = tried ? "file.again" : "file.submit";
@@ -73,7 +78,16 @@ function refresh() {
   showTotals();
 }
 
+/** Takes away that nothing was sent because something is wrong, once somebody writes anew. */
+function forgetUnsent() {
+  const place = byId("file-send-outcome");
+  if (!place.dataset.unsent) return;
+  delete place.dataset.unsent;
+  quiet(place);
+}
+
 function edited(entry, name, value) {
+  forgetUnsent();
   entry.own[name] = value.trim();
   mark(entry.inputs[name], "");
 }
@@ -173,9 +187,8 @@ function markRows(ready) {
   return first;
 }
 
-async function fileAll(values) {
+async function fileAll(values, ready) {
   const place = byId("file-send-outcome");
-  const ready = entries.filter(isToBeFiled);
   if (!ready.length) return say(place, "wrong", paragraph(t("file.nothing")));
   const inRows = markRows(ready);
   const wrong = markCommon(ready) ?? inRows;
@@ -183,8 +196,10 @@ async function fileAll(values) {
     const lacksOne = ready.some((entry) => valuesOf(entry).aggregation === "");
     const needed = [made("p", {}, `${t(NO_AGGREGATION)} `, ...whereAggregation())];
     say(place, "wrong", paragraph(t("file.wrong")), ...(lacksOne ? needed : []));
+    place.dataset.unsent = "yes";
     return wrong.focus();
   }
+  delete place.dataset.unsent;
   quiet(place);
   untick(byId("file-send"));
   day = values["file-send-day"];
@@ -214,6 +229,7 @@ export function start() {
   for (const name of COMMON) {
     commonField(name).addEventListener("input", () => {
       mark(commonField(name), "");
+      forgetUnsent();
       refresh();
     });
   }
@@ -225,7 +241,7 @@ export function start() {
     remove(entries.filter(isSettled));
     byId("file-choose").focus();
   });
-  onSubmit(byId("file-send"), fileAll);
+  onSubmit(byId("file-send"), fileAll, () => entries.filter(isToBeFiled));
 }
 
 /** Shows the files that are listed. */

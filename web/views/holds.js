@@ -1,4 +1,4 @@
-// Holds: place one, put a target on, take one off, lift it. No path shows a hold, so each act's answer is all that is known.
+// Holds: shows one, places one, puts a target on, takes one off, lifts it. No path shows a hold: the catalogue does.
 import { post } from "../ask.js";
 import { mark, onSubmit, untick } from "../fields.js";
 import { asking, byId, failed, made, paragraph, say, told } from "../page.js";
@@ -7,6 +7,7 @@ import { isCode } from "../plain/forms.js";
 import { fatesOf } from "../plain/outcomes.js";
 import { t } from "../texts.js";
 import * as placing from "./hold_place.js";
+import * as shown from "./hold_shown.js";
 
 const targetOf = (values, form) => `${byId(`${form}-kind`).value}:${values[`${form}-target`]}`;
 
@@ -20,7 +21,7 @@ function carry(code, forms) {
 
 /**
  * The forms for a hold that is there: the act that each asks for, what is said once it is done, and what where that is
- * unknown.
+ * unknown; `isAsSeen` says before whether the act would do what was shown, and `after` is called once it is done.
  */
 const FORMS = {
   "hold-on": {
@@ -37,24 +38,29 @@ const FORMS = {
     act: (values) => liftHold(values["hold-lift-day"], values["hold-lift-code"]),
     done: (act) => t("holds.lifted", act),
     lost: "holds.lostLift",
+    isAsSeen: shown.isAsSeen,
+    after: () => shown.renewForecast(),
   },
 };
 
 /** Asks for one act, and says what came of it. */
 async function ask(name, values) {
   const place = byId(`${name}-outcome`);
-  const { act, done, lost } = FORMS[name];
+  const { act, done, lost, after, isAsSeen } = FORMS[name];
   const asked = act(values);
   asking(place);
   untick(byId(name));
+  if (isAsSeen && !(await isAsSeen(place))) return;
   const answer = await post("acts", bodyOf([asked]));
   const { answers, end } = fatesOf(answer, 1);
   if (end === "unknown") say(place, "unknown", ...told(answer), paragraph(t(lost)));
   else if (answers[0]?.done) say(place, "done", paragraph(done(asked)), ...told(answer));
   else failed(place, answer);
+  if (end === "answered" && answers[0].done) after?.(asked);
 }
 
 export function start() {
+  shown.start();
   placing.start((code) => carry(code, ["hold-on"]));
   for (const name of Object.keys(FORMS)) onSubmit(byId(name), (values) => ask(name, values));
   for (const form of ["hold-on", "hold-off"]) {
@@ -63,9 +69,13 @@ export function start() {
   }
 }
 
-/** Writes the code that the address names into the forms for a hold that is there. */
+/** Shows the hold that the address names, and writes its code into the forms for a hold that is there. */
 export function show(words) {
   const code = words.get("code");
-  if (code === null || !isCode(code)) return;
+  if (code === null || !isCode(code)) {
+    shown.showNone();
+    return shown.renewForecast();
+  }
   carry(code, ["hold-on", "hold-off", "hold-lift"]);
+  return Promise.all([shown.show(code), shown.renewForecast()]);
 }

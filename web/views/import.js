@@ -221,9 +221,8 @@ function progressed() {
   showTotals();
 }
 
-async function importAll(values) {
+async function importAll(values, ready) {
   const place = byId("import-send-outcome");
-  const ready = left();
   if (!ready.length) return say(place, "wrong", paragraph(t("import.nothing")));
   quiet(place);
   untick(byId("import-send"));
@@ -264,7 +263,7 @@ export function start() {
   byId("import-kind").append(...acts.kindOptions());
   byId("import-kind").addEventListener("change", kindChanged);
   byId("import-save").addEventListener("click", saveRefused);
-  onSubmit(byId("import-send"), importAll);
+  onSubmit(byId("import-send"), importAll, left);
 }
 
 /** Shows the sheet that was chosen. */

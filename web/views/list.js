@@ -3,7 +3,7 @@ import { get, getNewest } from "../ask.js";
 import { bothDays } from "../clock.js";
 import { onSubmit } from "../fields.js";
 import { asking, byId, failed, made, paragraph, quiet, say } from "../page.js";
-import { ANY_HOLD, NO_HOLD, canBeConfirmed, changed, choices, filtered, sorted, totals } from "../plain/lists.js";
+import { ANY_HOLD, NO_HOLD, actionsOf, canBeConfirmed, changed, choices, filtered, sorted, totals } from "../plain/lists.js";
 import { jsonOf } from "../plain/outcomes.js";
 import { t } from "../texts.js";
 import { tellChanged, unchanged } from "./changes.js";
@@ -29,6 +29,9 @@ import { ListTable, recordOf } from "./list_table.js";
  * @property {function(RecordList): void} [shown] is called once a list is shown
  * @property {function(RecordList): void} [marked] is called once other records are marked
  */
+
+/** The values of the sentence that says what is marked. */
+const whatOf = ({ action, count, held }) => ({ action: t(`actions.${action}`), count, held });
 
 const isSame = (one, other) => JSON.stringify(one) === JSON.stringify(other);
 
@@ -157,6 +160,7 @@ export class RecordList {
     this.rows = rows;
     this.marks = new Set(marks);
     this.#table.begin((record) => this.marks.has(record));
+    this.part("read").textContent = t("due.readAt", { time: new Date().toTimeString().slice(0, 5) });
     const { first } = bothDays();
     this.part("ahead").textContent = question.day > first ? t("due.ahead", { today: first }) : "";
     this.#tellChoices();
@@ -212,8 +216,9 @@ export class RecordList {
   #tellMarks() {
     const shown = this.shown.filter((row) => this.marks.has(row.record)).length;
     this.part("marked").textContent = t("due.marked", { count: this.marks.size, hidden: this.marks.size - shown });
-    const count = this.markedRows().filter(canBeConfirmed).length;
-    this.part("submit").textContent = t("due.submit", { count });
+    const rows = this.#toConfirm();
+    this.part("submit").textContent = t("due.submit", { count: rows.length });
+    this.part("what").textContent = actionsOf(rows).map((it) => t("due.what", whatOf(it))).join(" ");
     // only then it stays in sight, over the rows (office.css)
     this.part("panel").classList.toggle("marking", this.marks.size > 0);
     this.kind.marked?.(this);
@@ -236,8 +241,10 @@ export class RecordList {
     this.#tellMarks();
   }
 
-  #markShown() {
-    const more = this.shown.filter((row) => canBeConfirmed(row) && !row.confirmed).map((row) => row.record);
+  /** Marks what is shown and not confirmed, of what is held or of all else: a confirmation of what is held stays for later. */
+  #markShown(isHeld) {
+    const isMeant = (row) => canBeConfirmed(row) && !row.confirmed && (row.held !== null) === isHeld;
+    const more = this.shown.filter(isMeant).map((row) => row.record);
     this.markOnly([...this.marks, ...more]);
   }
 
@@ -250,6 +257,11 @@ export class RecordList {
 
   markedRows() {
     return this.rows.filter((row) => this.marks.has(row.record));
+  }
+
+  /** What is marked and can be confirmed: what is to be reviewed may be marked too, and stays so. */
+  #toConfirm() {
+    return this.markedRows().filter(canBeConfirmed);
   }
 
   // ---- the view
@@ -275,12 +287,15 @@ export class RecordList {
     addParts(name, filters);
     this.#table = new ListTable(name, columns, (column) => this.#sortBy(column));
     onSubmit(this.part("form"), (values) => this.#go(values));
-    onSubmit(this.part("confirm"), (values) => confirmMarked(this, values));
+    // what is marked while the server's clock is asked for was not meant
+    onSubmit(this.part("confirm"), (values, marked) => confirmMarked(this, values, marked), () => this.#toConfirm());
     for (const filter of filters) {
       this.part(filter).addEventListener("change", ({ target }) => this.#filterBy(filter, target.value));
     }
     this.part("all").addEventListener("click", () => this.#showAll());
-    this.part("mark").addEventListener("click", () => this.#markShown());
+    this.part("mark").addEventListener("click", () => this.#markShown(false));
+    this.part("mark-held").addEventListener("click", () => this.#markShown(true));
+    this.part("anew").addEventListener("click", () => this.open(this.question, true));
     this.part("unmark").addEventListener("click", () => this.markOnly([]));
     this.part("print").addEventListener("click", () => print());
     this.part("skip").addEventListener("click", () => this.part("confirm-day").focus());

@@ -24,6 +24,7 @@ export function addParts(name, filters) {
       "div",
       { class: "tools" },
       button("mark", "due.markShown"),
+      button("mark-held", "due.markHeld"),
       button("unmark", "due.unmark"),
       button("print", "due.print"),
       button("skip", "due.skipRows", "quiet inner"),
@@ -31,6 +32,7 @@ export function addParts(name, filters) {
     ),
     outcome("answer", { tabindex: "-1" }),
     made("p", { id: id("ahead"), class: "hint" }),
+    made("p", { class: "hint read" }, made("span", { id: id("read") }), " ", button("anew", "due.readAnew", "quiet small")),
     made(
       "table",
       { id: id("table"), class: `cards due ${name}-rows`, role: "table", "aria-labelledby": id("caption") },
@@ -50,6 +52,7 @@ function panel(id, legend, outcome) {
     {},
     legend("due.confirm"),
     made("p", { id: id("marked"), class: "marked", role: "status" }),
+    made("p", { id: id("what"), class: "what" }),
     made("div", { "data-field": "day", id: id("confirm-day") }),
     made("div", { "data-field": "by", id: id("confirm-by") }),
     made("button", { id: id("submit") }),

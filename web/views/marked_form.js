@@ -65,7 +65,7 @@ export function deedForm(id, deed) {
   const submit = made("button", isGrave ? { class: "grave", id: `${id}-submit` } : { id: `${id}-submit` });
   const close = made("button", { type: "button", class: "quiet", id: `${id}-back` }, t("marked.back"));
   const preview = made("div", { class: "preview", id: `${id}-preview` });
-  const told = made("div", { class: "hold-told", role: "status" });
+  const told = made("div", { class: "hold-there", role: "status" });
   const parts = [...(pasted ? [pasted.place] : []), ...Object.values(places), ...(isGrave ? [tickOf(id, deed)] : [])];
   const legend = made("legend", {}, t(`marked.${deed}.title`));
   const hints = [t(`marked.${deed}.about`), t(UNRECORDED[deed])].map((words) => made("p", { class: "hint" }, words));

@@ -1,9 +1,11 @@
 // The filing plan: schedules, classes and aggregations, and what classes, aggregations and records get of them later.
+import { clear } from "../fields.js";
 import { byId, made, sentence } from "../page.js";
 import { dueDay, LONGEST } from "../plain/days.js";
-import { isDay } from "../plain/forms.js";
+import { isDay, isNumber } from "../plain/forms.js";
 import { t } from "../texts.js";
 import { begin, stepOf } from "./act_form.js";
+import * as forecast from "./plan_forecast.js";
 
 /** The forms, by the heading that they are below. */
 const FORMS = {
@@ -38,6 +40,8 @@ const FORMS = {
       words: "plan.rule",
       fields: { class: "class", schedule: "schedule", day: "day" },
       act: (members) => ({ act: "set-class-schedule", ...members }),
+      before: forecast.ofRule,
+      after: () => forecast.renew("rule"),
     },
   ],
   aggregations: [
@@ -53,7 +57,9 @@ const FORMS = {
       words: "plan.close",
       fields: { aggregation: "aggregation", day: "day" },
       act: ({ day, aggregation }) => ({ act: "close-aggregation", day, aggregation: Number(aggregation) }),
-      clears: ["aggregation"],
+      sure: "plan.close.sure",
+      before: forecast.ofClosing,
+      after: forecast.closed,
     },
   ],
   changes: [
@@ -111,7 +117,16 @@ export function start() {
     forms.forEach(begin);
   }
   addExample();
+  forecast.start();
 }
 
-/** Shows the forms, whatever the address says besides. */
-export function show() {}
+/** Shows the forms; the one that closes an aggregation has the number that the address names. */
+export function show(words) {
+  const number = words.get("close");
+  if (number === null || !isNumber(number)) return;
+  const input = byId("plan-close-aggregation");
+  clear(input);
+  input.value = number;
+  byId("plan-close").scrollIntoView({ block: "center" });
+  return forecast.renew("close");
+}

@@ -11,8 +11,10 @@ import { reasonsFor } from "../plain/no_due.js";
 import { isMissing, jsonOf } from "../plain/outcomes.js";
 import { t } from "../texts.js";
 import * as acts from "./record_acts.js";
+import { factsOf as catalogueFacts, neighboursOf, receiptOf } from "./record_catalogue.js";
 import * as content from "./record_content.js";
 import * as event from "./record_event.js";
+import { manifestOf } from "./record_manifest.js";
 
 let shown = null;
 let asked = 0;
@@ -58,15 +60,26 @@ function ofConfirmation(record) {
   return [said, line("record.confirmedAsk", { list: link(`#due?day=${day}`, t("record.dueList")) })];
 }
 
-function factsTold(record) {
+function factsTold(record, more = {}) {
   const word = (name) => t(`record.facts.${name}`);
-  const plain = ["ref", "title", "originated", "added", "aggregation", "class", "schedule"].map((name) => [word(name), visible(String(record[name]))]);
+  const names = ["ref", "title", "originated", "added", "aggregation", "class", "schedule"];
+  const plain = names.map((name) => [word(name), more[name] ?? visible(String(record[name]))]);
   const digest = [word("digest"), made("code", {}, record.digest)];
   return factsOf([...plain, [word("length"), inBytes(record.length)], digest]);
 }
 
-/** The schedule of a record without a due day, where a catalogue has it: it says why there is none. */
-const ruleOf = (record) => (record.due === null ? schedule(record.schedule) : null);
+/** The schedule of a record, where a catalogue has it: it says why there is no due day, and what the rule is. */
+const ruleOf = (record) => schedule(record.schedule);
+
+/** Adds what the catalogue has of a record, and what its content is, once it is shown. */
+async function tellMore(record, rule) {
+  const parts = [catalogueFacts(record, rule), neighboursOf(record), receiptOf(record), manifestOf(record)];
+  const [facts, neighbours, receipt, manifest] = await Promise.all(parts);
+  // another one is shown by now
+  if (shown !== record) return;
+  byId("record-facts").replaceChildren(factsTold(record, facts), ...(neighbours ? [neighbours] : []));
+  byId("record-words").append(...receipt, ...manifest);
+}
 
 function tell(record, rule) {
   shown = record;
@@ -75,8 +88,9 @@ function tell(record, rule) {
   byId("record-words").replaceChildren(...words);
   byId("record-facts").replaceChildren(factsTold(record));
   content.offer(record);
-  event.offer(record);
+  event.offer(record, rule);
   acts.offer(record);
+  tellMore(record, rule);
   byId("record-told").hidden = false;
 }
 

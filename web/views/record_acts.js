@@ -39,7 +39,7 @@ const FORMS = [
     id: "record-receipt",
     words: "recordActs.receipt",
     fields: { digest: "digest", day: "day", by: "by" },
-    act: ({ day, digest, by }) => ({ act: "receipt", day, record: subject, digest, by }),
+    act: ({ day, digest, by }) => ({ act: "receipt", day, record: subject, digest: digest.toLowerCase(), by }),
     status: "sent",
     clears: ["digest"],
   },
@@ -92,12 +92,29 @@ async function seenOf(act, place, { readAnew, shown }) {
   return null;
 }
 
+/** Says, as soon as a SHA-256 is written, whether it is that of the record which is shown. */
+function watchDigest(shown) {
+  const input = byId("record-receipt-digest");
+  const place = made("p", { id: "record-receipt-same", role: "status" });
+  input.closest(".field").classList.add("wide");
+  input.closest(".field").append(place);
+  input.addEventListener("input", () => {
+    const text = input.value.trim().toLowerCase();
+    const isWhole = /^[0-9a-f]{64}$/.test(text);
+    if (isWhole && text !== input.value) input.value = text;
+    const isSame = text === shown()?.digest;
+    place.className = isSame ? "fate done" : "fate wrong";
+    place.textContent = isWhole ? t(isSame ? "recordActs.receipt.same" : "recordActs.receipt.other") : "";
+  });
+}
+
 /**
  * Starts the forms. `readAnew` reads the record that is shown once more: what is said of its due day, or null where it
  * could not be read; `shown` is that record.
  */
 export function start(readAnew, shown) {
   byId("record-acts").append(...FORMS.map(partOf));
+  watchDigest(shown);
   for (const description of FORMS) {
     const { id } = description;
     const number = (act) => act.record ?? Number(act.target.split(":")[1]);

@@ -9,11 +9,15 @@ import { t } from "../texts.js";
 /** The record that the form is for, by its number. */
 let subject = null;
 
-/** Offers the form for a record that is here; of any other one no event is recorded any more. */
-export function offer({ number, status }) {
-  byId("record-event").hidden = status !== "here";
+/**
+ * Offers the form for a record that is here; of any other one no event is recorded any more. It is folded where the
+ * record's schedule is known and waits for no event.
+ */
+export function offer({ number, status }, rule) {
+  byId("record-event-part").hidden = status !== "here";
   if (number === subject) return;
   subject = number;
+  byId("record-event-part").open = !rule || rule.trigger === "event";
   clear(byId("record-event-occurred"));
   quiet(byId("record-event-outcome"));
 }

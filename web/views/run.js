@@ -8,6 +8,7 @@ import { isNumber } from "../plain/forms.js";
 import { visible } from "../plain/marks.js";
 import { fatesOf, isMissing, jsonOf } from "../plain/outcomes.js";
 import { t } from "../texts.js";
+import * as forecast from "./run_forecast.js";
 
 const certificateLink = (number) => link(`#certificate?number=${number}`, t("run.certificate"));
 
@@ -20,8 +21,10 @@ async function open(values) {
   const { answers, end } = fatesOf(answer, 1);
   const number = answers[0]?.number;
   if (end === "unknown") say(place, "unknown", ...told(answer), paragraph(t("run.lostOpen")));
-  else if (number) say(place, "done", paragraph(t("run.opened", { number })), ...told(answer));
-  else failed(place, answer);
+  else if (number) {
+    say(place, "done", paragraph(t("run.opened", { number })), ...told(answer));
+    await forecast.opened(number, values["run-open-day"]);
+  } else failed(place, answer);
 }
 
 /** What a closed run did, by its certificate: how many records it ended, sent and skipped. */
@@ -34,19 +37,24 @@ async function countsOf(number) {
   return counts.every((name) => certificate[name] === "0") ? [facts, paragraph(t("run.tookNone"))] : [facts];
 }
 
-/** Carries the open run out. */
+/** Carries the open run out, if it would do what was shown of it. */
 async function resume() {
   const place = byId("run-resume-outcome");
   asking(place);
   untick(byId("run-resume"));
+  if (!(await forecast.isAsSeen(place))) return;
   const answer = await post("run/resume");
   const body = jsonOf(answer);
   if (body?.certificate) {
     const number = body.certificate;
     const counts = await countsOf(number);
     say(place, "done", paragraph(t("run.resumed", { number })), ...counts, paragraph(certificateLink(number)), ...told(answer));
-  } else if (body?.refused || fatesOf(answer, 0).end === "undone") failed(place, answer);
-  else say(place, "unknown", ...told(answer), paragraph(t("run.lostResume")));
+    await forecast.ended(number);
+  } else {
+    if (body?.refused || fatesOf(answer, 0).end === "undone") failed(place, answer);
+    else say(place, "unknown", ...told(answer), paragraph(t("run.lostResume")));
+    await forecast.ended();
+  }
 }
 
 /** Looks for a run's certificate. */
@@ -64,6 +72,7 @@ async function find(number) {
 }
 
 export function start() {
+  forecast.start();
   onSubmit(byId("run-open"), open);
   onSubmit(byId("run-resume"), resume);
   onSubmit(byId("run-form"), (values) => {
@@ -75,6 +84,7 @@ export function start() {
 
 /** Shows the run that the address names. */
 export function show(words) {
+  forecast.renew();
   const number = words.get("number");
   if (number === null) quiet(byId("run-outcome"));
   else if (isNumber(number)) find(number);

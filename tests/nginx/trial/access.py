@@ -28,6 +28,9 @@ def reader(folder: str) -> None:
     wrong = post(f"{folder}acts", [], "reader", password="wrong")
     error("without the password nobody learns who may act", wrong, 401, "password")
     error("of a name that is not there neither", post(f"{folder}acts", [], "nobody"), 401, "password")
+    for name, acts in (("reader", b'{"acts":false}'), ("registrar", b'{"acts":true}')):
+        same(f"the page is told whether a {name} may act", ask("GET", f"{folder}rights", name=name).body, acts)
+    error("but nobody without the password", ask("GET", f"{folder}rights", name="reader", password="wrong"), 401, "password")
 
 
 def shaken(name: str | None) -> bool:

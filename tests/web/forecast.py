@@ -1,0 +1,134 @@
+"""Forecasts: what a run, a lift, a closing and another schedule would do, beside what the office then does."""
+from __future__ import annotations
+
+import pathlib
+
+import town
+from browser import Browser
+from judging import judge, same
+from late import after
+from place import Office, Proxy
+from shots import shots
+from story import TEXTS, WHO, Story, says
+
+WORDS = TEXTS["forecast"]
+TOTALS = "return Array.from(document.querySelectorAll('#run-forecast .totals dd'), (it) => Number(it.textContent))"
+LAST = "/due/2999-12-31"
+
+
+def run_shown(it: Browser) -> list[int]:
+    """How many would be destroyed, sent, at the end of their transfer, and skipped."""
+    return it.driver.execute_script(TOTALS)
+
+
+def certified(office: Office, number: int) -> list[int]:
+    """The same by a certificate."""
+    text = office.ask("GET", f"/certificates/{number}")[2].decode()
+    outcomes = [line.split("\t")[2] for line in text.splitlines() if line.startswith("ENTRY\t")]
+    return [outcomes.count(it) for it in ("destroyed", "sent", "transferred", "skipped")]
+
+
+def run(it: Browser, proxy: Proxy, office: Office) -> None:
+    """Before a run is opened, before it is carried out, and what it then did."""
+    it.open(f"{proxy.page}#run")
+    first = run_shown(it)
+    same("run: what it would do is shown before it is opened", first, [2, 1, 1, 2])
+    says("run: as a forecast", it.seen("#run-forecast").lower(), WORDS["is"].lower())
+    it.press("#run-forecast summary")
+    same("run: with the list of its records", [row[0] for row in it.table("#run-forecast .taken")], list("123") + ["4", "15", "14"])
+    it.write(run_open_day=after(-1000))
+    it.wait(lambda: run_shown(it) != first, "the forecast of another day does not come")
+    same("run: on a day on which nothing is due it would end the transfer that is received", run_shown(it), [0, 0, 1, 0])
+    it.write(run_open_day=after(0), run_open_by=WHO)
+    it.press("#run-open button:not([type])")
+    says("run: after the opening it says which run it is", it.seen("#run-forecast"), "run 2")
+    town.send(office, town.confirm(after(0), [5], "destroy"))
+    it.press("#run-sure")
+    it.press("#run-resume button")
+    says("run: what somebody confirms meanwhile keeps it from being carried out", it.seen("#run-resume-outcome"), WORDS["changed"])
+    same("run: nothing was destroyed", office.ask("GET", "/certificates/2")[0], 404)
+    second = run_shown(it)
+    same("run: the forecast is as it is now", second, [3, 1, 1, 2])
+    it.press("#run-sure")
+    it.press("#run-resume button")
+    same("run: it did what the forecast said", certified(office, 2), second)
+    it.settled()
+    judge("run: what comes after it is forecast then", run_shown(it) != second)
+
+
+def lift(it: Browser, proxy: Proxy, office: Office) -> None:
+    """A lift, with how many it lets go, and since when they are confirmed."""
+    it.open(f"{proxy.page}#holds?code={town.HELD}")
+    told = it.seen("#hold-lift-forecast")
+    says("lift: how many the hold covers, and how many are confirmed, since when", told,
+         f"for 2 records that have a due day. Due by {after(0)}: 2", "Of these 2 are confirmed", f"is of {after(-400)}")
+    says("lift: the hold is shown before the forms", it.seen("#hold-told"), "A lawsuit", "2 records", "LET/1 · Title of LET/1")
+    town.send(office, [{"act": "hold-off", "day": after(0), "hold": town.HELD, "target": "record:1"}])
+    it.press("#hold-sure")
+    it.press("#hold-lift button:not([type])")
+    says("lift: what has changed since is said, and nothing is sent", it.seen("#hold-lift-outcome"), WORDS["changed"])
+    it.press("#hold-sure")
+    it.press("#hold-lift button:not([type])")
+    says("lift: then it is lifted", it.seen("#hold-lift-outcome"), TEXTS["holds"]["lifted"].format(hold=town.HELD))
+    it.open(f"{proxy.page}#run")
+    same("lift: a run would destroy both now", run_shown(it)[0], 2)
+
+
+def closing(it: Browser, proxy: Proxy, story: Story) -> None:
+    """A closing: what it is, what is open in it, the tick, the due days that follow."""
+    it.open(f"{proxy.page}#plan?close=4")
+    says("close: what the number is, and what is still open in it", it.seen("#plan-close-forecast"),
+         "4 · CASE · Files of CASE", "6 · CASE/1 · The case of the mill")
+    it.press("#plan-close button.grave")
+    same("close: without the tick nothing is sent", it.text("#plan-close-sure-wrong"), TEXTS["fields"]["sureWrong"])
+    it.press("#plan-close-sure")
+    it.press("#plan-close button.grave")
+    says("close: a refusal says what has to be closed first", it.seen("#plan-close-outcome"), "6 · CASE/1 · The case of the mill")
+    it.one("#plan-close-outcome ul a").click()
+    it.settled()
+    row = it.table("#plan-close-forecast table")[0]
+    same("close: the due days that follow", (row[0], row[3]), ("CLOSED-2", "2"))
+    it.press("#plan-close-sure")
+    it.press("#plan-close button.grave")
+    says("close: the answer says what was closed", it.seen("#plan-close-outcome"), "6 · CASE/1 · The case of the mill")
+    same("close: the office has that due day", story.told("/records/18")["due"], row[1])
+
+
+def rule(it: Browser, proxy: Proxy, story: Story) -> None:
+    """Another schedule of a class: the due days that move, and the confirmations that no longer count."""
+    town.send(story.office, town.confirm(after(0), [6, 7], "destroy"))
+    before = {row["record"]: row for row in story.told(LAST) if row["class"] == "LET"}
+    it.open(f"{proxy.page}#plan")
+    it.write(plan_rule_class="LET", plan_rule_schedule="D-2")
+    it.wait(lambda: it.all("#plan-rule-forecast table"), "no forecast of the schedule comes")
+    moves = it.table("#plan-rule-forecast table")
+    said = it.seen("#plan-rule-forecast")
+    it.press("#plan-rule button:not([type])")
+    says("rule: it is set", it.seen("#plan-rule-outcome"), TEXTS["plan"]["rule"]["done"].format(**{"class": "LET", "schedule": "D-2"}))
+    now = {row["record"]: row for row in story.told(LAST) if row["class"] == "LET"}
+    moved = [it for it in before if now[it]["due"] != before[it]["due"]]
+    pairs = sorted({(before[it]["due"], now[it]["due"]) for it in moved})
+    same("rule: the due days moved as the forecast said", [tuple(row[:2]) for row in moves], pairs)
+    same("rule: so many of them", sum(int(row[2]) for row in moves), len(moved))
+    fallen = sum(before[it]["confirmed"] and not now[it]["confirmed"] for it in before)
+    judge("rule: some confirmations fell", fallen > 0)
+    says("rule: as many as the forecast said", said, WORDS["rule"]["fall"]["one" if fallen == 1 else "many"].format(count=fallen))
+
+
+def pictures(it: Browser, proxy: Proxy) -> None:
+    shots(it, "run-forecast", f"{proxy.page}#run")
+    shots(it, "hold", f"{proxy.page}#holds?code={town.HELD}")
+    shots(it, "close", f"{proxy.page}#plan?close=6",
+          lambda: it.driver.execute_script("document.getElementById('plan-close').scrollIntoView()"))
+
+
+def tell(office: Office, proxy: Proxy, browser: Browser, folder: pathlib.Path) -> None:
+    town.fill(office)
+    town.renew(proxy, office)
+    pictures(browser, proxy)
+    story = Story(office, proxy, browser, folder)
+    run(browser, proxy, office)
+    town.renew(proxy, office)
+    lift(browser, proxy, office)
+    closing(browser, proxy, story)
+    rule(browser, proxy, story)
