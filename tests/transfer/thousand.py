@@ -39,7 +39,7 @@ def names(number: int) -> tuple[str, str]:
 
 def certificate() -> str:
     lines = ["CERTIFICATE 1", f"DAY {SENT}", f"BY {BY}", "ENDED 0", f"SENT {COUNT}", "SKIPPED 0"]
-    lines += [f"ENTRY\t{it}\tsent\t{names(it)[0]}\tCOUNCIL\tT1\t{DUE}\t-\t{BY}\t{len(content(it))}\t{digest(content(it))}"
+    lines += [f"ENTRY\t{it}\tsent\t{names(it)[0]}\tCOUNCIL\tSEND-1D\t{DUE}\t-\t{BY}\t{len(content(it))}\t{digest(content(it))}"
               for it in range(1, COUNT + 1)]
     body = "".join(f"{it}\n" for it in [*lines, "SPENT 0"])
     return body + f"SHA256 {digest(body.encode())}\n"
@@ -52,15 +52,15 @@ def made(file: pathlib.Path) -> None:
     tables = sqlite3.connect(file)
     put = lambda name, row: tables.execute(f"INSERT INTO {name} VALUES ({','.join('?' * len(row))})", row)  # noqa: E731
     tables.execute("UPDATE office SET day = ?", [day(SENT)])
-    put("schedules2", ("T1", "added", "days", 1, "none", "transfer"))
-    put("classes", ("COUNCIL", "Council", "T1"))
+    put("schedules2", ("SEND-1D", "added", "days", 1, "none", "transfer"))
+    put("classes", ("COUNCIL", "Council", "SEND-1D"))
     put("aggregations", (1, "COUNCIL/2020", "Council of 2020, \"papers\"", None, "COUNCIL", None))
     put("runs", (1, day(SENT), BY, COUNT, 1))
     for it in range(1, COUNT + 1):
         put("records", (it, *names(it), day("2019-12-31"), day(ADDED), 1, len(content(it)), digest(content(it)), "sent",
                         None, None, None, None, "transfer", day(DUE), day(SENT), BY, None, None))
         put("contents", (it, content(it)))
-        put("entries", (1, it, "sent", "COUNCIL", "T1", day(DUE), BY, None))
+        put("entries", (1, it, "sent", "COUNCIL", "SEND-1D", day(DUE), BY, None))
     put("certificates", (1, certificate()))
     tables.commit()
     tables.close()
@@ -108,7 +108,7 @@ def thousand(folder: pathlib.Path) -> None:
         table = rows(bag, "metadata/records.csv")
         judge("its table is what was filed", [(it["ref"], it["title"], it["originated"], it["aggregation_ref"], it["class"],
                                                it["schedule"], it["due"]) for it in table]
-              == [(*names(it), "2019-12-31", "COUNCIL/2020", "COUNCIL", "T1", DUE) for it in range(1, COUNT + 1)], table[:2])
+              == [(*names(it), "2019-12-31", "COUNCIL/2020", "COUNCIL", "SEND-1D", DUE) for it in range(1, COUNT + 1)], table[:2])
         judge("its contents are what was filed", [(bag / it["path"]).read_bytes() for it in table]
               == [content(it) for it in range(1, COUNT + 1)])
         done = run(*words, folder / "package", "--form", "eark")
@@ -155,9 +155,9 @@ def receipts(folder: pathlib.Path, bag: pathlib.Path, office: Served, words: tup
 def mail(folder: pathlib.Path) -> None:
     """The morning's register and mail of a small office, of which a run sent one of two records."""
     file, registers = folder / "office.db", folder / "registers"
-    acts = [{"act": "add-schedule", "code": "T1", "trigger": "added", "unit": "days", "count": 1, "offset": "none",
+    acts = [{"act": "add-schedule", "code": "SEND-1D", "trigger": "added", "unit": "days", "count": 1, "offset": "none",
              "action": "transfer"},
-            {"act": "add-class", "code": "MAPS", "title": "Maps", "schedule": "T1"},
+            {"act": "add-class", "code": "MAPS", "title": "Maps", "schedule": "SEND-1D"},
             {"act": "add-aggregation", "ref": "M", "title": "Maps", "class": "MAPS"}]
     acts += [{"act": "add-record", "ref": ref, "title": ref, "originated": ADDED, "aggregation": 1,
               "content": base64.b64encode(ref.encode()).decode()} for ref in ("M/1", ODD_REF.decode())]
@@ -173,7 +173,7 @@ def mail(folder: pathlib.Path) -> None:
           == ["awaiting-2020-05-01.csv", "overdue-2020-05-01.csv"], done)
     waits = (registers / "awaiting-2020-05-01.csv").read_text()
     wanted = ("sent,run,record,ref,class,schedule,length,sha256\n"
-              f"{SENT},1,2,\"M,\"\"2\"\"\",MAPS,T1,5,{digest(ODD_REF)}\n")
+              f"{SENT},1,2,\"M,\"\"2\"\"\",MAPS,SEND-1D,5,{digest(ODD_REF)}\n")
     judge("what waits is as it should be", waits == wanted, waits)
     sent, tool = folder / "sent", folder / "bin"
     tool.mkdir()
