@@ -1,5 +1,5 @@
 #!/usr/bin/env python3
-"""The commands of the program, as crates/office_words declares them: for the launcher before a build, and for the gate.
+"""The commands of the program, as crates/office_command_line declares them, for the launcher and the gate.
 
     .ci/commands.py help [NAME]     prints the help of the program, or of a command, as the program prints it
     .ci/commands.py operands NAME   prints the operands of a command; status 1 if there is no such command
@@ -11,7 +11,7 @@ import sys
 from typing import NamedTuple
 
 TOP = pathlib.Path(__file__).resolve().parent.parent
-SOURCE = TOP / "crates/office_words/src/command.rt"
+SOURCE = TOP / "crates/office_command_line/src/command.rt"
 TESTS = TOP / "crates/office_cases/src/word_tests.rt"
 ROW = re.compile(r'name: "(\w+)",\s*about: "([^"]*)",\s*operands: &\[(.*?)\],\n', re.S)
 OPERAND = re.compile(r'Operand\(\s*"(\w+)",\s*"([^"]*)",?\s*\)')

@@ -67,9 +67,9 @@ class Trial:
             source = self.top / "crates" / line.partition(":")[0] / "src"
             source.mkdir(parents=True)
             (source / "lib.rt").write_text(f"// {line}\n" * 100)
-        words = self.top / "crates/office_words/src"
+        words = self.top / "crates/office_command_line/src"
         words.mkdir(parents=True)
-        shutil.copy(TOP / "crates/office_words/src/command.rt", words)
+        shutil.copy(TOP / "crates/office_command_line/src/command.rt", words)
         stub = shell.path("stub/rt")
         stub.parent.mkdir()
         stub.write_text(STUB)

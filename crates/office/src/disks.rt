@@ -1,11 +1,11 @@
 //! An office in a file, on the disk that whoever runs the program names.
 ghost use Rattle.std.specs.Prelude.{◌≡◌};
-ghost use Rattle.office_words.specs.Disks.{finishes_sectors};
+ghost use Rattle.office_command_line.specs.Disks.{finishes_sectors};
 
 use crate::ended;
+use office_command_line::{Disk, Order, UnknownDisk, disk_of};
 use office_commands::{Ending, Routes, open_and_run, open_and_serve};
 use office_store::Fault;
-use office_words::{Disk, Order, UnknownDisk, disk_of};
 use sqlite::{Start, Unknown, Wary};
 use std::env::VarError;
 use std::fs::OpenOptions;

@@ -1,6 +1,6 @@
 //! The program `office` of the records disposal office.
 //!
-//! Its words are read by `office_words`. The commands that open no office are done by
+//! Its words are read by `office_command_line`. The commands that open no office are done by
 //! `office_plan`; those on the office in a file by `office_commands`, which opens it (`disks`). What is
 //! here joins the process's own streams, files and socket to them: for `serve` a port is bound
 //! first.
@@ -11,10 +11,10 @@ mod disks;
 use crate::disks::{Place, disk_of_process, run_from, serve_in};
 use clap::error::ErrorKind;
 use office_base::{Stop, read_whole};
+use office_command_line::{Disk, Order, Words, order_of, read_words};
 use office_commands::{Ending, report};
 use office_plan::{due_to, plan_to};
 use office_store::Fault;
-use office_words::{Disk, Order, Words, order_of, read_words};
 use std::fs::File;
 use std::process::ExitCode;
 use std::{env, io};

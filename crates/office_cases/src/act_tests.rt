@@ -3,8 +3,8 @@ use crate::answering::push_refused;
 use crate::written::push;
 use office_days::Day;
 use office_json::{ListFault, ReadFault, read_act, read_acts};
+use office_records::{Code, RecordNo, Target, Text};
 use office_rules::Act;
-use office_terms::{Code, RecordNo, Target, Text};
 use serde_json::Value;
 use std::io::Write;
 

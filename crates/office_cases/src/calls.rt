@@ -4,7 +4,7 @@ use office_base::Refusal;
 use office_days::{ConfirmDays, Day, Deadline, DueDay, Offset, Period, Unit, deadline, due_day};
 use office_holds::Holds;
 use office_proof::{Entry, Outcome, certificate_text, digest_of, entry_line};
-use office_terms::{
+use office_records::{
     Action, AggNo, Class, Classified, Code, Record, RecordNo, Schedule, Target, Text, Trigger,
 };
 use office_tree::Tree;

@@ -5,8 +5,8 @@ use office_base::Rebuild;
 use office_days::{ConfirmDays, Day, Offset, Period, Unit};
 use office_machine::{Act, Answer, Builder, Content, Decision, Machine, RecordView, Row};
 use office_proof::Entry;
+use office_records::{Action, Classified, RecordNo, Target, Trigger};
 use office_rules::Intake;
-use office_terms::{Action, Classified, RecordNo, Target, Trigger};
 use std::alloc::Global;
 
 fn add_schedule(alloc: Global, day: Day) -> Option<Act> {

@@ -1,7 +1,7 @@
 //! Digests that other programs work out, and which words, codes and texts there are.
 use crate::written::push;
 use office_proof::{Outcome, digest_of};
-use office_terms::{Code, Status, Text};
+use office_records::{Code, Status, Text};
 use std::io::Write;
 
 pub(crate) const ROWS: &str = "

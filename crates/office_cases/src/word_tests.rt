@@ -4,7 +4,7 @@ use crate::act_tests::push_day;
 use crate::answering::push_refused;
 use crate::rows::words_of;
 use crate::written::push;
-use office_words::{Order, Register, disk_of, order_of, read_words};
+use office_command_line::{Order, Register, disk_of, order_of, read_words};
 use std::io::Write;
 
 /// Each row is a command line, or a variable with its value, where it is set. A refusal is that of

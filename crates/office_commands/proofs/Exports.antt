@@ -5,7 +5,7 @@ use Rattle.office_store.specs.declared.fault.Fault.TheVariants as fault
 use Rattle.office_wire.specs.Exporting.{IsSomeOut}
 use Rattle.office_wire.specs.declared.registers.ExportStop.{ExportStop}
 use Rattle.office_wire.specs.declared.registers.ExportStop.TheVariants as export
-use Rattle.office_words.specs.declared.register.Register.{Register}
+use Rattle.office_command_line.specs.declared.register.Register.{Register}
 use Rattle.office_commands.specs.Exporting.{Exports, IsRegister, IsRegisterText, ending_of_export}
 use Rattle.office_commands.specs.declared.ending.Ending.{Ending}
 use Rattle.office_commands.specs.declared.ending.Ending.TheVariants as how

@@ -17,7 +17,7 @@ use Rattle.sqlite.specs.declared.file.Leftover.TheVariants as leftover
 use Rattle.office_rules.specs.Rows.{rows_of}
 use Rattle.office_rules.specs.State.{State}
 use Rattle.office_store.specs.RepresentsRows.{RepresentsRowsIn}
-use Rattle.office_words.specs.Orders.{Ordered}
+use Rattle.office_command_line.specs.Orders.{Ordered}
 use Rattle.office_commands.specs.Files.{HeldOffice, IsClosedCopy, IsLeftOf, IsUnclosed, IsUnopenedLeft, RunsInFiles, ServesInFiles}
 use Rattle.office_commands.specs.NextWord.{HoldsOfficeAt, HoldsWholeOffice, IsLeftBy, IsOfficeAt, IsServedTo, LeavesAt, LeavesFilesAt, StaysOffice}
 use Rattle.office_commands.specs.Tables.{HoldsTables, SparesTables}

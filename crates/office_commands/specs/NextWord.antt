@@ -27,7 +27,7 @@ use Rattle.office_sql.specs.declared.editions.Edition.{Edition}
 use Rattle.office_sql.specs.Office.{IsOfficeIn}
 use Rattle.office_store.specs.RepresentsRows.{RepresentsRowsIn}
 use Rattle.office_desk.specs.Headline.{AreWellFormed}
-use Rattle.office_words.specs.Orders.{Ordered, application_ordered, certificate_ordered, due_day_ordered, exportation_ordered, importation_ordered, init_file_ordered, nothing_ordered, overdue_ordered, plan_file_ordered, resumption_ordered, service_ordered}
+use Rattle.office_command_line.specs.Orders.{Ordered, application_ordered, certificate_ordered, due_day_ordered, exportation_ordered, importation_ordered, init_file_ordered, nothing_ordered, overdue_ordered, plan_file_ordered, resumption_ordered, service_ordered}
 use Rattle.office_json.specs.Answers.{answer_lines}
 use Rattle.office_json.specs.Lists.{acts_in}
 use Rattle.office_csv.specs.ImportRows.{Fields}

@@ -13,7 +13,7 @@ use Rattle.sqlite.specs.Held.{Held}
 use Rattle.office_sql.specs.declared.editions.Edition.{Edition}
 use Rattle.office_sql.specs.Office.{IsOfficeIn}
 use Rattle.office_rules.specs.State.{State}
-use Rattle.office_words.specs.Orders.{Ordered}
+use Rattle.office_command_line.specs.Orders.{Ordered}
 use Rattle.office_commands.specs.Files.{HeldOffice, IsLeftOf, LeavesAnOffice, RunsInFiles, ServesInFiles}
 use Rattle.office_commands.specs.NextWord.{HoldsOfficeAt, HoldsWholeOffice, IsLeftBy, IsServedTo, LeavesFilesAt}
 use Rattle.office_commands.specs.declared.ending.Ending.{Ending}

@@ -6,9 +6,9 @@ ghost use Rattle.office_wire.specs.Exporting.{Exports as WritesText};
 ghost use Rattle.office_commands.specs.Exporting.{ExportEnds, Exports, IsRegisterText, ending_of_export};
 
 use crate::ending::Ending;
+use office_command_line::Register;
 use office_desk::Desk;
 use office_wire::{ExportStop, export_due, export_entries, export_overdue};
-use office_words::Register;
 use sqlite::{Alter, Connection};
 use std::alloc::Global;
 use std::io::Write;

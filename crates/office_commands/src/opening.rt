@@ -3,15 +3,15 @@ ghost use Rattle.std.specs.Prelude.{◌≡◌, IsTrue};
 ghost use Rattle.sqlite_trees.specs.Tree.{Trees};
 ghost use Rattle.sqlite_wal.specs.Files.{image_at};
 ghost use Rattle.sqlite.specs.Held.{state};
-ghost use Rattle.office_words.specs.Orders.{ordered};
+ghost use Rattle.office_command_line.specs.Orders.{ordered};
 ghost use Rattle.office_commands.specs.Calling.{Exits};
 ghost use Rattle.office_commands.specs.Files.{IsLeftOf, RunsInFiles};
 
 use crate::ending::Ending;
 use crate::reporting::report;
 use crate::running::run_on;
+use office_command_line::Order;
 use office_store::Fault;
-use office_words::Order;
 use sqlite::{Alter, Connection, FileFrom, FileStore, Files, Leftover, Start};
 use sqlite_disk::Disk;
 use sqlite_trees::store::Store;

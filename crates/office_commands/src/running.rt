@@ -1,7 +1,7 @@
 //! The commands that run on the office in a file, over a connection to it.
 ghost use Rattle.std.specs.Prelude.{◌≡◌, false, OnOk};
 ghost use Rattle.std.specs.Io.KnownBytes.{Appends};
-ghost use Rattle.office_words.specs.Orders.{ordered};
+ghost use Rattle.office_command_line.specs.Orders.{ordered};
 ghost use Rattle.office_commands.specs.Calling.{CarriedOut};
 ghost use Rattle.office_commands.specs.Running.{RunEnds, Runs, listening_line};
 
@@ -14,7 +14,7 @@ use crate::making::init_on;
 use crate::reporting::report;
 use crate::resuming::resume_on;
 use office_base::Io;
-use office_words::{Order, Register};
+use office_command_line::{Order, Register};
 use sqlite::{Alter, Connection};
 use std::alloc::Global;
 use std::io::{Read, Write};

@@ -5,8 +5,8 @@ use Rattle.office_days.specs.Texts.{day_named}
 use Rattle.office_base.specs.ThingNumbers.{thing_number}
 use Rattle.office_base.specs.declared.refusal.Refusal.{Refusal}
 use Rattle.office_base.specs.declared.refusal.Refusal.TheVariants.{BadText}
-use Rattle.office_terms.specs.Codes.{code_named}
-use Rattle.office_terms.specs.TextForms.{text_named}
+use Rattle.office_records.specs.Codes.{code_named}
+use Rattle.office_records.specs.TextForms.{text_named}
 use Rattle.office_rules.specs.declared.act.Act.{Act}
 use Rattle.office_rules.specs.declared.act.Act.TheVariants.{AddRecord}
 use Rattle.office_json.specs.Contents.{content_named, content_of}

@@ -9,7 +9,7 @@ use Rattle.hex.specs.Hex.{encode_lower}
 use Rattle.office_days.specs.Calendar.{civil}
 use Rattle.office_days.specs.Due.{deadline_from}
 use Rattle.office_days.specs.Texts.{day_text}
-use Rattle.office_terms.specs.Words.{action_word}
+use Rattle.office_records.specs.Words.{action_word}
 use Rattle.office_proof.specs.Outcomes.{outcome_word}
 use Rattle.office_rules.specs.Registers.{DueRowView, EntryView}
 

@@ -5,7 +5,7 @@ ghost use Rattle.std.specs.Io.KnownBytes.{Appends};
 ghost use Rattle.std.specs.Option.{option_copied, unwrap_or};
 ghost use Rattle.std.specs.String.{string_bytes};
 ghost use Rattle.office_base.specs.Output.{AppendsSome};
-ghost use Rattle.office_terms.specs.Words.{action_word};
+ghost use Rattle.office_records.specs.Words.{action_word};
 ghost use Rattle.office_rules.specs.Registers.{due_reported};
 ghost use Rattle.office_csv.specs.Registers.{day_field, due_columns, due_line, row_of, yes_or_no};
 

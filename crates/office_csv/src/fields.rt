@@ -10,7 +10,7 @@ ghost use Rattle.office_csv.specs.Registers.{day_field, row_of};
 use csv::WriterBuilder;
 use office_base::{Memory, Stop, put_bytes};
 use office_days::{Deadline, DueDay};
-use office_terms::Code;
+use office_records::Code;
 use std::alloc::Global;
 use std::io::Write;
 

@@ -7,8 +7,8 @@ ghost use Rattle.office_csv.specs.ImportRows.{IsRowRead, addition, code_field, d
 use office_base::{Refusal, read_thing_number};
 use office_days::Day;
 use office_json::{Content, ReadFault, as_part, both, read_code, read_content, read_words};
+use office_records::{AggNo, Code, Text};
 use office_rules::Act;
-use office_terms::{AggNo, Code, Text};
 use std::alloc::Global;
 
 /// The fields of a row of an import, as texts.

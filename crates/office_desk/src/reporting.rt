@@ -12,9 +12,9 @@ use office_base::Memory;
 use office_days::{ConfirmDays, Day};
 use office_machine::{DueRows, EntryRows};
 use office_proof::{Entry, RunNo};
+use office_records::RecordNo;
 use office_rules::RecordView;
 use office_store::Fault;
-use office_terms::RecordNo;
 use sqlite::Alter;
 
 /// The fault of a growth that was refused.

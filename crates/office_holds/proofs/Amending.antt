@@ -4,9 +4,9 @@ use Rattle.std.specs.Option.{option_map}
 use Rattle.std.specs.Ordering.{eq_by_cmp}
 use Rattle.std.specs.Cmp.Lexicographic.{nat_list_cmp_total}
 use Rattle.std.specs.FinMap.{FinMap, get, insert, get-insert}
-use Rattle.office_terms.specs.Lists.{amended}
-use Rattle.office_terms.specs.Tree.{code_cmp}
-use Rattle.office_terms.proofs.Inserting.{same_code, get-amended}
+use Rattle.office_records.specs.Lists.{amended}
+use Rattle.office_records.specs.Tree.{code_cmp}
+use Rattle.office_records.proofs.Inserting.{same_code, get-amended}
 
 abbrev pub OfEach : {V : Type 0} → FinMap code_cmp V → (List ℕ → V → Type 0) → Type 0
 OfEach {V} things P = (code : List ℕ) (it : V) → get things code ≡ Some it → P code it

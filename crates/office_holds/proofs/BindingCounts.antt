@@ -10,13 +10,13 @@ use Rattle.std.specs.FinMap.Entries.{by_order, find, put}
 use Rattle.std.specs.FinSet.{contains}
 use Rattle.std.specs.List.{list_any}
 use Rattle.std.proofs.lemmas.Bool.Decides.{nat_tests}
-use Rattle.office_terms.specs.Lists.{amended, amended_by, holds_of}
-use Rattle.office_terms.specs.Tree.{code_cmp}
+use Rattle.office_records.specs.Lists.{amended, amended_by, holds_of}
+use Rattle.office_records.specs.Tree.{code_cmp}
 use Rattle.office_holds.specs.HoldCounts.{binding_count, binds, binds_at}
 use Rattle.office_holds.specs.Holds.{HoldMap, HoldState, held_in, is_held_class, is_in_force}
 use Rattle.office_holds.specs.Numbers.{one_if}
-use Rattle.office_terms.specs.declared.target.Target.{Target}
-use Rattle.office_terms.specs.declared.target.Target.TheVariants as target
+use Rattle.office_records.specs.declared.target.Target.{Target}
+use Rattle.office_records.specs.declared.target.Target.TheVariants as target
 use Rattle.office_holds.proofs.Entries.{Rises, entries_rise, found_after}
 
 -- ---- how many entries pass a test

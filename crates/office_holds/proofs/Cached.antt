@@ -10,9 +10,9 @@ use Rattle.std.specs.Prelude.{nat_lt, slice_get}
 use Rattle.std.specs.List.{list_any}
 use Rattle.std.specs.List.Sorted.{IsStrictlySortedBy}
 use Rattle.std.specs.FinSet.{FinSet, contains, contains-from_list, contains-insert, contains-remove, from_list}
-use Rattle.office_terms.specs.Lists.{amended, holds_of}
-use Rattle.office_terms.specs.Tree.{code_cmp}
-use Rattle.office_terms.proofs.Inserting.{get-amended, same_code}
+use Rattle.office_records.specs.Lists.{amended, holds_of}
+use Rattle.office_records.specs.Tree.{code_cmp}
+use Rattle.office_records.proofs.Inserting.{get-amended, same_code}
 use Rattle.office_holds.specs.Effects.{held_off, held_on, lifted_hold, with_target, without_target}
 use Rattle.office_holds.specs.Forms.{FitsHoldLimits}
 use Rattle.office_holds.specs.Loading.{same_target}
@@ -21,9 +21,9 @@ use Rattle.office_holds.specs.Holds.{HoldMap, HoldState, covers_in, has_target, 
 use Rattle.office_holds.specs.Numbers.{one_if}
 use Rattle.office_holds.specs.Rows.{hold_from, put_hold}
 use Rattle.office_holds.specs.declared.counts.HoldCounts.{HoldCounts}
-use Rattle.office_terms.specs.declared.hold_row.HoldRow.{HoldRow}
-use Rattle.office_terms.specs.declared.target.Target.{Target}
-use Rattle.office_terms.specs.declared.target.Target.TheVariants as target
+use Rattle.office_records.specs.declared.hold_row.HoldRow.{HoldRow}
+use Rattle.office_records.specs.declared.target.Target.{Target}
+use Rattle.office_records.specs.declared.target.Target.TheVariants as target
 use Rattle.office_holds.proofs.Amending.{OfEach-amended, OfEach-insert}
 use Rattle.office_holds.proofs.BindingCounts.{any_agree, binding_count-amended, binding_count-insert, binding_count-le, held_by_counts}
 use Rattle.office_holds.proofs.BareHolds.{bare_none}

@@ -3,11 +3,11 @@ use Rattle.std.proofs.Common.{◌≡◌, ℕ, zero, suc, ◌-◌, ◌<◌, ◌�
 use Rattle.std.specs.Prelude.{slice_get, nat_le}
 use Rattle.std.specs.Option.{option_and_then}
 use Rattle.std.proofs.lemmas.Bool.Decides.{nat_tests}
-use Rattle.office_terms.specs.Lists.{numbered, edited, edited_at, first_some}
-use Rattle.office_terms.specs.Tree.{TreeState, chain, chain_of, own_classes, aggregation_class_in, aggregation_class_of, class_in, class_of, above_in, above_head, has_aggregation, has_record}
-use Rattle.office_terms.specs.declared.aggregation.Aggregation.{Aggregation}
-use Rattle.office_terms.specs.declared.head.Record.{Record}
-use Rattle.office_terms.proofs.Walk.{ArePlaced, chain_same, chain-edited, class_own, class_above, walk_here, placed_parent}
+use Rattle.office_records.specs.Lists.{numbered, edited, edited_at, first_some}
+use Rattle.office_records.specs.Tree.{TreeState, chain, chain_of, own_classes, aggregation_class_in, aggregation_class_of, class_in, class_of, above_in, above_head, has_aggregation, has_record}
+use Rattle.office_records.specs.declared.aggregation.Aggregation.{Aggregation}
+use Rattle.office_records.specs.declared.head.Record.{Record}
+use Rattle.office_records.proofs.Walk.{ArePlaced, chain_same, chain-edited, class_own, class_above, walk_here, placed_parent}
 use Rattle.office_holds.proofs.Lasting.{IsWithin, above_one, next_within, own_class}
 use Rattle.office_holds.proofs.Reclassifying.{kept_or_there}
 

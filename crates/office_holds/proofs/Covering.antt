@@ -5,12 +5,12 @@ use Rattle.std.specs.List.{list_any}
 use Rattle.std.specs.declared.cmp.Ordering.TheVariants.{Greater}
 use Rattle.std.specs.FinMap.{entries, get-entries}
 use Rattle.std.specs.FinSet.{FinSet, contains}
-use Rattle.office_terms.specs.Lists.{holds_of}
-use Rattle.office_terms.specs.Sound.{IsSound}
-use Rattle.office_terms.specs.Tree.{TreeState, code_cmp, above, class_of}
+use Rattle.office_records.specs.Lists.{holds_of}
+use Rattle.office_records.specs.Sound.{IsSound}
+use Rattle.office_records.specs.Tree.{TreeState, code_cmp, above, class_of}
 use Rattle.office_holds.specs.Holds.{HoldMap, HoldState, is_in_force, hold_covers, held_in, is_held, covers_in, least_covering}
 use Rattle.office_holds.specs.Meanings.{HasTargetAt, Covers, IsHeld}
-use Rattle.office_terms.proofs.Containing.{below_contains}
+use Rattle.office_records.proofs.Containing.{below_contains}
 use Rattle.office_holds.proofs.Entries.{entries_rise, Passes, any_passes, passes_any, first_least, none_passes}
 
 both_true : (a b : Bool) → (a && b) ≡ true → (a ≡ true) × (b ≡ true)

@@ -11,15 +11,15 @@ use Rattle.std.specs.FinMap.{entries, entries-insert, get, get-entries, get-inse
 use Rattle.std.specs.FinMap.Entries.{by_order, find, put}
 use Rattle.std.specs.FinSet.{contains, contains-insert}
 use Rattle.std.proofs.lemmas.Map.Text.{is_eq-slice_cmp}
-use Rattle.office_terms.specs.Lists.{amended_by, holds_of}
-use Rattle.office_terms.specs.Tree.{code_cmp}
-use Rattle.office_terms.proofs.Inserting.{get-amended, same_code}
+use Rattle.office_records.specs.Lists.{amended_by, holds_of}
+use Rattle.office_records.specs.Tree.{code_cmp}
+use Rattle.office_records.proofs.Inserting.{get-amended, same_code}
 use Rattle.office_holds.specs.Effects.{held_on, with_target}
 use Rattle.office_holds.specs.Loading.{hold_rows, is_pair, same_target}
 use Rattle.office_holds.specs.Holds.{HoldMap, HoldState, has_target}
 use Rattle.office_holds.specs.Rows.{hold_row}
-use Rattle.office_terms.specs.declared.target.Target.{Target}
-use Rattle.office_terms.specs.declared.target.Target.TheVariants as target
+use Rattle.office_records.specs.declared.target.Target.{Target}
+use Rattle.office_records.specs.declared.target.Target.TheVariants as target
 
 pub codes_apart : IsAntisymmetric code_cmp
 codes_apart = slice_cmp-IsAntisymmetric nat_cmp-IsAntisymmetric

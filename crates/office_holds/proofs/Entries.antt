@@ -9,7 +9,7 @@ use Rattle.std.specs.Cmp.Lexicographic.{nat_list_cmp_total}
 use Rattle.std.specs.List.{list_any, AllByRecursion}
 use Rattle.std.specs.FinMap.{FinMap, entries, entries_sorted}
 use Rattle.std.specs.FinMap.Entries.{find, below_all, is_sorted}
-use Rattle.office_terms.specs.Tree.{code_cmp}
+use Rattle.office_records.specs.Tree.{code_cmp}
 
 -- each code is before those of the entries after it
 abbrev pub Rises : {V : Type 0} → List (List ℕ × V) → Type 0

@@ -9,9 +9,9 @@ use Rattle.std.specs.FinMap.Entries.{find}
 use Rattle.std.specs.List.{AllByRecursion, list_any}
 use Rattle.std.specs.List.Sorted.{IsStrictlySortedBy}
 use Rattle.std.proofs.lemmas.Map.Keys.{sorted_head, sorted_tail}
-use Rattle.office_terms.specs.Lists.{holds_of}
-use Rattle.office_terms.specs.Tree.{code_cmp}
-use Rattle.office_terms.proofs.Inserting.{same_code}
+use Rattle.office_records.specs.Lists.{holds_of}
+use Rattle.office_records.specs.Tree.{code_cmp}
+use Rattle.office_records.proofs.Inserting.{same_code}
 use Rattle.office_holds.proofs.CoveringRows.{codes_apart}
 use Rattle.office_holds.proofs.Entries.{Passes, Rises, first_least, first_passing, none_passes, not_after, not_after_less, passes_any}
 

@@ -12,23 +12,23 @@ use Rattle.std.specs.FinSet.{FinSet, contains, contains-empty, contains-insert, 
 use Rattle.std.specs.Int.Signed.{≤ℤ_refl}
 use Rattle.std.proofs.lemmas.Int.{ints}
 use Rattle.office_days.specs.Limits.{IsDayNumber}
-use Rattle.office_terms.specs.Conditions.{first_of}
-use Rattle.office_terms.specs.Forms.{IsCode, IsText}
-use Rattle.office_terms.specs.Lists.{amended, holds_of}
-use Rattle.office_terms.specs.Tree.{code_cmp}
-use Rattle.office_terms.specs.declared.class.Class.{Class}
-use Rattle.office_terms.proofs.Accepting.{none_holds, below}
-use Rattle.office_terms.proofs.Inserting.{len-insert_free}
+use Rattle.office_records.specs.Conditions.{first_of}
+use Rattle.office_records.specs.Forms.{IsCode, IsText}
+use Rattle.office_records.specs.Lists.{amended, holds_of}
+use Rattle.office_records.specs.Tree.{code_cmp}
+use Rattle.office_records.specs.declared.class.Class.{Class}
+use Rattle.office_records.proofs.Accepting.{none_holds, below}
+use Rattle.office_records.proofs.Inserting.{len-insert_free}
 use Rattle.office_holds.specs.Conditions.{target_count, has_all_targets, conditions_of_place_hold, conditions_of_hold_on}
 use Rattle.office_holds.specs.Effects.{new_hold, placed_hold, with_target, without_target, held_on, held_off, lifted_hold}
 use Rattle.office_holds.specs.Forms.{IsWellFormedHold, AreWellFormedHolds, FitsHoldLimits, IsWellFormedTarget}
 use Rattle.office_holds.specs.Holds.{HoldMap, HoldState}
 use Rattle.office_holds.specs.Rows.{StaysLifted, hold_from, put_hold}
-use Rattle.office_terms.specs.declared.hold_row.HoldRow.{HoldRow}
+use Rattle.office_records.specs.declared.hold_row.HoldRow.{HoldRow}
 use Rattle.office_holds.specs.Sound.{TargetsAreThere, TargetsExist, NoHoldIsAfter}
-use Rattle.office_terms.specs.declared.target.Target.{Target}
-use Rattle.office_terms.specs.declared.target.Target.TheVariants as target
-use Rattle.office_terms.proofs.Inserting.{len-amended}
+use Rattle.office_records.specs.declared.target.Target.{Target}
+use Rattle.office_records.specs.declared.target.Target.TheVariants as target
+use Rattle.office_records.proofs.Inserting.{len-amended}
 use Rattle.office_holds.proofs.Amending.{OfEach-insert, OfEach-amended}
 
 -- ---- what is in a set after a change

@@ -17,9 +17,9 @@ use Rattle.std.specs.BTreeSet.{BTreeSet}
 use Rattle.std.specs.FinMap.{IsAntisymmetric, from_entries}
 use Rattle.std.specs.FinSet as set
 use Rattle.std.specs.FinSet.{contains, from_list, contains-from_list, contains-insert, contains-remove, same_set}
-use Rattle.office_terms.specs.Lists.{amended, amended_by}
-use Rattle.office_terms.specs.Tree.{code_cmp}
-use Rattle.office_terms.proofs.Plan.{get_is}
+use Rattle.office_records.specs.Lists.{amended, amended_by}
+use Rattle.office_records.specs.Tree.{code_cmp}
+use Rattle.office_records.proofs.Plan.{get_is}
 use Rattle.office_holds.specs.Numbers.{one_if}
 
 either_true : (b c : Bool) → cond b true c ≡ (b || c)

@@ -13,23 +13,23 @@ use Rattle.std.specs.FinMap.{get, entries, insert, values, find, entries-insert,
 use Rattle.std.specs.FinMap.Entries.{put, by_order}
 use Rattle.std.specs.FinSet.{contains, contains-insert}
 use Rattle.std.specs.FinSet as set
-use Rattle.office_terms.specs.Conditions.{first_of}
-use Rattle.office_terms.specs.Effects.{added_aggregation, closed_aggregation, added_record, with_head, with_record_schedule, confirmed, reviewed, receipted, with_class_schedule, added_schedule, added_class}
-use Rattle.office_terms.specs.Lists.{numbered, edited, edited_at, first_some, holds_of, amended_by}
-use Rattle.office_terms.specs.Sound.{IsSound}
-use Rattle.office_terms.specs.Tree.{TreeState, code_cmp, chain, chain_of, own_classes, class_in, above_in, above_head}
-use Rattle.office_terms.specs.declared.action.Action.{Action}
-use Rattle.office_terms.specs.declared.aggregation.Aggregation.{Aggregation}
-use Rattle.office_terms.specs.declared.class.Class.{Class}
-use Rattle.office_terms.specs.declared.head.Record.{Record}
-use Rattle.office_terms.specs.declared.schedule.Schedule.{Schedule}
-use Rattle.office_terms.proofs.Accepting.{none_holds}
-use Rattle.office_terms.proofs.Walk.{ArePlaced, IsWellPlaced, placed_in, placed_parent, chain-edited}
+use Rattle.office_records.specs.Conditions.{first_of}
+use Rattle.office_records.specs.Effects.{added_aggregation, closed_aggregation, added_record, with_head, with_record_schedule, confirmed, reviewed, receipted, with_class_schedule, added_schedule, added_class}
+use Rattle.office_records.specs.Lists.{numbered, edited, edited_at, first_some, holds_of, amended_by}
+use Rattle.office_records.specs.Sound.{IsSound}
+use Rattle.office_records.specs.Tree.{TreeState, code_cmp, chain, chain_of, own_classes, class_in, above_in, above_head}
+use Rattle.office_records.specs.declared.action.Action.{Action}
+use Rattle.office_records.specs.declared.aggregation.Aggregation.{Aggregation}
+use Rattle.office_records.specs.declared.class.Class.{Class}
+use Rattle.office_records.specs.declared.head.Record.{Record}
+use Rattle.office_records.specs.declared.schedule.Schedule.{Schedule}
+use Rattle.office_records.proofs.Accepting.{none_holds}
+use Rattle.office_records.proofs.Walk.{ArePlaced, IsWellPlaced, placed_in, placed_parent, chain-edited}
 use Rattle.office_holds.specs.Conditions.{conditions_of_place_hold}
 use Rattle.office_holds.specs.Effects.{placed_hold, new_hold, held_on, with_target}
 use Rattle.office_holds.specs.Holds.{HoldMap, HoldState, is_in_force, hold_covers, held_in, is_held}
-use Rattle.office_terms.specs.declared.target.Target.{Target}
-use Rattle.office_terms.specs.declared.target.Target.TheVariants as target
+use Rattle.office_records.specs.declared.target.Target.{Target}
+use Rattle.office_records.specs.declared.target.Target.TheVariants as target
 
 -- ---- tests of which one accepts what the other does
 

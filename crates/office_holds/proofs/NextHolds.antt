@@ -13,15 +13,15 @@ use Rattle.std.proofs.lemmas.Bool.Decides.{nat_tests}
 use Rattle.std.proofs.lemmas.List.{length-append}
 use Rattle.std.proofs.lemmas.List.Elements.{All-from_recursion, All-head, All-tail}
 use Rattle.office_base.proofs.Ascending.{above_prefix}
-use Rattle.office_terms.specs.Lists.{holds_of}
-use Rattle.office_terms.specs.Tree.{code_cmp}
-use Rattle.office_terms.proofs.Inserting.{len-insert_free, same_code}
+use Rattle.office_records.specs.Lists.{holds_of}
+use Rattle.office_records.specs.Tree.{code_cmp}
+use Rattle.office_records.proofs.Inserting.{len-insert_free, same_code}
 use Rattle.office_holds.specs.Forms.{FitsHoldLimits}
 use Rattle.office_holds.specs.Loading.{AreRowsOf, IsAbove, hold_rows}
 use Rattle.office_holds.specs.Holds.{HoldMap, HoldState, has_target}
 use Rattle.office_holds.specs.Rows.{hold_from, put_hold}
-use Rattle.office_terms.specs.declared.hold_row.HoldRow.{HoldRow}
-use Rattle.office_terms.specs.declared.target.Target.{Target}
+use Rattle.office_records.specs.declared.hold_row.HoldRow.{HoldRow}
+use Rattle.office_records.specs.declared.target.Target.{Target}
 use Rattle.office_holds.proofs.Amending.{OfEach-insert}
 use Rattle.office_holds.proofs.BareHolds.{bare_count, bare_none, row_keys, rows_ascend, rows_length}
 use Rattle.office_holds.proofs.CoveringRows.{rows-insert}

@@ -7,17 +7,17 @@ use Rattle.std.specs.Str.{bytes_eq}
 use Rattle.std.specs.FinMap.{values}
 use Rattle.std.specs.FinSet.{contains}
 use Rattle.std.proofs.lemmas.Slice.Eq.{bytes_eq-Decides}
-use Rattle.office_terms.specs.Conditions.{first_of, conditions_of_reclassify}
-use Rattle.office_terms.specs.Effects.{reclassified}
-use Rattle.office_terms.specs.Lists.{numbered, edited, edited_at, first_some, holds_of}
-use Rattle.office_terms.specs.Sound.{IsSound}
-use Rattle.office_terms.specs.Tree.{TreeState, chain, own_classes, aggregation_class_in, class_in, above_in, above_head}
-use Rattle.office_terms.specs.declared.aggregation.Aggregation.{Aggregation}
-use Rattle.office_terms.specs.declared.classified.Classified.{Classified}
-use Rattle.office_terms.specs.declared.classified.Classified.TheVariants as classified
-use Rattle.office_terms.specs.declared.head.Record.{Record}
-use Rattle.office_terms.proofs.Accepting.{neither}
-use Rattle.office_terms.proofs.Walk.{ArePlaced, placed_in, chain_same, chain-edited}
+use Rattle.office_records.specs.Conditions.{first_of, conditions_of_reclassify}
+use Rattle.office_records.specs.Effects.{reclassified}
+use Rattle.office_records.specs.Lists.{numbered, edited, edited_at, first_some, holds_of}
+use Rattle.office_records.specs.Sound.{IsSound}
+use Rattle.office_records.specs.Tree.{TreeState, chain, own_classes, aggregation_class_in, class_in, above_in, above_head}
+use Rattle.office_records.specs.declared.aggregation.Aggregation.{Aggregation}
+use Rattle.office_records.specs.declared.classified.Classified.{Classified}
+use Rattle.office_records.specs.declared.classified.Classified.TheVariants as classified
+use Rattle.office_records.specs.declared.head.Record.{Record}
+use Rattle.office_records.proofs.Accepting.{neither}
+use Rattle.office_records.proofs.Walk.{ArePlaced, placed_in, chain_same, chain-edited}
 use Rattle.office_holds.specs.Conditions.{would_leave_held_class}
 use Rattle.office_holds.specs.Holds.{HoldMap, is_in_force, hold_covers, held_in, is_held, is_held_class}
 use Rattle.office_holds.proofs.Lasting.{either_more, held_more, class_of_none, own_class, above-with_head, above-edited, same_head, IsWithin, above_one, next_within, ContainerFits, container_fits}

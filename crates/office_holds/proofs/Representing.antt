@@ -10,10 +10,10 @@ use Rattle.std.specs.FinSet.{contains, from_list, contains-from_list}
 use Rattle.std.specs.Prelude.{IfSome, nat_le, ◌&&◌}
 use Rattle.std.proofs.lemmas.List.Elements.{All-contains}
 use Rattle.std.proofs.lemmas.Map.Views.{All-from_any, Contains-from_any, IfSome-lookup}
-use Rattle.office_terms.specs.Tree.{code_cmp}
-use Rattle.office_terms.proofs.Inserting.{same_code}
-use Rattle.office_terms.proofs.Named.{and_2, all_2, le_of, le_to}
-use Rattle.office_terms.proofs.Plan.{get_is}
+use Rattle.office_records.specs.Tree.{code_cmp}
+use Rattle.office_records.proofs.Inserting.{same_code}
+use Rattle.office_records.proofs.Named.{and_2, all_2, le_of, le_to}
+use Rattle.office_records.proofs.Plan.{get_is}
 
 -- no test that holds is one that fails
 pub not_both : (b : Bool) → b ≡ true → b ≡ false → ⊥

@@ -7,13 +7,13 @@ use Rattle.std.specs.FinMap.{get, contains_key, len}
 use Rattle.std.specs.FinSet as set
 use Rattle.office_base.specs.declared.refusal.Refusal.{Refusal}
 use Rattle.office_base.specs.declared.refusal.Refusal.TheVariants.{Exists, NoSuch, Full, HeldClass, Lifted}
-use Rattle.office_terms.specs.Effects.{reclassified}
-use Rattle.office_terms.specs.Lists.{holds_of}
-use Rattle.office_terms.specs.Tree.{TreeState, class_of, aggregation_class_of}
-use Rattle.office_terms.specs.declared.classified.Classified.{Classified}
-use Rattle.office_terms.specs.declared.classified.Classified.TheVariants as classified
+use Rattle.office_records.specs.Effects.{reclassified}
+use Rattle.office_records.specs.Lists.{holds_of}
+use Rattle.office_records.specs.Tree.{TreeState, class_of, aggregation_class_of}
+use Rattle.office_records.specs.declared.classified.Classified.{Classified}
+use Rattle.office_records.specs.declared.classified.Classified.TheVariants as classified
 use Rattle.office_holds.specs.Holds.{HoldMap, HoldState, has_target, is_held_class}
-use Rattle.office_terms.specs.declared.target.Target.{Target}
+use Rattle.office_records.specs.declared.target.Target.{Target}
 
 -- how many targets a hold has
 abbrev pub target_count : HoldState → ℕ

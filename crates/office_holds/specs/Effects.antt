@@ -2,10 +2,10 @@
 use Rattle.std.specs.Prelude.{ℕ, List, Some, None, ℤ}
 use Rattle.std.specs.FinMap.{insert}
 use Rattle.std.specs.FinSet as set
-use Rattle.office_terms.specs.Lists.{amended}
+use Rattle.office_records.specs.Lists.{amended}
 use Rattle.office_holds.specs.Holds.{HoldMap, HoldState}
-use Rattle.office_terms.specs.declared.target.Target.{Target}
-use Rattle.office_terms.specs.declared.target.Target.TheVariants as target
+use Rattle.office_records.specs.declared.target.Target.{Target}
+use Rattle.office_records.specs.declared.target.Target.TheVariants as target
 
 -- a new hold, not lifted, without targets
 abbrev pub new_hold : ℤ → List ℕ → List ℕ → HoldState

@@ -3,11 +3,11 @@ use Rattle.std.specs.Prelude.{◌≡◌, ◌≤◌, ℕ, List, Some, IfSome, IsT
 use Rattle.std.specs.FinMap.{get, len}
 use Rattle.std.specs.FinSet.{contains}
 use Rattle.office_days.specs.Limits.{IsDayNumber}
-use Rattle.office_terms.specs.Forms.{IsCode, IsText}
+use Rattle.office_records.specs.Forms.{IsCode, IsText}
 use Rattle.office_holds.specs.Conditions.{target_count}
 use Rattle.office_holds.specs.Holds.{HoldMap, HoldState}
-use Rattle.office_terms.specs.declared.target.Target.{Target}
-use Rattle.office_terms.specs.declared.target.Target.TheVariants as target
+use Rattle.office_records.specs.declared.target.Target.{Target}
+use Rattle.office_records.specs.declared.target.Target.TheVariants as target
 
 -- the texts and days of a hold, and the codes of its classes
 pub record IsWellFormedHold (hold : HoldState) : Type 0 where

@@ -4,13 +4,13 @@ use Rattle.std.specs.Ordering.{nat_cmp}
 use Rattle.std.specs.BTreeMap.{ContainsKey}
 use Rattle.std.specs.FinMap.{get, values}
 use Rattle.std.specs.FinSet.{FinSet, contains}
-use Rattle.office_terms.specs.Lists.{holds_of}
-use Rattle.office_terms.specs.Tree.{code_cmp}
+use Rattle.office_records.specs.Lists.{holds_of}
+use Rattle.office_records.specs.Tree.{code_cmp}
 use Rattle.office_holds.specs.Holds.{HoldMap, HoldState, has_target, is_in_force}
 use Rattle.office_holds.specs.Numbers.{number_at, one_if}
 use Rattle.office_holds.specs.declared.counts.HoldCounts.{HoldCounts}
-use Rattle.office_terms.specs.declared.target.Target.{Target}
-use Rattle.office_terms.specs.declared.target.Target.TheVariants as target
+use Rattle.office_records.specs.declared.target.Target.{Target}
+use Rattle.office_records.specs.declared.target.Target.TheVariants as target
 
 -- ---- holds that count
 

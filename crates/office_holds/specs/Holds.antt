@@ -5,10 +5,10 @@ use Rattle.std.specs.Option.{is_none}
 use Rattle.std.specs.Ordering.{nat_cmp}
 use Rattle.std.specs.FinMap.{FinMap, entries, values}
 use Rattle.std.specs.FinSet.{FinSet, contains}
-use Rattle.office_terms.specs.Lists.{holds_of}
-use Rattle.office_terms.specs.Tree.{TreeState, code_cmp, above, class_of}
-use Rattle.office_terms.specs.declared.target.Target.{Target}
-use Rattle.office_terms.specs.declared.target.Target.TheVariants as target
+use Rattle.office_records.specs.Lists.{holds_of}
+use Rattle.office_records.specs.Tree.{TreeState, code_cmp, above, class_of}
+use Rattle.office_records.specs.declared.target.Target.{Target}
+use Rattle.office_records.specs.declared.target.Target.TheVariants as target
 
 -- why, when and by whom it was placed, the day on which it was lifted, if it was, and its targets of each kind
 pub record HoldState : Type 0 where

@@ -4,14 +4,14 @@ use Rattle.std.specs.FinMap.{entries, get}
 use Rattle.std.specs.List.{All, list_any}
 use Rattle.std.specs.Str.{bytes_eq}
 use Rattle.std.specs.declared.cmp.Ordering.TheVariants.{Less}
-use Rattle.office_terms.specs.Lists.{holds_of}
-use Rattle.office_terms.specs.Tree.{code_cmp}
+use Rattle.office_records.specs.Lists.{holds_of}
+use Rattle.office_records.specs.Tree.{code_cmp}
 use Rattle.office_holds.specs.Conditions.{target_count}
 use Rattle.office_holds.specs.Holds.{HoldMap, has_target}
 use Rattle.office_holds.specs.Rows.{hold_row}
-use Rattle.office_terms.specs.declared.hold_row.HoldRow.{HoldRow}
-use Rattle.office_terms.specs.declared.target.Target.{Target}
-use Rattle.office_terms.specs.declared.target.Target.TheVariants as target
+use Rattle.office_records.specs.declared.hold_row.HoldRow.{HoldRow}
+use Rattle.office_records.specs.declared.target.Target.{Target}
+use Rattle.office_records.specs.declared.target.Target.TheVariants as target
 
 abbrev pub same_target : Target → Target → Bool
 same_target (target.Class code) (target.Class other) = bytes_eq code other

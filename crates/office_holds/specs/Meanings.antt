@@ -3,8 +3,8 @@
 use Rattle.std.specs.Prelude.{◌≡◌, ◌⊎◌, ℕ, List, Some, IsTrue}
 use Rattle.std.specs.FinMap.{get}
 use Rattle.std.specs.FinSet.{contains}
-use Rattle.office_terms.specs.Meanings.{Contains}
-use Rattle.office_terms.specs.Tree.{TreeState, class_of}
+use Rattle.office_records.specs.Meanings.{Contains}
+use Rattle.office_records.specs.Tree.{TreeState, class_of}
 use Rattle.office_holds.specs.Holds.{HoldMap, HoldState, is_in_force}
 
 -- a target of the hold is the record, an aggregation that contains it at any height, or its class

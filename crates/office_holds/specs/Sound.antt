@@ -2,8 +2,8 @@
 use Rattle.std.specs.Prelude.{◌≡◌, ◌<◌, ◌≤◌, ◌≤ℤ◌, ℕ, List, Some, IsSome, IsTrue, IfSome, ℤ}
 use Rattle.std.specs.FinMap.{FinMap, get}
 use Rattle.std.specs.FinSet.{contains}
-use Rattle.office_terms.specs.Tree.{code_cmp}
-use Rattle.office_terms.specs.declared.class.Class.{Class}
+use Rattle.office_records.specs.Tree.{code_cmp}
+use Rattle.office_records.specs.declared.class.Class.{Class}
 use Rattle.office_holds.specs.Holds.{HoldMap, HoldState}
 
 -- the targets of a hold are there, among so many aggregations and records

@@ -1,7 +1,7 @@
 //! Acts on holds, and stored rows put in: placing, lifting, and targets put on and taken off.
 ghost use Rattle.std.specs.Prelude.{◌≡◌, OnOk, OnErr, IsOk, IsTrue, None};
 ghost use Rattle.std.specs.FinMap.{contains_key};
-ghost use Rattle.office_terms.specs.Conditions.{first_of};
+ghost use Rattle.office_records.specs.Conditions.{first_of};
 ghost use Rattle.office_holds.specs.Conditions.{conditions_of_hold_off, conditions_of_hold_on, conditions_of_lift_hold, conditions_of_place_hold};
 ghost use Rattle.office_holds.specs.Effects.{held_off, held_on, lifted_hold, placed_hold};
 ghost use Rattle.office_holds.specs.Forms.{FitsHoldLimits};
@@ -11,7 +11,7 @@ use crate::Holds;
 use crate::storing::{put_target_in, take_target_in};
 use office_base::Memory;
 use office_days::Day;
-use office_terms::{Code, HoldRow, Target, Text};
+use office_records::{Code, HoldRow, Target, Text};
 
 impl Holds {
     /// Places a hold of a new code on that day, without targets. At `Memory` the holds are as they

@@ -2,12 +2,12 @@
 ghost use Rattle.std.specs.Prelude.{◌≡◌, nat_le};
 ghost use Rattle.std.specs.FinMap.{len};
 ghost use Rattle.std.specs.Option.{option_copied};
-ghost use Rattle.office_terms.specs.Conditions.{IsLeastOf, first_of};
+ghost use Rattle.office_records.specs.Conditions.{IsLeastOf, first_of};
 ghost use Rattle.office_holds.specs.Conditions.{conditions_of_hold_off, conditions_of_hold_on, conditions_of_leaving_class, conditions_of_lift_hold, conditions_of_place_hold};
 
 use crate::Holds;
 use office_base::Refusal;
-use office_terms::{Classified, Code, Target};
+use office_records::{Classified, Code, Target};
 use office_tree::Tree;
 
 impl Holds {

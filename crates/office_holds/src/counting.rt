@@ -2,7 +2,7 @@
 ghost use Rattle.std.specs.Prelude.{◌≡◌, IsTrue, OnErr, OnOk, None, Some};
 ghost use Rattle.std.specs.FinMap.{contains_key, get};
 ghost use Rattle.std.specs.Option.{is_none};
-ghost use Rattle.office_terms.specs.Lists.{amended};
+ghost use Rattle.office_records.specs.Lists.{amended};
 ghost use Rattle.office_holds.specs.Effects.{held_off, held_on, lifted_hold};
 ghost use Rattle.office_holds.specs.Forms.{FitsHoldLimits};
 ghost use Rattle.office_holds.specs.HoldCounts.{binds_at, may_gain};
@@ -14,7 +14,7 @@ use crate::sets::{put_code, take_code};
 use crate::storing::{add_in, count_off, lift_in, put_target_in, set_row_in, take_target_in};
 use office_base::Memory;
 use office_days::Day;
-use office_terms::{Code, HoldRow, Target};
+use office_records::{Code, HoldRow, Target};
 
 impl Holds {
     /// Lifts the hold of that code, if it is there; from then on it counts for no target.

@@ -4,12 +4,12 @@ ghost use Rattle.std.specs.Prelude.{◌≡◌, ◌+◌, ◌<◌, ◌^◌, ◌||�
 ghost use Rattle.std.specs.List.{list_any};
 ghost use Rattle.office_holds.specs.Loading.{same_target};
 ghost use Rattle.office_holds.specs.HoldCounts.{CountsDown, CountsUp, HasRoom, is_bound, cached_count};
-ghost use Rattle.office_terms.specs.declared.target.Target.{Target};
-ghost use Rattle.office_terms.specs.declared.target.Target.TheVariants as target;
+ghost use Rattle.office_records.specs.declared.target.Target.{Target};
+ghost use Rattle.office_records.specs.declared.target.Target.TheVariants as target;
 
 use crate::numbers::{count_down, count_up, make_room_for_code, make_room_for_number, number_of};
 use office_base::Memory;
-use office_terms::{AggNo, Code, RecordNo, Target};
+use office_records::{AggNo, Code, RecordNo, Target};
 use std::alloc::Global;
 use std::collections::BTreeMap;
 

@@ -2,15 +2,15 @@
 ghost use Rattle.std.specs.Prelude.{◌≡◌, ◌↔◌, ◌≤ℤ◌, IfSome, IsTrue, false, length};
 ghost use Rattle.std.specs.BTreeMap as map;
 ghost use Rattle.std.specs.List.{All};
-ghost use Rattle.office_terms.specs.Forms.{IsCode};
-ghost use Rattle.office_terms.specs.Tree.{code_cmp};
+ghost use Rattle.office_records.specs.Forms.{IsCode};
+ghost use Rattle.office_records.specs.Tree.{code_cmp};
 ghost use Rattle.office_holds.specs.Forms.{AreWellFormedHolds, IsWellFormedHold};
 ghost use Rattle.office_holds.specs.Holds.{HoldState};
 ghost use Rattle.office_holds.specs.Sound.{NoHoldIsAfter, TargetsAreThere, TargetsExist};
 
 use crate::{Hold, Holds};
 use office_days::Day;
-use office_terms::Code;
+use office_records::Code;
 use office_tree::Tree;
 use std::collections::BTreeMap;
 

@@ -3,12 +3,12 @@ ghost use Rattle.std.specs.Prelude.{◌≡◌, Some, filter, slice_get};
 ghost use Rattle.std.specs.BTreeSet.{IsOrdered};
 ghost use Rattle.std.specs.FinMap.{from_entries, get};
 ghost use Rattle.std.specs.Option.{option_copied};
-ghost use Rattle.office_terms.specs.Lists.{holds_of};
-ghost use Rattle.office_terms.specs.Tree.{code_cmp};
+ghost use Rattle.office_records.specs.Lists.{holds_of};
+ghost use Rattle.office_records.specs.Tree.{code_cmp};
 ghost use Rattle.office_holds.specs.Holds.{hold_covers};
 
 use crate::Hold;
-use office_terms::{AggNo, Code, RecordNo};
+use office_records::{AggNo, Code, RecordNo};
 use std::collections::{BTreeMap, BTreeSet};
 
 /// Whether the hold of that code is there and covers a record that these aggregations contain and

@@ -18,7 +18,7 @@ use crate::sets::{
 };
 use office_base::Memory;
 use office_days::Day;
-use office_terms::{AggNo, Code, HoldRow, RecordNo, Target};
+use office_records::{AggNo, Code, HoldRow, RecordNo, Target};
 use office_tree::Tree;
 use std::alloc::Global;
 use std::collections::BTreeSet;

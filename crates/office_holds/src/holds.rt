@@ -2,14 +2,14 @@
 ghost use Rattle.std.specs.Prelude.{◌≡◌, IsTrue};
 ghost use Rattle.std.specs.FinMap.{empty, get};
 ghost use Rattle.std.specs.Option.{option_copied};
-ghost use Rattle.office_terms.specs.Tree.{has_record};
+ghost use Rattle.office_records.specs.Tree.{has_record};
 ghost use Rattle.office_holds.specs.Forms.{FitsHoldLimits};
 ghost use Rattle.office_holds.specs.Holds.{is_held, least_covering};
 
 use crate::Hold;
 use crate::counts::HoldCounts;
 use crate::finding::first_covering;
-use office_terms::{Code, RecordNo};
+use office_records::{Code, RecordNo};
 use office_tree::Tree;
 use std::alloc::Global;
 use std::collections::{BTreeMap, BTreeSet};

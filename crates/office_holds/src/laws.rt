@@ -1,8 +1,8 @@
 //! What the definitions on holds mean, as laws that are proved: calls of these do nothing.
 ghost use Rattle.std.specs.Prelude.{◌≡◌, ◌≢◌, ◌↔◌, ℕ, false, Some, None, IsTrue, List};
 ghost use Rattle.std.specs.declared.cmp.Ordering.TheVariants.{Greater};
-ghost use Rattle.office_terms.specs.Sound.{IsSound};
-ghost use Rattle.office_terms.specs.Tree.{TreeState, code_cmp};
+ghost use Rattle.office_records.specs.Sound.{IsSound};
+ghost use Rattle.office_records.specs.Tree.{TreeState, code_cmp};
 ghost use Rattle.office_holds.specs.Holds.{HoldMap, is_held, least_covering};
 ghost use Rattle.office_holds.specs.Meanings.{Covers, IsHeld};
 

@@ -2,15 +2,15 @@
 ghost use Rattle.std.specs.Prelude.{◌≡◌, ◌&&◌, not, IsTrue, Some, None};
 ghost use Rattle.std.specs.Option.{option_copied};
 ghost use Rattle.std.specs.Str.{bytes_eq};
-ghost use Rattle.office_terms.specs.Effects.{reclassified};
-ghost use Rattle.office_terms.specs.Lists.{holds_of};
-ghost use Rattle.office_terms.specs.Tree.{aggregation_class_of, class_of, has_aggregation, has_record};
-ghost use Rattle.office_terms.specs.declared.classified.Classified.TheVariants as classified;
+ghost use Rattle.office_records.specs.Effects.{reclassified};
+ghost use Rattle.office_records.specs.Lists.{holds_of};
+ghost use Rattle.office_records.specs.Tree.{aggregation_class_of, class_of, has_aggregation, has_record};
+ghost use Rattle.office_records.specs.declared.classified.Classified.TheVariants as classified;
 ghost use Rattle.office_holds.specs.Conditions.{would_leave_held_class};
 ghost use Rattle.office_holds.specs.Holds.{is_held_class};
 
 use crate::Holds;
-use office_terms::{AggNo, Classified, Code, RecordNo};
+use office_records::{AggNo, Classified, Code, RecordNo};
 use office_tree::Tree;
 
 /// The class of a record's aggregation, which is the record's where it has none of its own.

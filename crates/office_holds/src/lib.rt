@@ -28,4 +28,4 @@ mod storing;
 
 pub use hold::Hold;
 pub use holds::Holds;
-pub use office_terms::{HoldRow, Target};
+pub use office_records::{HoldRow, Target};

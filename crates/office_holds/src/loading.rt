@@ -5,12 +5,12 @@ ghost use Rattle.office_holds.specs.Effects.{held_on};
 ghost use Rattle.office_holds.specs.Forms.{FitsHoldLimits};
 ghost use Rattle.office_holds.specs.Loading.{AreRowsOf, IsAbove, hold_rows, takes_target};
 ghost use Rattle.office_holds.specs.Holds.{HoldMap};
-ghost use Rattle.office_terms.specs.declared.hold_row.HoldRow.{HoldRow};
-ghost use Rattle.office_terms.specs.declared.target.Target.{Target};
+ghost use Rattle.office_records.specs.declared.hold_row.HoldRow.{HoldRow};
+ghost use Rattle.office_records.specs.declared.target.Target.{Target};
 
 use crate::Holds;
 use office_base::{Rebuild, follows};
-use office_terms::{Code, HoldRow, Target};
+use office_records::{Code, HoldRow, Target};
 
 impl Holds {
     /// Puts a hold of these columns after the others, without targets; damaged only where no holds

@@ -3,11 +3,11 @@ ghost use Rattle.std.specs.Prelude.{◌≡◌, ◌+◌, ◌<◌, ◌^◌, ℕ, L
 ghost use Rattle.std.specs.BTreeMap as tree;
 ghost use Rattle.std.specs.BTreeSet as set;
 ghost use Rattle.std.specs.Ordering.{eq_by_cmp, nat_cmp};
-ghost use Rattle.office_terms.specs.Tree.{code_cmp};
+ghost use Rattle.office_records.specs.Tree.{code_cmp};
 ghost use Rattle.office_holds.specs.Numbers.{AreOneLess, AreOneMore, number_at};
 
 use office_base::Memory;
-use office_terms::Code;
+use office_records::Code;
 use std::alloc::Global;
 use std::collections::{BTreeMap, BTreeSet};
 

@@ -4,11 +4,11 @@ ghost use Rattle.std.specs.FinMap.{contains_key};
 ghost use Rattle.std.specs.FinSet as set;
 ghost use Rattle.std.specs.List.{All, list_any};
 ghost use Rattle.std.specs.Ordering.{nat_cmp};
-ghost use Rattle.office_terms.specs.Forms.{IsCode};
-ghost use Rattle.office_terms.specs.Tree.{code_cmp, has_aggregation, has_record};
+ghost use Rattle.office_records.specs.Forms.{IsCode};
+ghost use Rattle.office_records.specs.Tree.{code_cmp, has_aggregation, has_record};
 
 use office_base::Memory;
-use office_terms::Code;
+use office_records::Code;
 use office_tree::Tree;
 use std::collections::BTreeSet;
 

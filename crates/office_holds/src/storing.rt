@@ -1,8 +1,8 @@
 //! Single steps of a change of holds: on the map by code, or on the counts, each alone.
 ghost use Rattle.std.specs.Prelude.{◌≡◌, OnOk, OnErr, None, Some};
 ghost use Rattle.std.specs.FinMap.{contains_key, from_entries, get, insert};
-ghost use Rattle.office_terms.specs.Lists.{amended};
-ghost use Rattle.office_terms.specs.Tree.{code_cmp};
+ghost use Rattle.office_records.specs.Lists.{amended};
+ghost use Rattle.office_records.specs.Tree.{code_cmp};
 ghost use Rattle.office_holds.specs.Effects.{held_off, held_on, lifted_hold};
 ghost use Rattle.office_holds.specs.HoldCounts.{CountsDown, binds_at};
 ghost use Rattle.office_holds.specs.Rows.{hold_from};
@@ -11,7 +11,7 @@ use crate::Hold;
 use crate::counts::HoldCounts;
 use office_base::Memory;
 use office_days::Day;
-use office_terms::{Code, HoldRow, Target};
+use office_records::{Code, HoldRow, Target};
 use std::alloc::Global;
 use std::collections::BTreeMap;
 

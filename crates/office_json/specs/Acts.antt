@@ -8,7 +8,7 @@ use Rattle.office_base.specs.declared.refusal.Refusal.{Refusal}
 use Rattle.office_base.specs.declared.refusal.Refusal.TheVariants.{BadText}
 use Rattle.office_rules.specs.declared.act.Act.{Act}
 use Rattle.office_rules.specs.declared.act.Act.TheVariants as act
-use Rattle.office_terms.specs.declared.target.Target.{Target}
+use Rattle.office_records.specs.declared.target.Target.{Target}
 use Rattle.office_json.specs.Contents.{content_part}
 use Rattle.office_json.specs.Members.{only}
 use Rattle.office_json.specs.Parts.{both, fault_of, made, optional, day_part, code_part, text_part, trigger_part, offset_part, action_part, digest_part, number_part, period_part}

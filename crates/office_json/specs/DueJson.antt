@@ -2,7 +2,7 @@
 use Rattle.std.specs.Prelude.{List, map, codes}
 use Rattle.serde_json.specs.Data.{Data, boolean, number, unsigned, string, array, object, Members, member, no_members, put}
 use Rattle.serde_json.specs.View.{items_of}
-use Rattle.office_terms.specs.Words.{action_word}
+use Rattle.office_records.specs.Words.{action_word}
 use Rattle.office_rules.specs.Registers.{DueRowView}
 use Rattle.office_json.specs.RecordJson.{day_data, or_null}
 

@@ -12,11 +12,11 @@ use Rattle.office_days.specs.Periods.{RetentionPeriod}
 use Rattle.office_base.specs.Refusals.{refusal_number}
 use Rattle.office_days.specs.Texts.{day_named}
 use Rattle.office_days.specs.Words.{offset_named, unit_named}
-use Rattle.office_terms.specs.declared.action.Action.{Action}
-use Rattle.office_terms.specs.declared.trigger.Trigger.{Trigger}
-use Rattle.office_terms.specs.Codes.{code_named}
-use Rattle.office_terms.specs.TextForms.{text_named}
-use Rattle.office_terms.specs.Words.{action_named, trigger_named}
+use Rattle.office_records.specs.declared.action.Action.{Action}
+use Rattle.office_records.specs.declared.trigger.Trigger.{Trigger}
+use Rattle.office_records.specs.Codes.{code_named}
+use Rattle.office_records.specs.TextForms.{text_named}
+use Rattle.office_records.specs.Words.{action_named, trigger_named}
 use Rattle.office_proof.specs.Digits.{digest_named}
 use Rattle.office_json.specs.Members.{is_given}
 use Rattle.office_json.specs.declared.read_fault.ReadFault.{ReadFault}

@@ -3,8 +3,8 @@ use Rattle.std.specs.Prelude.{ℤ, Option, Some, None, codes}
 use Rattle.serde_json.specs.Data.{Data, null, number, unsigned, string, object, Members, member, no_members, put}
 use Rattle.office_days.specs.Calendar.{civil}
 use Rattle.office_days.specs.Texts.{day_text}
-use Rattle.office_terms.specs.Words.{action_word, status_word}
-use Rattle.office_terms.specs.declared.head.Confirmation.{Confirmation}
+use Rattle.office_records.specs.Words.{action_word, status_word}
+use Rattle.office_records.specs.declared.head.Confirmation.{Confirmation}
 use Rattle.office_proof.specs.Outcomes.{outcome_word}
 use Rattle.office_proof.specs.declared.entry.Entry.{Entry}
 use Rattle.office_rules.specs.declared.record_view.RecordView.{RecordView}

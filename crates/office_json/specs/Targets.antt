@@ -6,11 +6,11 @@ use Rattle.serde_json.specs.Find.{as_str}
 use Rattle.office_base.specs.declared.refusal.Refusal.{Refusal}
 use Rattle.office_base.specs.declared.refusal.Refusal.TheVariants.{BadText}
 use Rattle.office_base.specs.Numerals.{number_named}
-use Rattle.office_terms.specs.declared.classified.Classified.{Classified}
-use Rattle.office_terms.specs.declared.classified.Classified.TheVariants as classified
-use Rattle.office_terms.specs.Codes.{code_named}
-use Rattle.office_terms.specs.declared.target.Target.{Target}
-use Rattle.office_terms.specs.declared.target.Target.TheVariants as target
+use Rattle.office_records.specs.declared.classified.Classified.{Classified}
+use Rattle.office_records.specs.declared.classified.Classified.TheVariants as classified
+use Rattle.office_records.specs.Codes.{code_named}
+use Rattle.office_records.specs.declared.target.Target.{Target}
+use Rattle.office_records.specs.declared.target.Target.TheVariants as target
 use Rattle.office_json.specs.Parts.{made, thing_numbered}
 
 -- what is after those bytes, in a text that begins with them

@@ -8,7 +8,7 @@ ghost use Rattle.office_json.specs.MemberValues.{member_data, with_members};
 use crate::digits::digest_value;
 use crate::member_parts::{day_value, deadline_value, due_day_value};
 use office_days::{Day, Deadline, DueDay};
-use office_terms::Code;
+use office_records::Code;
 use serde_json::{Map, Value};
 use std::alloc::{AllocError, Global};
 

@@ -4,8 +4,8 @@ ghost use Rattle.serde_json.specs.Find.{get};
 ghost use Rattle.serde_json.specs.View.{view};
 ghost use Rattle.office_base.specs.declared.refusal.Refusal.{Refusal};
 ghost use Rattle.office_base.specs.declared.refusal.Refusal.TheVariants.{BadText};
-ghost use Rattle.office_terms.specs.Codes.{code_named};
-ghost use Rattle.office_terms.specs.TextForms.{text_named};
+ghost use Rattle.office_records.specs.Codes.{code_named};
+ghost use Rattle.office_records.specs.TextForms.{text_named};
 ghost use Rattle.office_json.specs.Parts.{both, IsReadAs, action_part, code_part, count_part, day_part, digest_part, number_part, offset_part, optional, period_part, text_part, trigger_part};
 
 use crate::ReadFault;
@@ -13,7 +13,7 @@ use crate::members::{is_given, text_at};
 use office_base::{Memory, Refusal};
 use office_days::{Day, Offset, Period, Unit};
 use office_proof::read_digest;
-use office_terms::{Action, AggNo, Code, Text, Trigger};
+use office_records::{Action, AggNo, Code, Text, Trigger};
 use serde_json::Value;
 use std::alloc::Global;
 

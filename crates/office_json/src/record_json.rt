@@ -9,8 +9,8 @@ use crate::member_value::{
 };
 use office_base::Memory;
 use office_proof::Entry;
+use office_records::Confirmation;
 use office_rules::RecordView;
-use office_terms::Confirmation;
 use serde_json::{Map, Value};
 use std::alloc::{AllocError, Global};
 

@@ -2,7 +2,7 @@
 ghost use Rattle.std.specs.Prelude.{◌≡◌, option_map};
 ghost use Rattle.serde_json.specs.Find.{get};
 ghost use Rattle.serde_json.specs.View.{view};
-ghost use Rattle.office_terms.specs.declared.classified.Classified.TheVariants as classified;
+ghost use Rattle.office_records.specs.declared.classified.Classified.TheVariants as classified;
 ghost use Rattle.office_json.specs.Parts.{IsReadAs, made};
 ghost use Rattle.office_json.specs.Targets.{after, classified_named, classified_part, is_plain, target_named, target_part, targeted, thing_named};
 
@@ -10,7 +10,7 @@ use crate::ReadFault;
 use crate::members::text_at;
 use crate::parts::read_code;
 use office_base::{Refusal, read_numeral};
-use office_terms::{Classified, Target};
+use office_records::{Classified, Target};
 use serde_json::Value;
 use std::alloc::Global;
 

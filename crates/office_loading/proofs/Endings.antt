@@ -8,11 +8,11 @@ use Rattle.std.specs.FinMap.{FinMap, empty, get, get-empty, insert, nat_cmp-IsAn
 use Rattle.std.specs.List.{Contains}
 use Rattle.std.specs.Ordering.{nat_cmp}
 use Rattle.std.proofs.lemmas.List.Elements.{Contains-append_left, Contains-append_right, Contains-push, Contains-push_cases}
-use Rattle.office_terms.specs.Disposal.{is_ended}
-use Rattle.office_terms.specs.Lists.{numbered, holds_of}
-use Rattle.office_terms.specs.declared.status.Status.{Status}
-use Rattle.office_terms.specs.declared.status.Status.TheVariants.{Here, Sent, Received, Ended}
-use Rattle.office_terms.proofs.Places.{numbered_within}
+use Rattle.office_records.specs.Disposal.{is_ended}
+use Rattle.office_records.specs.Lists.{numbered, holds_of}
+use Rattle.office_records.specs.declared.status.Status.{Status}
+use Rattle.office_records.specs.declared.status.Status.TheVariants.{Here, Sent, Received, Ended}
+use Rattle.office_records.proofs.Places.{numbered_within}
 use Rattle.office_proof.specs.Outcomes.{is_ending}
 use Rattle.office_proof.specs.declared.entry.Entry.{Entry}
 use Rattle.office_rules.specs.Loading.{AreEndings, EachHasOneEnding, TwoRunsEndOne}

@@ -6,14 +6,14 @@ use Rattle.std.specs.List.{All, Contains}
 use Rattle.std.specs.Option.{is_none, is_some}
 use Rattle.std.proofs.lemmas.Bool.{and_parts, and_from, leb-true, le-leb}
 use Rattle.std.proofs.lemmas.List.Elements.{All-contains, All-contains_itself, All-weaker}
-use Rattle.office_terms.specs.Disposal.{is_ended}
-use Rattle.office_terms.specs.Loading.{is_there}
-use Rattle.office_terms.specs.Lists.{numbered, holds_of}
-use Rattle.office_terms.specs.Tree.{code_cmp}
-use Rattle.office_terms.specs.declared.head.Record.{Record}
-use Rattle.office_terms.specs.declared.status.Status.{Status}
-use Rattle.office_terms.specs.declared.status.Status.TheVariants.{Ended}
-use Rattle.office_terms.proofs.Places.{numbered_within}
+use Rattle.office_records.specs.Disposal.{is_ended}
+use Rattle.office_records.specs.Loading.{is_there}
+use Rattle.office_records.specs.Lists.{numbered, holds_of}
+use Rattle.office_records.specs.Tree.{code_cmp}
+use Rattle.office_records.specs.declared.head.Record.{Record}
+use Rattle.office_records.specs.declared.status.Status.{Status}
+use Rattle.office_records.specs.declared.status.Status.TheVariants.{Ended}
+use Rattle.office_records.proofs.Places.{numbered_within}
 use Rattle.office_proof.specs.Outcomes.{is_ending, is_skipping, is_transferring}
 use Rattle.office_proof.specs.declared.entry.Entry.{Entry}
 use Rattle.office_proof.specs.declared.outcome.Outcome.{Outcome}

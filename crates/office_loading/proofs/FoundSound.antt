@@ -7,10 +7,10 @@ use Rattle.std.specs.Ordering.{eq_by_cmp, is_eq, nat_cmp}
 use Rattle.std.specs.declared.cmp.Ordering.{Ordering}
 use Rattle.std.specs.declared.cmp.Ordering.TheVariants.{Less, Equal, Greater}
 use Rattle.std.proofs.lemmas.Map.Lookups.{CmpEqualImpliesEq, exact_pairs, exact_unsigned}
-use Rattle.office_terms.specs.Sound as tree
-use Rattle.office_terms.specs.declared.head.Record.{Record}
-use Rattle.office_terms.proofs.Bridge.{from_numbers}
-use Rattle.office_terms.proofs.Named.{le_to}
+use Rattle.office_records.specs.Sound as tree
+use Rattle.office_records.specs.declared.head.Record.{Record}
+use Rattle.office_records.proofs.Bridge.{from_numbers}
+use Rattle.office_records.proofs.Named.{le_to}
 use Rattle.office_proof.specs.declared.entry.Entry.{Entry}
 use Rattle.office_rules.specs.Loading.{AreEntriesKeyed, AreTablesOf, DoPartsAgree, EachHasOneEnding, HaveKeys, IsWellFormedOffice, entry_rows}
 use Rattle.office_rules.specs.Rows.{rows_of}

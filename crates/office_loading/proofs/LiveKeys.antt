@@ -10,10 +10,10 @@ use Rattle.std.proofs.lemmas.Bool.{cases_lt}
 use Rattle.std.proofs.lemmas.Map.Keys.{below_from_sorted}
 use Rattle.std.proofs.lemmas.Option.{get_or_from_slice_get, slice_get-get_or, slice_get_within}
 use Rattle.office_base.proofs.Maps.{entries_of_ordered}
-use Rattle.office_terms.specs.Disposal.{is_ended}
-use Rattle.office_terms.specs.Lists.{holds_of, numbered}
-use Rattle.office_terms.specs.declared.status.Status.{Status}
-use Rattle.office_terms.proofs.Places.{numbered_within}
+use Rattle.office_records.specs.Disposal.{is_ended}
+use Rattle.office_records.specs.Lists.{holds_of, numbered}
+use Rattle.office_records.specs.declared.status.Status.{Status}
+use Rattle.office_records.proofs.Places.{numbered_within}
 use Rattle.office_loading.specs.Keys.{bare_contents, bare_rows}
 use Rattle.office_loading.proofs.MapRows.{keys_of_none}
 use Rattle.office_loading.proofs.RunTests.{at_keys, from_keys, numbers_more, numbers_none, passing}

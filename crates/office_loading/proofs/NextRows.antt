@@ -9,14 +9,14 @@ use Rattle.office_base.specs.Rows.{numbered_rows}
 use Rattle.office_base.proofs.Counted.{next_number_of}
 use Rattle.office_base.proofs.Maps.{keys_ascend}
 use Rattle.office_base.proofs.Ascending.{keyed_next}
-use Rattle.office_terms.specs.Tree.{code_cmp}
-use Rattle.office_terms.specs.declared.aggregation.Aggregation.{Aggregation}
-use Rattle.office_terms.specs.declared.class.Class.{Class}
-use Rattle.office_terms.specs.declared.event.Event.{Event}
-use Rattle.office_terms.specs.declared.schedule.Schedule.{Schedule}
+use Rattle.office_records.specs.Tree.{code_cmp}
+use Rattle.office_records.specs.declared.aggregation.Aggregation.{Aggregation}
+use Rattle.office_records.specs.declared.class.Class.{Class}
+use Rattle.office_records.specs.declared.event.Event.{Event}
+use Rattle.office_records.specs.declared.schedule.Schedule.{Schedule}
 use Rattle.office_holds.specs.Loading.{AreRowsOf, hold_rows}
-use Rattle.office_terms.specs.declared.hold_row.HoldRow.{HoldRow}
-use Rattle.office_terms.specs.declared.target.Target.{Target}
+use Rattle.office_records.specs.declared.hold_row.HoldRow.{HoldRow}
+use Rattle.office_records.specs.declared.target.Target.{Target}
 use Rattle.office_proof.specs.declared.entry.Entry.{Entry}
 use Rattle.office_rules.specs.Loading.{entry_rows}
 use Rattle.office_rules.specs.Rows.{record_rows, rows_of}

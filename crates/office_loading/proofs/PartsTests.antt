@@ -6,19 +6,19 @@ use Rattle.std.specs.List.{list_any}
 use Rattle.std.specs.Option.{is_some}
 use Rattle.std.specs.Ordering.{eq_by_cmp, nat_cmp}
 use Rattle.std.proofs.lemmas.Int.{ints}
-use Rattle.office_terms.specs.Disposal.{is_disposal, is_here, is_received}
-use Rattle.office_terms.specs.Examined.{AllHaveDocuments, IsTreeBy, is_by, is_confirmed_by, is_disposal_confirmed, is_receipted_by, is_record_by, is_reviewed_by}
-use Rattle.office_terms.specs.Lists.{numbered}
-use Rattle.office_terms.specs.declared.aggregation.Aggregation.{Aggregation}
-use Rattle.office_terms.specs.declared.head.Confirmation.{Confirmation}
-use Rattle.office_terms.specs.declared.head.Receipt.{Receipt}
-use Rattle.office_terms.specs.declared.head.Record.{Record}
-use Rattle.office_terms.specs.declared.head.Review.{Review}
-use Rattle.office_terms.specs.declared.status.Status.{Status}
-use Rattle.office_terms.specs.declared.status.Status.TheVariants.{Here, Sent, Received, Ended}
-use Rattle.office_terms.proofs.Bridge.{at_numbers, from_numbers}
-use Rattle.office_terms.proofs.Placed.{numbered_there}
-use Rattle.office_terms.proofs.Places.{numbered_at, numbered_within}
+use Rattle.office_records.specs.Disposal.{is_disposal, is_here, is_received}
+use Rattle.office_records.specs.Examined.{AllHaveDocuments, IsTreeBy, is_by, is_confirmed_by, is_disposal_confirmed, is_receipted_by, is_record_by, is_reviewed_by}
+use Rattle.office_records.specs.Lists.{numbered}
+use Rattle.office_records.specs.declared.aggregation.Aggregation.{Aggregation}
+use Rattle.office_records.specs.declared.head.Confirmation.{Confirmation}
+use Rattle.office_records.specs.declared.head.Receipt.{Receipt}
+use Rattle.office_records.specs.declared.head.Record.{Record}
+use Rattle.office_records.specs.declared.head.Review.{Review}
+use Rattle.office_records.specs.declared.status.Status.{Status}
+use Rattle.office_records.specs.declared.status.Status.TheVariants.{Here, Sent, Received, Ended}
+use Rattle.office_records.proofs.Bridge.{at_numbers, from_numbers}
+use Rattle.office_records.proofs.Placed.{numbered_there}
+use Rattle.office_records.proofs.Places.{numbered_at, numbered_within}
 use Rattle.office_holds.specs.Holds.{HoldMap}
 use Rattle.office_holds.specs.Sound.{NoHoldIsAfter}
 use Rattle.office_proof.specs.declared.entry.Entry.{Entry}

@@ -2,8 +2,8 @@
 use Rattle.std.proofs.Common.{◌≡◌, ◌≢◌, ℕ, suc, List, [], ◌∷◌, ◌++◌, length, Option, Some, None, MatchOption, refl, sym, ap, ◌∙◌, append_assoc, arith}
 use Rattle.office_base.specs.Rows.{numbered_rows}
 use Rattle.office_base.proofs.Counted.{numbered_rows-push, next_number, value_of_row}
-use Rattle.office_terms.specs.declared.head.Record.{Record}
-use Rattle.office_terms.specs.declared.status.Status.{Status}
+use Rattle.office_records.specs.declared.head.Record.{Record}
+use Rattle.office_records.specs.declared.status.Status.{Status}
 use Rattle.office_rules.specs.Rows.{record_row, record_rows}
 use Rattle.office_rules.specs.declared.rows.RecordRow.{RecordRow}
 use Rattle.office_rules.proofs.NumberedRows.{length-record_rows}

@@ -11,12 +11,12 @@ use Rattle.std.specs.Map.{keys_of, lookup, values_of}
 use Rattle.std.specs.Option.{is_some}
 use Rattle.std.specs.Ordering.{is_eq, nat_cmp}
 use Rattle.std.specs.Prelude.{IsSome}
-use Rattle.office_terms.specs.Disposal.{is_ended}
-use Rattle.office_terms.specs.Lists.{holds_of, numbered}
-use Rattle.office_terms.specs.declared.status.Status.{Status}
-use Rattle.office_terms.specs.declared.status.Status.TheVariants.{Here, Sent, Received, Ended}
-use Rattle.office_terms.proofs.Bridge.{from_numbers}
-use Rattle.office_terms.proofs.Places.{numbered_read, numbered_within}
+use Rattle.office_records.specs.Disposal.{is_ended}
+use Rattle.office_records.specs.Lists.{holds_of, numbered}
+use Rattle.office_records.specs.declared.status.Status.{Status}
+use Rattle.office_records.specs.declared.status.Status.TheVariants.{Here, Sent, Received, Ended}
+use Rattle.office_records.proofs.Bridge.{from_numbers}
+use Rattle.office_records.proofs.Places.{numbered_read, numbered_within}
 use Rattle.office_proof.specs.declared.entry.Entry.{Entry}
 use Rattle.office_rules.specs.State.{entry_cmp}
 use Rattle.office_rules.specs.declared.run.Run.{Run}

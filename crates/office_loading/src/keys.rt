@@ -7,7 +7,7 @@ ghost use Rattle.std.specs.declared.cmp.Ordering.TheVariants.{Less};
 ghost use Rattle.office_base.specs.Rows.{OnDamaged};
 
 use office_base::Rebuild;
-use office_terms::RecordNo;
+use office_records::RecordNo;
 use std::alloc::Global;
 use std::marker::Model;
 

@@ -1,8 +1,8 @@
 //! The office that the rows so far represent, or that there is none.
 ghost use Rattle.std.specs.Prelude.{◌≡◌, IfOk, length};
 ghost use Rattle.office_base.specs.Rows.{OnDamaged, numbered_rows};
-ghost use Rattle.office_terms.specs.Sound as sound_tree;
-ghost use Rattle.office_terms.specs.Tree.{TreeState};
+ghost use Rattle.office_records.specs.Sound as sound_tree;
+ghost use Rattle.office_records.specs.Tree.{TreeState};
 ghost use Rattle.office_rules.specs.Loading.{AreTablesOf, HaveKeys};
 ghost use Rattle.office_rules.specs.Rows.{record_rows};
 ghost use Rattle.office_rules.specs.Sound.{IsSound};
@@ -18,7 +18,7 @@ mod runs;
 use crate::keys::ContentKeys;
 use crate::{Loaded, Loader};
 use office_base::{Rebuild, ordered};
-use office_terms::{Aggregation, Class, Code, Event, Record, RecordNo, Schedule, Status};
+use office_records::{Aggregation, Class, Code, Event, Record, RecordNo, Schedule, Status};
 use office_tree::Tree;
 use std::alloc::Global;
 use std::collections::BTreeMap;

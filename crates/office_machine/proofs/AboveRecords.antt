@@ -3,11 +3,11 @@ use Rattle.std.proofs.Common.{◌≡◌, ◌<◌, ◌≤◌, ℕ, zero, suc, Lis
 use Rattle.std.proofs.lemmas.List.Elements.{All-from_recursion}
 use Rattle.std.specs.List.{All, AllByRecursion}
 use Rattle.std.specs.Option.{IfSome, option_and_then}
-use Rattle.office_terms.specs.Lists.{numbered}
-use Rattle.office_terms.specs.Sound.{IsForest, IsSound}
-use Rattle.office_terms.specs.Tree.{TreeState, above, above_head, above_in, chain}
-use Rattle.office_terms.specs.declared.aggregation.Aggregation.{Aggregation}
-use Rattle.office_terms.specs.declared.head.Record.{Record}
+use Rattle.office_records.specs.Lists.{numbered}
+use Rattle.office_records.specs.Sound.{IsForest, IsSound}
+use Rattle.office_records.specs.Tree.{TreeState, above, above_head, above_in, chain}
+use Rattle.office_records.specs.declared.aggregation.Aggregation.{Aggregation}
+use Rattle.office_records.specs.declared.head.Record.{Record}
 
 -- the number is that of one of these aggregations
 abbrev IsThere : List Aggregation → ℕ → Type 0

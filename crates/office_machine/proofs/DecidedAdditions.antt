@@ -2,17 +2,17 @@
 use Rattle.std.proofs.Common.{◌≡◌, ◌≤◌, ◌<◌, ◌+◌, ℕ, suc, List, [], ◌∷◌, length, Option, Some, None, ℤ, Vec, Global, refl, sym, ap, ◌∙◌, subst, arith}
 use Rattle.std.specs.FinMap.{insert}
 use Rattle.office_base.specs.declared.refusal.Refusal.{Refusal}
-use Rattle.office_terms.specs.Conditions.{first_of, conditions_of_add_record}
-use Rattle.office_terms.specs.Effects.{added_record}
-use Rattle.office_terms.specs.Rows.{put_record}
-use Rattle.office_terms.specs.Lists.{put}
-use Rattle.office_terms.specs.Sound as tree
-use Rattle.office_terms.specs.Tree.{TreeState}
-use Rattle.office_terms.specs.declared.head.Record.{Record}
-use Rattle.office_terms.specs.declared.status.Status.TheVariants.{Here}
-use Rattle.office_terms.proofs.LastingRows.{keeps_next_head}
-use Rattle.office_terms.proofs.Keeping.{IsSound-add_record}
-use Rattle.office_terms.proofs.Putting.{put_next}
+use Rattle.office_records.specs.Conditions.{first_of, conditions_of_add_record}
+use Rattle.office_records.specs.Effects.{added_record}
+use Rattle.office_records.specs.Rows.{put_record}
+use Rattle.office_records.specs.Lists.{put}
+use Rattle.office_records.specs.Sound as tree
+use Rattle.office_records.specs.Tree.{TreeState}
+use Rattle.office_records.specs.declared.head.Record.{Record}
+use Rattle.office_records.specs.declared.status.Status.TheVariants.{Here}
+use Rattle.office_records.proofs.LastingRows.{keeps_next_head}
+use Rattle.office_records.proofs.Keeping.{IsSound-add_record}
+use Rattle.office_records.proofs.Putting.{put_next}
 use Rattle.office_rules.specs.Acts.{IsChangeTo}
 use Rattle.office_rules.specs.Conditions.{dated, refusals_of_add_record, same_record}
 use Rattle.office_rules.specs.Effects.{new_head, with_new_record, with_tree}

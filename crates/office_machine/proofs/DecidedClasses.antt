@@ -1,19 +1,19 @@
 -- What is right of the changes by which an own class of an aggregation or of a record is set or taken away.
 use Rattle.std.proofs.Common.{◌≡◌, ℕ, List, ◌∷◌, Option, Some, None, ℤ, refl, sym, ap, subst, ◌∙◌, arith}
-use Rattle.office_terms.specs.Conditions.{first_of}
-use Rattle.office_terms.specs.Effects.{reclassified}
-use Rattle.office_terms.specs.Lasting.{AggregationStays, HeadStays}
-use Rattle.office_terms.specs.Lists.{numbered, edited, put}
-use Rattle.office_terms.specs.Sound as tree
-use Rattle.office_terms.specs.declared.aggregation.Aggregation.{Aggregation}
-use Rattle.office_terms.specs.declared.classified.Classified.{Classified}
-use Rattle.office_terms.specs.declared.classified.Classified.TheVariants as classified
-use Rattle.office_terms.specs.declared.head.Record.{Record}
-use Rattle.office_terms.specs.declared.status.Status.{Status}
-use Rattle.office_terms.proofs.Amending.{IsSound-reclassify}
-use Rattle.office_terms.proofs.LastingRows.{keeps_aggregation, keeps_head}
-use Rattle.office_terms.proofs.Places.{numbered_within}
-use Rattle.office_terms.proofs.Putting.{put-edited, put_same}
+use Rattle.office_records.specs.Conditions.{first_of}
+use Rattle.office_records.specs.Effects.{reclassified}
+use Rattle.office_records.specs.Lasting.{AggregationStays, HeadStays}
+use Rattle.office_records.specs.Lists.{numbered, edited, put}
+use Rattle.office_records.specs.Sound as tree
+use Rattle.office_records.specs.declared.aggregation.Aggregation.{Aggregation}
+use Rattle.office_records.specs.declared.classified.Classified.{Classified}
+use Rattle.office_records.specs.declared.classified.Classified.TheVariants as classified
+use Rattle.office_records.specs.declared.head.Record.{Record}
+use Rattle.office_records.specs.declared.status.Status.{Status}
+use Rattle.office_records.proofs.Amending.{IsSound-reclassify}
+use Rattle.office_records.proofs.LastingRows.{keeps_aggregation, keeps_head}
+use Rattle.office_records.proofs.Places.{numbered_within}
+use Rattle.office_records.proofs.Putting.{put-edited, put_same}
 use Rattle.office_rules.specs.Acts.{IsChangeTo}
 use Rattle.office_rules.specs.Conditions.{conditions_of_reclassifying, refusals_of_reclassify}
 use Rattle.office_rules.specs.State.{Office, with_contents}

@@ -1,10 +1,10 @@
 -- What is right of the change by which an event of a record is recorded.
 use Rattle.std.proofs.Common.{◌≡◌, ℕ, true, List, ◌∷◌, None, ℤ, refl}
-use Rattle.office_terms.specs.Conditions.{first_of, conditions_of_event}
-use Rattle.office_terms.specs.Effects.{with_event}
-use Rattle.office_terms.specs.Tree.{TreeState, has_record}
-use Rattle.office_terms.specs.declared.event.Event.{Event}
-use Rattle.office_terms.proofs.Accepting.{none_holds, not_false}
+use Rattle.office_records.specs.Conditions.{first_of, conditions_of_event}
+use Rattle.office_records.specs.Effects.{with_event}
+use Rattle.office_records.specs.Tree.{TreeState, has_record}
+use Rattle.office_records.specs.declared.event.Event.{Event}
+use Rattle.office_records.proofs.Accepting.{none_holds, not_false}
 use Rattle.office_rules.specs.Acts.{IsChangeTo}
 use Rattle.office_rules.specs.Conditions.{refusals_of_event}
 use Rattle.office_rules.specs.State.{Office, with_contents}

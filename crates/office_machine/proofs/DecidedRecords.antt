@@ -3,23 +3,23 @@ use Rattle.std.proofs.Common.{◌≡◌, ◌≤◌, ◌+◌, ℕ, Bool, true, Li
 use Rattle.std.specs.Prelude.{not}
 use Rattle.std.specs.Option.{option_map}
 use Rattle.office_base.specs.declared.refusal.Refusal.{Refusal}
-use Rattle.office_terms.specs.Conditions.{first_of, conditions_of_confirm, conditions_of_receipt, conditions_of_review, conditions_of_set_record_schedule, lacks_schedule}
-use Rattle.office_terms.specs.Effects.{receipted, with_head}
-use Rattle.office_terms.specs.Lasting.{HeadStays}
-use Rattle.office_terms.specs.Lists.{numbered, or_else, put}
-use Rattle.office_terms.specs.Rows.{put_record}
-use Rattle.office_terms.specs.Sound as tree
-use Rattle.office_terms.specs.Tree.{TreeState, due_of, has_record}
-use Rattle.office_terms.specs.declared.action.Action.{Action}
-use Rattle.office_terms.specs.declared.head.Confirmation.{Confirmation}
-use Rattle.office_terms.specs.declared.head.Record.{Record}
-use Rattle.office_terms.specs.declared.status.Status.{Status}
-use Rattle.office_terms.specs.declared.status.Status.TheVariants.{Received}
-use Rattle.office_terms.proofs.Accepting.{none_holds, neither, not_false}
-use Rattle.office_terms.proofs.Amending.{IsSound-confirm, IsSound-receipt, IsSound-review, IsSound-set_record_schedule}
-use Rattle.office_terms.proofs.LastingRows.{keeps_head}
-use Rattle.office_terms.proofs.Places.{numbered_within}
-use Rattle.office_terms.proofs.Putting.{put-edited, put_edited_to, put_same}
+use Rattle.office_records.specs.Conditions.{first_of, conditions_of_confirm, conditions_of_receipt, conditions_of_review, conditions_of_set_record_schedule, lacks_schedule}
+use Rattle.office_records.specs.Effects.{receipted, with_head}
+use Rattle.office_records.specs.Lasting.{HeadStays}
+use Rattle.office_records.specs.Lists.{numbered, or_else, put}
+use Rattle.office_records.specs.Rows.{put_record}
+use Rattle.office_records.specs.Sound as tree
+use Rattle.office_records.specs.Tree.{TreeState, due_of, has_record}
+use Rattle.office_records.specs.declared.action.Action.{Action}
+use Rattle.office_records.specs.declared.head.Confirmation.{Confirmation}
+use Rattle.office_records.specs.declared.head.Record.{Record}
+use Rattle.office_records.specs.declared.status.Status.{Status}
+use Rattle.office_records.specs.declared.status.Status.TheVariants.{Received}
+use Rattle.office_records.proofs.Accepting.{none_holds, neither, not_false}
+use Rattle.office_records.proofs.Amending.{IsSound-confirm, IsSound-receipt, IsSound-review, IsSound-set_record_schedule}
+use Rattle.office_records.proofs.LastingRows.{keeps_head}
+use Rattle.office_records.proofs.Places.{numbered_within}
+use Rattle.office_records.proofs.Putting.{put-edited, put_edited_to, put_same}
 use Rattle.office_rules.specs.Acts.{IsChangeTo}
 use Rattle.office_rules.specs.Conditions.{dated, refusals_of_confirm, refusals_of_receipt, refusals_of_review, refusals_of_set_record_schedule}
 use Rattle.office_rules.specs.Effects.{with_tree}

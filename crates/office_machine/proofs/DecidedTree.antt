@@ -4,22 +4,22 @@ use Rattle.std.specs.FinMap.{FinMap, get, insert, contains_key}
 use Rattle.std.specs.Option.{is_some}
 use Rattle.std.specs.Prelude.{not}
 use Rattle.office_base.specs.declared.refusal.Refusal.{Refusal}
-use Rattle.office_terms.specs.Conditions.{first_of, conditions_of_add_schedule, conditions_of_add_class, conditions_of_set_class_schedule, conditions_of_add_aggregation, conditions_of_close_aggregation}
-use Rattle.office_terms.specs.Effects.{added_schedule, added_class, with_class_schedule}
-use Rattle.office_terms.specs.Lasting.{KeepsAggregation}
-use Rattle.office_terms.specs.Lists.{numbered, edited, put, amended, amended_by}
-use Rattle.office_terms.specs.Sound as tree
-use Rattle.office_terms.specs.Tree.{TreeState, code_cmp}
-use Rattle.office_terms.specs.declared.aggregation.Aggregation.{Aggregation}
-use Rattle.office_terms.specs.declared.class.Class.{Class}
-use Rattle.office_terms.specs.declared.schedule.Schedule.{Schedule}
-use Rattle.office_terms.proofs.Accepting.{none_holds, not_false, neither}
-use Rattle.office_terms.proofs.Amending.{IsSound-set_class_schedule, as_scheduled}
-use Rattle.office_terms.proofs.Adding.{adds_schedule}
-use Rattle.office_terms.proofs.LastingRows.{keeps_aggregation, keeps_next_aggregation}
-use Rattle.office_terms.proofs.Keeping.{IsSound-add_schedule, IsSound-add_class, IsSound-add_aggregation, IsSound-close_aggregation, as_closed}
-use Rattle.office_terms.proofs.Places.{numbered_within}
-use Rattle.office_terms.proofs.Putting.{put_next, put-edited}
+use Rattle.office_records.specs.Conditions.{first_of, conditions_of_add_schedule, conditions_of_add_class, conditions_of_set_class_schedule, conditions_of_add_aggregation, conditions_of_close_aggregation}
+use Rattle.office_records.specs.Effects.{added_schedule, added_class, with_class_schedule}
+use Rattle.office_records.specs.Lasting.{KeepsAggregation}
+use Rattle.office_records.specs.Lists.{numbered, edited, put, amended, amended_by}
+use Rattle.office_records.specs.Sound as tree
+use Rattle.office_records.specs.Tree.{TreeState, code_cmp}
+use Rattle.office_records.specs.declared.aggregation.Aggregation.{Aggregation}
+use Rattle.office_records.specs.declared.class.Class.{Class}
+use Rattle.office_records.specs.declared.schedule.Schedule.{Schedule}
+use Rattle.office_records.proofs.Accepting.{none_holds, not_false, neither}
+use Rattle.office_records.proofs.Amending.{IsSound-set_class_schedule, as_scheduled}
+use Rattle.office_records.proofs.Adding.{adds_schedule}
+use Rattle.office_records.proofs.LastingRows.{keeps_aggregation, keeps_next_aggregation}
+use Rattle.office_records.proofs.Keeping.{IsSound-add_schedule, IsSound-add_class, IsSound-add_aggregation, IsSound-close_aggregation, as_closed}
+use Rattle.office_records.proofs.Places.{numbered_within}
+use Rattle.office_records.proofs.Putting.{put_next, put-edited}
 use Rattle.office_rules.specs.Acts.{IsChangeTo, is_of_change}
 use Rattle.office_rules.specs.Conditions.{dated, refusals_of_add_schedule, refusals_of_add_class, refusals_of_set_class_schedule, refusals_of_add_aggregation, refusals_of_close_aggregation}
 use Rattle.office_rules.specs.Effects.{with_tree}

@@ -1,7 +1,7 @@
 -- What a decision rests on: the first condition of an act's table that holds, or that none does.
 use Rattle.std.proofs.Common.{◌≡◌, ◌≤◌, Bool, true, List, length, Some, None, Result, Ok, Err, IfOk, sym, ap, ◌∙◌}
 use Rattle.office_base.specs.declared.refusal.Refusal.{Refusal}
-use Rattle.office_terms.specs.Conditions.{first_of}
+use Rattle.office_records.specs.Conditions.{first_of}
 use Rattle.office_base.specs.declared.memory.Memory.{Memory}
 use Rattle.office_rules.specs.Acts.{IsChangeTo, IsDecidedTo, IsGoing, is_of_change}
 use Rattle.office_rules.specs.State.{with_contents, Office, State, ByteMap}

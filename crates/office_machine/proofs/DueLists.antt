@@ -21,17 +21,17 @@ use Rattle.std.proofs.lemmas.List.Elements.{All-contains_itself, recursion_from_
 use Rattle.std.proofs.lemmas.Map.Lookups.{CmpEqualImpliesEq, exact_signed, exact_unsigned, exact_pairs}
 use Rattle.std.proofs.lemmas.Map.Made.{Contains-values_of, Contains-from_values_of}
 use Rattle.std.proofs.lemmas.Map.Views.{btree_set_contains_iff, tells_apart}
-use Rattle.office_terms.specs.Lists.{holds_of, numbered}
-use Rattle.office_terms.specs.Tree.{TreeState, due_by, due_of, has_record, is_keep, schedule_of, start_by, start_in, status_of}
-use Rattle.office_terms.specs.declared.aggregation.Aggregation.{Aggregation}
-use Rattle.office_terms.specs.declared.event.Event.{Event}
-use Rattle.office_terms.specs.declared.head.Record.{Record}
-use Rattle.office_terms.specs.declared.schedule.Schedule.{Schedule}
+use Rattle.office_records.specs.Lists.{holds_of, numbered}
+use Rattle.office_records.specs.Tree.{TreeState, due_by, due_of, has_record, is_keep, schedule_of, start_by, start_in, status_of}
+use Rattle.office_records.specs.declared.aggregation.Aggregation.{Aggregation}
+use Rattle.office_records.specs.declared.event.Event.{Event}
+use Rattle.office_records.specs.declared.head.Record.{Record}
+use Rattle.office_records.specs.declared.schedule.Schedule.{Schedule}
 use Rattle.office_days.specs.Due.{deadline_from}
 use Rattle.office_rules.specs.Readings.{deadline_cmp, due_cmp, is_overdue}
 use Rattle.office_rules.specs.Registers.{due_rows_of}
 use Rattle.office_rules.specs.State.{Office}
-use Rattle.office_terms.specs.Disposal.{counts, is_here}
+use Rattle.office_records.specs.Disposal.{counts, is_here}
 use Rattle.office_machine.specs.DuePairs.{AreOwnPairs}
 use Rattle.office_machine.specs.Selections.{AreSelectedPairs, AreSelectedRows, IsSelectedList, due_selected, is_selected, selects_due}
 use Rattle.office_machine.specs.declared.selection.Selection.{Selection}

@@ -5,8 +5,8 @@ use Rattle.std.proofs.lemmas.Bool.Decides.{nat_tests}
 use Rattle.std.proofs.lemmas.List.Elements.{Contains-append_right}
 use Rattle.std.specs.FinMap.{get, values}
 use Rattle.std.specs.List.{Contains, find, list_any}
-use Rattle.office_terms.specs.Lists.{numbered}
-use Rattle.office_terms.specs.declared.status.Status.TheVariants.{Ended}
+use Rattle.office_records.specs.Lists.{numbered}
+use Rattle.office_records.specs.declared.status.Status.TheVariants.{Ended}
 use Rattle.office_proof.specs.Outcomes.{is_ending}
 use Rattle.office_proof.specs.declared.entry.Entry.{Entry}
 use Rattle.office_rules.proofs.Listing.{found_value, is_any, value_found}

@@ -3,12 +3,12 @@ use Rattle.std.proofs.Common.{◌≡◌, ◌↔◌, ◌<◌, ◌≤◌, ◌+◌,
 use Rattle.std.specs.Prelude.{◌≤ℤ◌, IsTrue, int_le, nat_le}
 use Rattle.std.proofs.lemmas.Bool.{le-leb}
 use Rattle.std.proofs.lemmas.Bool.Decides.{nat_tests}
-use Rattle.office_terms.specs.Lists.{numbered, numbers_after, holds_of}
-use Rattle.office_terms.specs.Disposal.{counts, is_disposal}
-use Rattle.office_terms.specs.Candidates.{candidate_by, is_candidate}
-use Rattle.office_terms.specs.Tree.{TreeState, action_of, due_of, status_of}
-use Rattle.office_terms.specs.declared.status.Status.{Status}
-use Rattle.office_terms.specs.declared.status.Status.TheVariants as status
+use Rattle.office_records.specs.Lists.{numbered, numbers_after, holds_of}
+use Rattle.office_records.specs.Disposal.{counts, is_disposal}
+use Rattle.office_records.specs.Candidates.{candidate_by, is_candidate}
+use Rattle.office_records.specs.Tree.{TreeState, action_of, due_of, status_of}
+use Rattle.office_records.specs.declared.status.Status.{Status}
+use Rattle.office_records.specs.declared.status.Status.TheVariants as status
 use Rattle.office_rules.specs.Disposing.{is_ready, ready_by}
 use Rattle.office_rules.specs.Runs.{looked_at_by, looked_at_in}
 use Rattle.office_rules.specs.State.{Office}

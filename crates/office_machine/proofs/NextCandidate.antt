@@ -1,8 +1,8 @@
 -- The next ready record and the count of what is looked at, where one goes from a candidate to the next: what is between them changes neither.
 use Rattle.std.proofs.Common.{◌≡◌, ℕ, zero, suc, ◌+◌, ◌-◌, ◌<◌, ◌≤◌, Bool, true, false, length, find, Option, Some, None, ℤ, inl, inr, ap, ◌∙◌, arith}
 use Rattle.std.proofs.lemmas.Bool.{cases_lt}
-use Rattle.office_terms.specs.Lists.{numbers_after}
-use Rattle.office_terms.specs.Candidates.{HasNoCandidateAbove, IsNextCandidate, is_candidate}
+use Rattle.office_records.specs.Lists.{numbers_after}
+use Rattle.office_records.specs.Candidates.{HasNoCandidateAbove, IsNextCandidate, is_candidate}
 use Rattle.office_rules.specs.Disposing.{is_ready}
 use Rattle.office_rules.specs.State.{Office}
 use Rattle.office_machine.proofs.LookedAt.{looked_after, looked_further, looked_last, next_passed_by, none_left, passed_by}

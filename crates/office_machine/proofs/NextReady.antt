@@ -1,6 +1,6 @@
 -- The least ready record above a run's cursor, looked for number by number.
 use Rattle.std.proofs.Common.{◌≡◌, ◌<◌, ◌+◌, ◌-◌, ℕ, suc, Bool, true, false, cond, ◌∷◌, length, find, Option, Some, ℤ, pos, unwrap_or, option_map, ap, ◌∙◌, arith}
-use Rattle.office_terms.specs.Lists.{numbered, numbers_after}
+use Rattle.office_records.specs.Lists.{numbered, numbers_after}
 use Rattle.office_rules.specs.Disposing.{is_ready}
 use Rattle.office_rules.specs.Runs.{next_ready}
 use Rattle.office_rules.specs.State.{Office}

@@ -1,7 +1,7 @@
 -- What is right of the change by which a run is opened.
 use Rattle.std.proofs.Common.{◌≡◌, ◌+◌, ℕ, suc, List, ◌∷◌, length, None, ℤ, refl, sym, ap, subst, ◌∙◌, arith}
-use Rattle.office_terms.specs.Conditions.{first_of}
-use Rattle.office_terms.proofs.Putting.{put_next}
+use Rattle.office_records.specs.Conditions.{first_of}
+use Rattle.office_records.proofs.Putting.{put_next}
 use Rattle.office_rules.specs.Acts.{IsChangeTo}
 use Rattle.office_rules.specs.Conditions.{refusals_of_open_run}
 use Rattle.office_rules.specs.Effects.{after_open_run, new_run}

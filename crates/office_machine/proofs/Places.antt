@@ -3,7 +3,7 @@ use Rattle.std.proofs.Common.{rules, ◌≤◌, ℕ, length, get_or, arith}
 use Rattle.std.specs.Prelude.{IsTrue}
 use Rattle.std.specs.FinMap.{values}
 use Rattle.std.proofs.lemmas.List.Elements.{All-contains_itself, recursion_from_All}
-use Rattle.office_terms.specs.Tree.{TreeState, has_record}
+use Rattle.office_records.specs.Tree.{TreeState, has_record}
 use Rattle.office_rules.proofs.Listing.{value_found}
 use Rattle.office_rules.specs.Readings.{all_entries_of}
 use Rattle.office_rules.specs.Sound.{IsSoundOffice}

@@ -4,10 +4,10 @@ use Rattle.std.specs.FinMap.{insert}
 use Rattle.std.specs.Option.{is_none}
 use Rattle.std.specs.String.{string_bytes}
 use Rattle.office_base.specs.declared.refusal.Refusal.TheVariants.{NoRun}
-use Rattle.office_terms.specs.Conditions.{first_of}
-use Rattle.office_terms.specs.Lists.{numbered}
-use Rattle.office_terms.proofs.Places.{numbered_within}
-use Rattle.office_terms.proofs.Putting.{put-edited}
+use Rattle.office_records.specs.Conditions.{first_of}
+use Rattle.office_records.specs.Lists.{numbered}
+use Rattle.office_records.proofs.Places.{numbered_within}
+use Rattle.office_records.proofs.Putting.{put-edited}
 use Rattle.office_rules.specs.Acts.{IsChangeTo, is_of_change}
 use Rattle.office_rules.specs.Conditions.{refusals_of_run_step}
 use Rattle.office_rules.specs.Runs.{certificate_of, closed, next_ready, open_run, run_step, step_at, step_of}

@@ -5,16 +5,16 @@ use Rattle.std.specs.Prelude.{IsSome, IsTrue}
 use Rattle.std.specs.FinMap.{insert, remove}
 use Rattle.std.specs.Option.{is_none, is_some, unwrap_or, option_and_then}
 use Rattle.office_base.specs.declared.refusal.Refusal.TheVariants.{NoRun}
-use Rattle.office_terms.specs.Disposal.{confirmation_of}
-use Rattle.office_terms.specs.Lists.{numbered, edited, put}
-use Rattle.office_terms.specs.Rows.{put_record}
-use Rattle.office_terms.specs.Sound as tree
-use Rattle.office_terms.specs.Tree.{TreeState, has_record}
-use Rattle.office_terms.specs.declared.head.Record.{Record}
-use Rattle.office_terms.specs.declared.status.Status.{Status}
-use Rattle.office_terms.specs.declared.status.Status.TheVariants as status
-use Rattle.office_terms.proofs.Places.{numbered_within}
-use Rattle.office_terms.proofs.Putting.{length-put, put-edited, put_same}
+use Rattle.office_records.specs.Disposal.{confirmation_of}
+use Rattle.office_records.specs.Lists.{numbered, edited, put}
+use Rattle.office_records.specs.Rows.{put_record}
+use Rattle.office_records.specs.Sound as tree
+use Rattle.office_records.specs.Tree.{TreeState, has_record}
+use Rattle.office_records.specs.declared.head.Record.{Record}
+use Rattle.office_records.specs.declared.status.Status.{Status}
+use Rattle.office_records.specs.declared.status.Status.TheVariants as status
+use Rattle.office_records.proofs.Places.{numbered_within}
+use Rattle.office_records.proofs.Putting.{length-put, put-edited, put_same}
 use Rattle.office_proof.specs.declared.entry.Entry.{Entry}
 use Rattle.office_proof.specs.declared.outcome.Outcome.{Outcome}
 use Rattle.office_proof.specs.declared.outcome.Outcome.TheVariants as outcome

@@ -7,9 +7,9 @@ use Rattle.std.specs.List.{list_any}
 use Rattle.std.specs.Option.{option_map}
 use Rattle.std.specs.Str.{bytes_eq}
 use Rattle.std.proofs.lemmas.Slice.Eq.{bytes_eq-Decides}
-use Rattle.office_terms.specs.Lists.{numbered, Differ}
-use Rattle.office_terms.specs.declared.head.Record.{Record}
-use Rattle.office_terms.proofs.Accepting.{none_at}
+use Rattle.office_records.specs.Lists.{numbered, Differ}
+use Rattle.office_records.specs.declared.head.Record.{Record}
+use Rattle.office_records.proofs.Accepting.{none_at}
 use Rattle.office_rules.specs.Conditions.{is_same_record, number_passing}
 use Rattle.office_rules.specs.NewRecords.{NewRecord}
 

@@ -3,9 +3,9 @@ use Rattle.std.proofs.Common.{◌≡◌, ℕ, suc, ◌-◌, ◌<◌, Bool, true,
 use Rattle.std.proofs.lemmas.Bool.{and_parts, and_from, and_right}
 use Rattle.std.specs.Cmp.{both_ways}
 use Rattle.std.specs.List.{list_any}
-use Rattle.office_terms.specs.Disposal.{is_below, is_spent, records_below}
-use Rattle.office_terms.specs.Lists.{numbers_after}
-use Rattle.office_terms.specs.Tree.{TreeState, has_record}
+use Rattle.office_records.specs.Disposal.{is_below, is_spent, records_below}
+use Rattle.office_records.specs.Lists.{numbers_after}
+use Rattle.office_records.specs.Tree.{TreeState, has_record}
 use Rattle.office_proof.specs.Outcomes.{is_ending}
 use Rattle.office_proof.specs.declared.entry.Entry.{Entry}
 use Rattle.office_rules.specs.Runs.{ended_below, is_ended_in, spent_list}

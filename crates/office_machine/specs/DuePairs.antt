@@ -2,7 +2,7 @@
 use Rattle.std.specs.Prelude.{◌≡◌, ℕ, ℤ, IsTrue, List, Some}
 use Rattle.std.specs.List.{AllByRecursion}
 use Rattle.std.specs.Map.{values_of}
-use Rattle.office_terms.specs.Tree.{TreeState, due_of, has_record}
+use Rattle.office_records.specs.Tree.{TreeState, due_of, has_record}
 use Rattle.office_rules.specs.Registers.{DueRowView, due_rows_of}
 use Rattle.office_rules.specs.State.{Office}
 

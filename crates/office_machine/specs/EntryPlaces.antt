@@ -1,7 +1,7 @@
 -- Entries whose records are there. Source: own.
 use Rattle.std.specs.Prelude.{IsTrue, List}
 use Rattle.std.specs.List.{AllByRecursion}
-use Rattle.office_terms.specs.Tree.{TreeState, has_record}
+use Rattle.office_records.specs.Tree.{TreeState, has_record}
 use Rattle.office_proof.specs.declared.entry.Entry.{Entry}
 
 abbrev pub AreOfRecords : TreeState → List Entry → Type 0

@@ -1,7 +1,7 @@
 -- Marks of aggregations, one for each, by number. Source: own.
 use Rattle.std.specs.Prelude.{◌≡◌, ◌+◌, ◌<◌, ℕ, Bool, false, List, length, slice_index_or}
 use Rattle.std.specs.List.{list_any}
-use Rattle.office_terms.specs.Tree.{TreeState}
+use Rattle.office_records.specs.Tree.{TreeState}
 use Rattle.office_proof.specs.declared.entry.Entry.{Entry}
 use Rattle.office_rules.specs.Runs.{ended_below}
 

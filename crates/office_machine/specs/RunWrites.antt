@@ -1,7 +1,7 @@
 -- The row writes of a step of a run. Source: own.
 use Rattle.std.specs.Prelude.{ℕ, List, [], ◌∷◌, ◌++◌}
-use Rattle.office_terms.specs.declared.head.Record.{Record}
-use Rattle.office_terms.specs.declared.status.Status.TheVariants as status
+use Rattle.office_records.specs.declared.head.Record.{Record}
+use Rattle.office_records.specs.declared.status.Status.TheVariants as status
 use Rattle.office_proof.specs.declared.entry.Entry.{Entry}
 use Rattle.office_proof.specs.declared.outcome.Outcome.{Outcome}
 use Rattle.office_proof.specs.declared.outcome.Outcome.TheVariants as outcome

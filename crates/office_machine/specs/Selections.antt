@@ -2,9 +2,9 @@
 use Rattle.std.specs.Prelude.{◌≡◌, ◌↔◌, ℕ, ℤ, Bool, not, ◌&&◌, int_le, int_lt, List, Option, Some, None, if◌then◌else◌}
 use Rattle.std.specs.List.{Contains}
 use Rattle.office_days.specs.Due.{deadline_from}
-use Rattle.office_terms.specs.Disposal.{counts, is_here}
-use Rattle.office_terms.specs.Lists.{holds_of}
-use Rattle.office_terms.specs.Tree.{TreeState, due_of, status_of}
+use Rattle.office_records.specs.Disposal.{counts, is_here}
+use Rattle.office_records.specs.Lists.{holds_of}
+use Rattle.office_records.specs.Tree.{TreeState, due_of, status_of}
 use Rattle.office_rules.specs.Readings.{IsDueList, IsOverdueList}
 use Rattle.office_rules.specs.Registers.{AreDueRows, AreOverdueRows, DueRowView}
 use Rattle.office_rules.specs.State.{Office}

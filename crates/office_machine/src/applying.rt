@@ -1,9 +1,9 @@
 //! The writes of a change, done to the office in memory.
 ghost use Rattle.std.specs.Prelude.{◌≡◌, ◌<◌, ◌≤◌, length, OnOk, OnErr};
-ghost use Rattle.office_terms.specs.Lasting.{KeepsHead};
-ghost use Rattle.office_terms.specs.Rows.{put_record};
-ghost use Rattle.office_terms.specs.Lists.{put};
-ghost use Rattle.office_terms.specs.Sound.{IsSound};
+ghost use Rattle.office_records.specs.Lasting.{KeepsHead};
+ghost use Rattle.office_records.specs.Rows.{put_record};
+ghost use Rattle.office_records.specs.Lists.{put};
+ghost use Rattle.office_records.specs.Sound.{IsSound};
 ghost use Rattle.office_rules.specs.Writes.{all_office_writes, write_office, CanFollow, CanPut, CanWrite};
 
 use crate::parts::Parts;
@@ -11,7 +11,7 @@ use crate::storing::{put_certificate, put_entry};
 use crate::{Change, RowWrite, Run};
 use office_base::Memory;
 use office_proof::RunNo;
-use office_terms::{Record, RecordNo, Status};
+use office_records::{Record, RecordNo, Status};
 use office_tree::{Tree, put_row};
 
 /// Puts a record's head and status in place of those that are there.

@@ -1,7 +1,7 @@
 //! The certificate of a run that closes: its entries, and the aggregations that are spent.
 ghost use Rattle.std.specs.Prelude.{◌≡◌, IfOk, IsSome, map};
 ghost use Rattle.std.specs.String.{string_bytes};
-ghost use Rattle.office_terms.specs.Lists.{numbered};
+ghost use Rattle.office_records.specs.Lists.{numbered};
 ghost use Rattle.office_rules.specs.Runs.{certificate_of, entries_of, spent_list};
 ghost use Rattle.office_rules.specs.Sound.{IsSoundOffice};
 
@@ -9,7 +9,7 @@ use crate::marking::marks_above;
 use crate::parts::Parts;
 use office_base::Memory;
 use office_proof::{Entry, RunNo, certificate_text};
-use office_terms::{AggNo, RecordNo};
+use office_records::{AggNo, RecordNo};
 use office_tree::Tree;
 use std::alloc::Global;
 

@@ -8,7 +8,7 @@ use crate::filing::Filing;
 use crate::parts::Parts;
 use crate::{Act, Decision};
 use office_base::Memory;
-use office_terms::Schedule;
+use office_records::Schedule;
 use std::alloc::Global;
 
 impl Parts {

@@ -2,7 +2,7 @@
 ghost use Rattle.std.specs.Prelude.{◌≡◌, List, [], ◌∷◌, ◌++◌, Bool, None, IfOk};
 ghost use Rattle.std.specs.Option.{option_copied};
 ghost use Rattle.office_base.specs.declared.refusal.Refusal.{Refusal};
-ghost use Rattle.office_terms.specs.Conditions.{first_of};
+ghost use Rattle.office_records.specs.Conditions.{first_of};
 ghost use Rattle.office_rules.specs.Acts.{IsDecidedTo, IsGoing};
 ghost use Rattle.office_rules.specs.Conditions.{dated};
 ghost use Rattle.office_rules.specs.Sound.{IsSoundOffice};
@@ -14,8 +14,8 @@ use crate::parts::Parts;
 use crate::{Answer, Change, Decision, RowWrite};
 use office_base::{Memory, Refusal};
 use office_days::Day;
+use office_records::{AggNo, Aggregation, Class, Code, Schedule, Text};
 use office_rules::{copy_code, copy_codes, copy_texts};
-use office_terms::{AggNo, Aggregation, Class, Code, Schedule, Text};
 use std::alloc::Global;
 
 /// Two writes in this order.

@@ -1,6 +1,6 @@
 //! Decisions on holds: placing, lifting, and targets put on and taken off.
 ghost use Rattle.std.specs.Prelude.{◌≡◌, IfOk};
-ghost use Rattle.office_terms.specs.Conditions.{first_of};
+ghost use Rattle.office_records.specs.Conditions.{first_of};
 ghost use Rattle.office_rules.specs.Acts.{IsDecidedTo};
 ghost use Rattle.office_rules.specs.Conditions.{conditions_of_target, lacks_target, target_status};
 ghost use Rattle.office_rules.specs.Sound.{IsSoundOffice};
@@ -12,8 +12,8 @@ use crate::parts::Parts;
 use crate::{Answer, Decision, RowWrite};
 use office_base::{Memory, Refusal};
 use office_days::Day;
+use office_records::{Code, HoldRow, Status, Target, Text};
 use office_rules::copy_texts;
-use office_terms::{Code, HoldRow, Status, Target, Text};
 use office_tree::Tree;
 use std::alloc::Global;
 

@@ -2,7 +2,7 @@
 ghost use Rattle.std.specs.Prelude.{◌≡◌, IfOk};
 ghost use Rattle.std.specs.Option.{option_copied, option_map};
 ghost use Rattle.sha2.specs.Sha256.{sha256};
-ghost use Rattle.office_terms.specs.Lists.{or_else};
+ghost use Rattle.office_records.specs.Lists.{or_else};
 ghost use Rattle.office_rules.specs.Acts.{IsDecidedTo};
 ghost use Rattle.office_rules.specs.Conditions.{is_same_record, same_record};
 ghost use Rattle.office_rules.specs.Effects.{new_head};
@@ -18,10 +18,10 @@ use crate::{Answer, Change, Decision, RowWrite};
 use office_base::Memory;
 use office_days::{Day, DueDay};
 use office_proof::digest_of;
-use office_rules::{copy_code, copy_plan, copy_texts};
-use office_terms::{
+use office_records::{
     Action, Code, Confirmation, Event, Receipt, Record, RecordNo, Review, Status, Text,
 };
+use office_rules::{copy_code, copy_plan, copy_texts};
 use std::alloc::Global;
 
 /// A second code that is equal to the first, if there is one, else to the other.

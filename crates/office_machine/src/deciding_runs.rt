@@ -1,6 +1,6 @@
 //! Decisions on disposal runs: the opening of one, and a step of the open one.
 ghost use Rattle.std.specs.Prelude.{◌≡◌, None, Some, IfOk};
-ghost use Rattle.office_terms.specs.Conditions.{first_of};
+ghost use Rattle.office_records.specs.Conditions.{first_of};
 ghost use Rattle.office_rules.specs.Acts.{IsDecidedTo};
 ghost use Rattle.office_rules.specs.Conditions.{conditions_of_open_run};
 ghost use Rattle.office_rules.specs.Runs.{next_ready, open_run};
@@ -14,7 +14,7 @@ use crate::{Answer, Change, Decision, RowWrite, Run};
 use office_base::{Memory, Refusal};
 use office_days::Day;
 use office_proof::RunNo;
-use office_terms::{RecordNo, Text};
+use office_records::{RecordNo, Text};
 use std::alloc::Global;
 
 impl Parts {

@@ -4,7 +4,7 @@ ghost use Rattle.office_proof.specs.declared.outcome.Outcome.TheVariants.{Skippe
 ghost use Rattle.office_rules.specs.Disposing.{outcome_by};
 
 use office_proof::Outcome;
-use office_terms::{Action, Status};
+use office_records::{Action, Status};
 
 /// That end, or `Skipped` where a hold keeps the record from it.
 fn unless_held(ending: Outcome, held: bool) -> Outcome

@@ -5,7 +5,7 @@ ghost use Rattle.office_machine.specs.Selections.{AreSelectedPairs, IsSelectedLi
 use crate::selection::Selection;
 use office_base::Memory;
 use office_days::DueDay;
-use office_terms::RecordNo;
+use office_records::RecordNo;
 use office_tree::Tree;
 use std::alloc::Global;
 use std::collections::BTreeSet;

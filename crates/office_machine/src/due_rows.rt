@@ -2,9 +2,9 @@
 ghost use Rattle.std.specs.Prelude.{◌≡◌, ◌∷◌, ◌&&◌, [], IfOk, IfSome, IsNone, IsTrue, Some};
 ghost use Rattle.std.specs.Option.{option_copied};
 ghost use Rattle.std.specs.Ordering.{int_eq};
-ghost use Rattle.office_terms.specs.Disposal.{same_action};
-ghost use Rattle.office_terms.specs.Lists.{holds_of};
-ghost use Rattle.office_terms.specs.Tree.{due_of, has_record};
+ghost use Rattle.office_records.specs.Disposal.{same_action};
+ghost use Rattle.office_records.specs.Lists.{holds_of};
+ghost use Rattle.office_records.specs.Tree.{due_of, has_record};
 ghost use Rattle.office_rules.specs.Registers.{due_row, due_reported};
 ghost use Rattle.office_machine.specs.Selections.{AreSelectedRows};
 
@@ -13,8 +13,8 @@ use crate::parts::Parts;
 use crate::selection::Selection;
 use office_base::Memory;
 use office_days::DueDay;
+use office_records::{Action, Confirmation, RecordNo};
 use office_rules::DueRow;
-use office_terms::{Action, Confirmation, RecordNo};
 use std::alloc::Global;
 use std::collections::btree_set;
 use std::marker::Model;

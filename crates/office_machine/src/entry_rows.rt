@@ -1,15 +1,15 @@
 //! The entries of all runs, row by row.
 ghost use Rattle.std.specs.Prelude.{◌≡◌, ◌∷◌, [], IfSome, IsNone, IsTrue, List};
-ghost use Rattle.office_terms.specs.Lists.{numbered};
-ghost use Rattle.office_terms.specs.Tree.{has_record};
+ghost use Rattle.office_records.specs.Lists.{numbered};
+ghost use Rattle.office_records.specs.Tree.{has_record};
 ghost use Rattle.office_rules.specs.Readings.{all_entries_of};
 ghost use Rattle.office_rules.specs.Registers.{EntryView, and_entry, entry_rows, entry_view};
 ghost use Rattle.office_machine.specs.EntryPlaces.{AreOfRecords};
 
 use crate::parts::Parts;
 use office_proof::{Entry, RunNo};
+use office_records::RecordNo;
 use office_rules::EntryRow;
-use office_terms::RecordNo;
 use office_tree::Tree;
 use std::collections::btree_map;
 use std::marker::Model;

@@ -1,7 +1,7 @@
 //! What is asked with a new record.
 use office_days::Day;
+use office_records::{AggNo, Code, Text};
 use office_rules::Content;
-use office_terms::{AggNo, Code, Text};
 
 /// The members of an act that adds a record, but for its day.
 #[derive(Clone, Copy)]

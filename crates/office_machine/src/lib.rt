@@ -36,8 +36,8 @@ pub use entry_rows::EntryRows;
 pub use machine::Machine;
 pub use office_base::Rebuild;
 pub use office_proof::Entry;
+pub use office_records::{Aggregation, Class, Event, HoldRow, Schedule, Target};
 pub use office_rules::{
     Act, Answer, Change, Content, Decision, DueRow, EntryRow, Intake, RecordRow, RecordView, Row,
     RowWrite, Run, Tables,
 };
-pub use office_terms::{Aggregation, Class, Event, HoldRow, Schedule, Target};

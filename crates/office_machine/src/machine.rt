@@ -20,7 +20,7 @@ use office_base::Memory;
 use office_days::{ConfirmDays, Day};
 use office_holds::Holds;
 use office_proof::{Entry, RunNo};
-use office_terms::RecordNo;
+use office_records::RecordNo;
 use office_tree::Tree;
 use std::alloc::Global;
 use std::marker::Model;

@@ -6,7 +6,7 @@ ghost use Rattle.office_machine.specs.Marks.{AreMarks};
 
 use office_base::Memory;
 use office_proof::Entry;
-use office_terms::AggNo;
+use office_records::AggNo;
 use office_tree::Tree;
 use std::alloc::Global;
 

@@ -8,7 +8,7 @@ use office_days::Day;
 use office_holds::Holds;
 use office_loading::Certificate;
 use office_proof::{Entry, RunNo};
-use office_terms::RecordNo;
+use office_records::RecordNo;
 use office_tree::Tree;
 use std::alloc::Global;
 use std::collections::BTreeMap;

@@ -3,9 +3,9 @@ ghost use Rattle.std.specs.Prelude.{◌≡◌, ◌↔◌, IfOk, IsSome, IsTrue, 
 ghost use Rattle.std.specs.FinMap.{from_entries, get, values};
 ghost use Rattle.std.specs.Option.{option_copied, option_map};
 ghost use Rattle.std.specs.String.{string_bytes};
-ghost use Rattle.office_terms.specs.Lists.{numbered};
-ghost use Rattle.office_terms.specs.Tree.{has_record};
-ghost use Rattle.office_terms.specs.declared.status.Status.TheVariants.{Ended};
+ghost use Rattle.office_records.specs.Lists.{numbered};
+ghost use Rattle.office_records.specs.Tree.{has_record};
+ghost use Rattle.office_records.specs.declared.status.Status.TheVariants.{Ended};
 ghost use Rattle.office_rules.specs.Readings.{all_entries_of, ending_entry, record_view};
 ghost use Rattle.office_rules.specs.Sound.{IsSoundOffice};
 ghost use Rattle.office_rules.specs.State.{entry_cmp};
@@ -14,8 +14,8 @@ use crate::RecordView;
 use crate::parts::Parts;
 use office_base::Memory;
 use office_proof::{Entry, RunNo};
+use office_records::{Confirmation, RecordNo, Status};
 use office_rules::{copy_code, copy_codes, copy_entry, copy_texts};
-use office_terms::{Confirmation, RecordNo, Status};
 use std::alloc::Global;
 use std::collections::BTreeMap;
 

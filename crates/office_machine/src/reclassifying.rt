@@ -1,8 +1,8 @@
 //! Decisions on the own class of an aggregation or a record.
 ghost use Rattle.std.specs.Prelude.{◌≡◌, IfOk, None};
 ghost use Rattle.std.specs.Option.{option_copied};
-ghost use Rattle.office_terms.specs.Conditions.{first_of};
-ghost use Rattle.office_terms.specs.declared.classified.Classified.TheVariants as classified;
+ghost use Rattle.office_records.specs.Conditions.{first_of};
+ghost use Rattle.office_records.specs.declared.classified.Classified.TheVariants as classified;
 ghost use Rattle.office_rules.specs.Acts.{IsDecidedTo};
 ghost use Rattle.office_rules.specs.Conditions.{refusals_of_reclassify};
 ghost use Rattle.office_rules.specs.Sound.{IsSoundOffice};
@@ -14,8 +14,8 @@ use crate::parts::Parts;
 use crate::{Answer, Decision, RowWrite};
 use office_base::Memory;
 use office_days::Day;
+use office_records::{AggNo, Classified, Code, RecordNo};
 use office_rules::copy_code;
-use office_terms::{AggNo, Classified, Code, RecordNo};
 use std::alloc::Global;
 
 impl Parts {

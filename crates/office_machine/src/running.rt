@@ -1,8 +1,8 @@
 //! The open run, and the next ready record for it.
 ghost use Rattle.std.specs.Prelude.{◌≡◌, length, IsSome, IsTrue, Some};
-ghost use Rattle.office_terms.specs.Lists.{numbered};
-ghost use Rattle.office_terms.specs.Candidates.{is_candidate};
-ghost use Rattle.office_terms.specs.Tree.{has_record};
+ghost use Rattle.office_records.specs.Lists.{numbered};
+ghost use Rattle.office_records.specs.Candidates.{is_candidate};
+ghost use Rattle.office_records.specs.Tree.{has_record};
 ghost use Rattle.office_rules.specs.Disposing.{is_ready};
 ghost use Rattle.office_rules.specs.Runs.{looked_at, looked_at_in, next_in_run, next_ready, open_run};
 ghost use Rattle.office_rules.specs.Sound.{IsSoundOffice};
@@ -11,7 +11,7 @@ use crate::Run;
 use crate::parts::Parts;
 use office_days::Day;
 use office_proof::RunNo;
-use office_terms::{RecordNo, Status};
+use office_records::{RecordNo, Status};
 
 impl Parts {
     /// How many runs there are: the number of the last one.

@@ -1,10 +1,10 @@
 //! Which records a list of due records has.
 ghost use Rattle.std.specs.Prelude.{◌≡◌, IsTrue};
-ghost use Rattle.office_terms.specs.Tree.{has_record};
+ghost use Rattle.office_records.specs.Tree.{has_record};
 ghost use Rattle.office_machine.specs.Selections.{due_selected, selects_due};
 
 use office_days::{ConfirmDays, Day, DueDay, deadline};
-use office_terms::{RecordNo, Status};
+use office_records::{RecordNo, Status};
 use office_tree::Tree;
 
 /// Which records a list has. It has only records that are here.

@@ -1,9 +1,9 @@
 //! A step of a run on one record: its outcome, its entry and its row writes.
 ghost use Rattle.std.specs.Prelude.{◌≡◌, [], ◌∷◌, ◌++◌, IfOk, IsSome, IsTrue, Some};
-ghost use Rattle.office_terms.specs.Disposal.{confirmation_of};
-ghost use Rattle.office_terms.specs.Lists.{numbered};
-ghost use Rattle.office_terms.specs.Tree.{has_record};
-ghost use Rattle.office_terms.specs.declared.head.Record.{Record};
+ghost use Rattle.office_records.specs.Disposal.{confirmation_of};
+ghost use Rattle.office_records.specs.Lists.{numbered};
+ghost use Rattle.office_records.specs.Tree.{has_record};
+ghost use Rattle.office_records.specs.declared.head.Record.{Record};
 ghost use Rattle.office_holds.specs.Holds.{least_covering};
 ghost use Rattle.office_rules.specs.Disposing.{entry_of, hold_by, outcome_of};
 ghost use Rattle.office_machine.specs.RunWrites.{outcome_writes, taking_writes};
@@ -16,8 +16,8 @@ use crate::disposing::outcome_by;
 use crate::parts::Parts;
 use office_base::Memory;
 use office_proof::{Entry, Outcome, RunNo};
+use office_records::{Code, RecordNo, Status};
 use office_rules::{copy_code, copy_codes};
-use office_terms::{Code, RecordNo, Status};
 use office_tree::Tree;
 use std::alloc::Global;
 

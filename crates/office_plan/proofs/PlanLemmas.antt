@@ -1,7 +1,7 @@
 -- A plan file, line by line, and what is printed of it, record by record.
 use Rattle.std.proofs.Common.{◌≡◌, ℕ, suc, ◌+◌, List, [], ◌∷◌, ◌++◌, Option, Some, None, Result, Ok, Err, refl, sym, ap, subst, ◌∙◌, arith}
 use Rattle.office_base.specs.declared.refusal.Refusal.{Refusal}
-use Rattle.office_terms.specs.Tree.{TreeState}
+use Rattle.office_records.specs.Tree.{TreeState}
 use Rattle.office_plan.specs.PlanFile.{done_or_refused, due_line, due_lines, followed, line_taken, plan_from}
 
 pub plan_from-end : (number : ℕ) (rest : List (List ℕ)) (tree : TreeState) → rest ≡ [] → plan_from number rest tree ≡ Ok tree

@@ -8,8 +8,8 @@ use Rattle.std.specs.Char.{is_ascii_digit}
 use Rattle.std.specs.Fmt.{decimal}
 use Rattle.std.specs.List.{list_all}
 use Rattle.std.specs.Str.{IsAscii, is_utf8}
-use Rattle.office_terms.specs.Codes.{is_code, is_code_byte}
-use Rattle.office_terms.specs.TextForms.{is_text, is_text_character}
+use Rattle.office_records.specs.Codes.{is_code, is_code_byte}
+use Rattle.office_records.specs.TextForms.{is_text, is_text_character}
 
 both_true : (a b : Bool) → (a && b) ≡ true → (a ≡ true) × (b ≡ true)
 both_true true b e = (refl, e)

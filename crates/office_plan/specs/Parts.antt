@@ -10,7 +10,7 @@ use Rattle.office_base.specs.Numerals.{number_named}
 use Rattle.office_days.specs.Periods.{RetentionPeriod}
 use Rattle.office_base.specs.Refusals.{refusal_number}
 use Rattle.office_days.specs.Words.{unit_named}
-use Rattle.office_terms.specs.Codes.{code_named}
+use Rattle.office_records.specs.Codes.{code_named}
 
 -- both parts, or the refusal with the least number
 abbrev pub both : {A B : Type 0} → Result A Refusal → Result B Refusal → Result (A × B) Refusal

@@ -8,10 +8,10 @@ use Rattle.office_base.specs.declared.refusal.Refusal.{Refusal}
 use Rattle.office_base.specs.declared.refusal.Refusal.TheVariants.{BadText}
 use Rattle.office_days.specs.Calendar.{civil}
 use Rattle.office_days.specs.Texts.{day_text}
-use Rattle.office_terms.specs.Conditions.{conditions_of_add_aggregation, conditions_of_add_class, conditions_of_add_record, conditions_of_add_schedule, conditions_of_close_aggregation, conditions_of_event, first_of}
-use Rattle.office_terms.specs.Effects.{added_aggregation, added_class, added_record, added_schedule, closed_aggregation, with_event}
-use Rattle.office_terms.specs.Tree.{TreeState, due_of, empty_tree}
-use Rattle.office_terms.specs.declared.head.Record.{Record as RecordHead}
+use Rattle.office_records.specs.Conditions.{conditions_of_add_aggregation, conditions_of_add_class, conditions_of_add_record, conditions_of_add_schedule, conditions_of_close_aggregation, conditions_of_event, first_of}
+use Rattle.office_records.specs.Effects.{added_aggregation, added_class, added_record, added_schedule, closed_aggregation, with_event}
+use Rattle.office_records.specs.Tree.{TreeState, due_of, empty_tree}
+use Rattle.office_records.specs.declared.head.Record.{Record as RecordHead}
 use Rattle.office_plan.specs.PlanLines.{line_asked}
 use Rattle.office_plan.specs.declared.plan_line.PlanLine.{PlanLine}
 use Rattle.office_plan.specs.declared.plan_line.PlanLine.TheVariants.{Schedule, Class, Aggregation, Close, Record, Event}

@@ -11,10 +11,10 @@ use Rattle.office_days.specs.Periods.{RetentionPeriod}
 use Rattle.office_days.specs.Texts.{day_named}
 use Rattle.office_base.specs.ThingNumbers.{thing_number}
 use Rattle.office_days.specs.Words.{offset_named}
-use Rattle.office_terms.specs.declared.action.Action.{Action}
-use Rattle.office_terms.specs.declared.schedule.Schedule.{Schedule as DisposalSchedule}
-use Rattle.office_terms.specs.declared.trigger.Trigger.{Trigger}
-use Rattle.office_terms.specs.Words.{action_named, trigger_named}
+use Rattle.office_records.specs.declared.action.Action.{Action}
+use Rattle.office_records.specs.declared.schedule.Schedule.{Schedule as DisposalSchedule}
+use Rattle.office_records.specs.declared.trigger.Trigger.{Trigger}
+use Rattle.office_records.specs.Words.{action_named, trigger_named}
 use Rattle.office_plan.specs.Parts.{both, made, named_part, code_part, optional_part, period_part}
 use Rattle.office_plan.specs.declared.plan_line.PlanLine.{PlanLine}
 use Rattle.office_plan.specs.declared.plan_line.PlanLine.TheVariants.{Schedule, Class, Aggregation, Close, Record, Event}

@@ -6,7 +6,7 @@ ghost use Rattle.office_plan.specs.Parts.{both, code_part, named_part, optional_
 
 use office_base::{Memory, Refusal, read_numeral, read_thing_number};
 use office_days::{Day, Period, Unit};
-use office_terms::{AggNo, Code};
+use office_records::{AggNo, Code};
 use std::alloc::Global;
 
 /// Both parts, or the refusal with the least number.

@@ -2,14 +2,14 @@
 ghost use Rattle.std.specs.Prelude.{◌≡◌, ◌++◌, length, Err, IfErr, IfOk, IfSome, IsSome, IsTrue, None, OnOk};
 ghost use Rattle.std.specs.Io.KnownBytes.{Appends};
 ghost use Rattle.std.specs.Str.Lines.{lines};
-ghost use Rattle.office_terms.specs.Tree.{has_record};
+ghost use Rattle.office_records.specs.Tree.{has_record};
 ghost use Rattle.office_plan.specs.PlanFile.{due_line, due_lines, due_word, plan_asked, plan_from, plan_refusal, plan_written, plan_result};
 
 use crate::lines::next_line;
 use crate::plan_step::take_line;
 use office_base::{Io, Memory, Refusal, Stop, read_whole, write_out};
 use office_days::DueDay;
-use office_terms::RecordNo;
+use office_records::RecordNo;
 use office_tree::Tree;
 use std::alloc::{AllocError, Global};
 use std::io::{Read, Write};

@@ -8,7 +8,7 @@ use crate::parts::{
 };
 use office_base::{Memory, Refusal, read_thing_number};
 use office_days::{Day, Offset, Period};
-use office_terms::{Action, AggNo, Code, RecordNo, Schedule, Trigger};
+use office_records::{Action, AggNo, Code, RecordNo, Schedule, Trigger};
 use std::alloc::Global;
 
 /// What a line of a plan file asks for.

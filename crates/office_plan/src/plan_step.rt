@@ -1,8 +1,8 @@
 //! What a line of a plan file does to the tree.
 ghost use Rattle.std.specs.Prelude.{◌≡◌, IfOk};
 ghost use Rattle.std.specs.Fmt.{decimal};
-ghost use Rattle.office_terms.specs.Conditions.{conditions_of_add_aggregation, conditions_of_add_class, conditions_of_add_record, conditions_of_add_schedule, conditions_of_close_aggregation, conditions_of_event, first_of};
-ghost use Rattle.office_terms.specs.Effects.{added_aggregation, added_class, added_record, added_schedule, closed_aggregation, with_event};
+ghost use Rattle.office_records.specs.Conditions.{conditions_of_add_aggregation, conditions_of_add_class, conditions_of_add_record, conditions_of_add_schedule, conditions_of_close_aggregation, conditions_of_event, first_of};
+ghost use Rattle.office_records.specs.Effects.{added_aggregation, added_class, added_record, added_schedule, closed_aggregation, with_event};
 ghost use Rattle.office_plan.specs.PlanFile.{done_or_refused, line_done, line_taken, next_aggregation, next_record, planned_head, read_and_done};
 ghost use Rattle.office_plan.specs.PlanLines.{line_asked};
 
@@ -10,7 +10,7 @@ use crate::plan_line::{PlanLine, read_line};
 use crate::text::text_of;
 use office_base::{Memory, Refusal};
 use office_days::Day;
-use office_terms::{AggNo, Class, Code, Record, RecordNo, Schedule, Text};
+use office_records::{AggNo, Class, Code, Record, RecordNo, Schedule, Text};
 use office_tree::Tree;
 use std::alloc::Global;
 

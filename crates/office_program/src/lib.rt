@@ -4,7 +4,7 @@
 #![tactic(auto)]
 
 pub use office_base::Io;
+pub use office_command_line::{Order, Words, order_of, read_words};
 pub use office_commands::run_on;
 pub use office_plan::{PlanStop, due_to, plan_to};
 pub use office_wire::{Service, serve_all};
-pub use office_words::{Order, Words, order_of, read_words};

@@ -3,9 +3,9 @@ use Rattle.std.proofs.Common.{◌≡◌, ◌∙◌, ap, ℕ, List, [], ◌∷◌
 use Rattle.std.specs.Fmt.{decimal}
 use Rattle.std.specs.List.{flat_map}
 use Rattle.hex.specs.Hex.{encode_lower}
-use Rattle.office_terms.specs.Lists.{numbered}
-use Rattle.office_terms.specs.Tree.{TreeState}
-use Rattle.office_terms.specs.declared.head.Record.{Record}
+use Rattle.office_records.specs.Lists.{numbered}
+use Rattle.office_records.specs.Tree.{TreeState}
+use Rattle.office_records.specs.declared.head.Record.{Record}
 use Rattle.office_proof.specs.Certificates.{aggregation_words, certificate_lines, certificate_text, counted, date_text, entry_line, entry_words, lines_text, made_of, sealed, tabbed}
 use Rattle.office_proof.specs.Outcomes.{is_ending, is_sending, is_skipping, outcome_word}
 use Rattle.office_proof.specs.declared.entry.Entry.{Entry}

@@ -4,11 +4,11 @@ use Rattle.std.proofs.lemmas.Bool.Decides.{nat_tests}
 use Rattle.std.specs.Fmt.{decimal}
 use Rattle.std.specs.List.{All, AllByRecursion, flat_map}
 use Rattle.std.proofs.lemmas.List.Elements.{All-nil, All-cons, All-append, All-head, All-tail, All-weaker, All-from_recursion, recursion_from_All}
-use Rattle.office_terms.specs.Forms.{IsText, IsWellFormedAggregation, IsWellFormedRecord, IsWellFormedTree}
-use Rattle.office_terms.specs.Lists.{numbered}
-use Rattle.office_terms.specs.Tree.{TreeState}
-use Rattle.office_terms.specs.declared.aggregation.Aggregation.{Aggregation}
-use Rattle.office_terms.specs.declared.head.Record.{Record}
+use Rattle.office_records.specs.Forms.{IsText, IsWellFormedAggregation, IsWellFormedRecord, IsWellFormedTree}
+use Rattle.office_records.specs.Lists.{numbered}
+use Rattle.office_records.specs.Tree.{TreeState}
+use Rattle.office_records.specs.declared.aggregation.Aggregation.{Aggregation}
+use Rattle.office_records.specs.declared.head.Record.{Record}
 use Rattle.office_proof.specs.Certificates.{tabbed, lines_text, date_text, counted, entry_words, aggregation_words, made_of, certificate_lines}
 use Rattle.office_proof.specs.Forms.{IsWellFormedEntry}
 use Rattle.office_proof.specs.Meanings.{IsOneLine, IsOneColumn, entry_columns, before_first, split_at}

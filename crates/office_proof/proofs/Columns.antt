@@ -11,9 +11,9 @@ use Rattle.std.proofs.lemmas.Str.{encode_ascii, encodes-chars, IsUtf8-from_is_ut
 use Rattle.hex.specs.Hex.{encode_with, encode_lower, lower_digits}
 use Rattle.office_days.specs.Calendar.{CivilDay, civil}
 use Rattle.office_days.specs.Texts.{day_text}
-use Rattle.office_terms.specs.Codes.{is_code_byte}
-use Rattle.office_terms.specs.Forms.{IsCode, IsText}
-use Rattle.office_terms.specs.TextForms.{is_text_character}
+use Rattle.office_records.specs.Codes.{is_code_byte}
+use Rattle.office_records.specs.Forms.{IsCode, IsText}
+use Rattle.office_records.specs.TextForms.{is_text_character}
 use Rattle.office_proof.specs.Certificates.{date_text}
 use Rattle.office_proof.specs.Meanings.{IsOneLine, IsOneColumn}
 

@@ -5,7 +5,7 @@ use Rattle.std.specs.List.{All}
 use Rattle.std.specs.Int.{w32, to_be_bytes, bytes_high_first, byte_at}
 use Rattle.std.proofs.lemmas.List.Elements.{All-nil, All-cons, All-append}
 use Rattle.sha2.specs.Sha256.{digest_bytes, final_hash, initial_hash_256, sha256}
-use Rattle.office_terms.specs.Forms.{IsDigest}
+use Rattle.office_records.specs.Forms.{IsDigest}
 
 digest_length : (h : List ℕ) (n : ℕ) → length (digest_bytes h n) ≡ n * 4
 unfolding digest_bytes

@@ -1,7 +1,7 @@
 -- When what is in an entry is of its form and within its limits. Source: own.
 use Rattle.std.specs.Prelude.{IfSome}
 use Rattle.office_days.specs.Limits.{IsDueNumber}
-use Rattle.office_terms.specs.Forms.{IsCode, IsText}
+use Rattle.office_records.specs.Forms.{IsCode, IsText}
 use Rattle.office_proof.specs.declared.entry.Entry.{Entry}
 
 -- the codes, the text and the due day of an entry

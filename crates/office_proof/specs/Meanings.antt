@@ -5,7 +5,7 @@ use Rattle.std.specs.Fmt.{decimal}
 use Rattle.std.specs.List.{All}
 use Rattle.std.specs.Option.{unwrap_or}
 use Rattle.hex.specs.Hex.{encode_lower}
-use Rattle.office_terms.specs.declared.head.Record.{Record}
+use Rattle.office_records.specs.declared.head.Record.{Record}
 use Rattle.office_proof.specs.Certificates.{date_text}
 use Rattle.office_proof.specs.Outcomes.{outcome_word}
 use Rattle.office_proof.specs.declared.entry.Entry.{Entry}

@@ -10,7 +10,7 @@ use crate::words::{due_word, hold_word, line_of, number_word, outcome_of};
 use crate::{Entry, RunNo, digest_of};
 use office_base::Memory;
 use office_days::Day;
-use office_terms::{AggNo, Record, Text};
+use office_records::{AggNo, Record, Text};
 use office_tree::Tree;
 use std::alloc::Global;
 

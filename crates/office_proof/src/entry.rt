@@ -1,7 +1,7 @@
 //! Entries of disposal runs, and the numbers of runs.
 use crate::Outcome;
 use office_days::DueDay;
-use office_terms::{Code, RecordNo, Text};
+use office_records::{Code, RecordNo, Text};
 
 /// The number of a disposal run: 1, 2, .. in the order of opening.
 pub type RunNo = u32;

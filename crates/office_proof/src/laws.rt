@@ -2,11 +2,11 @@
 ghost use Rattle.std.specs.Prelude.{◌≡◌, ℕ, Some, List, [], ◌∷◌, ◌++◌, length, take, drop, map, filter, codes, ℤ};
 ghost use Rattle.std.specs.Fmt.{decimal};
 ghost use Rattle.std.specs.List.{All};
-ghost use Rattle.office_terms.specs.Forms.{IsText, IsWellFormedRecord, IsWellFormedTree};
-ghost use Rattle.office_terms.specs.Lists.{numbered};
-ghost use Rattle.office_terms.specs.Tree.{TreeState};
-ghost use Rattle.office_terms.specs.declared.aggregation.Aggregation.{Aggregation};
-ghost use Rattle.office_terms.specs.declared.head.Record.{Record};
+ghost use Rattle.office_records.specs.Forms.{IsText, IsWellFormedRecord, IsWellFormedTree};
+ghost use Rattle.office_records.specs.Lists.{numbered};
+ghost use Rattle.office_records.specs.Tree.{TreeState};
+ghost use Rattle.office_records.specs.declared.aggregation.Aggregation.{Aggregation};
+ghost use Rattle.office_records.specs.declared.head.Record.{Record};
 ghost use Rattle.office_proof.specs.Certificates.{certificate_lines, entry_words, tabbed, lines_text, date_text};
 ghost use Rattle.office_proof.specs.Forms.{IsWellFormedEntry};
 ghost use Rattle.office_proof.specs.Meanings.{IsOneLine, IsOneColumn, entry_columns, split_at};

@@ -3,7 +3,7 @@ ghost use Rattle.std.specs.Prelude.{◌≡◌, ℕ, ◌∷◌, ◌++◌, [], cod
 ghost use Rattle.std.specs.Fmt.{decimal};
 ghost use Rattle.std.specs.List.{flat_map};
 ghost use Rattle.std.specs.String.{string_bytes};
-ghost use Rattle.office_terms.specs.Lists.{numbered};
+ghost use Rattle.office_records.specs.Lists.{numbered};
 ghost use Rattle.office_proof.specs.Certificates.{aggregation_words, counted, date_text, entry_words, lines_text, made_of};
 ghost use Rattle.office_proof.specs.Outcomes.{is_ending, is_sending, is_skipping};
 
@@ -12,7 +12,7 @@ use crate::words::{day_word, line_of, number_word};
 use crate::{Entry, RunNo};
 use office_base::Memory;
 use office_days::Day;
-use office_terms::{AggNo, Aggregation, Text};
+use office_records::{AggNo, Aggregation, Text};
 use office_tree::Tree;
 use std::alloc::Global;
 

@@ -4,10 +4,10 @@ use Rattle.std.specs.Prelude.{int_lt}
 use Rattle.std.specs.List.{AllByRecursion}
 use Rattle.std.proofs.lemmas.Int.{ints}
 use Rattle.office_base.specs.declared.refusal.Refusal.{Refusal}
-use Rattle.office_terms.specs.Conditions.{first_of, conditions_of_reclassify}
-use Rattle.office_terms.specs.Sound as tree
-use Rattle.office_terms.specs.declared.classified.Classified.{Classified}
-use Rattle.office_terms.proofs.Accepting.{none_holds}
+use Rattle.office_records.specs.Conditions.{first_of, conditions_of_reclassify}
+use Rattle.office_records.specs.Sound as tree
+use Rattle.office_records.specs.declared.classified.Classified.{Classified}
+use Rattle.office_records.proofs.Accepting.{none_holds}
 use Rattle.office_holds.specs.Conditions.{would_leave_held_class}
 use Rattle.office_rules.specs.Conditions.{dated, refusals_of_reclassify}
 use Rattle.office_rules.specs.Meanings.{IsAccepted}

@@ -7,7 +7,7 @@ use Rattle.std.specs.List.{AllByRecursion}
 use Rattle.std.specs.List.Sorted.{IsStrictlySortedBy}
 use Rattle.std.proofs.lemmas.List.Elements.{All-contains, All-filter, All-from_recursion, filter_passes}
 use Rattle.std.proofs.lemmas.List.Kept.{IsStrictlySortedBy-filter}
-use Rattle.office_terms.specs.Lists.{numbers_after}
+use Rattle.office_records.specs.Lists.{numbers_after}
 use Rattle.office_rules.specs.Disposing.{is_ready}
 use Rattle.office_rules.specs.Meanings.{IsCandidate}
 use Rattle.office_rules.specs.Runs.{candidates, above_cursor, cursor_of, next_ready, run_day}

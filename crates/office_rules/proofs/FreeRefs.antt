@@ -1,8 +1,8 @@
 -- A change that can be made puts no row in under another's ref, at none of its writes.
 use Rattle.std.proofs.Common.{◌≡◌, ◌≢◌, ◌≤◌, ◌<◌, ◌+◌, ◌⊎◌, inl, inr, ℕ, suc, zero, List, [], ◌∷◌, length, Some, refl, sym, ap, ◌∙◌, arith}
-use Rattle.office_terms.specs.Lists.{Differ, numbered, put, put_at}
-use Rattle.office_terms.specs.Sound.{RefsDiffer}
-use Rattle.office_terms.proofs.Putting.{numbered-put}
+use Rattle.office_records.specs.Lists.{Differ, numbered, put, put_at}
+use Rattle.office_records.specs.Sound.{RefsDiffer}
+use Rattle.office_records.proofs.Putting.{numbered-put}
 use Rattle.office_rules.specs.Acts.{CanBeMade}
 use Rattle.office_rules.specs.Sound.{IsSoundOffice}
 use Rattle.office_rules.specs.State.{Office}

@@ -9,16 +9,16 @@ use Rattle.std.specs.Cmp.Lexicographic.{nat_list_cmp_total}
 use Rattle.std.specs.FinMap.{get, get-insert, insert, slice_cmp-IsAntisymmetric, nat_cmp-IsAntisymmetric, IsAntisymmetric}
 use Rattle.std.specs.FinSet.{contains, contains-empty, contains-insert, contains-remove}
 use Rattle.std.proofs.lemmas.Map.Text.{is_eq-slice_cmp}
-use Rattle.office_terms.specs.Lists.{amended, holds_of}
-use Rattle.office_terms.specs.Tree.{code_cmp}
-use Rattle.office_terms.proofs.Inserting.{get-amended, same_code}
+use Rattle.office_records.specs.Lists.{amended, holds_of}
+use Rattle.office_records.specs.Tree.{code_cmp}
+use Rattle.office_records.proofs.Inserting.{get-amended, same_code}
 use Rattle.office_holds.specs.Effects.{with_target, without_target}
 use Rattle.office_holds.specs.Loading.{is_pair, same_target}
 use Rattle.office_holds.specs.Holds.{HoldMap, HoldState, has_target}
 use Rattle.office_holds.specs.Rows.{hold_from, hold_row}
-use Rattle.office_terms.specs.declared.hold_row.HoldRow.{HoldRow}
-use Rattle.office_terms.specs.declared.target.Target.{Target}
-use Rattle.office_terms.specs.declared.target.Target.TheVariants as target
+use Rattle.office_records.specs.declared.hold_row.HoldRow.{HoldRow}
+use Rattle.office_records.specs.declared.target.Target.{Target}
+use Rattle.office_records.specs.declared.target.Target.TheVariants as target
 use Rattle.office_rules.specs.Rows.{targets_of}
 
 pub codes_apart : IsAntisymmetric code_cmp

@@ -4,8 +4,8 @@ use Rattle.office_base.specs.declared.refusal.Refusal.{Refusal}
 use Rattle.office_holds.specs.Conditions.{conditions_of_place_hold}
 use Rattle.office_holds.proofs.Lasting.{held-add_schedule, held-add_class, held-set_class_schedule, held-add_aggregation, held-close_aggregation, held-add_record, held-set_record_schedule, held-confirm, held-receipt, held-review, held-place_hold, held-hold_on}
 use Rattle.office_holds.proofs.Reclassifying.{held-reclassify}
-use Rattle.office_terms.specs.declared.class.Class.{Class}
-use Rattle.office_terms.specs.declared.schedule.Schedule.{Schedule}
+use Rattle.office_records.specs.declared.class.Class.{Class}
+use Rattle.office_records.specs.declared.schedule.Schedule.{Schedule}
 use Rattle.office_rules.specs.Acts.{may_release, step}
 use Rattle.office_rules.specs.Conditions.{same_record}
 use Rattle.office_rules.specs.Effects.{new_head}

@@ -8,7 +8,7 @@ use Rattle.std.specs.Ordering.{eq_by_cmp, is_eq}
 use Rattle.std.specs.Cmp.{IsTotalOrder, alike_right, eq_by_cmp_equiv}
 use Rattle.std.specs.FinMap.{FinMap, IsAntisymmetric, entries, entries_sorted, get, get-entries, get-insert, get-remove, insert, remove, entries-insert, same_map}
 use Rattle.std.specs.FinMap.Entries.{put, by_order, find, find-where_key, is_sorted-where_key, same_entries, where_key}
-use Rattle.office_terms.specs.Lists.{amended, amended_by}
+use Rattle.office_records.specs.Lists.{amended, amended_by}
 use Rattle.office_rules.proofs.SoundMaps.{tied_same}
 
 turned : {V : Type 0} (a b : Bool) (x : Option V) → a ≡ b → cond b None x ≡ cond (not a) x None

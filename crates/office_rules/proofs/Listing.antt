@@ -14,9 +14,9 @@ use Rattle.std.specs.FinMap.Entries.{find, below_all, is_sorted}
 use Rattle.std.specs.List.{AllByRecursion, Contains, list_any}
 use Rattle.std.specs.List.Sorted.{IsStrictlySortedBy}
 use Rattle.std.specs.Ordering.{is_eq, is_lt, eq_by_cmp, nat_cmp, ordering_then}
-use Rattle.office_terms.specs.Disposal.{is_below, is_spent, records_below}
-use Rattle.office_terms.specs.Lists.{numbers_after}
-use Rattle.office_terms.specs.Tree.{TreeState, has_aggregation, has_record}
+use Rattle.office_records.specs.Disposal.{is_below, is_spent, records_below}
+use Rattle.office_records.specs.Lists.{numbers_after}
+use Rattle.office_records.specs.Tree.{TreeState, has_aggregation, has_record}
 use Rattle.office_proof.specs.Outcomes.{is_ending}
 use Rattle.office_proof.specs.declared.entry.Entry.{Entry}
 use Rattle.office_rules.specs.Runs.{entries_of, is_ended_in, spent_list}

@@ -6,13 +6,13 @@ use Rattle.std.specs.Ordering.{nat_cmp}
 use Rattle.std.specs.Cmp.{nat_cmp_is}
 use Rattle.std.specs.FinMap.Entries.{put, by_order}
 use Rattle.std.specs.Prelude.{ℤ}
-use Rattle.office_terms.specs.Lists as lists
-use Rattle.office_terms.specs.declared.action.Action.{Action}
-use Rattle.office_terms.specs.declared.head.Confirmation.{Confirmation}
-use Rattle.office_terms.specs.declared.head.Receipt.{Receipt}
-use Rattle.office_terms.specs.declared.head.Record.{Record}
-use Rattle.office_terms.specs.declared.head.Review.{Review}
-use Rattle.office_terms.specs.declared.status.Status.{Status}
+use Rattle.office_records.specs.Lists as lists
+use Rattle.office_records.specs.declared.action.Action.{Action}
+use Rattle.office_records.specs.declared.head.Confirmation.{Confirmation}
+use Rattle.office_records.specs.declared.head.Receipt.{Receipt}
+use Rattle.office_records.specs.declared.head.Record.{Record}
+use Rattle.office_records.specs.declared.head.Review.{Review}
+use Rattle.office_records.specs.declared.status.Status.{Status}
 use Rattle.office_rules.specs.Rows.{record_row, record_rows}
 use Rattle.office_base.specs.Rows.{numbered_from, numbered_rows}
 use Rattle.office_rules.specs.declared.rows.RecordRow.{RecordRow}

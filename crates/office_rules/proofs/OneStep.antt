@@ -2,9 +2,9 @@
 -- then of others are those of all.
 use Rattle.std.proofs.Common.{◌≡◌, ◌≢◌, ℕ, ◌+◌, ◌-◌, ◌<◌, Bool, List, [], ◌∷◌, length, Option, Some, None, filter, refl, sym, ap, ◌∙◌, subst, arith, ℤ}
 use Rattle.std.specs.Prelude.{slice_get}
-use Rattle.office_terms.specs.Lists.{numbered, numbers_after}
-use Rattle.office_terms.specs.Tree.{action_of}
-use Rattle.office_terms.specs.declared.status.Status.{Status}
+use Rattle.office_records.specs.Lists.{numbered, numbers_after}
+use Rattle.office_records.specs.Tree.{action_of}
+use Rattle.office_records.specs.declared.status.Status.{Status}
 use Rattle.office_holds.specs.Holds.{is_held}
 use Rattle.office_proof.specs.declared.outcome.Outcome.{Outcome}
 use Rattle.office_proof.specs.declared.outcome.Outcome.TheVariants as outcome

@@ -1,7 +1,7 @@
 -- The run that is open, after a step that took a record and after the run is closed.
 use Rattle.std.proofs.Common.{◌≡◌, ℕ, true, false, cond, List, [], ◌∷◌, length, Option, Some, None, option_map, unwrap_or, pos, refl, ap, ◌∙◌}
-use Rattle.office_terms.specs.Lists.{numbered, edited}
-use Rattle.office_terms.proofs.Places.{length-edited}
+use Rattle.office_records.specs.Lists.{numbered, edited}
+use Rattle.office_records.proofs.Places.{length-edited}
 use Rattle.office_rules.specs.Runs.{run_day, cursor_of, with_outcomes, with_cursor, cursor_at_last, closed, open_run, open_by}
 use Rattle.office_rules.specs.State.{State}
 use Rattle.office_rules.specs.declared.run.Run.{Run}

@@ -1,7 +1,7 @@
 -- What a change of one number leaves under the others, and under that number itself.
 use Rattle.std.proofs.Common.{◌≡◌, ◌≢◌, ℕ, zero, suc, List, [], ◌∷◌, refl, ap, option_map}
 use Rattle.std.specs.Prelude.{slice_get}
-use Rattle.office_terms.specs.Lists.{numbered, edited, edited_at}
+use Rattle.office_records.specs.Lists.{numbered, edited, edited_at}
 
 slice_get-edited_other : {A : Type 0} (xs : List A) (i j : ℕ) (f : A → A) → i ≢ j → slice_get (edited_at xs i f) j ≡ slice_get xs j
 slice_get-edited_other [] i j f h = refl

@@ -8,11 +8,11 @@ use Rattle.std.proofs.lemmas.Bool.Decides.{Decides-int_eq}
 use Rattle.std.proofs.lemmas.Slice.Eq.{bytes_eq-Decides}
 use Rattle.sha2.specs.Sha256.{sha256}
 use Rattle.office_base.specs.declared.refusal.Refusal.{Refusal}
-use Rattle.office_terms.specs.Conditions.{first_of}
-use Rattle.office_terms.specs.Lists.{edited, edited_at, numbered}
-use Rattle.office_terms.specs.declared.head.Record.{Record}
-use Rattle.office_terms.specs.declared.classified.Classified.{Classified}
-use Rattle.office_terms.specs.declared.classified.Classified.TheVariants as classified
+use Rattle.office_records.specs.Conditions.{first_of}
+use Rattle.office_records.specs.Lists.{edited, edited_at, numbered}
+use Rattle.office_records.specs.declared.head.Record.{Record}
+use Rattle.office_records.specs.declared.classified.Classified.{Classified}
+use Rattle.office_records.specs.declared.classified.Classified.TheVariants as classified
 use Rattle.office_rules.specs.Acts.{after, answers, step}
 use Rattle.office_rules.specs.Conditions.{is_same_record, number_passing, refusals_of_add_record, same_record}
 use Rattle.office_rules.specs.Effects.{after_reclassify, new_head, with_new_record}

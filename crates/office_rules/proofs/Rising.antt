@@ -2,7 +2,7 @@
 use Rattle.std.proofs.Common.{◌≡◌, ℕ, zero, suc, ◌+◌, ◌-◌, ◌<◌, ◌≤◌, Bool, true, false, cond, List, [], ◌∷◌, take, Some, find, filter, refl, sym, ap, ◌∙◌, arith}
 use Rattle.std.specs.Prelude.{slice_get}
 use Rattle.std.specs.List.{AllByRecursion}
-use Rattle.office_terms.specs.Lists.{numbers_after}
+use Rattle.office_records.specs.Lists.{numbers_after}
 
 -- all of them are above c
 abbrev pub AllAfter : ℕ → List ℕ → Type 0

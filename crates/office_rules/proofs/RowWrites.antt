@@ -5,7 +5,7 @@ use Rattle.std.specs.Cmp.Lexicographic.{nat_list_cmp_total}
 use Rattle.std.specs.FinMap.{get, entries-insert, nat_cmp-IsAntisymmetric}
 use Rattle.std.specs.FinMap.Entries.{put}
 use Rattle.std.specs.String.{string_bytes}
-use Rattle.office_terms.specs.Tree.{code_cmp}
+use Rattle.office_records.specs.Tree.{code_cmp}
 use Rattle.office_holds.specs.Effects.{with_target, without_target}
 use Rattle.office_holds.specs.Rows.{hold_from, hold_row}
 use Rattle.office_rules.specs.Rows.{all_row_writes, record_row, record_rows, rows_of, write_rows}

@@ -6,13 +6,13 @@ use Rattle.std.specs.FinMap.{nat_cmp-IsAntisymmetric}
 use Rattle.std.proofs.lemmas.Bool.Decides.{nat_tests}
 use Rattle.std.proofs.lemmas.Int.{ints}
 use Rattle.office_days.specs.Limits.{IsDayNumber}
-use Rattle.office_terms.specs.Conditions.{conditions_of_event}
-use Rattle.office_terms.specs.Effects.{with_event}
-use Rattle.office_terms.specs.Forms.{IsWellFormedEvent, IsWellFormedTree, IsText}
-use Rattle.office_terms.specs.Sound.{AreEventsSound}
-use Rattle.office_terms.specs.Tree.{TreeState}
-use Rattle.office_terms.specs.declared.event.Event.{Event}
-use Rattle.office_terms.proofs.Accepting.{none_holds}
+use Rattle.office_records.specs.Conditions.{conditions_of_event}
+use Rattle.office_records.specs.Effects.{with_event}
+use Rattle.office_records.specs.Forms.{IsWellFormedEvent, IsWellFormedTree, IsText}
+use Rattle.office_records.specs.Sound.{AreEventsSound}
+use Rattle.office_records.specs.Tree.{TreeState}
+use Rattle.office_records.specs.declared.event.Event.{Event}
+use Rattle.office_records.proofs.Accepting.{none_holds}
 use Rattle.office_rules.specs.Conditions.{refusals_of_event}
 use Rattle.office_rules.specs.Effects.{after_event}
 use Rattle.office_rules.specs.Meanings.{IsAccepted}

@@ -4,29 +4,29 @@ use Rattle.std.specs.Prelude.{IsSome, IfSome, int_le, not, ◌&&◌, slice_get}
 use Rattle.std.specs.Int.Signed.{≤ℤ_refl}
 use Rattle.std.specs.Option.{option_and_then, option_map}
 use Rattle.office_days.specs.Limits.{IsDayNumber}
-use Rattle.office_terms.specs.Conditions.{first_of, conditions_of_set_record_schedule, conditions_of_confirm, conditions_of_review, conditions_of_receipt, has_other_action}
-use Rattle.office_terms.specs.Disposal.{is_disposal, is_sent, same_action}
-use Rattle.office_terms.specs.Effects.{with_head, reclassified, confirmed, receipted}
-use Rattle.office_terms.specs.Forms.{IsCode, IsText}
-use Rattle.office_terms.specs.Lists.{numbered, edited, edited_at, holds_of, or_else}
-use Rattle.office_terms.specs.Sound.{NamesExist}
-use Rattle.office_terms.specs.Tree.{action_of, due_of, due_by, has_record, is_keep, schedule_of, start_in}
-use Rattle.office_terms.specs.declared.action.Action.{Action}
-use Rattle.office_terms.specs.declared.action.Action.TheVariants as action
-use Rattle.office_terms.specs.declared.aggregation.Aggregation.{Aggregation}
-use Rattle.office_terms.specs.declared.classified.Classified.{Classified}
-use Rattle.office_terms.specs.declared.classified.Classified.TheVariants as classified
-use Rattle.office_terms.specs.declared.head.Confirmation.{Confirmation}
-use Rattle.office_terms.specs.declared.head.Record.{Record}
-use Rattle.office_terms.specs.declared.schedule.Schedule.{Schedule}
-use Rattle.office_terms.specs.declared.status.Status.{Status}
-use Rattle.office_terms.specs.declared.status.Status.TheVariants.{Here, Sent, Received, Ended}
-use Rattle.office_terms.proofs.Accepting.{none_holds, not_false, neither}
-use Rattle.office_terms.proofs.Amending.{IsSound-set_record_schedule, IsSound-reclassify, IsSound-confirm, IsSound-review, IsSound-receipt}
-use Rattle.office_terms.proofs.DueNumbers.{due_of-number}
-use Rattle.office_terms.proofs.Forming.{IsWellFormed-set_record_schedule, IsWellFormed-reclassify, IsWellFormed-confirm, IsWellFormed-review, IsWellFormed-receipt}
-use Rattle.office_terms.proofs.Refs.{RefsDiffer-with_head, RefsDiffer-reclassify}
-use Rattle.office_terms.proofs.Places.{numbered_edited}
+use Rattle.office_records.specs.Conditions.{first_of, conditions_of_set_record_schedule, conditions_of_confirm, conditions_of_review, conditions_of_receipt, has_other_action}
+use Rattle.office_records.specs.Disposal.{is_disposal, is_sent, same_action}
+use Rattle.office_records.specs.Effects.{with_head, reclassified, confirmed, receipted}
+use Rattle.office_records.specs.Forms.{IsCode, IsText}
+use Rattle.office_records.specs.Lists.{numbered, edited, edited_at, holds_of, or_else}
+use Rattle.office_records.specs.Sound.{NamesExist}
+use Rattle.office_records.specs.Tree.{action_of, due_of, due_by, has_record, is_keep, schedule_of, start_in}
+use Rattle.office_records.specs.declared.action.Action.{Action}
+use Rattle.office_records.specs.declared.action.Action.TheVariants as action
+use Rattle.office_records.specs.declared.aggregation.Aggregation.{Aggregation}
+use Rattle.office_records.specs.declared.classified.Classified.{Classified}
+use Rattle.office_records.specs.declared.classified.Classified.TheVariants as classified
+use Rattle.office_records.specs.declared.head.Confirmation.{Confirmation}
+use Rattle.office_records.specs.declared.head.Record.{Record}
+use Rattle.office_records.specs.declared.schedule.Schedule.{Schedule}
+use Rattle.office_records.specs.declared.status.Status.{Status}
+use Rattle.office_records.specs.declared.status.Status.TheVariants.{Here, Sent, Received, Ended}
+use Rattle.office_records.proofs.Accepting.{none_holds, not_false, neither}
+use Rattle.office_records.proofs.Amending.{IsSound-set_record_schedule, IsSound-reclassify, IsSound-confirm, IsSound-review, IsSound-receipt}
+use Rattle.office_records.proofs.DueNumbers.{due_of-number}
+use Rattle.office_records.proofs.Forming.{IsWellFormed-set_record_schedule, IsWellFormed-reclassify, IsWellFormed-confirm, IsWellFormed-review, IsWellFormed-receipt}
+use Rattle.office_records.proofs.Refs.{RefsDiffer-with_head, RefsDiffer-reclassify}
+use Rattle.office_records.proofs.Places.{numbered_edited}
 use Rattle.office_rules.specs.Conditions.{conditions_of_reclassifying, refusals_of_set_record_schedule, refusals_of_reclassify, refusals_of_confirm, refusals_of_review, refusals_of_receipt}
 use Rattle.office_rules.specs.Effects.{after_set_record_schedule, after_reclassify, after_confirm, after_review, after_receipt}
 use Rattle.office_rules.specs.Meanings.{IsAccepted}

@@ -8,8 +8,8 @@ use Rattle.std.specs.Ordering.{is_eq, eq_by_cmp, nat_cmp, ordering_then}
 use Rattle.std.specs.Cmp.{IsTotalOrder, Equal-is, tied_itself, nat_cmp_total, on_total}
 use Rattle.std.proofs.lemmas.Cmp.{then_total}
 use Rattle.std.specs.FinMap.{FinMap, IsAntisymmetric, get, insert, remove, get-insert, get-remove, nat_cmp-IsAntisymmetric}
-use Rattle.office_terms.specs.Lists.{numbered, edited, edited_at}
-use Rattle.office_terms.proofs.Places.{numbered_push}
+use Rattle.office_records.specs.Lists.{numbered, edited, edited_at}
+use Rattle.office_records.proofs.Places.{numbered_push}
 use Rattle.office_rules.specs.State.{entry_cmp}
 
 -- ---- things that are there or not

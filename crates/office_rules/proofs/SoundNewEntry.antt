@@ -4,13 +4,13 @@ use Rattle.std.specs.Prelude.{IsSome, IfSome}
 use Rattle.std.specs.Option.{unwrap_or, option_map, option_and_then}
 use Rattle.std.specs.FinMap.{get}
 use Rattle.office_days.specs.Limits.{IsDueNumber}
-use Rattle.office_terms.specs.Disposal.{confirmation_of}
-use Rattle.office_terms.specs.Forms.{IsCode, IsText, IsWellFormedConfirmation}
-use Rattle.office_terms.specs.Tree.{class_of, plan_of}
-use Rattle.office_terms.specs.declared.head.Confirmation.{Confirmation}
-use Rattle.office_terms.specs.declared.head.Record.{Record}
-use Rattle.office_terms.specs.declared.status.Status.{Status}
-use Rattle.office_terms.proofs.Places.{numbered_within}
+use Rattle.office_records.specs.Disposal.{confirmation_of}
+use Rattle.office_records.specs.Forms.{IsCode, IsText, IsWellFormedConfirmation}
+use Rattle.office_records.specs.Tree.{class_of, plan_of}
+use Rattle.office_records.specs.declared.head.Confirmation.{Confirmation}
+use Rattle.office_records.specs.declared.head.Record.{Record}
+use Rattle.office_records.specs.declared.status.Status.{Status}
+use Rattle.office_records.proofs.Places.{numbered_within}
 use Rattle.office_holds.specs.Holds.{least_covering}
 use Rattle.office_proof.specs.Forms.{IsWellFormedEntry}
 use Rattle.office_proof.specs.declared.outcome.Outcome.{Outcome}

@@ -4,16 +4,16 @@ use Rattle.std.specs.Prelude.{IsSome, IfSome, IsTrue}
 use Rattle.std.specs.FinMap.{get}
 use Rattle.std.proofs.lemmas.Int.{ints}
 use Rattle.office_days.specs.Limits.{IsDayNumber}
-use Rattle.office_terms.specs.Disposal.{is_disposal}
-use Rattle.office_terms.specs.Forms.{IsWellFormedTree}
-use Rattle.office_terms.specs.Lists.{edited}
-use Rattle.office_terms.specs.Sound.{AreEventsSound, FitsLimits, NamesExist}
-use Rattle.office_terms.specs.Tree.{TreeState}
-use Rattle.office_terms.specs.declared.aggregation.Aggregation.{Aggregation}
-use Rattle.office_terms.specs.declared.head.Confirmation.{Confirmation}
-use Rattle.office_terms.specs.declared.head.Record.{Record}
-use Rattle.office_terms.proofs.Forming.{EachNumbered}
-use Rattle.office_terms.proofs.Places.{numbered_push, numbered_edited, length-edited}
+use Rattle.office_records.specs.Disposal.{is_disposal}
+use Rattle.office_records.specs.Forms.{IsWellFormedTree}
+use Rattle.office_records.specs.Lists.{edited}
+use Rattle.office_records.specs.Sound.{AreEventsSound, FitsLimits, NamesExist}
+use Rattle.office_records.specs.Tree.{TreeState}
+use Rattle.office_records.specs.declared.aggregation.Aggregation.{Aggregation}
+use Rattle.office_records.specs.declared.head.Confirmation.{Confirmation}
+use Rattle.office_records.specs.declared.head.Record.{Record}
+use Rattle.office_records.proofs.Forming.{EachNumbered}
+use Rattle.office_records.proofs.Places.{numbered_push, numbered_edited, length-edited}
 use Rattle.office_holds.specs.Forms.{AreWellFormedHolds, FitsHoldLimits}
 use Rattle.office_holds.specs.Holds.{HoldMap}
 use Rattle.office_holds.specs.Sound.{TargetsExist, NoHoldIsAfter}

@@ -3,13 +3,13 @@ use Rattle.std.proofs.Common.{◌≡◌, ℕ, zero, suc, ◌<◌, ◌≤◌, Lis
 use Rattle.std.specs.Prelude.{slice_get, IsSome}
 use Rattle.std.specs.Option.{is_some}
 use Rattle.std.specs.FinMap.{FinMap, get}
-use Rattle.office_terms.specs.Lists.{numbered}
-use Rattle.office_terms.specs.Sound.{IsForest, NamesExist, Names}
-use Rattle.office_terms.specs.Tree.{TreeState, code_cmp, aggregation_class_in, class_of, plan_of}
-use Rattle.office_terms.specs.declared.aggregation.Aggregation.{Aggregation}
-use Rattle.office_terms.specs.declared.head.Record.{Record}
-use Rattle.office_terms.proofs.Plan.{plan_own, plan_class}
-use Rattle.office_terms.proofs.Walk.{ArePlaced, placed_in, placed_parent, placed_root, walk_here, walk_on, class_own, class_above}
+use Rattle.office_records.specs.Lists.{numbered}
+use Rattle.office_records.specs.Sound.{IsForest, NamesExist, Names}
+use Rattle.office_records.specs.Tree.{TreeState, code_cmp, aggregation_class_in, class_of, plan_of}
+use Rattle.office_records.specs.declared.aggregation.Aggregation.{Aggregation}
+use Rattle.office_records.specs.declared.head.Record.{Record}
+use Rattle.office_records.proofs.Plan.{plan_own, plan_class}
+use Rattle.office_records.proofs.Walk.{ArePlaced, placed_in, placed_parent, placed_root, walk_here, walk_on, class_own, class_above}
 use Rattle.office_rules.proofs.SoundMaps.{some_is}
 
 numbered_there_at : {A : Type 0} (xs : List A) (i : ℕ) → i < length xs → (x : A) × (slice_get xs i ≡ Some x)

@@ -6,10 +6,10 @@ use Rattle.std.specs.Cmp.{nat_cmp_total}
 use Rattle.std.specs.FinMap.{get, insert, nat_cmp-IsAntisymmetric}
 use Rattle.std.specs.Int.Signed.{≤ℤ_refl}
 use Rattle.office_days.specs.Limits.{IsDayNumber}
-use Rattle.office_terms.specs.Forms.{IsText}
-use Rattle.office_terms.specs.Lists.{numbered}
-use Rattle.office_terms.proofs.Accepting.{none_holds, below}
-use Rattle.office_terms.proofs.Places.{numbered_push, numbered_edited, length-edited}
+use Rattle.office_records.specs.Forms.{IsText}
+use Rattle.office_records.specs.Lists.{numbered}
+use Rattle.office_records.proofs.Accepting.{none_holds, below}
+use Rattle.office_records.proofs.Places.{numbered_push, numbered_edited, length-edited}
 use Rattle.office_proof.specs.declared.entry.Entry.{Entry}
 use Rattle.office_rules.specs.Conditions.{conditions_of_open_run, refusals_of_open_run}
 use Rattle.office_rules.specs.Effects.{after_open_run, new_run}

@@ -1,15 +1,15 @@
 -- An act on schedules and classes keeps a state sound.
 use Rattle.std.proofs.Common.{ℕ, ℤ, List, length}
 use Rattle.office_days.specs.Limits.{IsDayNumber}
-use Rattle.office_terms.specs.Conditions.{conditions_of_add_schedule, conditions_of_add_class, conditions_of_set_class_schedule}
-use Rattle.office_terms.specs.Effects.{added_schedule, added_class, with_class_schedule}
-use Rattle.office_terms.specs.Forms.{IsCode, IsWellFormedSchedule, IsWellFormedClass}
-use Rattle.office_terms.specs.declared.class.Class.{Class}
-use Rattle.office_terms.specs.declared.schedule.Schedule.{Schedule}
-use Rattle.office_terms.proofs.Amending.{IsSound-set_class_schedule}
-use Rattle.office_terms.proofs.Forming.{IsWellFormed-add_schedule, IsWellFormed-add_class, IsWellFormed-set_class_schedule}
-use Rattle.office_terms.proofs.Inserting.{insert_keeps, amended_keeps}
-use Rattle.office_terms.proofs.Keeping.{IsSound-add_schedule, IsSound-add_class}
+use Rattle.office_records.specs.Conditions.{conditions_of_add_schedule, conditions_of_add_class, conditions_of_set_class_schedule}
+use Rattle.office_records.specs.Effects.{added_schedule, added_class, with_class_schedule}
+use Rattle.office_records.specs.Forms.{IsCode, IsWellFormedSchedule, IsWellFormedClass}
+use Rattle.office_records.specs.declared.class.Class.{Class}
+use Rattle.office_records.specs.declared.schedule.Schedule.{Schedule}
+use Rattle.office_records.proofs.Amending.{IsSound-set_class_schedule}
+use Rattle.office_records.proofs.Forming.{IsWellFormed-add_schedule, IsWellFormed-add_class, IsWellFormed-set_class_schedule}
+use Rattle.office_records.proofs.Inserting.{insert_keeps, amended_keeps}
+use Rattle.office_records.proofs.Keeping.{IsSound-add_schedule, IsSound-add_class}
 use Rattle.office_rules.specs.Conditions.{refusals_of_add_schedule, refusals_of_add_class, refusals_of_set_class_schedule}
 use Rattle.office_rules.specs.Effects.{after_add_schedule, after_add_class, after_set_class_schedule}
 use Rattle.office_rules.specs.Meanings.{IsAccepted}

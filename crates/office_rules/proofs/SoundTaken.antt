@@ -3,15 +3,15 @@ use Rattle.std.proofs.Common.{◌≡◌, ◌≢◌, ℕ, zero, suc, ◌+◌, ◌
 use Rattle.std.specs.Prelude.{IsSome, ◌&&◌, int_le}
 use Rattle.std.specs.Option.{option_and_then}
 use Rattle.std.specs.List.{find}
-use Rattle.office_terms.specs.Disposal.{is_disposal, counts, confirmation_of}
-use Rattle.office_terms.specs.Lists.{numbered, numbers_after, holds_of}
-use Rattle.office_terms.specs.Tree.{TreeState, action_of, due_of}
-use Rattle.office_terms.specs.declared.action.Action.{Action}
-use Rattle.office_terms.specs.declared.action.Action.TheVariants as action
-use Rattle.office_terms.specs.declared.head.Confirmation.{Confirmation}
-use Rattle.office_terms.specs.declared.head.Record.{Record}
-use Rattle.office_terms.specs.declared.status.Status.{Status}
-use Rattle.office_terms.specs.declared.status.Status.TheVariants.{Here, Sent, Received, Ended}
+use Rattle.office_records.specs.Disposal.{is_disposal, counts, confirmation_of}
+use Rattle.office_records.specs.Lists.{numbered, numbers_after, holds_of}
+use Rattle.office_records.specs.Tree.{TreeState, action_of, due_of}
+use Rattle.office_records.specs.declared.action.Action.{Action}
+use Rattle.office_records.specs.declared.action.Action.TheVariants as action
+use Rattle.office_records.specs.declared.head.Confirmation.{Confirmation}
+use Rattle.office_records.specs.declared.head.Record.{Record}
+use Rattle.office_records.specs.declared.status.Status.{Status}
+use Rattle.office_records.specs.declared.status.Status.TheVariants.{Here, Sent, Received, Ended}
 use Rattle.office_holds.specs.Holds.{is_held}
 use Rattle.office_proof.specs.declared.outcome.Outcome.{Outcome}
 use Rattle.office_proof.specs.declared.outcome.Outcome.TheVariants as outcome

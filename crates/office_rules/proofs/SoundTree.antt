@@ -6,18 +6,18 @@ use Rattle.std.specs.FinMap.{get, insert, get-insert, nat_cmp-IsAntisymmetric}
 use Rattle.std.specs.Int.Signed.{≤ℤ_refl}
 use Rattle.std.specs.Ordering.{eq_by_cmp, nat_cmp}
 use Rattle.office_days.specs.Limits.{IsDayNumber}
-use Rattle.office_terms.specs.Conditions.{conditions_of_add_aggregation, conditions_of_close_aggregation, conditions_of_add_record}
-use Rattle.office_terms.specs.Effects.{added_aggregation, closed_aggregation, added_record}
-use Rattle.office_terms.specs.Forms.{IsCode, IsText, IsWellFormedRecord}
-use Rattle.office_terms.specs.Lists.{numbered}
-use Rattle.office_terms.specs.declared.aggregation.Aggregation.{Aggregation}
-use Rattle.office_terms.specs.declared.head.Record.{Record}
-use Rattle.office_terms.specs.declared.status.Status.{Status}
-use Rattle.office_terms.specs.declared.status.Status.TheVariants.{Here, Received, Ended}
-use Rattle.office_terms.proofs.Forming.{IsWellFormed-add_aggregation, IsWellFormed-close_aggregation, IsWellFormed-add_record}
-use Rattle.office_terms.proofs.Keeping.{IsSound-add_aggregation, IsSound-close_aggregation, IsSound-add_record}
-use Rattle.office_terms.proofs.Refs.{RefsDiffer-add_aggregation, RefsDiffer-close_aggregation, RefsDiffer-add_record}
-use Rattle.office_terms.proofs.Places.{numbered_push, numbered_within}
+use Rattle.office_records.specs.Conditions.{conditions_of_add_aggregation, conditions_of_close_aggregation, conditions_of_add_record}
+use Rattle.office_records.specs.Effects.{added_aggregation, closed_aggregation, added_record}
+use Rattle.office_records.specs.Forms.{IsCode, IsText, IsWellFormedRecord}
+use Rattle.office_records.specs.Lists.{numbered}
+use Rattle.office_records.specs.declared.aggregation.Aggregation.{Aggregation}
+use Rattle.office_records.specs.declared.head.Record.{Record}
+use Rattle.office_records.specs.declared.status.Status.{Status}
+use Rattle.office_records.specs.declared.status.Status.TheVariants.{Here, Received, Ended}
+use Rattle.office_records.proofs.Forming.{IsWellFormed-add_aggregation, IsWellFormed-close_aggregation, IsWellFormed-add_record}
+use Rattle.office_records.proofs.Keeping.{IsSound-add_aggregation, IsSound-close_aggregation, IsSound-add_record}
+use Rattle.office_records.proofs.Refs.{RefsDiffer-add_aggregation, RefsDiffer-close_aggregation, RefsDiffer-add_record}
+use Rattle.office_records.proofs.Places.{numbered_push, numbered_within}
 use Rattle.office_rules.specs.Conditions.{refusals_of_add_aggregation, refusals_of_close_aggregation, refusals_of_add_record}
 use Rattle.office_rules.specs.Effects.{after_add_aggregation, after_close_aggregation, new_head, with_new_record}
 use Rattle.office_rules.specs.Meanings.{IsAccepted, IsWellFormedNewRecord}

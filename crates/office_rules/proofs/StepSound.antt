@@ -2,8 +2,8 @@
 use Rattle.std.proofs.Common.{◌≡◌, ℕ, ℤ, Option, Some, None, refl}
 use Rattle.office_days.specs.Limits.{IsDayNumber}
 use Rattle.office_base.specs.declared.refusal.Refusal.{Refusal}
-use Rattle.office_terms.specs.declared.class.Class.{Class}
-use Rattle.office_terms.specs.declared.schedule.Schedule.{Schedule}
+use Rattle.office_records.specs.declared.class.Class.{Class}
+use Rattle.office_records.specs.declared.schedule.Schedule.{Schedule}
 use Rattle.office_rules.specs.Acts.{step}
 use Rattle.office_rules.specs.Conditions.{same_record}
 use Rattle.office_rules.specs.Forms.{IsWellFormedAct}

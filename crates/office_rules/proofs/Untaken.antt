@@ -2,8 +2,8 @@
 use Rattle.std.proofs.Common.{◌≡◌, ℕ, suc, List, [], ◌∷◌, refl, ◌∙◌, arith}
 use Rattle.std.specs.FinMap.{get}
 use Rattle.std.specs.List.{Contains}
-use Rattle.office_terms.specs.Lists.{numbered}
-use Rattle.office_terms.specs.declared.status.Status.{Status}
+use Rattle.office_records.specs.Lists.{numbered}
+use Rattle.office_records.specs.declared.status.Status.{Status}
 use Rattle.office_rules.specs.Disposing.{outcome_of}
 use Rattle.office_rules.specs.Runs.{all_contents, all_statuses, contents_with, statuses_with}
 use Rattle.office_rules.specs.State.{ByteMap, Office}

@@ -3,11 +3,11 @@ use Rattle.std.proofs.Common.{◌≡◌, ℕ, List, [], ◌∷◌, Some, None, �
 use Rattle.std.specs.Prelude.{codes}
 use Rattle.std.specs.Option.{option_and_then, option_map}
 use Rattle.std.specs.FinMap.{get, entries, empty}
-use Rattle.office_terms.specs.Lists.{numbered, or_else}
-use Rattle.office_terms.specs.Tree.{TreeState, code_cmp, class_in, class_of, plan_in, plan_of, above_in, chain, start_in, due_by, due_of, action_of}
-use Rattle.office_terms.specs.declared.action.Action.TheVariants.{Destroy}
-use Rattle.office_terms.specs.declared.class.Class.{Class}
-use Rattle.office_terms.specs.declared.schedule.Schedule.{Schedule}
+use Rattle.office_records.specs.Lists.{numbered, or_else}
+use Rattle.office_records.specs.Tree.{TreeState, code_cmp, class_in, class_of, plan_in, plan_of, above_in, chain, start_in, due_by, due_of, action_of}
+use Rattle.office_records.specs.declared.action.Action.TheVariants.{Destroy}
+use Rattle.office_records.specs.declared.class.Class.{Class}
+use Rattle.office_records.specs.declared.schedule.Schedule.{Schedule}
 use Rattle.office_rules.specs.Worked.{filing_day, filing_due, yearly, class_titled, with_yearly, with_class, classed_office, base_office}
 use Rattle.office_rules.proofs.WorkedDays.{due_from_filing}
 use Rattle.office_rules.proofs.WorkedMaps.{no_entries, entries_inserted, get_of_entries}

@@ -1,10 +1,10 @@
 -- What is closed, spent and last added in the worked office.
 use Rattle.std.proofs.Common.{◌≡◌, [], ◌∷◌, Some, None, refl}
 use Rattle.office_base.specs.declared.refusal.Refusal.TheVariants.{ChildOpen}
-use Rattle.office_terms.specs.Conditions.{first_of}
-use Rattle.office_terms.specs.Disposal.{is_spent}
-use Rattle.office_terms.specs.Tree.{last_addition, chain, above_in}
-use Rattle.office_terms.specs.declared.status.Status.{Status}
+use Rattle.office_records.specs.Conditions.{first_of}
+use Rattle.office_records.specs.Disposal.{is_spent}
+use Rattle.office_records.specs.Tree.{last_addition, chain, above_in}
+use Rattle.office_records.specs.declared.status.Status.{Status}
 use Rattle.office_rules.specs.Conditions.{refusals_of_close_aggregation}
 use Rattle.office_rules.specs.Meanings.{IsAccepted}
 use Rattle.office_rules.specs.Runs.{spent_list}

@@ -5,13 +5,13 @@ use Rattle.std.specs.Option.{option_map}
 use Rattle.std.specs.Ordering.{int_eq}
 use Rattle.office_base.specs.declared.refusal.Refusal.{Refusal}
 use Rattle.office_base.specs.declared.refusal.Refusal.TheVariants.{DayBack, NoSuch, Ended, InTransfer, NotDue, WrongAction}
-use Rattle.office_terms.specs.Conditions.{first_of, has_ended, is_under_way}
-use Rattle.office_terms.specs.Disposal.{same_action, confirmation_of, counts}
-use Rattle.office_terms.specs.Lists.{holds_of}
-use Rattle.office_terms.specs.Tree.{class_in, above_in, chain, start_in, has_record, class_of, plan_of, due_of, action_of}
-use Rattle.office_terms.specs.declared.action.Action.{Action}
-use Rattle.office_terms.specs.declared.action.Action.TheVariants.{Review, Transfer, Destroy}
-use Rattle.office_terms.specs.declared.head.Confirmation.{Confirmation}
+use Rattle.office_records.specs.Conditions.{first_of, has_ended, is_under_way}
+use Rattle.office_records.specs.Disposal.{same_action, confirmation_of, counts}
+use Rattle.office_records.specs.Lists.{holds_of}
+use Rattle.office_records.specs.Tree.{class_in, above_in, chain, start_in, has_record, class_of, plan_of, due_of, action_of}
+use Rattle.office_records.specs.declared.action.Action.{Action}
+use Rattle.office_records.specs.declared.action.Action.TheVariants.{Review, Transfer, Destroy}
+use Rattle.office_records.specs.declared.head.Confirmation.{Confirmation}
 use Rattle.office_rules.specs.Conditions.{refusals_of_confirm, refusals_of_open_run}
 use Rattle.office_rules.specs.Meanings.{IsAccepted}
 use Rattle.office_rules.specs.State.{Office}

@@ -6,13 +6,13 @@ use Rattle.std.specs.FinMap.{FinMap, get, get-empty, nat_cmp-IsAntisymmetric}
 use Rattle.std.specs.Option.{option_map}
 use Rattle.std.specs.Ordering.{int_eq, nat_cmp}
 use Rattle.office_base.specs.declared.refusal.Refusal.TheVariants.{NotYet}
-use Rattle.office_terms.specs.Conditions.{first_of}
-use Rattle.office_terms.specs.Disposal.{confirmation_of, counts, same_action}
-use Rattle.office_terms.specs.Lists.{holds_of}
-use Rattle.office_terms.specs.Tree.{action_of, due_by, due_of, plan_in, plan_of, start_in}
-use Rattle.office_terms.specs.declared.action.Action.TheVariants.{Destroy}
-use Rattle.office_terms.specs.declared.event.Event.{Event}
-use Rattle.office_terms.specs.declared.head.Confirmation.{Confirmation}
+use Rattle.office_records.specs.Conditions.{first_of}
+use Rattle.office_records.specs.Disposal.{confirmation_of, counts, same_action}
+use Rattle.office_records.specs.Lists.{holds_of}
+use Rattle.office_records.specs.Tree.{action_of, due_by, due_of, plan_in, plan_of, start_in}
+use Rattle.office_records.specs.declared.action.Action.TheVariants.{Destroy}
+use Rattle.office_records.specs.declared.event.Event.{Event}
+use Rattle.office_records.specs.declared.head.Confirmation.{Confirmation}
 use Rattle.office_rules.specs.Conditions.{refusals_of_confirm, refusals_of_event}
 use Rattle.office_rules.specs.Meanings.{IsAccepted}
 use Rattle.office_rules.specs.Worked.{again_recorded, by_event, classed_office, day_after_due, event_confirmed, event_due, event_office, later_day, later_due, leap_day, recorded_office, recording_day, yearly}

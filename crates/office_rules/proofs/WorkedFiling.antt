@@ -6,9 +6,9 @@ use Rattle.std.specs.FinMap.{FinMap, contains_key, len, entries, find, len-entri
 use Rattle.sha2.specs.Sha256.{sha256}
 use Rattle.office_base.specs.declared.refusal.Refusal.{Refusal}
 use Rattle.office_base.specs.declared.refusal.Refusal.TheVariants.{DayBack, Exists, NoSuch, Full, Closed, TooDeep, NeedsClass}
-use Rattle.office_terms.specs.Conditions.{first_of, conditions_of_add_record}
-use Rattle.office_terms.specs.Effects.{added_record}
-use Rattle.office_terms.specs.Tree.{code_cmp}
+use Rattle.office_records.specs.Conditions.{first_of, conditions_of_add_record}
+use Rattle.office_records.specs.Effects.{added_record}
+use Rattle.office_records.specs.Tree.{code_cmp}
 use Rattle.office_rules.specs.Conditions.{dated, refusals_of_add_schedule, refusals_of_add_class, refusals_of_add_aggregation, refusals_of_add_record}
 use Rattle.office_rules.specs.Effects.{with_tree, after_add_record}
 use Rattle.office_rules.specs.Meanings.{IsAccepted}

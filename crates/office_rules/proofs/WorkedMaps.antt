@@ -4,8 +4,8 @@ use Rattle.std.specs.FinMap.{FinMap, get, empty, entries, insert, find, entries-
 use Rattle.std.specs.FinMap.Entries.{put}
 use Rattle.std.specs.Cmp.Lexicographic.{nat_list_cmp_total}
 use Rattle.std.specs.declared.cmp.Ordering.{Ordering}
-use Rattle.office_terms.specs.Lists.{amended, amended_by}
-use Rattle.office_terms.specs.Tree.{code_cmp}
+use Rattle.office_records.specs.Lists.{amended, amended_by}
+use Rattle.office_records.specs.Tree.{code_cmp}
 
 no_length : {A : Type 0} (es : List A) → length es ≡ 0 → es ≡ []
 no_length [] e = refl

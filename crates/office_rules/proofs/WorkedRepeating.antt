@@ -6,8 +6,8 @@ use Rattle.std.specs.Str.{bytes_eq}
 use Rattle.std.proofs.lemmas.Slice.Eq.{bytes_eq-Decides}
 use Rattle.sha2.specs.Sha256.{sha256}
 use Rattle.office_base.specs.declared.refusal.Refusal.TheVariants.{Exists}
-use Rattle.office_terms.specs.Conditions.{first_of, conditions_of_add_record}
-use Rattle.office_terms.specs.declared.head.Record.{Record}
+use Rattle.office_records.specs.Conditions.{first_of, conditions_of_add_record}
+use Rattle.office_records.specs.declared.head.Record.{Record}
 use Rattle.office_rules.specs.Conditions.{dated, refusals_of_add_record, is_same_record, same_record}
 use Rattle.office_rules.specs.Effects.{with_new_record}
 use Rattle.office_rules.specs.NewRecords.{NewRecord}

@@ -7,10 +7,10 @@ use Rattle.std.proofs.lemmas.Slice.Eq.{bytes_eq-Decides}
 use Rattle.sha2.specs.Sha256.{sha256}
 use Rattle.office_base.specs.declared.refusal.Refusal.{Refusal}
 use Rattle.office_base.specs.declared.refusal.Refusal.TheVariants.{DayBack, NoSuch, Ended, NotSent, WrongDigest}
-use Rattle.office_terms.specs.Conditions.{first_of}
-use Rattle.office_terms.specs.Tree.{status_of, action_of}
-use Rattle.office_terms.specs.declared.action.Action.TheVariants as action
-use Rattle.office_terms.specs.declared.status.Status.TheVariants as status
+use Rattle.office_records.specs.Conditions.{first_of}
+use Rattle.office_records.specs.Tree.{status_of, action_of}
+use Rattle.office_records.specs.declared.action.Action.TheVariants as action
+use Rattle.office_records.specs.declared.status.Status.TheVariants as status
 use Rattle.office_holds.specs.Holds.{is_held}
 use Rattle.office_proof.specs.declared.outcome.Outcome.TheVariants as outcome
 use Rattle.office_rules.specs.Conditions.{refusals_of_receipt}

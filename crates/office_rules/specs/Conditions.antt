@@ -8,18 +8,18 @@ use Rattle.std.specs.FinMap.{get, contains_key}
 use Rattle.sha2.specs.Sha256.{sha256}
 use Rattle.office_base.specs.declared.refusal.Refusal.{Refusal}
 use Rattle.office_base.specs.declared.refusal.Refusal.TheVariants.{DayBack, Exists, NoSuch, Full, NeedsClass, HeldClass, Lifted, Ended, InTransfer, RunOpen, NoRun}
-use Rattle.office_terms.specs.Conditions.{conditions_of_add_schedule, conditions_of_add_class, conditions_of_set_class_schedule, conditions_of_add_aggregation, conditions_of_close_aggregation, conditions_of_add_record, conditions_of_set_record_schedule, conditions_of_confirm, conditions_of_review, conditions_of_receipt, conditions_of_event, lacks_class, lacks_classified, is_root, classified_status}
-use Rattle.office_terms.specs.Disposal.{is_ended, is_in_transfer}
-use Rattle.office_terms.specs.Lists.{holds_of}
-use Rattle.office_terms.specs.Tree.{TreeState, has_aggregation, has_record, status_of}
-use Rattle.office_terms.specs.declared.action.Action.{Action}
-use Rattle.office_terms.specs.declared.class.Class.{Class}
-use Rattle.office_terms.specs.declared.classified.Classified.{Classified}
-use Rattle.office_terms.specs.declared.head.Record.{Record}
-use Rattle.office_terms.specs.declared.status.Status.{Status}
+use Rattle.office_records.specs.Conditions.{conditions_of_add_schedule, conditions_of_add_class, conditions_of_set_class_schedule, conditions_of_add_aggregation, conditions_of_close_aggregation, conditions_of_add_record, conditions_of_set_record_schedule, conditions_of_confirm, conditions_of_review, conditions_of_receipt, conditions_of_event, lacks_class, lacks_classified, is_root, classified_status}
+use Rattle.office_records.specs.Disposal.{is_ended, is_in_transfer}
+use Rattle.office_records.specs.Lists.{holds_of}
+use Rattle.office_records.specs.Tree.{TreeState, has_aggregation, has_record, status_of}
+use Rattle.office_records.specs.declared.action.Action.{Action}
+use Rattle.office_records.specs.declared.class.Class.{Class}
+use Rattle.office_records.specs.declared.classified.Classified.{Classified}
+use Rattle.office_records.specs.declared.head.Record.{Record}
+use Rattle.office_records.specs.declared.status.Status.{Status}
 use Rattle.office_holds.specs.Conditions.{conditions_of_place_hold, conditions_of_hold_off, conditions_of_lift_hold, holds_target, has_all_targets, is_lifted, would_leave_held_class}
-use Rattle.office_terms.specs.declared.target.Target.{Target}
-use Rattle.office_terms.specs.declared.target.Target.TheVariants as target
+use Rattle.office_records.specs.declared.target.Target.{Target}
+use Rattle.office_records.specs.declared.target.Target.TheVariants as target
 use Rattle.office_rules.specs.NewRecords.{NewRecord}
 use Rattle.office_rules.specs.Runs.{open_run}
 use Rattle.office_rules.specs.State.{Office}

@@ -2,13 +2,13 @@
 -- disposal holding services; statuses, outcomes and entries are own.
 use Rattle.std.specs.Prelude.{ℕ, Bool, true, false, ◌&&◌, List, [], Option, Some, None, ℤ, int_le, if◌then◌else◌}
 use Rattle.std.specs.Option.{unwrap_or, option_map}
-use Rattle.office_terms.specs.Disposal.{is_disposal, counts, confirmation_of}
-use Rattle.office_terms.specs.Lists.{holds_of}
-use Rattle.office_terms.specs.Tree.{TreeState, class_of, plan_of, action_of, due_of, status_of}
-use Rattle.office_terms.specs.declared.action.Action.{Action}
-use Rattle.office_terms.specs.declared.action.Action.TheVariants as action
-use Rattle.office_terms.specs.declared.status.Status.{Status}
-use Rattle.office_terms.specs.declared.status.Status.TheVariants as status
+use Rattle.office_records.specs.Disposal.{is_disposal, counts, confirmation_of}
+use Rattle.office_records.specs.Lists.{holds_of}
+use Rattle.office_records.specs.Tree.{TreeState, class_of, plan_of, action_of, due_of, status_of}
+use Rattle.office_records.specs.declared.action.Action.{Action}
+use Rattle.office_records.specs.declared.action.Action.TheVariants as action
+use Rattle.office_records.specs.declared.status.Status.{Status}
+use Rattle.office_records.specs.declared.status.Status.TheVariants as status
 use Rattle.office_holds.specs.Holds.{is_held, least_covering}
 use Rattle.office_proof.specs.declared.entry.Entry.{Entry}
 use Rattle.office_proof.specs.declared.outcome.Outcome.{Outcome}

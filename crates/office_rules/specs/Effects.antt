@@ -3,16 +3,16 @@
 use Rattle.std.specs.Prelude.{ℕ, suc, false, List, [], ◌∷◌, ◌++◌, length, Option, None, ℤ}
 use Rattle.std.specs.FinMap.{insert}
 use Rattle.sha2.specs.Sha256.{sha256}
-use Rattle.office_terms.specs.Effects.{added_schedule, added_class, with_class_schedule, added_aggregation, closed_aggregation, added_record, with_record_schedule, reclassified, confirmed, reviewed, receipted, with_event}
-use Rattle.office_terms.specs.Tree.{TreeState}
-use Rattle.office_terms.specs.declared.action.Action.{Action}
-use Rattle.office_terms.specs.declared.class.Class.{Class}
-use Rattle.office_terms.specs.declared.classified.Classified.{Classified}
-use Rattle.office_terms.specs.declared.head.Record.{Record}
-use Rattle.office_terms.specs.declared.schedule.Schedule.{Schedule}
+use Rattle.office_records.specs.Effects.{added_schedule, added_class, with_class_schedule, added_aggregation, closed_aggregation, added_record, with_record_schedule, reclassified, confirmed, reviewed, receipted, with_event}
+use Rattle.office_records.specs.Tree.{TreeState}
+use Rattle.office_records.specs.declared.action.Action.{Action}
+use Rattle.office_records.specs.declared.class.Class.{Class}
+use Rattle.office_records.specs.declared.classified.Classified.{Classified}
+use Rattle.office_records.specs.declared.head.Record.{Record}
+use Rattle.office_records.specs.declared.schedule.Schedule.{Schedule}
 use Rattle.office_holds.specs.Effects.{placed_hold, held_on, held_off, lifted_hold}
 use Rattle.office_holds.specs.Holds.{HoldMap}
-use Rattle.office_terms.specs.declared.target.Target.{Target}
+use Rattle.office_records.specs.declared.target.Target.{Target}
 use Rattle.office_rules.specs.NewRecords.{NewRecord}
 use Rattle.office_rules.specs.State.{Office, State}
 use Rattle.office_rules.specs.declared.run.Run.{Run}

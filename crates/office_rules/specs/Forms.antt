@@ -1,7 +1,7 @@
 -- When what an act asks for is of its form and within its limits; the types of the code see to it. Source: own.
 use Rattle.std.specs.Prelude.{◌≤◌, IfSome}
 use Rattle.office_days.specs.Limits.{IsDayNumber, longest}
-use Rattle.office_terms.specs.Forms.{IsCode, IsText}
+use Rattle.office_records.specs.Forms.{IsCode, IsText}
 use Rattle.office_holds.specs.Forms.{IsWellFormedTarget}
 use Rattle.office_rules.specs.Meanings.{IsWellFormedNewRecord}
 use Rattle.office_rules.specs.NewRecords.{new_record}

@@ -5,16 +5,16 @@ use Rattle.std.specs.List.{All, Contains}
 use Rattle.std.specs.Option.{is_none, is_some}
 use Rattle.std.specs.Ordering.{nat_cmp}
 use Rattle.office_days.specs.Limits.{IsDayNumber}
-use Rattle.office_terms.specs.Disposal.{is_ended}
-use Rattle.office_terms.specs.Examined.{AllHaveDocuments, AreContentsShort, IsTreeBy}
-use Rattle.office_terms.specs.Forms.{IsWellFormedTree}
-use Rattle.office_terms.specs.Loading.{is_there}
-use Rattle.office_terms.specs.Lists.{holds_of, numbered}
-use Rattle.office_terms.specs.Sound as tree
-use Rattle.office_terms.specs.Sound.{AreEventsSound}
-use Rattle.office_terms.specs.Tree.{status_of}
-use Rattle.office_terms.specs.declared.status.Status.{Status}
-use Rattle.office_terms.specs.declared.status.Status.TheVariants.{Ended}
+use Rattle.office_records.specs.Disposal.{is_ended}
+use Rattle.office_records.specs.Examined.{AllHaveDocuments, AreContentsShort, IsTreeBy}
+use Rattle.office_records.specs.Forms.{IsWellFormedTree}
+use Rattle.office_records.specs.Loading.{is_there}
+use Rattle.office_records.specs.Lists.{holds_of, numbered}
+use Rattle.office_records.specs.Sound as tree
+use Rattle.office_records.specs.Sound.{AreEventsSound}
+use Rattle.office_records.specs.Tree.{status_of}
+use Rattle.office_records.specs.declared.status.Status.{Status}
+use Rattle.office_records.specs.declared.status.Status.TheVariants.{Ended}
 use Rattle.office_holds.specs.Forms.{AreWellFormedHolds, FitsHoldLimits}
 use Rattle.office_holds.specs.Sound.{NoHoldIsAfter, TargetsExist}
 use Rattle.office_proof.specs.Forms.{IsWellFormedEntry}

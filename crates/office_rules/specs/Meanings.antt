@@ -1,8 +1,8 @@
 -- Words in which the laws are reported. Source: own.
 use Rattle.std.specs.Prelude.{◌≡◌, ◌<◌, ◌≤◌, ℕ, Bool, true, List, length, Option, Some, None, IsTrue}
 use Rattle.office_base.specs.declared.refusal.Refusal.{Refusal}
-use Rattle.office_terms.specs.Conditions.{first_of}
-use Rattle.office_terms.specs.Forms.{IsCode, IsText}
+use Rattle.office_records.specs.Conditions.{first_of}
+use Rattle.office_records.specs.Forms.{IsCode, IsText}
 use Rattle.office_days.specs.Limits.{IsDayNumber}
 use Rattle.office_holds.specs.Holds.{is_held}
 use Rattle.office_proof.specs.declared.outcome.Outcome.TheVariants.{Destroyed, Transferred}

@@ -8,12 +8,12 @@ use Rattle.std.specs.Ordering.{int_cmp, nat_cmp, ordering_then}
 use Rattle.std.specs.declared.cmp.Ordering.{Ordering}
 use Rattle.std.specs.FinMap.{values}
 use Rattle.office_days.specs.Due.{deadline_from}
-use Rattle.office_terms.specs.Disposal.{counts, is_here}
-use Rattle.office_terms.specs.Lists.{holds_of, numbered}
-use Rattle.office_terms.specs.Tree.{TreeState, action_of, class_of, due_of, event_day, plan_of, status_of}
-use Rattle.office_terms.specs.declared.action.Action.TheVariants.{Keep}
-use Rattle.office_terms.specs.declared.head.Record.{Record}
-use Rattle.office_terms.specs.declared.status.Status.{Status}
+use Rattle.office_records.specs.Disposal.{counts, is_here}
+use Rattle.office_records.specs.Lists.{holds_of, numbered}
+use Rattle.office_records.specs.Tree.{TreeState, action_of, class_of, due_of, event_day, plan_of, status_of}
+use Rattle.office_records.specs.declared.action.Action.TheVariants.{Keep}
+use Rattle.office_records.specs.declared.head.Record.{Record}
+use Rattle.office_records.specs.declared.status.Status.{Status}
 use Rattle.office_holds.specs.Holds.{least_covering}
 use Rattle.office_proof.specs.Outcomes.{is_ending}
 use Rattle.office_proof.specs.declared.entry.Entry.{Entry}

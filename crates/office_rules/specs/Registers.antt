@@ -3,12 +3,12 @@
 -- holding services.
 use Rattle.std.specs.Prelude.{◌≡◌, ℕ, ℤ, Bool, List, [], ◌∷◌, Option, Some, None}
 use Rattle.std.specs.Option.{option_copied, unwrap_or}
-use Rattle.office_terms.specs.Disposal.{counts}
-use Rattle.office_terms.specs.Lists.{numbered}
-use Rattle.office_terms.specs.Tree.{TreeState, action_of, class_of, due_of, plan_of}
-use Rattle.office_terms.specs.declared.action.Action.{Action}
-use Rattle.office_terms.specs.declared.action.Action.TheVariants.{Keep}
-use Rattle.office_terms.specs.declared.head.Record.{Record}
+use Rattle.office_records.specs.Disposal.{counts}
+use Rattle.office_records.specs.Lists.{numbered}
+use Rattle.office_records.specs.Tree.{TreeState, action_of, class_of, due_of, plan_of}
+use Rattle.office_records.specs.declared.action.Action.{Action}
+use Rattle.office_records.specs.declared.action.Action.TheVariants.{Keep}
+use Rattle.office_records.specs.declared.head.Record.{Record}
 use Rattle.office_holds.specs.Holds.{least_covering}
 use Rattle.office_proof.specs.declared.entry.Entry.{Entry}
 use Rattle.office_rules.specs.Readings.{IsDueList, IsOverdueList, all_entries_of}

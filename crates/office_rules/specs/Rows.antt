@@ -6,19 +6,19 @@ use Rattle.std.specs.String.{string_bytes}
 use Rattle.std.specs.FinMap.{entries, get}
 use Rattle.std.specs.FinMap.Entries.{put, where_key}
 use Rattle.office_base.specs.Rows.{numbered_rows}
-use Rattle.office_terms.specs.Lists.{holds_of}
-use Rattle.office_terms.specs.Tree.{code_cmp}
-use Rattle.office_terms.specs.declared.aggregation.Aggregation.{Aggregation}
-use Rattle.office_terms.specs.declared.class.Class.{Class}
-use Rattle.office_terms.specs.declared.event.Event.{Event}
-use Rattle.office_terms.specs.declared.head.Record.{Record}
-use Rattle.office_terms.specs.declared.schedule.Schedule.{Schedule}
-use Rattle.office_terms.specs.declared.status.Status.{Status}
+use Rattle.office_records.specs.Lists.{holds_of}
+use Rattle.office_records.specs.Tree.{code_cmp}
+use Rattle.office_records.specs.declared.aggregation.Aggregation.{Aggregation}
+use Rattle.office_records.specs.declared.class.Class.{Class}
+use Rattle.office_records.specs.declared.event.Event.{Event}
+use Rattle.office_records.specs.declared.head.Record.{Record}
+use Rattle.office_records.specs.declared.schedule.Schedule.{Schedule}
+use Rattle.office_records.specs.declared.status.Status.{Status}
 use Rattle.office_holds.specs.Loading.{is_pair}
 use Rattle.office_holds.specs.Holds.{HoldMap, has_target}
 use Rattle.office_holds.specs.Rows.{hold_row}
-use Rattle.office_terms.specs.declared.hold_row.HoldRow.{HoldRow}
-use Rattle.office_terms.specs.declared.target.Target.{Target}
+use Rattle.office_records.specs.declared.hold_row.HoldRow.{HoldRow}
+use Rattle.office_records.specs.declared.target.Target.{Target}
 use Rattle.office_proof.specs.declared.entry.Entry.{Entry}
 use Rattle.office_rules.specs.State.{State, entry_cmp}
 use Rattle.office_rules.specs.declared.rows.RecordRow.{RecordRow}

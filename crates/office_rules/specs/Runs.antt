@@ -3,12 +3,12 @@ use Rattle.std.specs.Prelude.{◌≡◌, ◌==◌, ◌&&◌, ℕ, zero, suc, ◌
 use Rattle.std.specs.List.{find, list_any}
 use Rattle.std.specs.Option.{unwrap_or, option_map, option_and_then}
 use Rattle.std.specs.FinMap.{insert, remove, values}
-use Rattle.office_terms.specs.Disposal.{is_below, is_spent, records_below}
-use Rattle.office_terms.specs.Lists.{numbered, edited, numbers_after}
-use Rattle.office_terms.specs.Candidates.{is_candidate}
-use Rattle.office_terms.specs.Tree.{TreeState, has_record}
-use Rattle.office_terms.specs.declared.status.Status.{Status}
-use Rattle.office_terms.specs.declared.status.Status.TheVariants as status
+use Rattle.office_records.specs.Disposal.{is_below, is_spent, records_below}
+use Rattle.office_records.specs.Lists.{numbered, edited, numbers_after}
+use Rattle.office_records.specs.Candidates.{is_candidate}
+use Rattle.office_records.specs.Tree.{TreeState, has_record}
+use Rattle.office_records.specs.declared.status.Status.{Status}
+use Rattle.office_records.specs.declared.status.Status.TheVariants as status
 use Rattle.office_proof.specs.Certificates.{certificate_text}
 use Rattle.office_proof.specs.Outcomes.{is_ending}
 use Rattle.office_proof.specs.declared.entry.Entry.{Entry}

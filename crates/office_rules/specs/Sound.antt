@@ -3,17 +3,17 @@
 use Rattle.std.specs.Prelude.{◌≡◌, ◌≢◌, ◌≤◌, ◌≤ℤ◌, ◌<◌, ◌↔◌, ℕ, false, true, List, length, Some, ℤ, IsSome, IsTrue, IfSome}
 use Rattle.std.specs.FinMap.{FinMap, get}
 use Rattle.office_days.specs.Limits.{IsDayNumber}
-use Rattle.office_terms.specs.Disposal.{is_disposal}
-use Rattle.office_terms.specs.Forms.{IsWellFormedTree, IsText}
-use Rattle.office_terms.specs.Lists.{numbered}
-use Rattle.office_terms.specs.Sound.{AreEventsSound, FitsLimits, IsForest, NamesExist, NoneIsOpenUnderClosed, RefsDiffer}
-use Rattle.office_terms.specs.Tree.{TreeState, code_cmp}
-use Rattle.office_terms.specs.declared.aggregation.Aggregation.{Aggregation}
-use Rattle.office_terms.specs.declared.class.Class.{Class}
-use Rattle.office_terms.specs.declared.head.Record.{Record}
-use Rattle.office_terms.specs.declared.schedule.Schedule.{Schedule}
-use Rattle.office_terms.specs.declared.status.Status.{Status}
-use Rattle.office_terms.specs.declared.status.Status.TheVariants.{Here, Received, Ended}
+use Rattle.office_records.specs.Disposal.{is_disposal}
+use Rattle.office_records.specs.Forms.{IsWellFormedTree, IsText}
+use Rattle.office_records.specs.Lists.{numbered}
+use Rattle.office_records.specs.Sound.{AreEventsSound, FitsLimits, IsForest, NamesExist, NoneIsOpenUnderClosed, RefsDiffer}
+use Rattle.office_records.specs.Tree.{TreeState, code_cmp}
+use Rattle.office_records.specs.declared.aggregation.Aggregation.{Aggregation}
+use Rattle.office_records.specs.declared.class.Class.{Class}
+use Rattle.office_records.specs.declared.head.Record.{Record}
+use Rattle.office_records.specs.declared.schedule.Schedule.{Schedule}
+use Rattle.office_records.specs.declared.status.Status.{Status}
+use Rattle.office_records.specs.declared.status.Status.TheVariants.{Here, Received, Ended}
 use Rattle.office_holds.specs.Forms.{AreWellFormedHolds, FitsHoldLimits}
 use Rattle.office_holds.specs.Holds.{HoldMap}
 use Rattle.office_holds.specs.Sound.{TargetsExist, NoHoldIsAfter}

@@ -3,12 +3,12 @@ use Rattle.std.specs.Prelude.{ℕ, suc, Bool, List, length, Option, Some, None, 
 use Rattle.std.specs.Option.{unwrap_or}
 use Rattle.office_base.specs.declared.refusal.Refusal.{Refusal}
 use Rattle.office_base.specs.declared.refusal.Refusal.TheVariants.{NoRun}
-use Rattle.office_terms.specs.Conditions.{first_of}
-use Rattle.office_terms.specs.declared.action.Action.{Action}
-use Rattle.office_terms.specs.declared.class.Class.{Class}
-use Rattle.office_terms.specs.declared.classified.Classified.{Classified}
-use Rattle.office_terms.specs.declared.schedule.Schedule.{Schedule}
-use Rattle.office_terms.specs.declared.target.Target.{Target}
+use Rattle.office_records.specs.Conditions.{first_of}
+use Rattle.office_records.specs.declared.action.Action.{Action}
+use Rattle.office_records.specs.declared.class.Class.{Class}
+use Rattle.office_records.specs.declared.classified.Classified.{Classified}
+use Rattle.office_records.specs.declared.schedule.Schedule.{Schedule}
+use Rattle.office_records.specs.declared.target.Target.{Target}
 use Rattle.office_proof.specs.declared.outcome.Outcome.TheVariants.{Skipped}
 use Rattle.office_rules.specs.Conditions.{refusals_of_add_schedule, refusals_of_add_class, refusals_of_set_class_schedule, refusals_of_add_aggregation, refusals_of_close_aggregation, refusals_of_add_record, refusals_of_set_record_schedule, refusals_of_reclassify, refusals_of_place_hold, refusals_of_hold_on, refusals_of_hold_off, refusals_of_lift_hold, refusals_of_confirm, refusals_of_review, refusals_of_open_run, refusals_of_run_step, refusals_of_receipt, refusals_of_event, same_record}
 use Rattle.office_rules.specs.Disposing.{outcome_of}

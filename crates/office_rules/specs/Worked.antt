@@ -3,16 +3,16 @@ use Rattle.std.specs.Prelude.{◌≡◌, ℕ, List, [], ◌∷◌, length, Some,
 use Rattle.sha2.specs.Sha256.{sha256}
 use Rattle.office_days.specs.declared.offset.Offset.TheVariants.{AnyDay}
 use Rattle.office_days.specs.declared.unit.Unit.TheVariants.{Years}
-use Rattle.office_terms.specs.Effects.{added_record}
-use Rattle.office_terms.specs.Tree.{TreeState, empty_tree}
-use Rattle.office_terms.specs.declared.action.Action.TheVariants.{Destroy}
-use Rattle.office_terms.specs.declared.class.Class.{Class}
-use Rattle.office_terms.specs.declared.head.Record.{Record}
-use Rattle.office_terms.specs.declared.schedule.Schedule.{Schedule}
-use Rattle.office_terms.specs.declared.status.Status.{Status}
-use Rattle.office_terms.specs.declared.status.Status.TheVariants.{Here, Sent, Ended}
-use Rattle.office_terms.specs.declared.trigger.Trigger.TheVariants.{Added, Event}
-use Rattle.office_terms.specs.declared.target.Target.TheVariants as target
+use Rattle.office_records.specs.Effects.{added_record}
+use Rattle.office_records.specs.Tree.{TreeState, empty_tree}
+use Rattle.office_records.specs.declared.action.Action.TheVariants.{Destroy}
+use Rattle.office_records.specs.declared.class.Class.{Class}
+use Rattle.office_records.specs.declared.head.Record.{Record}
+use Rattle.office_records.specs.declared.schedule.Schedule.{Schedule}
+use Rattle.office_records.specs.declared.status.Status.{Status}
+use Rattle.office_records.specs.declared.status.Status.TheVariants.{Here, Sent, Ended}
+use Rattle.office_records.specs.declared.trigger.Trigger.TheVariants.{Added, Event}
+use Rattle.office_records.specs.declared.target.Target.TheVariants as target
 use Rattle.office_proof.specs.declared.entry.Entry.{Entry}
 use Rattle.office_proof.specs.declared.outcome.Outcome.TheVariants.{Destroyed}
 use Rattle.office_rules.specs.Effects.{with_tree, after_add_schedule, after_add_class, after_add_aggregation, after_close_aggregation, after_confirm, after_event, after_set_record_schedule, after_place_hold, after_hold_on, after_hold_off, after_lift_hold}

@@ -2,13 +2,13 @@
 use Rattle.std.specs.Prelude.{◌≡◌, ◌<◌, ◌≤◌, ◌+◌, ℕ, List, [], ◌∷◌, length, Some, IsSome, IsTrue, false}
 use Rattle.std.specs.FinMap.{contains_key, get, insert, remove}
 use Rattle.std.specs.String.{string_bytes}
-use Rattle.office_terms.specs.Lasting.{HeadStays, KeepsAggregation, KeepsHead}
-use Rattle.office_terms.specs.Lists.{numbered, put}
-use Rattle.office_terms.specs.Rows.{put_schedule, put_class, put_aggregation, put_record, put_event}
-use Rattle.office_terms.specs.Sound as tree
-use Rattle.office_terms.specs.Tree.{has_record}
-use Rattle.office_terms.specs.declared.aggregation.Aggregation.{Aggregation}
-use Rattle.office_terms.specs.declared.head.Record.{Record}
+use Rattle.office_records.specs.Lasting.{HeadStays, KeepsAggregation, KeepsHead}
+use Rattle.office_records.specs.Lists.{numbered, put}
+use Rattle.office_records.specs.Rows.{put_schedule, put_class, put_aggregation, put_record, put_event}
+use Rattle.office_records.specs.Sound as tree
+use Rattle.office_records.specs.Tree.{has_record}
+use Rattle.office_records.specs.declared.aggregation.Aggregation.{Aggregation}
+use Rattle.office_records.specs.declared.head.Record.{Record}
 use Rattle.office_holds.specs.Effects.{held_on, held_off}
 use Rattle.office_holds.specs.Forms.{FitsHoldLimits}
 use Rattle.office_holds.specs.Rows.{StaysLifted, put_hold}

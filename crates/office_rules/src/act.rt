@@ -1,7 +1,7 @@
 //! The acts.
 use crate::Content;
 use office_days::{Day, Offset, Period};
-use office_terms::{Action, AggNo, Classified, Code, RecordNo, Target, Text, Trigger};
+use office_records::{Action, AggNo, Classified, Code, RecordNo, Target, Text, Trigger};
 
 /// What the office is asked to do, on a day. An act that reads is typed and bounded, so the office
 /// never refuses it as a bad text or a bad number.

@@ -5,7 +5,7 @@ ghost use Rattle.office_rules.specs.Answers.{is_refusal};
 
 use office_base::Refusal;
 use office_proof::{Outcome, RunNo};
-use office_terms::RecordNo;
+use office_records::RecordNo;
 
 /// What the office answers to an act.
 #[derive(Clone, Copy, PartialEq, Eq, Debug)]

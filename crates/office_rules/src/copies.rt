@@ -5,7 +5,7 @@ ghost use Rattle.std.specs.Option.{option_copied};
 
 use office_base::Memory;
 use office_proof::Entry;
-use office_terms::{Code, Text};
+use office_records::{Code, Text};
 use std::alloc::Global;
 
 /// A second code that is equal to this one, if there is one; `Memory` where there is none for it.

@@ -1,6 +1,6 @@
 //! A row of what is due or overdue, as lists and registers report it.
 use office_days::DueDay;
-use office_terms::{Action, Code, RecordNo, Text};
+use office_records::{Action, Code, RecordNo, Text};
 
 /// A record that is due, as the list and the register of what is due report it: its parts in the
 /// office, borrowed.

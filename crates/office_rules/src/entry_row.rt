@@ -1,6 +1,6 @@
 //! A row of the register of entries.
 use office_proof::Entry;
-use office_terms::Text;
+use office_records::Text;
 
 /// An entry of a run, as the register of entries reports it: the entry and, of its record, what its
 /// head says of ref and content, borrowed from the office.

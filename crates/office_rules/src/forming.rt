@@ -1,13 +1,13 @@
 //! What an act asks for is well-formed, stated as functions for proofs. A call does nothing: the
 //! types see to it.
 ghost use Rattle.std.specs.Prelude.{IfSome};
-ghost use Rattle.office_terms.specs.Forms.{IsCode};
+ghost use Rattle.office_records.specs.Forms.{IsCode};
 ghost use Rattle.office_holds.specs.Forms.{IsWellFormedTarget};
 ghost use Rattle.office_rules.specs.Acts.{IsOnAggregations, IsOnHolds, IsOnNewRecord, IsOnRecords, IsOnRuns, IsOnSchedules};
 ghost use Rattle.office_rules.specs.Forms.{IsWellFormedAct};
 
 use crate::Act;
-use office_terms::{Code, Target};
+use office_records::{Code, Target};
 
 /// A code, if there is one, is of its form.
 fn well_formed_code_or_none(code: &Option<Code>)

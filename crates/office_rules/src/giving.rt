@@ -9,7 +9,7 @@ use crate::copies::copy_entry;
 use crate::{Intake, RecordRow, Row, Run, Tables};
 use office_base::{Memory, Rebuild};
 use office_proof::{Entry, RunNo};
-use office_terms::{AggNo, Aggregation, Class, Code, Event, HoldRow, RecordNo, Schedule, Target};
+use office_records::{AggNo, Aggregation, Class, Code, Event, HoldRow, RecordNo, Schedule, Target};
 use std::alloc::Global;
 
 /// What is in a table that is in memory.

@@ -1,6 +1,6 @@
 //! What is reported of a record.
 use office_days::{Day, DueDay};
-use office_terms::{Action, AggNo, Code, Confirmation, RecordNo, Status, Text};
+use office_records::{Action, AggNo, Code, Confirmation, RecordNo, Status, Text};
 
 /// What is reported of a record: its head and status; the class, the schedule and the action in
 /// effect, the due day, the day of its event and the least hold as the office says now, whatever

@@ -6,7 +6,7 @@ use crate::copies::{copy_plan, copy_text, copy_texts};
 use office_base::Memory;
 use office_days::{Day, DueDay};
 use office_proof::{Entry, RunNo};
-use office_terms::{
+use office_records::{
     Action, AggNo, Aggregation, Class, Code, Event, HoldRow, Record, RecordNo, Schedule, Status,
     Target, Text,
 };

@@ -3,7 +3,7 @@ ghost use Rattle.std.specs.Prelude.{◌≡◌, IfOk};
 
 use office_base::Memory;
 use office_days::Day;
-use office_terms::{RecordNo, Text};
+use office_records::{RecordNo, Text};
 use std::alloc::Global;
 
 /// A disposal run: the day for which it looks at due days, who opened it, and the last record that

@@ -2,7 +2,7 @@
 use crate::{RecordRow, Run};
 use office_days::Day;
 use office_proof::{Entry, RunNo};
-use office_terms::{AggNo, Aggregation, Class, Code, Event, HoldRow, RecordNo, Schedule, Target};
+use office_records::{AggNo, Aggregation, Class, Code, Event, HoldRow, RecordNo, Schedule, Target};
 
 /// A row of one of the office's tables, with its key. Of `contents` it is the key alone, of
 /// `office`, which has one row of this version, its day.

@@ -2,7 +2,7 @@
 use crate::{RecordRow, Run};
 use office_days::Day;
 use office_proof::{Entry, RunNo};
-use office_terms::{AggNo, Aggregation, Class, Code, Event, HoldRow, RecordNo, Schedule, Target};
+use office_records::{AggNo, Aggregation, Class, Code, Event, HoldRow, RecordNo, Schedule, Target};
 
 /// The rows of the office's tables, each row with its key before it, in the order of the keys; the
 /// targets of holds in any order. An entry holds its key itself. Of `contents` the keys are here

@@ -7,8 +7,8 @@ use Rattle.std.proofs.lemmas.List.Elements.{All-weaker, recursion_from_All}
 use Rattle.std.proofs.lemmas.List.Sorted.{All-permutation, IsPermutation-sym}
 use Rattle.sqlite_value.specs.Order.{Row}
 use Rattle.sqlite_trees.specs.Tree.{Trees}
-use Rattle.office_terms.specs.declared.event.Event.{Event}
-use Rattle.office_terms.specs.declared.target.Target.{Target}
+use Rattle.office_records.specs.declared.event.Event.{Event}
+use Rattle.office_records.specs.declared.target.Target.{Target}
 use Rattle.office_rules.specs.Rows.{TableRows, rows_of}
 use Rattle.office_rules.specs.Sound.{IsSound}
 use Rattle.office_rules.specs.State.{State}

@@ -3,13 +3,13 @@ use Rattle.std.proofs.Common.{◌≡◌, ◌+◌, ℕ, zero, suc, true, List, []
 use Rattle.std.specs.FinMap.{get}
 use Rattle.std.specs.Prelude.{slice_get}
 use Rattle.sqlite.specs.Effect.{Database}
-use Rattle.office_terms.specs.Lists.{holds_of, numbered}
-use Rattle.office_terms.specs.declared.head.Record.{Record}
-use Rattle.office_terms.specs.declared.status.Status.{Status}
+use Rattle.office_records.specs.Lists.{holds_of, numbered}
+use Rattle.office_records.specs.declared.head.Record.{Record}
+use Rattle.office_records.specs.declared.status.Status.{Status}
 use Rattle.office_holds.specs.Holds.{HoldMap, HoldState, has_target}
 use Rattle.office_holds.specs.Sound.{TargetsAreThere}
-use Rattle.office_terms.specs.declared.target.Target.{Target}
-use Rattle.office_terms.specs.declared.target.Target.TheVariants as target
+use Rattle.office_records.specs.declared.target.Target.{Target}
+use Rattle.office_records.specs.declared.target.Target.TheVariants as target
 use Rattle.office_proof.specs.declared.entry.Entry.{Entry}
 use Rattle.office_rules.specs.Acts.{CanBeMade}
 use Rattle.office_rules.specs.Rows.{record_row, record_rows, rows_of, targets_of}

@@ -2,7 +2,7 @@
 use Rattle.std.proofs.Common.{ℕ, inl, refl, pos}
 use Rattle.std.specs.Option.{option_map}
 use Rattle.hex.specs.Hex.{encode_lower}
-use Rattle.office_terms.specs.Words.{action_word, status_word}
+use Rattle.office_records.specs.Words.{action_word, status_word}
 use Rattle.office_rules.specs.declared.rows.RecordRow.{RecordRow}
 use Rattle.office_sql.specs.Schema.{records}
 use Rattle.office_sql.specs.Suited.{IsRowFor}

@@ -7,22 +7,22 @@ use Rattle.std.specs.Option.{option_map}
 use Rattle.std.specs.Prelude.{IfSome, IsSome, slice_get}
 use Rattle.sqlite_rules.specs.Lists.{Has as IsIn}
 use Rattle.office_days.specs.Limits.{IsDayNumber, IsDueNumber}
-use Rattle.office_terms.specs.Forms.{IsWellFormedConfirmation, IsWellFormedReceipt, IsWellFormedRecord, IsWellFormedReview, IsText}
-use Rattle.office_terms.specs.Lists.{numbered}
-use Rattle.office_terms.specs.declared.aggregation.Aggregation.{Aggregation}
-use Rattle.office_terms.specs.declared.class.Class.{Class}
-use Rattle.office_terms.specs.declared.event.Event.{Event}
-use Rattle.office_terms.specs.declared.head.Record.{Record}
-use Rattle.office_terms.specs.declared.schedule.Schedule.{Schedule}
-use Rattle.office_terms.specs.declared.status.Status.{Status}
-use Rattle.office_terms.proofs.Places.{numbered_within}
+use Rattle.office_records.specs.Forms.{IsWellFormedConfirmation, IsWellFormedReceipt, IsWellFormedRecord, IsWellFormedReview, IsText}
+use Rattle.office_records.specs.Lists.{numbered}
+use Rattle.office_records.specs.declared.aggregation.Aggregation.{Aggregation}
+use Rattle.office_records.specs.declared.class.Class.{Class}
+use Rattle.office_records.specs.declared.event.Event.{Event}
+use Rattle.office_records.specs.declared.head.Record.{Record}
+use Rattle.office_records.specs.declared.schedule.Schedule.{Schedule}
+use Rattle.office_records.specs.declared.status.Status.{Status}
+use Rattle.office_records.proofs.Places.{numbered_within}
 use Rattle.office_holds.specs.Forms.{IsWellFormedHold}
 use Rattle.office_holds.specs.Holds.{HoldState, has_target}
 use Rattle.office_holds.specs.Rows.{hold_row}
 use Rattle.office_holds.specs.Sound.{TargetsAreThere}
-use Rattle.office_terms.specs.declared.hold_row.HoldRow.{HoldRow}
-use Rattle.office_terms.specs.declared.target.Target.{Target}
-use Rattle.office_terms.specs.declared.target.Target.TheVariants as target
+use Rattle.office_records.specs.declared.hold_row.HoldRow.{HoldRow}
+use Rattle.office_records.specs.declared.target.Target.{Target}
+use Rattle.office_records.specs.declared.target.Target.TheVariants as target
 use Rattle.office_proof.specs.declared.entry.Entry.{Entry}
 use Rattle.office_rules.specs.Rows.{record_row, record_rows, rows_of}
 use Rattle.office_rules.specs.Sound.{IsSound}

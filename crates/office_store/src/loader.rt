@@ -6,8 +6,8 @@ ghost use Rattle.office_store.specs.Collected.{collected_lists};
 use office_base::Rebuild;
 use office_days::Day;
 use office_proof::{Entry, RunNo};
+use office_records::{AggNo, Aggregation, Class, Code, Event, HoldRow, RecordNo, Schedule, Target};
 use office_rules::{Intake, RecordRow, Row, Run, Tables};
-use office_terms::{AggNo, Aggregation, Class, Code, Event, HoldRow, RecordNo, Schedule, Target};
 use std::alloc::Global;
 
 /// The rows that have come, table by table.

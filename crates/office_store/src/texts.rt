@@ -5,8 +5,8 @@ ghost use Rattle.office_store.specs.Encoded.{target_kind, target_text};
 ghost use Rattle.office_store.specs.Written.{needed_text};
 
 use office_base::Memory;
+use office_records::Target;
 use office_rules::RowWrite;
-use office_terms::Target;
 use std::alloc::Global;
 
 /// The word of a target's kind.

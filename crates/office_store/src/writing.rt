@@ -7,7 +7,7 @@ ghost use Rattle.office_sql.specs.Editions.{version_2};
 ghost use Rattle.office_sql.specs.Office.{GoesInside, PutsInto};
 ghost use Rattle.office_sql.specs.Schema.{certificates, contents, targets};
 ghost use Rattle.office_sql.specs.Shown.{certificate_row, content_row, target_row};
-ghost use Rattle.office_terms.specs.Words.{action_word};
+ghost use Rattle.office_records.specs.Words.{action_word};
 ghost use Rattle.office_rules.specs.declared.rows.RowWrite.TheVariants as row_write;
 ghost use Rattle.office_store.specs.Encoded.{target_kind};
 ghost use Rattle.office_store.specs.Written.{AreWritten, IsWritten, needed_text};
@@ -15,9 +15,9 @@ ghost use Rattle.office_store.specs.Written.{AreWritten, IsWritten, needed_text}
 use crate::texts::target_kind;
 use office_days::Day;
 use office_proof::Entry;
+use office_records::{Aggregation, Class, Code, Event, HoldRow, Record, Schedule, Status, Target};
 use office_rules::{RowWrite, Run};
 use office_sql::{OfficeTable, put, remove_content, remove_target};
-use office_terms::{Aggregation, Class, Code, Event, HoldRow, Record, Schedule, Status, Target};
 use sqlite::{Alter, Error, Transaction, params};
 
 fn put_schedule<S: Alter>(

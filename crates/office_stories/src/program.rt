@@ -2,9 +2,9 @@
 use crate::failures::failure;
 use crate::peer::{Document, Pieces};
 use crate::repeating::{bytes_of, number, unescaped};
+use office_command_line::{Order, Register};
 use office_commands::run_on;
 use office_days::{Day, read_confirm_days};
-use office_words::{Order, Register};
 use sqlite::{Alter, Connection};
 use std::alloc::Global;
 use std::test::Fail;

@@ -2,16 +2,16 @@
 use Rattle.std.proofs.Common.{◌≡◌, ℕ, ◌+◌, ◌-◌, ◌<◌, ◌≤◌, ◌&&◌, true, false, List, length, Option, Some, None, inl, inr, sym, ap, ◌∙◌, arith}
 use Rattle.std.specs.Prelude.{IfNone, IfSome, IsTrue}
 use Rattle.std.proofs.lemmas.Option.{slice_get_cases, slice_get_past}
-use Rattle.office_terms.specs.Disposal.{counts, is_disposal}
-use Rattle.office_terms.specs.Lists.{holds_of}
+use Rattle.office_records.specs.Disposal.{counts, is_disposal}
+use Rattle.office_records.specs.Lists.{holds_of}
 use Rattle.office_tree.specs.Marks.{mark_at, mark_of}
-use Rattle.office_terms.specs.Candidates.{HasNoCandidateAbove, IsNextCandidate, candidate_by, is_candidate}
+use Rattle.office_records.specs.Candidates.{HasNoCandidateAbove, IsNextCandidate, candidate_by, is_candidate}
 use Rattle.office_tree.specs.RecordCaches.{AreRecordCaches}
-use Rattle.office_terms.specs.Sound.{IsSound}
-use Rattle.office_terms.specs.Tree.{TreeState, action_of, has_record}
+use Rattle.office_records.specs.Sound.{IsSound}
+use Rattle.office_records.specs.Tree.{TreeState, action_of, has_record}
 use Rattle.office_tree.specs.declared.record_cache.RecordCache.{RecordCache}
-use Rattle.office_terms.proofs.Places.{numbered_at}
-use Rattle.office_terms.proofs.Reading.{record_there}
+use Rattle.office_records.proofs.Places.{numbered_at}
+use Rattle.office_records.proofs.Reading.{record_there}
 
 -- no candidate has a number past the last record's
 past_records : (tree : TreeState) (r : ℕ) → IsSound tree → length tree.records < r → is_candidate tree r ≡ false

@@ -19,10 +19,10 @@ use Rattle.std.proofs.lemmas.Map.Text.{is_eq-slice_cmp}
 use Rattle.std.proofs.lemmas.Option.{get_or_from_slice_get, slice_get-get_or}
 use Rattle.std.proofs.lemmas.Slice.Eq.{bytes_eq-Decides}
 use Rattle.office_tree.specs.Indexes.{Indexes}
-use Rattle.office_terms.specs.Lists.{Differ, numbered}
-use Rattle.office_terms.specs.Tree.{code_cmp}
+use Rattle.office_records.specs.Lists.{Differ, numbered}
+use Rattle.office_records.specs.Tree.{code_cmp}
 use Rattle.office_tree.proofs.FoundRefs.{any_none, not_true, numbered_map}
-use Rattle.office_terms.proofs.Places.{numbered_within}
+use Rattle.office_records.proofs.Places.{numbered_within}
 
 abbrev alike : List ℕ → List ℕ → Bool
 alike = eq_by_cmp code_cmp

@@ -1,11 +1,11 @@
 -- Records that have their required documents, one after another.
 use Rattle.std.proofs.Common.{◌≡◌, ℕ, ◌+◌, ◌-◌, ◌<◌, ◌≤◌, List, length, get_or, Some, true, false, sym, subst, inl, inr, ◌∙◌, arith, ap}
 use Rattle.std.proofs.lemmas.Bool.{cases_lt}
-use Rattle.office_terms.specs.Examined.{AllHaveDocuments, has_documents}
-use Rattle.office_terms.specs.Lists.{numbered}
-use Rattle.office_terms.specs.declared.head.Record.{Record}
-use Rattle.office_terms.specs.declared.status.Status.{Status}
-use Rattle.office_terms.proofs.Places.{numbered_read, numbered_within}
+use Rattle.office_records.specs.Examined.{AllHaveDocuments, has_documents}
+use Rattle.office_records.specs.Lists.{numbered}
+use Rattle.office_records.specs.declared.head.Record.{Record}
+use Rattle.office_records.specs.declared.status.Status.{Status}
+use Rattle.office_records.proofs.Places.{numbered_read, numbered_within}
 
 -- so many of the first records have them
 abbrev pub HaveDocumentsTo : List Record → List Status → ℕ → Type 0

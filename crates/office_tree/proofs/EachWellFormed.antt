@@ -6,19 +6,19 @@ use Rattle.std.specs.FinMap.{get, from_entries}
 use Rattle.std.specs.List.{All}
 use Rattle.std.specs.Ordering.{nat_cmp}
 use Rattle.std.proofs.lemmas.Map.Entries.{place_from_lookup}
-use Rattle.office_terms.specs.Forms.{IsCode, IsWellFormedEvent, IsWellFormedAggregation, IsWellFormedClass, IsWellFormedRecord, IsWellFormedSchedule, IsWellFormedTree}
-use Rattle.office_terms.specs.Loading.{tree_of}
-use Rattle.office_terms.specs.Tree.{code_cmp}
-use Rattle.office_terms.specs.declared.aggregation.Aggregation.{Aggregation}
-use Rattle.office_terms.specs.declared.class.Class.{Class}
-use Rattle.office_terms.specs.declared.event.Event.{Event}
-use Rattle.office_terms.specs.declared.head.Record.{Record}
-use Rattle.office_terms.specs.declared.schedule.Schedule.{Schedule}
-use Rattle.office_terms.specs.declared.status.Status.{Status}
-use Rattle.office_terms.proofs.Bridge.{at_numbers}
+use Rattle.office_records.specs.Forms.{IsCode, IsWellFormedEvent, IsWellFormedAggregation, IsWellFormedClass, IsWellFormedRecord, IsWellFormedSchedule, IsWellFormedTree}
+use Rattle.office_records.specs.Loading.{tree_of}
+use Rattle.office_records.specs.Tree.{code_cmp}
+use Rattle.office_records.specs.declared.aggregation.Aggregation.{Aggregation}
+use Rattle.office_records.specs.declared.class.Class.{Class}
+use Rattle.office_records.specs.declared.event.Event.{Event}
+use Rattle.office_records.specs.declared.head.Record.{Record}
+use Rattle.office_records.specs.declared.schedule.Schedule.{Schedule}
+use Rattle.office_records.specs.declared.status.Status.{Status}
+use Rattle.office_records.proofs.Bridge.{at_numbers}
 use Rattle.office_tree.proofs.EventPlaces.{event_is}
-use Rattle.office_terms.proofs.Inserting.{same_code}
-use Rattle.office_terms.proofs.Plan.{get_is}
+use Rattle.office_records.proofs.Inserting.{same_code}
+use Rattle.office_records.proofs.Plan.{get_is}
 
 -- what holds of each entry holds of what is found under a code
 each_found : {V : Type 0} (P : List ℕ → V → Type 0) (es : List (List ℕ × V)) → All (λ e. P e.0 e.1) es → (code : List ℕ) (it : V) → get (from_entries {R = code_cmp} es) code ≡ Some it → P code it

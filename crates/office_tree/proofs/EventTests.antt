@@ -13,9 +13,9 @@ use Rattle.std.proofs.lemmas.Int.{ints}
 use Rattle.std.proofs.lemmas.List.Elements.{All-contains_itself, All-weaker}
 use Rattle.std.proofs.lemmas.Map.Keys.{IsDistinct-from_sorted}
 use Rattle.std.proofs.lemmas.Map.Views.{lookup-from_Contains}
-use Rattle.office_terms.specs.Examined.{is_sound_event}
-use Rattle.office_terms.specs.Sound.{AreEventsSound}
-use Rattle.office_terms.specs.declared.event.Event.{Event}
+use Rattle.office_records.specs.Examined.{is_sound_event}
+use Rattle.office_records.specs.Sound.{AreEventsSound}
+use Rattle.office_records.specs.declared.event.Event.{Event}
 use Rattle.office_tree.proofs.EachWellFormed.{each_event}
 use Rattle.office_tree.proofs.EventPlaces.{event_is}
 

@@ -4,13 +4,13 @@ use Rattle.std.specs.Prelude.{IsSome, Bool, true, false}
 use Rattle.std.specs.FinMap.{FinMap, empty, get, get-empty, insert}
 use Rattle.std.specs.Option.{is_some}
 use Rattle.office_tree.specs.ClassIndex.{HaveNumbers, IsOfClass, NumberMap}
-use Rattle.office_terms.specs.Lists.{numbered}
-use Rattle.office_terms.specs.Tree.{code_cmp}
-use Rattle.office_terms.specs.declared.aggregation.Aggregation.{Aggregation}
-use Rattle.office_terms.specs.declared.class.Class.{Class}
-use Rattle.office_terms.specs.declared.head.Record.{Record}
-use Rattle.office_terms.proofs.Inserting.{insert_cases, insert_keeps}
-use Rattle.office_terms.proofs.Places.{numbered_push}
+use Rattle.office_records.specs.Lists.{numbered}
+use Rattle.office_records.specs.Tree.{code_cmp}
+use Rattle.office_records.specs.declared.aggregation.Aggregation.{Aggregation}
+use Rattle.office_records.specs.declared.class.Class.{Class}
+use Rattle.office_records.specs.declared.head.Record.{Record}
+use Rattle.office_records.proofs.Inserting.{insert_cases, insert_keeps}
+use Rattle.office_records.proofs.Places.{numbered_push}
 use Rattle.office_tree.proofs.Puts.{same_or_not}
 use Rattle.office_tree.proofs.RefIndexes.{insert_gives}
 

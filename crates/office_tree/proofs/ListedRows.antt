@@ -5,21 +5,21 @@ use Rattle.std.specs.FinMap.{FinMap, empty, get, insert}
 use Rattle.std.specs.Option.{is_some, option_and_then}
 use Rattle.office_tree.specs.ClassIndex.{AreListed, HaveNumbers, IsOfClass, NumberMap}
 use Rattle.office_tree.specs.Inheriting.{is_heir}
-use Rattle.office_terms.specs.Lasting.{AggregationStays}
-use Rattle.office_terms.specs.Lists.{numbered, put}
-use Rattle.office_terms.specs.Sound.{IsSound}
+use Rattle.office_records.specs.Lasting.{AggregationStays}
+use Rattle.office_records.specs.Lists.{numbered, put}
+use Rattle.office_records.specs.Sound.{IsSound}
 use Rattle.office_tree.specs.Stored.{AreDone}
-use Rattle.office_terms.specs.Tree.{TreeState, class_in, code_cmp}
-use Rattle.office_terms.specs.declared.aggregation.Aggregation.{Aggregation}
-use Rattle.office_terms.specs.declared.class.Class.{Class}
-use Rattle.office_terms.specs.declared.head.Record.{Record}
+use Rattle.office_records.specs.Tree.{TreeState, class_in, code_cmp}
+use Rattle.office_records.specs.declared.aggregation.Aggregation.{Aggregation}
+use Rattle.office_records.specs.declared.class.Class.{Class}
+use Rattle.office_records.specs.declared.head.Record.{Record}
 use Rattle.office_tree.proofs.Edits.{LeavesClass, across}
 use Rattle.office_tree.proofs.Frames.{class_by_head, class_left, class_put}
 use Rattle.office_tree.proofs.Listed.{numbers_none}
-use Rattle.office_terms.proofs.Inserting.{insert_cases}
-use Rattle.office_terms.proofs.Places.{numbered_within}
+use Rattle.office_records.proofs.Inserting.{insert_cases}
+use Rattle.office_records.proofs.Places.{numbered_within}
 use Rattle.office_tree.proofs.Puts.{same_or_not}
-use Rattle.office_terms.proofs.Walk.{placed_in}
+use Rattle.office_records.proofs.Walk.{placed_in}
 
 -- there are none
 pub listed_empty : (lists : ℕ) (class : List ℕ) → lists ≡ 0 → class ≡ [] → AreListed empty [] [] empty lists class

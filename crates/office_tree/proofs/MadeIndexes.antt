@@ -8,8 +8,8 @@ use Rattle.std.specs.Map.{update, update_all}
 use Rattle.std.specs.Ordering.{eq_by_cmp}
 use Rattle.std.proofs.lemmas.List.Sums.{fold-append}
 use Rattle.office_tree.specs.Indexes.{Indexes, RefMap}
-use Rattle.office_terms.specs.Tree.{code_cmp}
-use Rattle.office_terms.proofs.Plan.{get_is}
+use Rattle.office_records.specs.Tree.{code_cmp}
+use Rattle.office_records.proofs.Plan.{get_is}
 use Rattle.office_tree.proofs.RefIndexes.{indexes_more}
 
 abbrev put_in : RefMap → List ℕ × ℕ → RefMap

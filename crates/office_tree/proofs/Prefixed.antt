@@ -1,10 +1,10 @@
 -- The lists of records by class stay right as a record that is on none is put at the head of one.
 use Rattle.std.proofs.Common.{◌≡◌, ◌≢◌, ℕ, ◌+◌, ◌<◌, ◌≤◌, List, length, cond, ◌==◌, Bool, true, false, Some, refl, sym, ap, ◌∙◌, ◌⊎◌, inl, inr, arith}
-use Rattle.office_terms.specs.Lists.{numbered, put}
+use Rattle.office_records.specs.Lists.{numbered, put}
 use Rattle.office_tree.specs.ClassLists.{AreClassLists, rest}
-use Rattle.office_terms.proofs.Places.{numbered_within}
+use Rattle.office_records.proofs.Places.{numbered_within}
 use Rattle.office_tree.proofs.Puts.{is_other, is_same, numbered_low, one_of, put_cases, put_here, put_kept}
-use Rattle.office_terms.proofs.Putting.{length-put}
+use Rattle.office_records.proofs.Putting.{length-put}
 use Rattle.office_tree.proofs.Ranks.{falls_by}
 use Rattle.office_tree.proofs.Relinked.{first_within, next_within}
 

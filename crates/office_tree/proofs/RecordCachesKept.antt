@@ -1,10 +1,10 @@
 -- What is cached of a record is right still where its record cache is left, and where a list of codes has more.
 use Rattle.std.proofs.Common.{◌≡◌, ℕ, zero, suc, List, [], ◌∷◌, ◌++◌, slice_get, Some, sym, ◌∙◌}
-use Rattle.office_terms.specs.Lists.{numbered}
+use Rattle.office_records.specs.Lists.{numbered}
 use Rattle.office_tree.specs.RecordCaches.{IsRecordCache, LeavesRecordCache}
-use Rattle.office_terms.specs.Sound.{IsSound}
-use Rattle.office_terms.specs.Tree.{TreeState}
-use Rattle.office_terms.specs.declared.head.Record.{Record}
+use Rattle.office_records.specs.Sound.{IsSound}
+use Rattle.office_records.specs.Tree.{TreeState}
+use Rattle.office_records.specs.declared.head.Record.{Record}
 use Rattle.office_tree.specs.declared.record_cache.RecordCache.{RecordCache}
 use Rattle.office_tree.proofs.PlanThere.{plan_some}
 

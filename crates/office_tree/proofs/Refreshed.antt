@@ -5,16 +5,16 @@ use Rattle.std.specs.Option.{option_map}
 use Rattle.std.proofs.lemmas.Bool.{cases_lt}
 use Rattle.std.proofs.lemmas.Bool.Decides.{nat_tests}
 use Rattle.office_tree.specs.ChildLists.{IsLastBelow, containers_of}
-use Rattle.office_terms.specs.Lists.{numbered, put}
+use Rattle.office_records.specs.Lists.{numbered, put}
 use Rattle.office_tree.specs.RecordCaches.{AreRecordCaches, IsRecordCache}
 use Rattle.office_tree.specs.Stored.{AreDone, is_in}
-use Rattle.office_terms.specs.Tree.{TreeState}
-use Rattle.office_terms.specs.declared.head.Record.{Record}
+use Rattle.office_records.specs.Tree.{TreeState}
+use Rattle.office_records.specs.declared.head.Record.{Record}
 use Rattle.office_tree.specs.declared.record_cache.RecordCache.{RecordCache}
 use Rattle.office_tree.proofs.FoundRefs.{numbered_map}
 use Rattle.office_tree.proofs.Frames.{numbered_put_other}
-use Rattle.office_terms.proofs.Places.{numbered_push, numbered_read, numbered_within}
-use Rattle.office_terms.proofs.Putting.{numbered-put, put_within}
+use Rattle.office_records.proofs.Places.{numbered_push, numbered_read, numbered_within}
+use Rattle.office_records.proofs.Putting.{numbered-put, put_within}
 
 -- ---- one place written
 

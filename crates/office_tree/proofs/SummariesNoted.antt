@@ -2,20 +2,20 @@
 use Rattle.std.proofs.Common.{◌≡◌, ℕ, zero, suc, ◌+◌, ◌-◌, ◌<◌, ◌≤◌, ◌==◌, ◌&&◌, true, false, cond, not, List, [], ◌∷◌, ◌++◌, length, map, get_or, Some, None, slice_get, refl, sym, ap, subst, ◌∙◌, arith}
 use Rattle.std.proofs.Math.Bool.{and-false}
 use Rattle.std.specs.FinMap.{empty}
-use Rattle.office_terms.specs.Disposal.{is_ended}
-use Rattle.office_terms.specs.Lasting.{HeadStays}
-use Rattle.office_terms.specs.Lists.{numbered, later, put}
-use Rattle.office_terms.specs.Rows.{put_record}
+use Rattle.office_records.specs.Disposal.{is_ended}
+use Rattle.office_records.specs.Lasting.{HeadStays}
+use Rattle.office_records.specs.Lists.{numbered, later, put}
+use Rattle.office_records.specs.Rows.{put_record}
 use Rattle.office_tree.specs.Summaries.{AreAdded, AreSummaries, AreTurned, added_to, is_in_chain}
-use Rattle.office_terms.specs.Tree.{TreeState, last_addition}
-use Rattle.office_terms.specs.declared.aggregation.Aggregation.{Aggregation}
-use Rattle.office_terms.specs.declared.head.Record.{Record}
-use Rattle.office_terms.specs.declared.status.Status.{Status}
-use Rattle.office_terms.specs.declared.status.Status.TheVariants.{Ended}
+use Rattle.office_records.specs.Tree.{TreeState, last_addition}
+use Rattle.office_records.specs.declared.aggregation.Aggregation.{Aggregation}
+use Rattle.office_records.specs.declared.head.Record.{Record}
+use Rattle.office_records.specs.declared.status.Status.{Status}
+use Rattle.office_records.specs.declared.status.Status.TheVariants.{Ended}
 use Rattle.office_tree.specs.declared.summary.AggregationSummary.{AggregationSummary}
 use Rattle.office_tree.proofs.AdditionsPut.{last_addition_put, last_addition_push}
-use Rattle.office_terms.proofs.Places.{numbered_within, numbered_or}
-use Rattle.office_terms.proofs.Putting.{put_past, put_next}
+use Rattle.office_records.proofs.Places.{numbered_within, numbered_or}
+use Rattle.office_records.proofs.Putting.{put_past, put_next}
 use Rattle.office_tree.proofs.SummaryLemmas.{records-next, live-next_beside, records-put, live-put, records_few, live_few}
 
 -- a tree of these rows alone, with no schedules and no classes

@@ -3,22 +3,22 @@ use Rattle.std.proofs.Common.{◌≡◌, ℕ, zero, suc, ◌+◌, ◌<◌, ◌�
 use Rattle.std.proofs.lemmas.Bool.Decides.{nat_tests}
 use Rattle.std.specs.List.{list_any, list_all}
 use Rattle.std.specs.Option.{option_and_then, is_some}
-use Rattle.office_terms.specs.Disposal.{is_below, is_ended, records_below, is_spent}
-use Rattle.office_terms.specs.Lasting.{AggregationStays, HeadStays}
-use Rattle.office_terms.specs.Lists.{numbered, numbers_after, holds_of, put, put_at}
-use Rattle.office_terms.specs.Rows.{put_aggregation, put_record, put_schedule, put_class}
-use Rattle.office_terms.specs.Sound.{IsSound, IsForest}
+use Rattle.office_records.specs.Disposal.{is_below, is_ended, records_below, is_spent}
+use Rattle.office_records.specs.Lasting.{AggregationStays, HeadStays}
+use Rattle.office_records.specs.Lists.{numbered, numbers_after, holds_of, put, put_at}
+use Rattle.office_records.specs.Rows.{put_aggregation, put_record, put_schedule, put_class}
+use Rattle.office_records.specs.Sound.{IsSound, IsForest}
 use Rattle.office_tree.specs.Summaries.{live_below}
-use Rattle.office_terms.specs.Tree.{TreeState, empty_tree, chain, chain_of, above_head, above_in, status_of, last_addition}
-use Rattle.office_terms.specs.declared.aggregation.Aggregation.{Aggregation}
-use Rattle.office_terms.specs.declared.class.Class.{Class}
-use Rattle.office_terms.specs.declared.head.Record.{Record}
-use Rattle.office_terms.specs.declared.schedule.Schedule.{Schedule}
-use Rattle.office_terms.specs.declared.status.Status.{Status}
+use Rattle.office_records.specs.Tree.{TreeState, empty_tree, chain, chain_of, above_head, above_in, status_of, last_addition}
+use Rattle.office_records.specs.declared.aggregation.Aggregation.{Aggregation}
+use Rattle.office_records.specs.declared.class.Class.{Class}
+use Rattle.office_records.specs.declared.head.Record.{Record}
+use Rattle.office_records.specs.declared.schedule.Schedule.{Schedule}
+use Rattle.office_records.specs.declared.status.Status.{Status}
 use Rattle.office_tree.proofs.Counting.{filter_agrees, count_more, count_changed, filter_both, filter_none, length_filter, length_numbers, all_by_count}
-use Rattle.office_terms.proofs.LastAdditions.{no_last_addition}
-use Rattle.office_terms.proofs.Places.{numbered_within}
-use Rattle.office_terms.proofs.Putting.{length-put, length-put_next, numbered-put}
+use Rattle.office_records.proofs.LastAdditions.{no_last_addition}
+use Rattle.office_records.proofs.Places.{numbered_within}
+use Rattle.office_records.proofs.Putting.{length-put, length-put_next, numbered-put}
 
 -- ---- a thing put into a list, and the others
 

@@ -2,10 +2,10 @@
 use Rattle.std.proofs.Common.{◌≡◌, ◌⊎◌, inl, inr, ℕ, zero, suc, ◌+◌, ◌-◌, ◌<◌, ◌≤◌, ◌==◌, true, false, cond, List, length, get_or, set, take, Some, count_by, refl, sym, ap, ◌∙◌, arith}
 use Rattle.std.proofs.lemmas.Bool.Decides.{nat_tests}
 use Rattle.std.proofs.lemmas.List.Sums.{count_by_more_yes, count_by_more_no, count_by-le-length, sum_by-take-le}
-use Rattle.office_terms.specs.Lists.{numbered}
+use Rattle.office_records.specs.Lists.{numbered}
 use Rattle.office_tree.specs.declared.summary.AggregationSummary.{AggregationSummary}
-use Rattle.office_terms.proofs.Places.{numbered_within, numbered_or}
-use Rattle.office_terms.proofs.Putting.{put_within, numbered-put}
+use Rattle.office_records.proofs.Places.{numbered_within, numbered_or}
+use Rattle.office_records.proofs.Putting.{put_within, numbered-put}
 use Rattle.office_tree.proofs.SummaryLemmas.{numbered-put_other}
 
 -- how often a number is among numbers

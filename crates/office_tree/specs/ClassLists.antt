@@ -2,7 +2,7 @@
 -- through alone. Source: own.
 use Rattle.std.specs.Prelude.{◌≡◌, ◌<◌, ◌≤◌, ℕ, zero, suc, List, [], ◌∷◌, length, Some, unwrap_or}
 use Rattle.std.specs.Global.{Vec}
-use Rattle.office_terms.specs.Lists.{numbered}
+use Rattle.office_records.specs.Lists.{numbered}
 use Rattle.office_tree.specs.Rooms.{HasRoom}
 
 -- the next of a record; 0 for none

@@ -3,15 +3,15 @@ use Rattle.std.specs.Prelude.{◌≡◌, ◌≢◌, ℕ, Bool, List, length, Som
 use Rattle.std.specs.FinMap.{from_entries}
 use Rattle.office_tree.specs.ChildLists.{HasChildren, HasLinks}
 use Rattle.office_tree.specs.ClassIndex.{AreListed, HaveNumbers, IsOfClass}
-use Rattle.office_terms.specs.Lists.{numbered}
+use Rattle.office_records.specs.Lists.{numbered}
 use Rattle.office_tree.specs.RecordCaches.{IsRecordCache}
 use Rattle.office_tree.specs.Rooms.{HasRoom}
 use Rattle.office_tree.specs.ScheduleNumbers.{AreNumbered}
-use Rattle.office_terms.specs.Sound.{IsSound}
+use Rattle.office_records.specs.Sound.{IsSound}
 use Rattle.office_tree.specs.Stored.{AreDone, IsStored}
 use Rattle.office_tree.specs.Summaries.{AreLastAdditions}
-use Rattle.office_terms.specs.Tree.{TreeState}
-use Rattle.office_terms.specs.declared.head.Record.{Record}
+use Rattle.office_records.specs.Tree.{TreeState}
+use Rattle.office_records.specs.declared.head.Record.{Record}
 use Rattle.office_tree.specs.declared.class_index.ClassIndex.{ClassIndex}
 use Rattle.office_tree.specs.declared.derived.Derived.{Derived}
 use Rattle.office_tree.specs.declared.directory.Directory.{Directory}

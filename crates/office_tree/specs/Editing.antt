@@ -1,12 +1,12 @@
 -- What a row that is there may become. Source: own.
 use Rattle.std.specs.Prelude.{◌≡◌, ℕ, Bool, false}
-use Rattle.office_terms.specs.Lasting.{AggregationStays, HeadStays}
-use Rattle.office_terms.specs.Rows.{put_aggregation, put_record}
-use Rattle.office_terms.specs.Sound.{IsSound}
-use Rattle.office_terms.specs.Tree.{TreeState}
-use Rattle.office_terms.specs.declared.aggregation.Aggregation.{Aggregation}
-use Rattle.office_terms.specs.declared.head.Record.{Record}
-use Rattle.office_terms.specs.declared.status.Status.{Status}
+use Rattle.office_records.specs.Lasting.{AggregationStays, HeadStays}
+use Rattle.office_records.specs.Rows.{put_aggregation, put_record}
+use Rattle.office_records.specs.Sound.{IsSound}
+use Rattle.office_records.specs.Tree.{TreeState}
+use Rattle.office_records.specs.declared.aggregation.Aggregation.{Aggregation}
+use Rattle.office_records.specs.declared.head.Record.{Record}
+use Rattle.office_records.specs.declared.status.Status.{Status}
 
 -- an aggregation keeps what never changes, and its class unless it is reclassified, and the tree is sound with it
 pub record IsAggregationEdit (tree : TreeState) (a : ℕ) (reclassifies : Bool) (old new : Aggregation) : Type 0 where

@@ -1,9 +1,9 @@
 -- What is cached of each record, so that it is not computed again each time: its schedule in effect, its due day, and
 -- whether a disposal run may take it. Source: own.
 use Rattle.std.specs.Prelude.{◌≡◌, ℕ, List, length, Some}
-use Rattle.office_terms.specs.Candidates.{is_candidate}
-use Rattle.office_terms.specs.Lists.{numbered}
-use Rattle.office_terms.specs.Tree.{TreeState, due_of, plan_of}
+use Rattle.office_records.specs.Candidates.{is_candidate}
+use Rattle.office_records.specs.Lists.{numbered}
+use Rattle.office_records.specs.Tree.{TreeState, due_of, plan_of}
 use Rattle.office_tree.specs.declared.record_cache.RecordCache.{RecordCache}
 
 -- what is cached of a record is right, where schedules are named by their places in a list of codes

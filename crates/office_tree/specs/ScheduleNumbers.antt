@@ -1,9 +1,9 @@
 -- The codes of schedules by their numbers, so that a record's schedule in effect is cached as a number. Source: own.
 use Rattle.std.specs.Prelude.{◌≡◌, ℕ, List, Some, IsSome}
 use Rattle.std.specs.FinMap.{FinMap, get}
-use Rattle.office_terms.specs.Lists.{numbered}
-use Rattle.office_terms.specs.Tree.{code_cmp}
-use Rattle.office_terms.specs.declared.schedule.Schedule.{Schedule}
+use Rattle.office_records.specs.Lists.{numbered}
+use Rattle.office_records.specs.Tree.{code_cmp}
+use Rattle.office_records.specs.declared.schedule.Schedule.{Schedule}
 
 -- the code has a number
 abbrev pub IsAmong : List (List ℕ) → List ℕ → Type 0

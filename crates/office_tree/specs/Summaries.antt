@@ -1,11 +1,11 @@
 -- What is cached of the records in and below each aggregation, so that it is not counted again each time. Source: own.
 use Rattle.std.specs.Prelude.{◌≡◌, ◌==◌, ◌&&◌, ◌+◌, ℕ, Bool, cond, not, List, filter, length, Some, ℤ}
 use Rattle.std.specs.List.{list_any}
-use Rattle.office_terms.specs.Disposal.{is_ended, records_below}
-use Rattle.office_terms.specs.Lists.{numbered, holds_of, later}
-use Rattle.office_terms.specs.Tree.{TreeState, chain_of, last_addition, status_of}
-use Rattle.office_terms.specs.declared.aggregation.Aggregation.{Aggregation}
-use Rattle.office_terms.specs.declared.head.Record.{Record}
+use Rattle.office_records.specs.Disposal.{is_ended, records_below}
+use Rattle.office_records.specs.Lists.{numbered, holds_of, later}
+use Rattle.office_records.specs.Tree.{TreeState, chain_of, last_addition, status_of}
+use Rattle.office_records.specs.declared.aggregation.Aggregation.{Aggregation}
+use Rattle.office_records.specs.declared.head.Record.{Record}
 use Rattle.office_tree.specs.declared.summary.AggregationSummary.{AggregationSummary}
 
 -- the records below an aggregation, at any depth, that are not ended

@@ -5,7 +5,7 @@ ghost use Rattle.office_tree.specs.Flags.{HasNoneAbove, IsNextAbove, is_member};
 use crate::bits::Bits;
 use crate::groups::Groups;
 use office_base::Memory;
-use office_terms::RecordNo;
+use office_records::RecordNo;
 use std::alloc::Global;
 use std::marker::Model;
 

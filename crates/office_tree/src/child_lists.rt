@@ -2,13 +2,13 @@
 ghost use Rattle.std.specs.Prelude.{◌≡◌, ◌++◌, ◌∷◌, ◌+◌, ◌<◌, ◌≤◌, ℕ, List, [], IfOk, IfSome, OnOk, Some, length, vec_len, vec_capacity};
 ghost use Rattle.std.specs.Option.{unwrap_or};
 ghost use Rattle.office_tree.specs.ChildLists.{AreLinked, HasChildren, containers_of};
-ghost use Rattle.office_terms.specs.Lists.{numbered};
-ghost use Rattle.office_terms.specs.declared.aggregation.Aggregation.{Aggregation};
-ghost use Rattle.office_terms.specs.declared.head.Record.{Record};
+ghost use Rattle.office_records.specs.Lists.{numbered};
+ghost use Rattle.office_records.specs.declared.aggregation.Aggregation.{Aggregation};
+ghost use Rattle.office_records.specs.declared.head.Record.{Record};
 
 use crate::pushing::push_row;
 use office_base::Memory;
-use office_terms::{AggNo, Aggregation, Record};
+use office_records::{AggNo, Aggregation, Record};
 use std::alloc::Global;
 
 /// The number of a record, or of an aggregation in another.

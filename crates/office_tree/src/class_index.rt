@@ -3,17 +3,17 @@ ghost use Rattle.std.specs.Prelude.{◌≡◌, ◌≤◌, [], IfOk, IsSome, IsTr
 ghost use Rattle.std.specs.FinMap.{FinMap, empty, from_entries, get};
 ghost use Rattle.office_tree.specs.ClassIndex.{AreListed, HaveNumbers, IsOfClass, StayNamed};
 ghost use Rattle.office_tree.specs.Derived.{AreRenewed, CanRefresh, HasPlaces, IsPutRight, KeepsNumbers};
-ghost use Rattle.office_terms.specs.Sound.{IsSound};
+ghost use Rattle.office_records.specs.Sound.{IsSound};
 ghost use Rattle.office_tree.specs.Stored.{is_in};
-ghost use Rattle.office_terms.specs.Tree.{code_cmp, has_aggregation, has_record};
-ghost use Rattle.office_terms.specs.declared.class.Class.{Class};
+ghost use Rattle.office_records.specs.Tree.{code_cmp, has_aggregation, has_record};
+ghost use Rattle.office_records.specs.declared.class.Class.{Class};
 
 use crate::class_lists::{ClassLists, ClassNo};
 use crate::classifying::class_in;
 use crate::directory::Directory;
 use crate::rows::Rows;
 use office_base::Memory;
-use office_terms::{AggNo, Class, Code, RecordNo};
+use office_records::{AggNo, Class, Code, RecordNo};
 use std::alloc::Global;
 use std::collections::BTreeMap;
 

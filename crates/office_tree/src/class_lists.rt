@@ -1,12 +1,12 @@
 //! The records of each class, on a list of their own.
 ghost use Rattle.std.specs.Prelude.{◌≡◌, ◌++◌, ◌∷◌, ◌+◌, ◌<◌, ◌≤◌, ◌≢◌, [], OnOk, Some, length};
-ghost use Rattle.office_terms.specs.Lists.{numbered, put};
+ghost use Rattle.office_records.specs.Lists.{numbered, put};
 ghost use Rattle.office_tree.specs.ClassLists.{AreClassLists, HaveRoom};
 ghost use Rattle.office_tree.specs.Rooms.{HasRoom};
 
 use crate::pushing::push_row;
 use office_base::Memory;
-use office_terms::RecordNo;
+use office_records::RecordNo;
 use std::alloc::Global;
 
 /// The number of a class of records: 1, 2, .. in the order of addition; 0 for none.

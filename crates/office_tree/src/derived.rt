@@ -1,7 +1,7 @@
 //! What is derived from the rows of a tree, so that readings need not go over all rows.
 ghost use Rattle.std.specs.Prelude.{IfOk};
-ghost use Rattle.office_terms.specs.Sound.{IsSound};
-ghost use Rattle.office_terms.specs.Tree.{empty_tree};
+ghost use Rattle.office_records.specs.Sound.{IsSound};
+ghost use Rattle.office_records.specs.Tree.{empty_tree};
 ghost use Rattle.office_tree.specs.Derived.{IsDerived};
 
 use crate::child_lists::{ChildLists, link_aggregations, link_records};

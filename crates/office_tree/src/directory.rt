@@ -2,7 +2,7 @@
 //! summary and what is in it.
 ghost use Rattle.std.specs.Prelude.{◌≡◌, OnErr, OnOk};
 ghost use Rattle.std.specs.FinMap.{from_entries, insert};
-ghost use Rattle.office_terms.specs.Tree.{code_cmp};
+ghost use Rattle.office_records.specs.Tree.{code_cmp};
 ghost use Rattle.office_tree.specs.Derived.{HasAggregationRoom, KeepsBesideRefs};
 
 use crate::child_lists::ChildLists;
@@ -10,7 +10,7 @@ use crate::indexing::put_ref;
 use crate::schedule_numbers::ScheduleNumbers;
 use crate::summary::AggregationSummary;
 use office_base::Memory;
-use office_terms::{AggNo, RecordNo, Text};
+use office_records::{AggNo, RecordNo, Text};
 use std::alloc::Global;
 use std::collections::BTreeMap;
 

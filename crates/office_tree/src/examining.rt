@@ -4,17 +4,17 @@ ghost use Rattle.std.specs.BTreeMap as map;
 ghost use Rattle.std.specs.FinMap.{from_entries};
 ghost use Rattle.std.specs.List.{All};
 ghost use Rattle.std.specs.Ordering.{nat_cmp};
-ghost use Rattle.office_terms.specs.Disposal.{is_disposal};
-ghost use Rattle.office_terms.specs.Examined.{AllHaveDocuments, AreContentsShort, IsTreeBy, has_documents, is_by, is_confirmed_by, is_disposal_confirmed, is_receipted_by, is_record_by, is_reviewed_by, is_sound_event};
-ghost use Rattle.office_terms.specs.Forms.{IsWellFormedTree};
+ghost use Rattle.office_records.specs.Disposal.{is_disposal};
+ghost use Rattle.office_records.specs.Examined.{AllHaveDocuments, AreContentsShort, IsTreeBy, has_documents, is_by, is_confirmed_by, is_disposal_confirmed, is_receipted_by, is_record_by, is_reviewed_by, is_sound_event};
+ghost use Rattle.office_records.specs.Forms.{IsWellFormedTree};
 ghost use Rattle.office_tree.specs.Indexes.{Indexes, aggregation_refs, record_refs};
-ghost use Rattle.office_terms.specs.Lists.{Differ};
-ghost use Rattle.office_terms.specs.Sound.{AreEventsSound, RefsDiffer};
-ghost use Rattle.office_terms.specs.Tree.{code_cmp};
+ghost use Rattle.office_records.specs.Lists.{Differ};
+ghost use Rattle.office_records.specs.Sound.{AreEventsSound, RefsDiffer};
+ghost use Rattle.office_records.specs.Tree.{code_cmp};
 
 use crate::Tree;
 use office_days::Day;
-use office_terms::{
+use office_records::{
     Action, AggNo, Aggregation, Confirmation, Event, Receipt, Record, RecordNo, Review, Status,
     Text, well_formed_aggregations, well_formed_classes, well_formed_events, well_formed_records,
     well_formed_schedules,

@@ -1,7 +1,7 @@
 //! The tree of the office in memory: disposal schedules, classes, aggregations, record heads and
 //! their events.
 //!
-//! It is a tree of the terms in `office_terms`, and a reading is what the definitions there say.
+//! It is a tree of the terms in `office_records`, and a reading is what the definitions there say.
 //! What the readings ask for is derived and stored beside the rows.
 //!
 //! Each act on the tree comes as a pair: `check_..` says why it is refused, with the least number,
@@ -51,7 +51,7 @@ mod summary;
 mod tree;
 
 pub use office_base::Memory;
-pub use office_terms::{
+pub use office_records::{
     Action, AggNo, Aggregation, Class, Classified, Code, Confirmation, Event, Receipt, Record,
     RecordNo, Review, Schedule, Status, Text, Trigger,
 };

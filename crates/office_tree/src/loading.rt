@@ -4,17 +4,17 @@ ghost use Rattle.std.specs.BTreeMap as map;
 ghost use Rattle.std.specs.FinMap.{contains_key, from_entries, len};
 ghost use Rattle.std.specs.List.{All};
 ghost use Rattle.std.specs.Option.{unwrap_or};
-ghost use Rattle.office_terms.specs.Loading.{is_aggregation_named, is_placed, is_record_named, is_there, is_within_limits, tree_of};
-ghost use Rattle.office_terms.specs.Lists.{numbered};
-ghost use Rattle.office_terms.specs.Sound.{IsSound, NamesExist, RootsHaveClasses};
-ghost use Rattle.office_terms.specs.Tree.{chain, chain_of, code_cmp};
-ghost use Rattle.office_terms.specs.declared.aggregation.Aggregation.{Aggregation};
+ghost use Rattle.office_records.specs.Loading.{is_aggregation_named, is_placed, is_record_named, is_there, is_within_limits, tree_of};
+ghost use Rattle.office_records.specs.Lists.{numbered};
+ghost use Rattle.office_records.specs.Sound.{IsSound, NamesExist, RootsHaveClasses};
+ghost use Rattle.office_records.specs.Tree.{chain, chain_of, code_cmp};
+ghost use Rattle.office_records.specs.declared.aggregation.Aggregation.{Aggregation};
 
 use crate::Tree;
 use crate::derived::Derived;
 use crate::rows::Rows;
 use office_base::Memory;
-use office_terms::{AggNo, Aggregation, Class, Code, Event, Record, RecordNo, Schedule, Status};
+use office_records::{AggNo, Aggregation, Class, Code, Event, Record, RecordNo, Schedule, Status};
 use std::alloc::Global;
 use std::collections::BTreeMap;
 

@@ -1,16 +1,16 @@
 //! Rows put in by their keys.
 ghost use Rattle.std.specs.Prelude.{◌≡◌, ◌+◌, ◌<◌, ◌≤◌, OnOk, OnErr, IsOk, IsTrue, false, length, vec_len, vec_capacity};
 ghost use Rattle.std.specs.FinMap.{contains_key};
-ghost use Rattle.office_terms.specs.Lasting.{KeepsAggregation, KeepsHead};
-ghost use Rattle.office_terms.specs.Lists.{put};
-ghost use Rattle.office_terms.specs.Rows.{put_aggregation, put_class, put_event, put_record, put_schedule};
-ghost use Rattle.office_terms.specs.Sound.{IsSound};
-ghost use Rattle.office_terms.specs.Tree.{has_record};
+ghost use Rattle.office_records.specs.Lasting.{KeepsAggregation, KeepsHead};
+ghost use Rattle.office_records.specs.Lists.{put};
+ghost use Rattle.office_records.specs.Rows.{put_aggregation, put_class, put_event, put_record, put_schedule};
+ghost use Rattle.office_records.specs.Sound.{IsSound};
+ghost use Rattle.office_records.specs.Tree.{has_record};
 
 use crate::Tree;
 use crate::rows::rows_of;
 use office_base::Memory;
-use office_terms::{AggNo, Aggregation, Class, Code, Event, Record, RecordNo, Schedule, Status};
+use office_records::{AggNo, Aggregation, Class, Code, Event, Record, RecordNo, Schedule, Status};
 
 /// Puts a row in place of the one with that number, which needs no memory, or as the next. Rows are
 /// numbered 1, 2, .. At `Memory` the rows are as they were.

@@ -8,7 +8,7 @@ use crate::pushing::push_row;
 use crate::record_cache::RecordCache;
 use office_base::Memory;
 use office_days::DueDay;
-use office_terms::RecordNo;
+use office_records::RecordNo;
 use std::alloc::Global;
 
 /// What is cached of each record, and the set of those that are candidates for a disposal run.

@@ -4,7 +4,7 @@ ghost use Rattle.office_tree.specs.Derived.{AreClassRight, AreRenewed, CanCache,
 ghost use Rattle.office_tree.specs.Inheriting.{is_heir, is_reached};
 ghost use Rattle.office_tree.specs.RecordCaches.{AreRecordCaches, IsRecordCache};
 ghost use Rattle.office_tree.specs.Stored.{is_in};
-ghost use Rattle.office_terms.specs.Tree.{has_aggregation, has_record};
+ghost use Rattle.office_records.specs.Tree.{has_aggregation, has_record};
 
 use crate::class_lists::{ClassLists, ClassNo};
 use crate::directory::Directory;
@@ -12,7 +12,7 @@ use crate::per_record::PerRecord;
 use crate::record_caches::RecordCaches;
 use crate::rows::Rows;
 use office_base::Memory;
-use office_terms::{AggNo, RecordNo};
+use office_records::{AggNo, RecordNo};
 use std::alloc::Global;
 
 impl RecordCaches {

@@ -2,21 +2,21 @@
 ghost use Rattle.std.specs.Prelude.{◌≡◌, ◌&&◌, IsTrue, Some};
 ghost use Rattle.std.specs.FinMap.{get};
 ghost use Rattle.std.specs.Ordering.{int_eq};
-ghost use Rattle.office_terms.specs.Disposal.{is_disposal, same_action};
+ghost use Rattle.office_records.specs.Disposal.{is_disposal, same_action};
 ghost use Rattle.office_tree.specs.Inheriting.{has_own_class};
-ghost use Rattle.office_terms.specs.Lists.{holds_of};
-ghost use Rattle.office_terms.specs.Candidates.{candidate_by};
+ghost use Rattle.office_records.specs.Lists.{holds_of};
+ghost use Rattle.office_records.specs.Candidates.{candidate_by};
 ghost use Rattle.office_tree.specs.RecordCaches.{IsRecordCache};
 ghost use Rattle.office_tree.specs.Derived.{CanCache};
-ghost use Rattle.office_terms.specs.Sound.{IsSound};
-ghost use Rattle.office_terms.specs.Tree.{has_aggregation, has_record, plan_of, schedule_of};
+ghost use Rattle.office_records.specs.Sound.{IsSound};
+ghost use Rattle.office_records.specs.Tree.{has_aggregation, has_record, plan_of, schedule_of};
 
 use crate::classifying::class_in;
 use crate::directory::Directory;
 use crate::record_cache::RecordCache;
 use crate::scheduling::{due_by, start_in};
 use office_days::DueDay;
-use office_terms::{
+use office_records::{
     Action, AggNo, Aggregation, Class, Code, Confirmation, Event, Record, RecordNo, Schedule,
     Status,
 };
@@ -36,7 +36,7 @@ pub(crate) struct Rows<'a> {
 
 impl<'a> Model for Rows<'a> {
     ghost use Rattle.std.specs.FinMap.{from_entries};
-    ghost use Rattle.office_terms.specs.Tree.{TreeState};
+    ghost use Rattle.office_records.specs.Tree.{TreeState};
     ghost use Rattle.std.specs.Coded.{codes};
     ghost use Rattle.std.specs.FinMap as map;
 

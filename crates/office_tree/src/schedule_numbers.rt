@@ -1,11 +1,11 @@
 //! Numbers for the codes of schedules.
 ghost use Rattle.std.specs.Prelude.{◌≡◌, [], IfOk, IfSome, IsNone, IsSome, OnOk, Some};
 ghost use Rattle.std.specs.FinMap.{from_entries};
-ghost use Rattle.office_terms.specs.Lists.{numbered};
+ghost use Rattle.office_records.specs.Lists.{numbered};
 ghost use Rattle.office_tree.specs.ScheduleNumbers.{AreNumbered, IsAmong, StayNumbered};
 
 use office_base::Memory;
-use office_terms::{Code, Schedule};
+use office_records::{Code, Schedule};
 use std::alloc::Global;
 use std::collections::BTreeMap;
 use std::marker::Model;
@@ -25,7 +25,7 @@ impl Model for ScheduleNumbers {
     ghost use Rattle.std.specs.Prelude.{List, ℕ};
     ghost use Rattle.std.specs.FinMap.{from_entries};
     ghost use Rattle.office_tree.specs.Indexes.{Indexes};
-    ghost use Rattle.office_terms.specs.Tree.{code_cmp};
+    ghost use Rattle.office_records.specs.Tree.{code_cmp};
 
     ghost Value = { List (List ℕ) };
 

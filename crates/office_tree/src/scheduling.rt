@@ -2,16 +2,18 @@
 ghost use Rattle.std.specs.Prelude.{◌≡◌, ◌<◌, ◌≤◌, IfNone, IfSome, IsTrue, Some, length};
 ghost use Rattle.std.specs.FinMap.{from_entries};
 ghost use Rattle.std.specs.Option.{option_and_then, option_map};
-ghost use Rattle.office_terms.specs.Lists.{later, numbered};
-ghost use Rattle.office_terms.specs.Candidates.{HasNoCandidateAbove, IsNextCandidate, is_candidate};
+ghost use Rattle.office_records.specs.Lists.{later, numbered};
+ghost use Rattle.office_records.specs.Candidates.{HasNoCandidateAbove, IsNextCandidate, is_candidate};
 ghost use Rattle.office_tree.specs.Summaries.{AreLastAdditions};
-ghost use Rattle.office_terms.specs.Tree.{due_by, due_of, has_record, plan_of, schedule_of, start_in, start_of};
+ghost use Rattle.office_records.specs.Tree.{due_by, due_of, has_record, plan_of, schedule_of, start_in, start_of};
 
 use crate::Tree;
 use crate::record_cache::RecordCache;
 use crate::summary::AggregationSummary;
 use office_days::{Day, DueDay, due_day};
-use office_terms::{Action, AggNo, Aggregation, Code, Event, Record, RecordNo, Schedule, Trigger};
+use office_records::{
+    Action, AggNo, Aggregation, Code, Event, Record, RecordNo, Schedule, Trigger,
+};
 use std::collections::BTreeMap;
 
 /// The later of two days, where there may be no first.

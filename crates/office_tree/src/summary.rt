@@ -1,17 +1,17 @@
 //! What is derived of each aggregation: its last addition, and counts of the records below it.
 ghost use Rattle.std.specs.Prelude.{◌≡◌, ◌+◌, ◌-◌, ◌<◌, ◌≤◌, IfOk, ◌&&◌, ◌==◌, count_by, length, map, true, ℕ};
 ghost use Rattle.std.specs.List.{All};
-ghost use Rattle.office_terms.specs.Lists.{numbered};
-ghost use Rattle.office_terms.specs.Sound.{IsForest, IsSound, RootsHaveClasses};
+ghost use Rattle.office_records.specs.Lists.{numbered};
+ghost use Rattle.office_records.specs.Sound.{IsForest, IsSound, RootsHaveClasses};
 ghost use Rattle.office_tree.specs.Summaries.{AreAdded, AreSummaries, AreTurned, is_in_chain};
-ghost use Rattle.office_terms.specs.Tree.{TreeState};
+ghost use Rattle.office_records.specs.Tree.{TreeState};
 
 use crate::checking_changes::is_ended;
 use crate::classifying::chain_of;
 use crate::scheduling::later;
 use office_base::Memory;
 use office_days::Day;
-use office_terms::{AggNo, Aggregation, Record, Status};
+use office_records::{AggNo, Aggregation, Record, Status};
 use std::alloc::Global;
 
 /// What is cached of an aggregation: the greatest added day of the records in it, how many records

@@ -15,10 +15,10 @@ use office_desk::Desk;
 use office_http::{Failure, Operation, Reply, check_reply, failure_reply};
 use office_json::{ListFault, read_acts};
 use office_proof::Entry;
+use office_records::RecordNo;
 use office_rules::laws::resuming::law_of_resumption;
 use office_rules::{Act, RecordView};
 use office_store::Fault;
-use office_terms::RecordNo;
 use sqlite::Alter;
 use std::alloc::Global;
 

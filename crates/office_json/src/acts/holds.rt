@@ -9,8 +9,8 @@ use crate::parts::{both, code_at, day_at, words_at};
 use crate::targets::target_at;
 use office_base::Refusal;
 use office_days::Day;
+use office_records::{Code, Target};
 use office_rules::Act;
-use office_terms::{Code, Target};
 use serde_json::Value;
 use std::alloc::Global;
 

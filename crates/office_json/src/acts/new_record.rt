@@ -10,8 +10,8 @@ use crate::members::has_only;
 use crate::parts::{both, day_at, number_at, optional_code_at, words_at};
 use office_base::Refusal;
 use office_days::Day;
+use office_records::{AggNo, Code, Text};
 use office_rules::{Act, Content};
-use office_terms::{AggNo, Code, Text};
 use serde_json::Value;
 use std::alloc::Global;
 

@@ -7,7 +7,7 @@ ghost use Rattle.office_rules.specs.declared.table_row.Row.TheVariants as of_tab
 use crate::Loader;
 use office_base::{Rebuild, push_keyed, push_numbered};
 use office_days::Day;
-use office_terms::{AggNo, Aggregation, Class, Code, Schedule};
+use office_records::{AggNo, Aggregation, Class, Code, Schedule};
 
 impl Loader {
     /// Takes the row of office in; damaged where one has come.

@@ -7,8 +7,8 @@ ghost use Rattle.office_rules.specs.declared.table_row.Row.TheVariants as of_tab
 use crate::Loader;
 use crate::loading::records::push_record;
 use office_base::{Rebuild, push_keyed};
+use office_records::{Event, RecordNo};
 use office_rules::RecordRow;
-use office_terms::{Event, RecordNo};
 
 impl Loader {
     /// Takes a record in.

@@ -2,7 +2,7 @@
 ghost use Rattle.std.specs.Prelude.{◌≡◌, IsTrue, Ok, false, true};
 ghost use Rattle.std.specs.List.Sorted.{IsStrictlySortedBy};
 ghost use Rattle.std.specs.Ordering.{nat_cmp};
-ghost use Rattle.office_terms.specs.Examined.{AreContentsShort};
+ghost use Rattle.office_records.specs.Examined.{AreContentsShort};
 ghost use Rattle.office_rules.specs.Loading.{AreEntriesKeyed, DoPartsAgree, ArePartsSound, HaveKeys, IsWellFormedOffice, IsOfficeBy};
 ghost use Rattle.office_rules.specs.Sound.{IsSound};
 ghost use Rattle.office_rules.specs.State.{ByteMap, with_contents};
@@ -10,7 +10,7 @@ ghost use Rattle.office_loading.specs.Keys.{bare_contents};
 
 use crate::Loaded;
 use office_base::Memory;
-use office_terms::RecordNo;
+use office_records::RecordNo;
 use std::alloc::Global;
 
 impl Loaded {

@@ -4,11 +4,11 @@ ghost use Rattle.std.specs.FinMap.{contains_key, from_entries, get, insert, valu
 ghost use Rattle.std.specs.List.{All};
 ghost use Rattle.std.specs.Option.{is_none, is_some};
 ghost use Rattle.std.specs.Ordering.{nat_cmp};
-ghost use Rattle.office_terms.specs.Disposal.{is_ended};
-ghost use Rattle.office_terms.specs.Loading.{is_there};
-ghost use Rattle.office_terms.specs.Lists.{holds_of, numbered};
-ghost use Rattle.office_terms.specs.Tree.{has_record, status_of};
-ghost use Rattle.office_terms.specs.declared.status.Status.TheVariants.{Ended};
+ghost use Rattle.office_records.specs.Disposal.{is_ended};
+ghost use Rattle.office_records.specs.Loading.{is_there};
+ghost use Rattle.office_records.specs.Lists.{holds_of, numbered};
+ghost use Rattle.office_records.specs.Tree.{has_record, status_of};
+ghost use Rattle.office_records.specs.declared.status.Status.TheVariants.{Ended};
 ghost use Rattle.office_proof.specs.Outcomes.{is_ending, is_skipping, is_transferring};
 ghost use Rattle.office_rules.specs.Loading.{AreEndings, EachHasOneEnding, TwoRunsEndOne, is_entry_right};
 ghost use Rattle.office_rules.specs.State.{entry_cmp};
@@ -16,7 +16,7 @@ ghost use Rattle.office_rules.specs.State.{entry_cmp};
 use crate::Loaded;
 use office_base::Memory;
 use office_proof::{Entry, Outcome, RunNo};
-use office_terms::{RecordNo, Status};
+use office_records::{RecordNo, Status};
 use std::alloc::Global;
 use std::collections::BTreeMap;
 

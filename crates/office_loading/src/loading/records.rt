@@ -2,18 +2,18 @@
 ghost use Rattle.std.specs.Prelude.{◌≡◌, ◌≢◌, ◌∷◌, ◌++◌, [], ℕ, List, MatchOption, OnOk, Option, length};
 ghost use Rattle.std.specs.Option.{option_map};
 ghost use Rattle.office_base.specs.Rows.{OnDamaged, numbered_rows};
-ghost use Rattle.office_terms.specs.declared.head.Confirmation.{Confirmation};
-ghost use Rattle.office_terms.specs.declared.head.Receipt.{Receipt};
-ghost use Rattle.office_terms.specs.declared.head.Record.{Record};
-ghost use Rattle.office_terms.specs.declared.head.Review.{Review};
-ghost use Rattle.office_terms.specs.declared.status.Status.{Status};
+ghost use Rattle.office_records.specs.declared.head.Confirmation.{Confirmation};
+ghost use Rattle.office_records.specs.declared.head.Receipt.{Receipt};
+ghost use Rattle.office_records.specs.declared.head.Record.{Record};
+ghost use Rattle.office_records.specs.declared.head.Review.{Review};
+ghost use Rattle.office_records.specs.declared.status.Status.{Status};
 ghost use Rattle.office_rules.specs.Rows.{record_row, record_rows};
 ghost use Rattle.office_rules.specs.declared.rows.RecordRow.{RecordRow};
 
 use office_base::{Rebuild, push_numbered};
 use office_days::{Day, DueDay};
+use office_records::{Action, Confirmation, Receipt, Record, RecordNo, Review, Status, Text};
 use office_rules::RecordRow;
-use office_terms::{Action, Confirmation, Receipt, Record, RecordNo, Review, Status, Text};
 
 /// The review, if there is one, of which these are the columns; `None` where one of them is there
 /// alone.

@@ -1,5 +1,5 @@
 //! What refuses an act: of its conditions that hold, the one with the least number.
-ghost use Rattle.office_terms.specs.Conditions.{IsLeastOf, first_of};
+ghost use Rattle.office_records.specs.Conditions.{IsLeastOf, first_of};
 ghost use Rattle.office_rules.specs.Refusals.{IsAnsweredInOrder, refusals_of};
 ghost use Rattle.office_rules.specs.State.{Office, State};
 ghost use Rattle.office_rules.specs.declared.act.Act.{Act};

@@ -1,6 +1,6 @@
 //! A record that is asked for again.
 ghost use Rattle.std.specs.Prelude.{◌≡◌, ℕ, ℤ, List, Some};
-ghost use Rattle.office_terms.specs.Lists.{numbered};
+ghost use Rattle.office_records.specs.Lists.{numbered};
 ghost use Rattle.office_rules.specs.Acts.{after, answers, step};
 ghost use Rattle.office_rules.specs.NewRecords.{NewRecord, add_record};
 ghost use Rattle.office_rules.specs.State.{State};

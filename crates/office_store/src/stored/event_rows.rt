@@ -3,9 +3,9 @@ ghost use Rattle.office_store.specs.Stored.{IsEventPair, IsRowOf, event_handed, 
 
 use crate::columns::{day, has_columns, thing_number, words};
 use crate::stored::Stored;
+use office_records::{Event, RecordNo};
 use office_rules::Row as TableRow;
 use office_sql::BadValue;
-use office_terms::{Event, RecordNo};
 use sqlite::Row;
 use std::alloc::Global;
 

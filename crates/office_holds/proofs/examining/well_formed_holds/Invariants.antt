@@ -1,5 +1,5 @@
 use Rattle.std.specs.List.{AllByRecursion}
-use Rattle.office_terms.specs.Forms.{IsCode}
+use Rattle.office_records.specs.Forms.{IsCode}
 use Rattle.office_holds.specs.Forms.{IsWellFormedHold}
 use Rattle.office_holds.proofs.examining.well_formed_holds.Given as goal
 

@@ -1,6 +1,6 @@
 use Rattle.std.proofs.Common.{Option, Some, ap, sym, ◌∙◌}
-use Rattle.office_terms.specs.Lists.{holds_of}
-use Rattle.office_terms.proofs.Plan.{get_is}
+use Rattle.office_records.specs.Lists.{holds_of}
+use Rattle.office_records.proofs.Plan.{get_is}
 use Rattle.office_holds.specs.Holds.{HoldState, hold_covers}
 use Rattle.office_holds.proofs.finding.covers.Goals as goal
 

@@ -1,9 +1,9 @@
 use Rattle.std.proofs.Common.{ap, sym, ◌∙◌}
 use Rattle.std.specs.Option.{option_copied}
-use Rattle.office_terms.specs.Effects.{reclassified}
-use Rattle.office_terms.specs.Tree.{aggregation_class_of}
-use Rattle.office_terms.specs.declared.classified.Classified.TheVariants as classified
-use Rattle.office_terms.proofs.Places.{numbered_within}
+use Rattle.office_records.specs.Effects.{reclassified}
+use Rattle.office_records.specs.Tree.{aggregation_class_of}
+use Rattle.office_records.specs.declared.classified.Classified.TheVariants as classified
+use Rattle.office_records.proofs.Places.{numbered_within}
 use Rattle.office_holds.proofs.Classes.{aggregation_given, there}
 use Rattle.office_holds.proofs.leaving.aggregation_class_after.Goals as goal
 

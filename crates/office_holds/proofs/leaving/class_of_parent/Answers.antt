@@ -1,6 +1,6 @@
 use Rattle.std.proofs.Common.{sym, ◌∙◌}
-use Rattle.office_terms.proofs.Places.{numbered_within}
-use Rattle.office_terms.proofs.Walk.{placed_in}
+use Rattle.office_records.proofs.Places.{numbered_within}
+use Rattle.office_records.proofs.Walk.{placed_in}
 use Rattle.office_holds.proofs.Classes.{aggregation_container, aggregation_root}
 use Rattle.office_holds.proofs.leaving.class_of_parent.Goals as goal
 

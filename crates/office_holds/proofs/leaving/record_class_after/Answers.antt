@@ -1,8 +1,8 @@
 use Rattle.std.proofs.Common.{ap, ◌∙◌}
 use Rattle.std.specs.Option.{option_copied}
-use Rattle.office_terms.specs.Effects.{reclassified}
-use Rattle.office_terms.specs.Tree.{class_of}
-use Rattle.office_terms.specs.declared.classified.Classified.TheVariants as classified
+use Rattle.office_records.specs.Effects.{reclassified}
+use Rattle.office_records.specs.Tree.{class_of}
+use Rattle.office_records.specs.declared.classified.Classified.TheVariants as classified
 use Rattle.office_holds.proofs.Classes.{record_given, there}
 use Rattle.office_holds.proofs.leaving.record_class_after.Goals as goal
 

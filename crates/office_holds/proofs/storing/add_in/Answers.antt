@@ -1,7 +1,7 @@
 use Rattle.std.proofs.Common.{ap, ◌∙◌}
 use Rattle.std.specs.FinMap.{from_entries, insert}
-use Rattle.office_terms.specs.Tree.{code_cmp}
-use Rattle.office_terms.proofs.Inserting.{inserted}
+use Rattle.office_records.specs.Tree.{code_cmp}
+use Rattle.office_records.proofs.Inserting.{inserted}
 use Rattle.office_holds.proofs.storing.add_in.Goals as goal
 
 pub returns-clause-ok : goal.returns-clause-ok

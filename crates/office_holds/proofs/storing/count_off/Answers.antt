@@ -1,7 +1,7 @@
 use Rattle.std.proofs.Common.{◌∙◌, ap, arith, sym}
 use Rattle.std.specs.FinMap.{from_entries}
-use Rattle.office_terms.specs.Tree.{code_cmp}
-use Rattle.office_terms.proofs.Plan.{get_is}
+use Rattle.office_records.specs.Tree.{code_cmp}
+use Rattle.office_records.proofs.Plan.{get_is}
 use Rattle.office_holds.specs.Numbers.{one_if}
 use Rattle.office_holds.proofs.Cached.{bound_there, lifted_there, none_there}
 use Rattle.office_holds.proofs.storing.count_off.Goals as goal

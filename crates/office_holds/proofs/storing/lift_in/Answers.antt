@@ -2,8 +2,8 @@ use Rattle.std.proofs.Common.{ℕ, List, Some, ap, sym, ◌∙◌}
 use Rattle.std.specs.FinMap.{from_entries}
 use Rattle.std.specs.BTreeMap.{BTreeMap}
 use Rattle.std.specs.Option.{is_some}
-use Rattle.office_terms.specs.Tree.{code_cmp}
-use Rattle.office_terms.proofs.Inserting.{amended_written}
+use Rattle.office_records.specs.Tree.{code_cmp}
+use Rattle.office_records.proofs.Inserting.{amended_written}
 use Rattle.office_holds.specs.Holds.{HoldState}
 use Rattle.office_holds.proofs.Keys.{unchanged}
 use Rattle.office_holds.proofs.storing.lift_in.Goals as goal

@@ -4,8 +4,8 @@ use Rattle.std.specs.BTreeMap.{BTreeMap, is_at}
 use Rattle.std.specs.Map.{set_value}
 use Rattle.std.proofs.lemmas.Map.Steps.{set_value_same}
 use Rattle.std.specs.Option.{is_some}
-use Rattle.office_terms.specs.Tree.{code_cmp}
-use Rattle.office_terms.proofs.Inserting.{amended_written}
+use Rattle.office_records.specs.Tree.{code_cmp}
+use Rattle.office_records.proofs.Inserting.{amended_written}
 use Rattle.office_holds.specs.Effects.{with_target}
 use Rattle.office_holds.specs.Holds.{HoldState}
 use Rattle.office_holds.proofs.Keys.{on_ok, on_err, unchanged}

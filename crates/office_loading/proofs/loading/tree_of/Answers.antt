@@ -1,5 +1,5 @@
 use Rattle.std.proofs.Common.{refl, sym, subst}
-use Rattle.office_terms.specs.Sound.{IsSound}
+use Rattle.office_records.specs.Sound.{IsSound}
 use Rattle.office_loading.specs.TreeRows.{AreTreeRows}
 use Rattle.office_loading.proofs.FoundTree.{tree_has_rows, tree_of_rows_is}
 use Rattle.office_loading.proofs.loading.tree_of.Goals as goal

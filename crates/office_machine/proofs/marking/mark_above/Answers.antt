@@ -1,6 +1,6 @@
 use Rattle.std.proofs.Common.{◌<◌, ◌≤◌, length, sym, ◌∙◌, subst}
 use Rattle.std.specs.List.{All}
-use Rattle.office_terms.specs.Tree.{above}
+use Rattle.office_records.specs.Tree.{above}
 use Rattle.office_machine.proofs.AboveRecords.{above_there}
 use Rattle.office_machine.proofs.marking.mark_above.Goals as goal
 

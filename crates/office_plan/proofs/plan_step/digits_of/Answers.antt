@@ -3,7 +3,7 @@ use Rattle.std.proofs.lemmas.Fmt.{decimal_nonempty}
 use Rattle.std.proofs.lemmas.Str.{is_utf8-from_IsUtf8}
 use Rattle.std.specs.Fmt.{decimal}
 use Rattle.std.specs.Str.{is_utf8}
-use Rattle.office_terms.specs.TextForms.{is_text, text_named}
+use Rattle.office_records.specs.TextForms.{is_text, text_named}
 use Rattle.office_plan.proofs.TextLemmas.{is_text-decimal, fits-64}
 use Rattle.office_plan.proofs.plan_step.digits_of.Goals as goal
 

@@ -1,7 +1,7 @@
 use Rattle.std.proofs.Common.{◌≡◌, ◌∙◌, List, ℕ, Some, None, Bool, true, cond, sym, ap, subst}
 use Rattle.std.proofs.lemmas.Str.{is_utf8-from_IsUtf8}
 use Rattle.std.specs.Str.{is_utf8}
-use Rattle.office_terms.specs.TextForms.{is_text, text_named}
+use Rattle.office_records.specs.TextForms.{is_text, text_named}
 use Rattle.office_plan.proofs.TextLemmas.{is_text-code}
 use Rattle.office_plan.proofs.plan_step.title_of.Goals as goal
 

@@ -2,7 +2,7 @@ use Rattle.std.proofs.Common.{◌≡◌, ◌<◌, ◌≤◌, ◌+◌, ◌++◌, 
 use Rattle.std.specs.Prelude.{IfSome}
 use Rattle.std.specs.Option.{unwrap_or}
 use Rattle.office_tree.specs.ChildLists.{AreLinked, parents_of}
-use Rattle.office_terms.specs.declared.aggregation.Aggregation.{Aggregation}
+use Rattle.office_records.specs.declared.aggregation.Aggregation.{Aggregation}
 use Rattle.office_tree.proofs.Linked.{few_taken, linked_same, parents_more}
 use Rattle.office_tree.proofs.Refreshed.{read_at}
 use Rattle.office_tree.proofs.child_lists.link_aggregations.Goals as goal

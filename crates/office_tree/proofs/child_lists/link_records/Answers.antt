@@ -1,6 +1,6 @@
 use Rattle.std.proofs.Common.{◌<◌, ◌≤◌, ◌+◌, ◌++◌, ◌∷◌, [], ◌∙◌, List, ℕ, length, ap, refl, sym, subst, take, arith}
 use Rattle.office_tree.specs.ChildLists.{AreLinked, containers_of}
-use Rattle.office_terms.specs.declared.head.Record.{Record}
+use Rattle.office_records.specs.declared.head.Record.{Record}
 use Rattle.office_tree.proofs.Linked.{containers_more, linked_same}
 use Rattle.office_tree.proofs.Refreshed.{head_at}
 use Rattle.office_tree.proofs.child_lists.link_records.Goals as goal

@@ -1,7 +1,7 @@
 use Rattle.std.proofs.Common.{◌≡◌, ◌+◌, ◌∙◌, ◌++◌, ◌∷◌, [], ℕ, length, length-append, ap, sym, subst, arith}
 use Rattle.std.specs.FinMap.{from_entries}
 use Rattle.office_tree.specs.ClassIndex.{HaveNumbers, IsOfClass, NumberMap}
-use Rattle.office_terms.specs.Tree.{code_cmp}
+use Rattle.office_records.specs.Tree.{code_cmp}
 use Rattle.office_tree.proofs.Listed.{ListedTo, each_of, pushed_other}
 use Rattle.office_tree.proofs.class_index.class_index_of.Goals.{After-add}
 use Rattle.office_tree.proofs.class_index.class_index_of.Goals as goal

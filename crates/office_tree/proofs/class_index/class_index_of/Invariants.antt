@@ -1,6 +1,6 @@
 use Rattle.std.proofs.Common.{length}
 use Rattle.std.specs.FinMap.{from_entries}
-use Rattle.office_terms.specs.Tree.{code_cmp}
+use Rattle.office_records.specs.Tree.{code_cmp}
 use Rattle.office_tree.proofs.Listed.{ListedTo}
 use Rattle.office_tree.proofs.class_index.class_index_of.Given as goal
 

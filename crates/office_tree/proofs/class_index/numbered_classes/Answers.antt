@@ -8,11 +8,11 @@ use Rattle.std.specs.List.{All}
 use Rattle.std.specs.Map.Iter.{deref}
 use Rattle.std.specs.Prelude.{IsSome}
 use Rattle.office_tree.specs.ClassIndex.{HaveNumbers, NumberMap}
-use Rattle.office_terms.specs.Tree.{code_cmp}
-use Rattle.office_terms.specs.declared.class.Class.{Class}
+use Rattle.office_records.specs.Tree.{code_cmp}
+use Rattle.office_records.specs.declared.class.Class.{Class}
 use Rattle.office_tree.proofs.Codes.{code_all}
 use Rattle.office_tree.proofs.Listed.{numbers_none, stays_named}
-use Rattle.office_terms.proofs.Plan.{get_is}
+use Rattle.office_records.proofs.Plan.{get_is}
 use Rattle.office_tree.proofs.class_index.numbered_classes.Goals as goal
 
 pub loop-code-init : goal.loop-code-init

@@ -3,7 +3,7 @@ use Rattle.std.specs.FinMap.{empty, from_entries, get}
 use Rattle.std.specs.List.{All}
 use Rattle.std.specs.Prelude.{IsSome}
 use Rattle.office_tree.specs.ClassIndex.{HaveNumbers}
-use Rattle.office_terms.specs.Tree.{code_cmp}
+use Rattle.office_records.specs.Tree.{code_cmp}
 use Rattle.office_tree.proofs.class_index.numbered_classes.Given as goal
 
 -- the classes so far have numbers

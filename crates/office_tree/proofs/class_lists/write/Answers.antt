@@ -1,5 +1,5 @@
 use Rattle.std.proofs.Common.{◌-◌, sym, arith}
-use Rattle.office_terms.proofs.Putting.{put_within}
+use Rattle.office_records.proofs.Putting.{put_within}
 use Rattle.office_tree.proofs.class_lists.write.Goals as goal
 
 pub returns-then-n-ne0 : goal.returns-then-n-ne0

@@ -1,8 +1,8 @@
 use Rattle.std.proofs.Common.{◌≡◌, ℕ, true, sym, ◌∙◌}
 use Rattle.std.proofs.lemmas.Bool.{both_ways}
-use Rattle.office_terms.specs.Examined.{is_sound_event}
-use Rattle.office_terms.specs.declared.event.Event.{Event}
-use Rattle.office_terms.proofs.Passing.{next_passes, passed_next}
+use Rattle.office_records.specs.Examined.{is_sound_event}
+use Rattle.office_records.specs.declared.event.Event.{Event}
+use Rattle.office_records.proofs.Passing.{next_passes, passed_next}
 use Rattle.office_tree.proofs.examining.are_sound_events.Goals as goal
 
 pub returns-then-not-is_sound_event : goal.returns-then-not-is_sound_event

@@ -1,7 +1,7 @@
 use Rattle.std.proofs.Common.{◌≡◌, ℕ, true}
-use Rattle.office_terms.specs.Examined.{is_sound_event}
-use Rattle.office_terms.specs.declared.event.Event.{Event}
-use Rattle.office_terms.proofs.Passing.{HavePassed}
+use Rattle.office_records.specs.Examined.{is_sound_event}
+use Rattle.office_records.specs.declared.event.Event.{Event}
+use Rattle.office_records.proofs.Passing.{HavePassed}
 use Rattle.office_tree.proofs.examining.are_sound_events.Given as goal
 
 -- the events so far pass

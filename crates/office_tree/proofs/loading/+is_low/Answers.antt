@@ -1,8 +1,8 @@
 use Rattle.std.proofs.Common.{◌≡◌, ◌≢◌, ◌<◌, ◌-◌, ℕ, zero, suc, refl, sym, ap, ◌∙◌, arith, length}
 use Rattle.std.specs.Prelude.{nat_le}
-use Rattle.office_terms.proofs.Places.{numbered_read}
-use Rattle.office_terms.proofs.Placed.{are_well_placed, low_none, low_step, not_low}
-use Rattle.office_terms.proofs.Walk.{up_from, parent_fits}
+use Rattle.office_records.proofs.Places.{numbered_read}
+use Rattle.office_records.proofs.Placed.{are_well_placed, low_none, low_step, not_low}
+use Rattle.office_records.proofs.Walk.{up_from, parent_fits}
 use Rattle.office_tree.proofs.loading.+is_low.Goals as goal
 
 smaller : (k t : ℕ) → k ≡ t → k ≢ 0 → k - 1 < t

@@ -1,6 +1,6 @@
 use Rattle.std.proofs.Common.{length, inl, inr, arith}
 use Rattle.std.proofs.lemmas.Bool.{cases_lt}
-use Rattle.office_terms.proofs.Placed.{low_zero, low_beyond}
+use Rattle.office_records.proofs.Placed.{low_zero, low_beyond}
 use Rattle.office_tree.proofs.loading.are_low.Goals as goal
 
 pub loop-i-init : goal.loop-i-init

@@ -1,5 +1,5 @@
 use Rattle.std.proofs.Common.{◌≤◌, ℕ, length}
-use Rattle.office_terms.specs.Tree.{chain_of}
+use Rattle.office_records.specs.Tree.{chain_of}
 use Rattle.office_tree.proofs.loading.are_low.Given as goal
 
 -- the aggregations so far are not too deep

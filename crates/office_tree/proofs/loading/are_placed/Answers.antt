@@ -1,9 +1,9 @@
 use Rattle.std.proofs.Common.{◌≡◌, ◌+◌, true, Some, arith, inl, inr, subst, sym, ◌∙◌}
 use Rattle.std.proofs.lemmas.Bool.{cases_lt}
-use Rattle.office_terms.specs.Lists.{numbered}
-use Rattle.office_terms.proofs.Places.{numbered_within, numbered_at}
-use Rattle.office_terms.specs.Loading.{is_placed}
-use Rattle.office_terms.proofs.Placed.{numbered_there}
+use Rattle.office_records.specs.Lists.{numbered}
+use Rattle.office_records.proofs.Places.{numbered_within, numbered_at}
+use Rattle.office_records.specs.Loading.{is_placed}
+use Rattle.office_records.proofs.Placed.{numbered_there}
 use Rattle.office_tree.proofs.loading.are_placed.Goals as goal
 
 pub loop-i-init : goal.loop-i-init

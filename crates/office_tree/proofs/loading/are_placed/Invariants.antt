@@ -1,7 +1,7 @@
 use Rattle.std.proofs.Common.{◌≡◌, ◌≤◌, ℕ, true, Some}
-use Rattle.office_terms.specs.Lists.{numbered}
-use Rattle.office_terms.specs.declared.aggregation.Aggregation.{Aggregation}
-use Rattle.office_terms.specs.Loading.{is_placed}
+use Rattle.office_records.specs.Lists.{numbered}
+use Rattle.office_records.specs.declared.aggregation.Aggregation.{Aggregation}
+use Rattle.office_records.specs.Loading.{is_placed}
 use Rattle.office_tree.proofs.loading.are_placed.Given as goal
 
 abbrev pub invariant-loop-i : goal.invariant-loop-i

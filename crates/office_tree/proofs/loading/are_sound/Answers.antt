@@ -1,7 +1,7 @@
 use Rattle.std.proofs.Common.{◌≡◌, ◌∙◌, sym, arith, length}
 use Rattle.std.proofs.lemmas.Bool.Decides.{nat_tests}
-use Rattle.office_terms.proofs.Named.{limits_hold}
-use Rattle.office_terms.proofs.Placed.{below_of, closed_of, all_pass}
+use Rattle.office_records.proofs.Named.{limits_hold}
+use Rattle.office_records.proofs.Placed.{below_of, closed_of, all_pass}
 use Rattle.office_tree.proofs.loading.are_sound.Goals as goal
 
 pub returns-then-not-are_placed-clause-no : goal.returns-then-not-are_placed-clause-no

@@ -1,5 +1,5 @@
 use Rattle.std.proofs.Common.{◌∙◌, sym}
-use Rattle.office_terms.proofs.Maps.{len_is}
+use Rattle.office_records.proofs.Maps.{len_is}
 use Rattle.office_tree.proofs.loading.count.Goals as goal
 
 pub returns : goal.returns

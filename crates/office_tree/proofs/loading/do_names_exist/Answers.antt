@@ -1,5 +1,5 @@
 use Rattle.std.specs.FinMap.{from_entries}
-use Rattle.office_terms.proofs.Named.{names_hold, classes_pass, aggregations_pass, records_pass}
+use Rattle.office_records.proofs.Named.{names_hold, classes_pass, aggregations_pass, records_pass}
 use Rattle.office_tree.proofs.loading.do_names_exist.Goals as goal
 
 pub returns-then-not-are_classes_named-clause-no : goal.returns-then-not-are_classes_named-clause-no

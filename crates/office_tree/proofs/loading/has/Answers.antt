@@ -1,5 +1,5 @@
 use Rattle.std.proofs.Common.{◌∙◌, sym}
-use Rattle.office_terms.proofs.Plan.{contains_is}
+use Rattle.office_records.proofs.Plan.{contains_is}
 use Rattle.office_tree.proofs.loading.has.Goals as goal
 
 pub returns : goal.returns

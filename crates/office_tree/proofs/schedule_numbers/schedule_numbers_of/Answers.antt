@@ -7,9 +7,9 @@ use Rattle.std.specs.List.{All}
 use Rattle.std.specs.Map.Iter.{deref}
 use Rattle.std.specs.Prelude.{IsSome}
 use Rattle.office_tree.specs.ScheduleNumbers.{IsAmong}
-use Rattle.office_terms.specs.declared.schedule.Schedule.{Schedule}
+use Rattle.office_records.specs.declared.schedule.Schedule.{Schedule}
 use Rattle.office_tree.proofs.Codes.{code_among}
-use Rattle.office_terms.proofs.Plan.{get_is}
+use Rattle.office_records.proofs.Plan.{get_is}
 use Rattle.office_tree.proofs.schedule_numbers.schedule_numbers_of.Goals as goal
 
 pub loop-code-preserved : goal.loop-code-preserved

@@ -1,5 +1,5 @@
 use Rattle.std.proofs.Common.{◌≡◌, ◌+◌, ℕ, Some, take}
-use Rattle.office_terms.specs.Lists.{numbered}
+use Rattle.office_records.specs.Lists.{numbered}
 use Rattle.office_tree.specs.declared.summary.AggregationSummary.{AggregationSummary}
 use Rattle.office_tree.proofs.SummarySteps.{times}
 use Rattle.office_tree.proofs.summary.add_live.Given as goal

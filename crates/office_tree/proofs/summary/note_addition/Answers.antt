@@ -1,12 +1,12 @@
 use Rattle.std.proofs.Common.{◌≡◌, inl, inr, ℕ, ◌+◌, ◌-◌, ◌<◌, ◌≤◌, ◌==◌, Bool, true, false, cond, ◌&&◌, List, length, get_or, set, Some, ℤ, refl, sym, ap, subst, ◌∙◌, arith}
 use Rattle.std.proofs.Math.ListN.{length-set}
 use Rattle.std.specs.List.{All}
-use Rattle.office_terms.specs.Lists.{numbered, later}
+use Rattle.office_records.specs.Lists.{numbered, later}
 use Rattle.office_tree.specs.Summaries.{added_to, is_in_chain}
-use Rattle.office_terms.specs.declared.aggregation.Aggregation.{Aggregation}
+use Rattle.office_records.specs.declared.aggregation.Aggregation.{Aggregation}
 use Rattle.office_tree.specs.declared.summary.AggregationSummary.{AggregationSummary}
 use Rattle.office_tree.proofs.ChainCounts.{chain_within, times_chain}
-use Rattle.office_terms.proofs.Places.{numbered_or}
+use Rattle.office_records.proofs.Places.{numbered_or}
 use Rattle.office_tree.proofs.SummarySteps.{times, came, is_equal, not_equal, same_or_not, numbered-set, numbered-set_other}
 use Rattle.office_tree.proofs.summary.note_addition.Goals as goal
 use Rattle.office_tree.proofs.summary.note_addition.Goals.{then-is_live, else-is_live}

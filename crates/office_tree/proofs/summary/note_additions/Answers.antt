@@ -1,12 +1,12 @@
 use Rattle.std.proofs.Common.{◌≡◌, ℕ, ◌+◌, ◌-◌, ◌<◌, Bool, not, List, [], ◌∷◌, ◌++◌, length, get_or, take, Some, sym, ap, subst, ◌∙◌, arith}
 use Rattle.std.proofs.lemmas.List.{length-take-le, take_all, take_more}
-use Rattle.office_terms.specs.Lists.{numbered}
+use Rattle.office_records.specs.Lists.{numbered}
 use Rattle.office_tree.specs.Summaries.{AreAdded, AreSummaries}
-use Rattle.office_terms.specs.declared.head.Record.{Record}
-use Rattle.office_terms.specs.declared.status.Status.{Status}
-use Rattle.office_terms.specs.declared.status.Status.TheVariants.{Here}
+use Rattle.office_records.specs.declared.head.Record.{Record}
+use Rattle.office_records.specs.declared.status.Status.{Status}
+use Rattle.office_records.specs.declared.status.Status.TheVariants.{Here}
 use Rattle.office_tree.specs.declared.summary.AggregationSummary.{AggregationSummary}
-use Rattle.office_terms.proofs.Places.{numbered_read}
+use Rattle.office_records.proofs.Places.{numbered_read}
 use Rattle.office_tree.proofs.SummariesNoted.{rows, summaries_of_rows, fresh_summaries, noted_summaries, summaries_few}
 use Rattle.office_tree.proofs.summary.note_additions.Goals as goal
 

@@ -1,7 +1,7 @@
 use Rattle.std.proofs.Common.{sym, subst}
 use Rattle.office_holds.specs.Loading.{same_target}
 use Rattle.office_holds.specs.HoldCounts.{CountsDown}
-use Rattle.office_terms.specs.declared.target.Target.{Target}
+use Rattle.office_records.specs.declared.target.Target.{Target}
 use Rattle.office_holds.proofs.CountedTargets.{class_down, aggregation_down, record_down}
 use Rattle.office_holds.proofs.counts.HoldCounts.count_down.Goals as goal
 

@@ -1,7 +1,7 @@
 use Rattle.std.proofs.Common.{sym, subst}
 use Rattle.office_holds.specs.Loading.{same_target}
 use Rattle.office_holds.specs.HoldCounts.{CountsUp}
-use Rattle.office_terms.specs.declared.target.Target.{Target}
+use Rattle.office_records.specs.declared.target.Target.{Target}
 use Rattle.office_holds.proofs.CountedTargets.{class_up, aggregation_up, record_up}
 use Rattle.office_holds.proofs.counts.HoldCounts.count_up.Goals as goal
 

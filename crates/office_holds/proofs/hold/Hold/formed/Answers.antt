@@ -1,6 +1,6 @@
 use Rattle.std.proofs.Common.{subst, sym}
 use Rattle.office_days.specs.Limits.{IsDayNumber}
-use Rattle.office_terms.specs.Forms.{IsCode}
+use Rattle.office_records.specs.Forms.{IsCode}
 use Rattle.office_holds.proofs.Representing.{at_codes}
 use Rattle.office_holds.proofs.hold.Hold.formed.Goals as goal
 

@@ -1,9 +1,9 @@
 use Rattle.std.proofs.Common.{ap, sym, ◌∙◌, not, ◌&&◌}
 use Rattle.std.specs.Option.{option_copied}
 use Rattle.std.specs.Str.{bytes_eq}
-use Rattle.office_terms.specs.Effects.{reclassified}
-use Rattle.office_terms.specs.Lists.{holds_of}
-use Rattle.office_terms.specs.declared.classified.Classified.TheVariants as classified
+use Rattle.office_records.specs.Effects.{reclassified}
+use Rattle.office_records.specs.Lists.{holds_of}
+use Rattle.office_records.specs.declared.classified.Classified.TheVariants as classified
 use Rattle.office_holds.specs.Conditions.{classified_class}
 use Rattle.office_holds.specs.Holds.{is_held_class}
 use Rattle.office_holds.proofs.Classes.{no_aggregation}

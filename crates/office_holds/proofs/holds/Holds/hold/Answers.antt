@@ -1,6 +1,6 @@
 use Rattle.std.proofs.Common.{◌∙◌, ap, sym}
 use Rattle.std.specs.FinMap.{get}
-use Rattle.office_terms.proofs.Plan.{get_is}
+use Rattle.office_records.proofs.Plan.{get_is}
 use Rattle.office_holds.proofs.holds.Holds.hold.Goals as goal
 
 pub returns : goal.returns

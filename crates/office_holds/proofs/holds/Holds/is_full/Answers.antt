@@ -1,7 +1,7 @@
 use Rattle.std.proofs.Common.{◌∙◌, ap, sym}
 use Rattle.std.specs.Prelude.{nat_le}
 use Rattle.std.specs.FinMap.{len}
-use Rattle.office_terms.proofs.Maps.{len_is}
+use Rattle.office_records.proofs.Maps.{len_is}
 use Rattle.office_holds.proofs.holds.Holds.is_full.Goals as goal
 
 pub returns : goal.returns

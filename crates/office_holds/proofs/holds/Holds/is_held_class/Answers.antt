@@ -2,7 +2,7 @@ use Rattle.std.proofs.Common.{ap, sym, ◌∙◌}
 use Rattle.std.specs.Prelude.{nat_lt}
 use Rattle.office_holds.specs.Holds.{is_held_class}
 use Rattle.office_holds.specs.contracts.holds.Holds.{the_view}
-use Rattle.office_terms.specs.declared.target.Target.TheVariants as target
+use Rattle.office_records.specs.declared.target.Target.TheVariants as target
 use Rattle.office_holds.proofs.BindingCounts.{class_by_count}
 use Rattle.office_holds.proofs.holds.Holds.is_held_class.Goals as goal
 

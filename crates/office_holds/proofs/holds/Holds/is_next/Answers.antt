@@ -2,8 +2,8 @@ use Rattle.std.proofs.Common.{◌≡◌, ℕ, List, map, ap, subst, sym, ◌∙�
 use Rattle.std.specs.FinMap.{entries}
 use Rattle.std.specs.List.{All}
 use Rattle.std.specs.declared.cmp.Ordering.TheVariants.{Less}
-use Rattle.office_terms.specs.Tree.{code_cmp}
-use Rattle.office_terms.proofs.Maps.{entries_of_ordered}
+use Rattle.office_records.specs.Tree.{code_cmp}
+use Rattle.office_records.proofs.Maps.{entries_of_ordered}
 use Rattle.office_holds.specs.Holds.{HoldState}
 use Rattle.office_holds.proofs.holds.Holds.is_next.Goals as goal
 

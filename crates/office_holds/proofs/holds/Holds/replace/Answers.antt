@@ -1,7 +1,7 @@
 use Rattle.std.proofs.Common.{Some, ap, sym, ◌∙◌}
 use Rattle.std.specs.FinMap.{get}
 use Rattle.std.specs.Option.{is_none}
-use Rattle.office_terms.specs.Lists.{amended}
+use Rattle.office_records.specs.Lists.{amended}
 use Rattle.office_holds.specs.Holds.{HoldMap}
 use Rattle.office_holds.specs.Rows.{hold_from}
 use Rattle.office_holds.proofs.Cached.{lifted_then, put_over_lifted}

@@ -1,6 +1,6 @@
 use Rattle.std.proofs.Common.{ap, sym, subst, ◌∙◌}
 use Rattle.std.specs.FinSet.{from_list}
-use Rattle.office_terms.specs.Tree.{code_cmp}
+use Rattle.office_records.specs.Tree.{code_cmp}
 use Rattle.office_holds.specs.Forms.{FitsHoldLimits}
 use Rattle.office_holds.specs.HoldCounts.{AreCached}
 use Rattle.office_holds.specs.Holds.{HoldMap}

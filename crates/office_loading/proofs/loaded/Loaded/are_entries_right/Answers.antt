@@ -4,7 +4,7 @@ use Rattle.std.proofs.lemmas.Bool.{both_ways}
 use Rattle.office_proof.specs.declared.entry.Entry.{Entry}
 use Rattle.office_rules.specs.Loading.{is_entry_right}
 use Rattle.office_rules.specs.State.{Office}
-use Rattle.office_terms.proofs.Passing.{all_passed, next_passes, none_passed, passed_next}
+use Rattle.office_records.proofs.Passing.{all_passed, next_passes, none_passed, passed_next}
 use Rattle.office_loading.proofs.RunEntries.{values_ordered}
 use Rattle.office_loading.proofs.loaded.Loaded.are_entries_right.Goals as goal
 

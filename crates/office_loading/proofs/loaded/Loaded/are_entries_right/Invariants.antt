@@ -1,7 +1,7 @@
 use Rattle.std.proofs.Common.{◌≡◌, true}
 use Rattle.std.specs.FinMap.{values}
 use Rattle.office_rules.specs.Loading.{is_entry_right}
-use Rattle.office_terms.proofs.Passing.{HavePassed}
+use Rattle.office_records.proofs.Passing.{HavePassed}
 use Rattle.office_loading.proofs.loaded.Loaded.are_entries_right.Given as goal
 
 -- the entries so far fit

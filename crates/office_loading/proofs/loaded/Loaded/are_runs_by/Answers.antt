@@ -1,6 +1,6 @@
 use Rattle.std.proofs.Common.{◌≤ℤ◌, ◌∙◌, ap, sym, subst}
-use Rattle.office_terms.specs.Lists.{numbered}
-use Rattle.office_terms.proofs.Bridge.{from_numbers}
+use Rattle.office_records.specs.Lists.{numbered}
+use Rattle.office_records.proofs.Bridge.{from_numbers}
 use Rattle.office_rules.specs.Loading.{AreRunsBy}
 use Rattle.office_rules.specs.State.{Office}
 use Rattle.office_loading.proofs.loaded.Loaded.are_runs_by.Goals as goal

@@ -1,6 +1,6 @@
 use Rattle.std.proofs.Common.{◌≡◌, ◌∙◌, ℕ, Some, ap, subst}
 use Rattle.std.specs.FinMap.{get}
-use Rattle.office_terms.specs.Lists.{numbered}
+use Rattle.office_records.specs.Lists.{numbered}
 use Rattle.office_proof.specs.Forms.{IsWellFormedEntry}
 use Rattle.office_proof.specs.declared.entry.Entry.{Entry}
 use Rattle.office_rules.specs.Sound.{IsWellFormedRun}

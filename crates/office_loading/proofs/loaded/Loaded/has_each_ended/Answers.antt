@@ -1,6 +1,6 @@
 use Rattle.std.proofs.Common.{◌≤◌, ◌+◌, ◌∙◌, length, arith, sym, ap, subst}
 use Rattle.std.specs.FinMap.{from_entries}
-use Rattle.office_terms.specs.Sound.{IsSound}
+use Rattle.office_records.specs.Sound.{IsSound}
 use Rattle.office_loading.proofs.Endings.{all_have, has_no_ending, next_has, none_has}
 use Rattle.office_loading.proofs.loaded.Loaded.has_each_ended.Goals as goal
 

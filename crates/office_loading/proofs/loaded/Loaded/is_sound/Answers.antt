@@ -1,5 +1,5 @@
 use Rattle.std.proofs.Common.{◌≡◌, ◌∙◌, Bool, true, Ok, ap, subst, sym}
-use Rattle.office_terms.specs.Sound.{RefsDiffer}
+use Rattle.office_records.specs.Sound.{RefsDiffer}
 use Rattle.office_rules.specs.State.{Office}
 use Rattle.office_loading.specs.Keys.{bare_contents}
 use Rattle.office_loading.proofs.LiveKeys.{keys_of_bare}

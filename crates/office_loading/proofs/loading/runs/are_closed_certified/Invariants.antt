@@ -1,7 +1,7 @@
 use Rattle.std.proofs.Common.{◌≡◌, ◌≤◌, ℕ, true, Some}
 use Rattle.std.specs.FinMap.{contains_key, from_entries}
 use Rattle.std.specs.Ordering.{nat_cmp}
-use Rattle.office_terms.specs.Lists.{numbered}
+use Rattle.office_records.specs.Lists.{numbered}
 use Rattle.office_rules.specs.declared.run.Run.{Run}
 use Rattle.office_loading.proofs.loading.runs.are_closed_certified.Given as goal
 

@@ -1,6 +1,6 @@
 use Rattle.std.proofs.Common.{◌≡◌, All, not, subst, sym, true}
-use Rattle.office_terms.specs.Disposal.{is_ended}
-use Rattle.office_terms.specs.Lists.{holds_of, numbered}
+use Rattle.office_records.specs.Disposal.{is_ended}
+use Rattle.office_records.specs.Lists.{holds_of, numbered}
 use Rattle.office_loading.specs.Keys.{bare_rows}
 use Rattle.office_loading.proofs.MapRows.{keys_of_none}
 use Rattle.office_loading.proofs.RunTests.{keys_pass, keys_passed, live_of, to_live}

@@ -1,8 +1,8 @@
 use Rattle.std.proofs.Common.{◌≡◌, ◌+◌, ◌<◌, ◌≤◌, ◌∙◌, Some, length, not, arith, sym}
-use Rattle.office_terms.specs.Disposal.{is_ended}
-use Rattle.office_terms.specs.Lists.{numbered}
-use Rattle.office_terms.proofs.Placed.{numbered_there}
-use Rattle.office_terms.proofs.Places.{numbered_at}
+use Rattle.office_records.specs.Disposal.{is_ended}
+use Rattle.office_records.specs.Lists.{numbered}
+use Rattle.office_records.proofs.Placed.{numbered_there}
+use Rattle.office_records.proofs.Places.{numbered_at}
 use Rattle.office_loading.proofs.LiveKeys.{IsKeyed, goes_with_key, key_goes, none_gone}
 use Rattle.office_loading.proofs.RunTests.{numbers_all, passing}
 use Rattle.office_loading.proofs.loading.runs.are_live_keyed.Goals as goal

@@ -1,5 +1,5 @@
 use Rattle.std.proofs.Common.{◌≡◌, ◌≤◌, ℕ, Some}
-use Rattle.office_terms.specs.Lists.{numbered}
+use Rattle.office_records.specs.Lists.{numbered}
 use Rattle.office_rules.specs.Sound.{IsWellFormedRun}
 use Rattle.office_rules.specs.declared.run.Run.{Run}
 use Rattle.office_loading.proofs.loading.runs.well_formed_runs.Given as goal

@@ -1,7 +1,7 @@
 use Rattle.std.proofs.Common.{◌≡◌, ◌∙◌, ◌∷◌, suc, ◌+◌, length, sym, ap, arith, refl}
 use Rattle.std.specs.Option.{option_copied}
-use Rattle.office_terms.specs.Conditions.{first_of, conditions_of_add_aggregation}
-use Rattle.office_terms.specs.Tree.{TreeState}
+use Rattle.office_records.specs.Conditions.{first_of, conditions_of_add_aggregation}
+use Rattle.office_records.specs.Tree.{TreeState}
 use Rattle.office_rules.specs.Conditions.{refusals_of_add_aggregation}
 use Rattle.office_rules.specs.Effects.{after_add_aggregation}
 use Rattle.office_rules.specs.State.{ByteMap, with_contents, with_office}

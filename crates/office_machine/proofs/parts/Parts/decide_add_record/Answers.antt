@@ -1,7 +1,7 @@
 use Rattle.std.proofs.Common.{◌∙◌, ◌+◌, ◌++◌, List, sym, ap, refl, subst}
 use Rattle.std.specs.Option.{option_copied}
-use Rattle.office_terms.specs.Conditions.{conditions_of_add_record}
-use Rattle.office_terms.specs.Sound.{IsSound}
+use Rattle.office_records.specs.Conditions.{conditions_of_add_record}
+use Rattle.office_records.specs.Sound.{IsSound}
 use Rattle.office_rules.specs.declared.rows.RowWrite.{RowWrite}
 use Rattle.office_machine.specs.DayWrites.{day_writes}
 use Rattle.office_machine.specs.Filings.{filed}

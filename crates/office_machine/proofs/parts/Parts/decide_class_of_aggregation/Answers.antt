@@ -1,8 +1,8 @@
 use Rattle.std.proofs.Common.{◌≡◌, Some, ap, subst, sym}
 use Rattle.std.specs.Option.{option_copied}
-use Rattle.office_terms.specs.Lists.{numbered}
-use Rattle.office_terms.specs.Tree.{TreeState}
-use Rattle.office_terms.specs.declared.classified.Classified.TheVariants as classified
+use Rattle.office_records.specs.Lists.{numbered}
+use Rattle.office_records.specs.Tree.{TreeState}
+use Rattle.office_records.specs.declared.classified.Classified.TheVariants as classified
 use Rattle.office_rules.specs.State.{ByteMap, with_contents}
 use Rattle.office_rules.specs.Steps.{step_reclassify}
 use Rattle.office_rules.specs.declared.answer.Answer.TheVariants.{Done}

@@ -1,9 +1,9 @@
 use Rattle.std.proofs.Common.{◌≡◌, ◌∙◌, ◌∷◌, Some, sym, ap, refl}
-use Rattle.office_terms.specs.Conditions.{first_of, conditions_of_close_aggregation}
-use Rattle.office_terms.specs.Lists.{numbered}
-use Rattle.office_terms.specs.Tree.{TreeState, has_aggregation}
-use Rattle.office_terms.proofs.Accepting.{none_holds, not_false}
-use Rattle.office_terms.proofs.Keeping.{as_closed}
+use Rattle.office_records.specs.Conditions.{first_of, conditions_of_close_aggregation}
+use Rattle.office_records.specs.Lists.{numbered}
+use Rattle.office_records.specs.Tree.{TreeState, has_aggregation}
+use Rattle.office_records.proofs.Accepting.{none_holds, not_false}
+use Rattle.office_records.proofs.Keeping.{as_closed}
 use Rattle.office_rules.specs.Conditions.{refusals_of_close_aggregation}
 use Rattle.office_rules.specs.Effects.{after_close_aggregation}
 use Rattle.office_rules.specs.State.{ByteMap, with_contents, with_office}

@@ -1,6 +1,6 @@
 use Rattle.std.proofs.Common.{◌≡◌, ◌∷◌, ◌∙◌, List, ℕ, sym, ap, refl}
-use Rattle.office_terms.specs.Conditions.{first_of, conditions_of_event}
-use Rattle.office_terms.specs.Tree.{TreeState}
+use Rattle.office_records.specs.Conditions.{first_of, conditions_of_event}
+use Rattle.office_records.specs.Tree.{TreeState}
 use Rattle.office_rules.specs.Conditions.{refusals_of_event}
 use Rattle.office_rules.specs.Effects.{after_event}
 use Rattle.office_rules.specs.State.{ByteMap, with_contents, with_office}

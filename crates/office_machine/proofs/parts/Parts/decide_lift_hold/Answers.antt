@@ -1,7 +1,7 @@
 use Rattle.std.proofs.Common.{◌≡◌, ◌∙◌, ◌∷◌, Some, sym, ap, refl}
 use Rattle.std.specs.FinMap.{get}
 use Rattle.std.specs.Option.{option_copied}
-use Rattle.office_terms.specs.Conditions.{first_of}
+use Rattle.office_records.specs.Conditions.{first_of}
 use Rattle.office_holds.specs.Conditions.{conditions_of_lift_hold}
 use Rattle.office_holds.specs.Holds.{HoldMap}
 use Rattle.office_rules.specs.Conditions.{refusals_of_lift_hold}

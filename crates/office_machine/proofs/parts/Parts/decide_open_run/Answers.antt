@@ -1,5 +1,5 @@
 use Rattle.std.proofs.Common.{◌≡◌, ◌∙◌, ◌∷◌, suc, ◌+◌, length, sym, ap, arith, refl}
-use Rattle.office_terms.specs.Conditions.{first_of}
+use Rattle.office_records.specs.Conditions.{first_of}
 use Rattle.office_rules.specs.Conditions.{conditions_of_open_run, refusals_of_open_run}
 use Rattle.office_rules.specs.Effects.{after_open_run, new_run}
 use Rattle.office_rules.specs.State.{ByteMap, with_contents, with_office}

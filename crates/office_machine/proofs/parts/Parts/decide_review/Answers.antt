@@ -1,9 +1,9 @@
 use Rattle.std.proofs.Common.{◌∙◌, Some, sym, ap, refl, subst}
 use Rattle.std.specs.Option.{option_copied}
-use Rattle.office_terms.specs.Conditions.{first_of, conditions_of_review}
-use Rattle.office_terms.specs.Lists.{or_else}
-use Rattle.office_terms.specs.Tree.{TreeState}
-use Rattle.office_terms.specs.Sound.{IsSound}
+use Rattle.office_records.specs.Conditions.{first_of, conditions_of_review}
+use Rattle.office_records.specs.Lists.{or_else}
+use Rattle.office_records.specs.Tree.{TreeState}
+use Rattle.office_records.specs.Sound.{IsSound}
 use Rattle.office_rules.specs.Conditions.{refusals_of_review}
 use Rattle.office_rules.specs.Effects.{after_review}
 use Rattle.office_rules.specs.State.{ByteMap, with_contents, with_office}

@@ -1,7 +1,7 @@
 use Rattle.std.proofs.Common.{◌≡◌, ◌∙◌, ◌∷◌, Some, sym, ap, refl}
 use Rattle.std.specs.FinMap.{get}
-use Rattle.office_terms.specs.Conditions.{first_of, conditions_of_set_class_schedule}
-use Rattle.office_terms.specs.Tree.{TreeState}
+use Rattle.office_records.specs.Conditions.{first_of, conditions_of_set_class_schedule}
+use Rattle.office_records.specs.Tree.{TreeState}
 use Rattle.office_rules.specs.Conditions.{refusals_of_set_class_schedule}
 use Rattle.office_rules.specs.Effects.{after_set_class_schedule}
 use Rattle.office_rules.specs.State.{ByteMap, with_contents, with_office}

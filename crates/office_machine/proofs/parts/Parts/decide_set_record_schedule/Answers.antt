@@ -1,8 +1,8 @@
 use Rattle.std.proofs.Common.{◌∙◌, sym, ap, refl, subst}
 use Rattle.std.specs.Option.{option_copied}
-use Rattle.office_terms.specs.Conditions.{first_of, conditions_of_set_record_schedule}
-use Rattle.office_terms.specs.Tree.{TreeState}
-use Rattle.office_terms.specs.Sound.{IsSound}
+use Rattle.office_records.specs.Conditions.{first_of, conditions_of_set_record_schedule}
+use Rattle.office_records.specs.Tree.{TreeState}
+use Rattle.office_records.specs.Sound.{IsSound}
 use Rattle.office_rules.specs.Conditions.{refusals_of_set_record_schedule}
 use Rattle.office_rules.specs.Effects.{after_set_record_schedule}
 use Rattle.office_rules.specs.State.{ByteMap, with_contents, with_office}

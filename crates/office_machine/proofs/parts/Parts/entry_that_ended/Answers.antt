@@ -1,6 +1,6 @@
 use Rattle.std.proofs.Common.{◌≡◌, Some, sym}
-use Rattle.office_terms.specs.Lists.{numbered}
-use Rattle.office_terms.specs.declared.status.Status.TheVariants.{Ended}
+use Rattle.office_records.specs.Lists.{numbered}
+use Rattle.office_records.specs.declared.status.Status.TheVariants.{Ended}
 use Rattle.office_machine.proofs.EndingEntries.{not_ended}
 use Rattle.office_machine.proofs.parts.Parts.entry_that_ended.Goals as goal
 

@@ -1,5 +1,5 @@
 use Rattle.std.proofs.Common.{sym, ap, ◌∙◌}
-use Rattle.office_terms.specs.Tree.{due_of, status_of}
+use Rattle.office_records.specs.Tree.{due_of, status_of}
 use Rattle.office_rules.specs.State.{Office}
 use Rattle.office_machine.proofs.LookedAt.{here_ready}
 use Rattle.office_machine.proofs.parts.Parts.is_ready.Goals as goal

@@ -1,7 +1,7 @@
 use Rattle.std.proofs.Common.{◌+◌, ◌≤◌, length, sym, ap, subst, ◌∙◌, arith}
-use Rattle.office_terms.specs.Candidates.{HasNoCandidateAbove, IsNextCandidate}
-use Rattle.office_terms.specs.Tree.{has_record}
-use Rattle.office_terms.proofs.Reading.{record_within}
+use Rattle.office_records.specs.Candidates.{HasNoCandidateAbove, IsNextCandidate}
+use Rattle.office_records.specs.Tree.{has_record}
+use Rattle.office_records.proofs.Reading.{record_within}
 use Rattle.office_rules.specs.State.{Office}
 use Rattle.office_machine.proofs.LookedAt.{looked_by_row}
 use Rattle.office_machine.proofs.NextCandidate.{next_counts, next_is, next_passed, next_passed_counts, no_next, no_next_counts}

@@ -2,9 +2,9 @@ use Rattle.std.proofs.Common.{◌≡◌, ◌∙◌, false, refl, sym, ap, subst}
 use Rattle.std.specs.List.{list_any}
 use Rattle.std.specs.Str.{bytes_eq}
 use Rattle.office_rules.specs.Sound.{IsSoundOffice}
-use Rattle.office_terms.specs.Lists.{numbered}
-use Rattle.office_terms.specs.Tree.{TreeState}
-use Rattle.office_terms.specs.declared.head.Record.{Record}
+use Rattle.office_records.specs.Lists.{numbered}
+use Rattle.office_records.specs.Tree.{TreeState}
+use Rattle.office_records.specs.declared.head.Record.{Record}
 use Rattle.office_machine.specs.Filings.{filed}
 use Rattle.office_machine.proofs.SameRecords.{named, none_is_same, ref_is_another, ref_is_same}
 use Rattle.office_machine.proofs.parts.Parts.same_record.Goals as goal

@@ -1,8 +1,8 @@
 use Rattle.std.proofs.Common.{◌≡◌, ◌≤◌, ◌+◌, ◌-◌, ◌∙◌, ◌++◌, ◌∷◌, [], List, ℕ, length, length-append, set, sym, ap, subst, arith}
 use Rattle.office_tree.specs.ChildLists.{AreLinked}
-use Rattle.office_terms.specs.Lists.{put}
+use Rattle.office_records.specs.Lists.{put}
 use Rattle.office_tree.proofs.Linked.{linked_record}
-use Rattle.office_terms.proofs.Putting.{put_within}
+use Rattle.office_records.proofs.Putting.{put_within}
 use Rattle.office_tree.proofs.child_lists.ChildLists.add_thing.Goals as goal
 
 pub returns : goal.returns

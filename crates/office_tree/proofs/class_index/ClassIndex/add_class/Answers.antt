@@ -4,10 +4,10 @@ use Rattle.std.specs.FinMap.{from_entries, get, insert}
 use Rattle.std.specs.Option.{is_some}
 use Rattle.std.specs.Prelude.{false}
 use Rattle.office_tree.specs.ClassIndex.{HaveNumbers, NumberMap}
-use Rattle.office_terms.specs.Tree.{code_cmp}
+use Rattle.office_records.specs.Tree.{code_cmp}
 use Rattle.office_tree.proofs.Listed.{numbered_new, numbers_kept, numbers_next}
-use Rattle.office_terms.proofs.Inserting.{inserted}
-use Rattle.office_terms.proofs.Plan.{contains_is}
+use Rattle.office_records.proofs.Inserting.{inserted}
+use Rattle.office_records.proofs.Plan.{contains_is}
 use Rattle.office_tree.proofs.class_index.ClassIndex.add_class.Goals as goal
 
 -- the numbers with the new one

@@ -1,6 +1,6 @@
 use Rattle.std.proofs.Common.{◌∙◌, ℕ, Option, None, sym, subst}
 use Rattle.std.specs.Prelude.{IsSome}
-use Rattle.office_terms.proofs.Plan.{get_is}
+use Rattle.office_records.proofs.Plan.{get_is}
 use Rattle.office_tree.proofs.class_index.ClassIndex.number_of.Goals as goal
 
 pub unreachable-requires : goal.unreachable-requires

@@ -1,11 +1,11 @@
 use Rattle.std.proofs.Common.{◌≡◌, ◌∙◌, Some, length, ap, sym}
 use Rattle.std.specs.FinMap.{from_entries, get}
 use Rattle.std.specs.Option.{option_and_then}
-use Rattle.office_terms.specs.Lists.{numbered}
-use Rattle.office_terms.specs.Tree.{class_in, class_of, code_cmp}
+use Rattle.office_records.specs.Lists.{numbered}
+use Rattle.office_records.specs.Tree.{class_in, class_of, code_cmp}
 use Rattle.office_tree.proofs.Puts.{put_here, put_kept}
-use Rattle.office_terms.proofs.Putting.{length-put}
-use Rattle.office_terms.proofs.Reading.{record_within}
+use Rattle.office_records.proofs.Putting.{length-put}
+use Rattle.office_records.proofs.Reading.{record_within}
 use Rattle.office_tree.proofs.ScheduleLemmas.{class_there}
 use Rattle.office_tree.proofs.class_index.ClassIndex.reindex.Goals.{After-class_in-class}
 use Rattle.office_tree.proofs.class_index.ClassIndex.reindex.Goals as goal

@@ -3,10 +3,10 @@ use Rattle.std.proofs.lemmas.List.{length-map}
 use Rattle.std.specs.FinMap.{from_entries}
 use Rattle.office_tree.specs.ClassIndex.{IsOfClass, NumberMap}
 use Rattle.office_tree.specs.ChildLists.{IsLastBelow, containers_of}
-use Rattle.office_terms.specs.Tree.{code_cmp}
-use Rattle.office_terms.specs.declared.head.Record.{Record}
-use Rattle.office_terms.proofs.Places.{numbered_within}
-use Rattle.office_terms.proofs.Reading.{aggregation_within, record_there}
+use Rattle.office_records.specs.Tree.{code_cmp}
+use Rattle.office_records.specs.declared.head.Record.{Record}
+use Rattle.office_records.proofs.Places.{numbered_within}
+use Rattle.office_records.proofs.Reading.{aggregation_within, record_there}
 use Rattle.office_tree.proofs.Refreshed.{done_before, done_container, done_last}
 use Rattle.office_tree.proofs.class_index.ClassIndex.reindex_container.Goals.{After-before-at}
 use Rattle.office_tree.proofs.class_index.ClassIndex.reindex_container.Goals as goal

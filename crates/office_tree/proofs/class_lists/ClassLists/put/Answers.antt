@@ -1,7 +1,7 @@
 use Rattle.std.proofs.Common.{◌∙◌, List, ℕ, Some, ap, sym}
-use Rattle.office_terms.specs.Lists.{numbered, put}
+use Rattle.office_records.specs.Lists.{numbered, put}
 use Rattle.office_tree.proofs.Puts.{put_here, put_twice}
-use Rattle.office_terms.proofs.Putting.{put_same}
+use Rattle.office_records.proofs.Putting.{put_same}
 use Rattle.office_tree.proofs.class_lists.ClassLists.put.Goals as goal
 
 pub returns-then-class-clause-class : goal.returns-then-class-clause-class

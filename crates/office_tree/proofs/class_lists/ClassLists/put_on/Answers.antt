@@ -1,8 +1,8 @@
 use Rattle.std.proofs.Common.{◌-◌, ◌∙◌, length, ap, set, sym, arith}
-use Rattle.office_terms.specs.Lists.{put}
+use Rattle.office_records.specs.Lists.{put}
 use Rattle.office_tree.proofs.Prefixed.{class_lists_on}
-use Rattle.office_terms.proofs.Places.{numbered_within}
-use Rattle.office_terms.proofs.Putting.{length-put, put_within}
+use Rattle.office_records.proofs.Places.{numbered_within}
+use Rattle.office_records.proofs.Putting.{length-put, put_within}
 use Rattle.office_tree.proofs.Relinked.{first_within, class_lists_same}
 use Rattle.office_tree.proofs.class_lists.ClassLists.put_on.Goals as goal
 

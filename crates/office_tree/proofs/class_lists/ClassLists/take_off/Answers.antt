@@ -1,6 +1,6 @@
 use Rattle.std.proofs.Common.{◌-◌, ◌∙◌, List, ℕ, length, ap, refl, set, sym, arith}
-use Rattle.office_terms.specs.Lists.{put}
-use Rattle.office_terms.proofs.Putting.{length-put, put_within}
+use Rattle.office_records.specs.Lists.{put}
+use Rattle.office_records.proofs.Putting.{length-put, put_within}
 use Rattle.office_tree.proofs.Relinked.{class_lists_off, class_lists_same, next_within, previous_within, unheaded}
 use Rattle.office_tree.proofs.class_lists.ClassLists.take_off.Goals as goal
 

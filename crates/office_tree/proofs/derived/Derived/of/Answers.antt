@@ -3,12 +3,12 @@ use Rattle.std.specs.FinMap.{FinMap, from_entries}
 use Rattle.office_tree.specs.ChildLists.{HasChildren, HasLinks}
 use Rattle.office_tree.specs.Indexes.{Indexes, aggregation_refs, record_refs}
 use Rattle.office_tree.specs.ScheduleNumbers.{AreNumbered}
-use Rattle.office_terms.specs.Sound.{IsSound}
-use Rattle.office_terms.specs.Tree.{TreeState, code_cmp}
-use Rattle.office_terms.specs.declared.schedule.Schedule.{Schedule}
+use Rattle.office_records.specs.Sound.{IsSound}
+use Rattle.office_records.specs.Tree.{TreeState, code_cmp}
+use Rattle.office_records.specs.declared.schedule.Schedule.{Schedule}
 use Rattle.office_tree.proofs.Kept.{last_additions}
 use Rattle.office_tree.proofs.Linked.{parent_low}
-use Rattle.office_terms.proofs.Places.{numbered_within}
+use Rattle.office_records.proofs.Places.{numbered_within}
 use Rattle.office_tree.proofs.derived.Derived.of.Goals as goal
 
 pub summaries_of-requires : goal.summaries_of-requires

@@ -6,11 +6,11 @@ use Rattle.office_tree.specs.Derived.{KeepsNumbers}
 use Rattle.office_tree.specs.Inheriting.{is_heir}
 use Rattle.office_tree.specs.RecordCaches.{IsRecordCache}
 use Rattle.office_tree.specs.Stored.{AreDone}
-use Rattle.office_terms.specs.Tree.{code_cmp}
+use Rattle.office_records.specs.Tree.{code_cmp}
 use Rattle.office_tree.specs.declared.per_record.PerRecord.{PerRecord}
 use Rattle.office_tree.specs.declared.record_cache.RecordCache.{RecordCache}
 use Rattle.office_tree.proofs.Heirs.{HeirsAbove, heirs_all, heirs_last, heirs_next, heirs_skip}
-use Rattle.office_terms.proofs.Reading.{aggregation_within}
+use Rattle.office_records.proofs.Reading.{aggregation_within}
 use Rattle.office_tree.proofs.per_record.PerRecord.+refresh_inheriting.Goals.{then-not-has_own_class, else-not-has_own_class, After-before-child}
 use Rattle.office_tree.proofs.per_record.PerRecord.+refresh_inheriting.Goals as goal
 

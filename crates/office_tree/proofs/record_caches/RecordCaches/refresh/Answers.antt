@@ -1,8 +1,8 @@
 use Rattle.std.proofs.Common.{◌∙◌, ◌-◌, ◌≤◌, length, sym, ap, arith, length-set, subst}
-use Rattle.office_terms.specs.Lists.{numbered}
+use Rattle.office_records.specs.Lists.{numbered}
 use Rattle.office_tree.specs.RecordCaches.{IsRecordCache}
 use Rattle.office_tree.specs.declared.record_cache.RecordCache.{RecordCache}
-use Rattle.office_terms.proofs.Reading.{record_within}
+use Rattle.office_records.proofs.Reading.{record_within}
 use Rattle.office_tree.proofs.Refreshed.{written_here, written_other}
 use Rattle.office_tree.proofs.record_caches.RecordCaches.refresh.Goals as goal
 

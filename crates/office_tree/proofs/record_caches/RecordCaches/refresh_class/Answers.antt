@@ -1,9 +1,9 @@
 use Rattle.std.proofs.Common.{◌≡◌, ◌<◌, ◌∙◌, Some, ap, length, refl, sym, arith}
-use Rattle.office_terms.specs.Lists.{numbered}
+use Rattle.office_records.specs.Lists.{numbered}
 use Rattle.office_tree.specs.RecordCaches.{IsRecordCache}
 use Rattle.office_tree.specs.declared.record_cache.RecordCache.{RecordCache}
-use Rattle.office_terms.proofs.Places.{numbered_within}
-use Rattle.office_terms.proofs.Reading.{record_there}
+use Rattle.office_records.proofs.Places.{numbered_within}
+use Rattle.office_records.proofs.Reading.{record_there}
 use Rattle.office_tree.proofs.Visits.{rest_next, walk_ends, walk_goes, walk_starts}
 use Rattle.office_tree.proofs.record_caches.RecordCaches.refresh_class.Goals as goal
 

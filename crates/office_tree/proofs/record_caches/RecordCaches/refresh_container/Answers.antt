@@ -2,9 +2,9 @@ use Rattle.std.proofs.Common.{arith}
 use Rattle.std.proofs.lemmas.List.{length-map}
 use Rattle.office_tree.specs.ChildLists.{IsLastBelow, containers_of}
 use Rattle.office_tree.specs.RecordCaches.{IsRecordCache}
-use Rattle.office_terms.specs.declared.head.Record.{Record}
-use Rattle.office_terms.proofs.Places.{numbered_within}
-use Rattle.office_terms.proofs.Reading.{aggregation_within, record_there}
+use Rattle.office_records.specs.declared.head.Record.{Record}
+use Rattle.office_records.proofs.Places.{numbered_within}
+use Rattle.office_records.proofs.Reading.{aggregation_within, record_there}
 use Rattle.office_tree.proofs.Refreshed.{done_before, done_container, done_last}
 use Rattle.office_tree.proofs.record_caches.RecordCaches.refresh_container.Goals as goal
 use Rattle.office_tree.proofs.record_caches.RecordCaches.refresh_container.Goals.{After-before-at}

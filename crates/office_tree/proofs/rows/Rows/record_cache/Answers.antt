@@ -1,11 +1,11 @@
 use Rattle.std.proofs.Common.{◌≤◌, ◌∙◌, List, length, ap, sym, arith}
-use Rattle.office_terms.specs.Lists.{numbered}
-use Rattle.office_terms.specs.Tree.{start_in}
-use Rattle.office_terms.specs.declared.head.Record.{Record}
-use Rattle.office_terms.specs.declared.status.Status.{Status}
+use Rattle.office_records.specs.Lists.{numbered}
+use Rattle.office_records.specs.Tree.{start_in}
+use Rattle.office_records.specs.declared.head.Record.{Record}
+use Rattle.office_records.specs.declared.status.Status.{Status}
 use Rattle.office_tree.proofs.Kept.{record_cache_right}
-use Rattle.office_terms.proofs.Places.{numbered_or}
-use Rattle.office_terms.proofs.Reading.{record_within}
+use Rattle.office_records.proofs.Places.{numbered_or}
+use Rattle.office_records.proofs.Reading.{record_within}
 use Rattle.office_tree.proofs.rows.Rows.record_cache.Goals as goal
 
 pub returns : goal.returns

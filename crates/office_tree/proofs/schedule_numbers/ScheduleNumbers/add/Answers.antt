@@ -1,9 +1,9 @@
 use Rattle.std.proofs.Common.{◌≡◌, ◌∷◌, ◌++◌, ◌+◌, [], List, ℕ, Some, arith, ap, sym, subst, ◌∙◌, length}
 use Rattle.std.specs.FinMap.{from_entries, insert}
-use Rattle.office_terms.specs.Lists.{numbered}
-use Rattle.office_terms.specs.Tree.{code_cmp}
+use Rattle.office_records.specs.Lists.{numbered}
+use Rattle.office_records.specs.Tree.{code_cmp}
 use Rattle.office_tree.proofs.Codes.{code_added}
-use Rattle.office_terms.proofs.Inserting.{inserted}
+use Rattle.office_records.proofs.Inserting.{inserted}
 use Rattle.office_tree.proofs.RefIndexes.{numbered_kept, numbered_last}
 use Rattle.office_tree.proofs.schedule_numbers.ScheduleNumbers.add.Goals as goal
 

@@ -1,8 +1,8 @@
 use Rattle.std.proofs.Common.{◌≡◌, ◌∙◌, sym}
 use Rattle.std.specs.FinMap.{from_entries, get}
-use Rattle.office_terms.specs.Tree.{code_cmp}
+use Rattle.office_records.specs.Tree.{code_cmp}
 use Rattle.office_tree.proofs.Codes.{code_absent, code_found}
-use Rattle.office_terms.proofs.Plan.{get_is}
+use Rattle.office_records.proofs.Plan.{get_is}
 use Rattle.office_tree.proofs.schedule_numbers.ScheduleNumbers.find.Goals as goal
 
 -- what is found is what the map has

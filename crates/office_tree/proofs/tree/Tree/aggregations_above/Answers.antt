@@ -1,11 +1,11 @@
 use Rattle.std.proofs.Common.{◌≡◌, ℕ, ◌-◌, ◌<◌, ◌≤◌, ◌∷◌, ◌∙◌, List, Some, ap, get_or, length, refl, sym, subst}
 use Rattle.std.specs.Prelude.{IsTrue}
-use Rattle.office_terms.specs.Lists.{numbered}
-use Rattle.office_terms.specs.Tree.{TreeState, chain_of, has_aggregation}
-use Rattle.office_terms.specs.declared.aggregation.Aggregation.{Aggregation}
-use Rattle.office_terms.proofs.Places.{numbered_read}
-use Rattle.office_terms.proofs.Reading.{aggregation_within}
-use Rattle.office_terms.proofs.Walk.{parent_fits, placed_in, up_from, up_none, up_step}
+use Rattle.office_records.specs.Lists.{numbered}
+use Rattle.office_records.specs.Tree.{TreeState, chain_of, has_aggregation}
+use Rattle.office_records.specs.declared.aggregation.Aggregation.{Aggregation}
+use Rattle.office_records.proofs.Places.{numbered_read}
+use Rattle.office_records.proofs.Reading.{aggregation_within}
+use Rattle.office_records.proofs.Walk.{parent_fits, placed_in, up_from, up_none, up_step}
 use Rattle.office_tree.proofs.tree.Tree.aggregations_above.Goals as goal
 
 -- what was read at an aggregation's place is the aggregation

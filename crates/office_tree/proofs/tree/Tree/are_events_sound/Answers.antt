@@ -2,8 +2,8 @@ use Rattle.std.proofs.Common.{◌≡◌, ℕ, length, subst, sym, true}
 use Rattle.std.specs.FinMap.{from_entries}
 use Rattle.std.specs.Ordering.{nat_cmp}
 use Rattle.std.proofs.lemmas.Bool.{both_ways}
-use Rattle.office_terms.specs.Sound.{AreEventsSound}
-use Rattle.office_terms.specs.Tree.{TreeState}
+use Rattle.office_records.specs.Sound.{AreEventsSound}
+use Rattle.office_records.specs.Tree.{TreeState}
 use Rattle.office_tree.proofs.EventTests.{events_sound, events_tested}
 use Rattle.office_tree.proofs.tree.Tree.are_events_sound.Goals as goal
 

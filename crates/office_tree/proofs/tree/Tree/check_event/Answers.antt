@@ -1,5 +1,5 @@
 use Rattle.std.proofs.Common.{rules}
-use Rattle.office_terms.proofs.Least.{least_event}
+use Rattle.office_records.proofs.Least.{least_event}
 use Rattle.office_tree.proofs.tree.Tree.check_event.Goals as goal
 
 pub returns-clause-least : goal.returns-clause-least

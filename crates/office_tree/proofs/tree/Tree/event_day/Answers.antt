@@ -2,8 +2,8 @@ use Rattle.std.proofs.Common.{◌≡◌, ◌∙◌, Some, None, ap, sym}
 use Rattle.std.specs.FinMap.{from_entries, get}
 use Rattle.std.specs.Option.{option_copied, option_map}
 use Rattle.std.specs.Ordering.{nat_cmp}
-use Rattle.office_terms.specs.Tree.{event_day}
-use Rattle.office_terms.specs.declared.event.Event.{Event}
+use Rattle.office_records.specs.Tree.{event_day}
+use Rattle.office_records.specs.declared.event.Event.{Event}
 use Rattle.office_tree.proofs.EventPlaces.{event_is}
 use Rattle.office_tree.proofs.tree.Tree.event_day.Goals as goal
 

@@ -1,7 +1,7 @@
 use Rattle.std.proofs.Common.{◌≡◌, ◌+◌, ◌++◌, [], ◌∷◌, length, sym, subst, ◌∙◌, arith}
 use Rattle.std.proofs.lemmas.List.{length-append}
 use Rattle.std.proofs.lemmas.Slice.Zip.{zip_turn, zip_end}
-use Rattle.office_terms.specs.Sound.{IsSound}
+use Rattle.office_records.specs.Sound.{IsSound}
 use Rattle.office_tree.proofs.Documents.{HaveDocumentsTo, documents_none, documents_more, documents_lack, documents_all}
 use Rattle.office_tree.proofs.tree.Tree.have_all_documents.Goals as goal
 

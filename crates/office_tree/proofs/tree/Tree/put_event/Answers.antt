@@ -1,11 +1,11 @@
 use Rattle.std.proofs.Common.{◌≡◌, ◌∙◌, Some, sym, ap, subst}
 use Rattle.std.specs.FinMap.{from_entries}
-use Rattle.office_terms.specs.Lists.{numbered}
+use Rattle.office_records.specs.Lists.{numbered}
 use Rattle.office_tree.specs.Derived.{CanCache}
 use Rattle.office_tree.specs.RecordCaches.{IsRecordCache}
-use Rattle.office_terms.specs.Rows.{put_event}
+use Rattle.office_records.specs.Rows.{put_event}
 use Rattle.office_tree.specs.Stored.{IsStored}
-use Rattle.office_terms.specs.Tree.{TreeState, code_cmp}
+use Rattle.office_records.specs.Tree.{TreeState, code_cmp}
 use Rattle.office_tree.specs.declared.record_cache.RecordCache.{RecordCache}
 use Rattle.office_tree.specs.contracts.tree.Tree.{the_view}
 use Rattle.office_tree.proofs.EventPlaces.{event_inserted}

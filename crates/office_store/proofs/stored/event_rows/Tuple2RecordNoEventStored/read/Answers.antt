@@ -1,4 +1,4 @@
-use Rattle.office_terms.specs.declared.event.Event.{Event}
+use Rattle.office_records.specs.declared.event.Event.{Event}
 use Rattle.office_store.specs.Stored.{event_pair}
 use Rattle.office_store.proofs.WholeRows.{whole_row}
 use Rattle.office_store.proofs.stored.event_rows.Tuple2RecordNoEventStored.read.Goals as goal

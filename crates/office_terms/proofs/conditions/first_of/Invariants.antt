@@ -1,7 +1,0 @@
-use Rattle.std.proofs.Common.{◌≡◌, drop}
-use Rattle.office_terms.specs.Conditions.{first_of}
-use Rattle.office_terms.proofs.conditions.first_of.Given as goal
-
--- the conditions that are left answer for all
-abbrev pub invariant-loop-refusal : goal.invariant-loop-refusal
-invariant-loop-refusal l = first_of (drop l.refusal-index l.conditions) ≡ first_of l.conditions

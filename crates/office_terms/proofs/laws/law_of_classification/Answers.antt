@@ -1,5 +1,0 @@
-use Rattle.office_terms.proofs.Containing.{below_contains, class_nearest, aggregation_class_nearest}
-use Rattle.office_terms.proofs.laws.law_of_classification.Goals as goal
-
-pub returns : goal.returns
-returns c = record { above = below_contains; class = class_nearest; aggregation = aggregation_class_nearest }
