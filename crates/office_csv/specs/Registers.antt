@@ -10,7 +10,7 @@ use Rattle.office_days.specs.Calendar.{civil}
 use Rattle.office_days.specs.Due.{deadline_from}
 use Rattle.office_days.specs.Texts.{day_text}
 use Rattle.office_records.specs.Words.{action_word}
-use Rattle.office_proof.specs.Outcomes.{outcome_word}
+use Rattle.office_rules.specs.Outcomes.{outcome_word}
 use Rattle.office_rules.specs.Registers.{DueRowView, EntryView}
 
 -- a row of a register, with its line feed

@@ -6,14 +6,13 @@ ghost use Rattle.std.specs.Option.{unwrap_or};
 ghost use Rattle.std.specs.String.{string_bytes};
 ghost use Rattle.office_base.specs.Output.{AppendsSome};
 ghost use Rattle.hex.specs.Hex.{encode_lower};
-ghost use Rattle.office_proof.specs.Outcomes.{outcome_word};
+ghost use Rattle.office_rules.specs.Outcomes.{outcome_word};
 ghost use Rattle.office_rules.specs.Registers.{entry_view};
 ghost use Rattle.office_csv.specs.Registers.{day_field, entry_columns, entry_line, row_of};
 
 use crate::fields::{code_field, due_field, number_field, put_fields};
 use office_base::{Memory, Stop};
-use office_proof::Entry;
-use office_rules::EntryRow;
+use office_rules::{Entry, EntryRow};
 use std::alloc::Global;
 use std::io::Write;
 

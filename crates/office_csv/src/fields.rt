@@ -22,7 +22,7 @@ pub(crate) fn number_field(alloc: Global, number: u32) -> Result<String, Memory>
 }
 
 /// A due day as `2024-02-29`.
-#[tactic(auto, using(office_proof::proofs::DateBytes::date_is_text))]
+#[tactic(auto, using(office_rules::proofs::DateBytes::date_is_text))]
 pub(crate) fn due_field(alloc: Global, due: DueDay) -> Result<Vec<u8>, Memory>
     ensures { IfOk result (λ field. field.items ≡ day_field due) }
 {
@@ -30,7 +30,7 @@ pub(crate) fn due_field(alloc: Global, due: DueDay) -> Result<Vec<u8>, Memory>
 }
 
 /// A deadline as `2024-02-29`.
-#[tactic(auto, using(office_proof::proofs::DateBytes::date_is_text))]
+#[tactic(auto, using(office_rules::proofs::DateBytes::date_is_text))]
 pub(crate) fn deadline_field(alloc: Global, deadline: Deadline) -> Result<Vec<u8>, Memory>
     ensures { IfOk result (λ field. field.items ≡ day_field deadline) }
 {

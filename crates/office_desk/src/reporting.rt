@@ -11,9 +11,8 @@ use crate::Desk;
 use office_base::Memory;
 use office_days::{ConfirmDays, Day};
 use office_machine::{DueRows, EntryRows};
-use office_proof::{Entry, RunNo};
 use office_records::RecordNo;
-use office_rules::RecordView;
+use office_rules::{Entry, RecordView, RunNo};
 use office_store::Fault;
 use sqlite::Alter;
 

@@ -7,10 +7,10 @@ use Rattle.std.specs.FinMap.{entries}
 use Rattle.std.specs.FinSet as set
 use Rattle.office_base.proofs.Maps.{keys_ascend}
 use Rattle.office_records.specs.Tree.{code_cmp}
-use Rattle.office_holds.specs.Conditions.{target_count}
-use Rattle.office_holds.specs.Loading.{hold_rows}
-use Rattle.office_holds.specs.Holds.{HoldMap, HoldState, has_target}
-use Rattle.office_holds.specs.Rows.{hold_from, hold_row}
+use Rattle.office_rules.specs.HoldConditions.{target_count}
+use Rattle.office_rules.specs.HoldLoading.{hold_rows}
+use Rattle.office_rules.specs.Holds.{HoldMap, HoldState, has_target}
+use Rattle.office_rules.specs.HoldRows.{hold_from, hold_row}
 use Rattle.office_records.specs.declared.hold_row.HoldRow.{HoldRow}
 use Rattle.office_records.specs.declared.target.Target.{Target}
 use Rattle.office_records.specs.declared.target.Target.TheVariants as target

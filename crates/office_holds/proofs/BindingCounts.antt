@@ -13,7 +13,7 @@ use Rattle.std.proofs.lemmas.Bool.Decides.{nat_tests}
 use Rattle.office_records.specs.Lists.{amended, amended_by, holds_of}
 use Rattle.office_records.specs.Tree.{code_cmp}
 use Rattle.office_holds.specs.HoldCounts.{binding_count, binds, binds_at}
-use Rattle.office_holds.specs.Holds.{HoldMap, HoldState, held_in, is_held_class, is_in_force}
+use Rattle.office_rules.specs.Holds.{HoldMap, HoldState, held_in, is_held_class, is_in_force}
 use Rattle.office_holds.specs.Numbers.{one_if}
 use Rattle.office_records.specs.declared.target.Target.{Target}
 use Rattle.office_records.specs.declared.target.Target.TheVariants as target

@@ -13,18 +13,18 @@ use Rattle.std.specs.FinSet.{FinSet, contains, contains-from_list, contains-inse
 use Rattle.office_records.specs.Lists.{amended, holds_of}
 use Rattle.office_records.specs.Tree.{code_cmp}
 use Rattle.office_records.proofs.Inserting.{get-amended, same_code}
-use Rattle.office_holds.specs.Effects.{held_off, held_on, lifted_hold, with_target, without_target}
-use Rattle.office_holds.specs.Forms.{FitsHoldLimits}
-use Rattle.office_holds.specs.Loading.{same_target}
+use Rattle.office_rules.specs.HoldEffects.{held_off, held_on, lifted_hold, with_target, without_target}
+use Rattle.office_rules.specs.HoldForms.{FitsHoldLimits}
+use Rattle.office_rules.specs.HoldLoading.{same_target}
 use Rattle.office_holds.specs.HoldCounts.{CountsDown, CountsUp, AreCached, binds, binds_at, is_bound, cached_count, may_gain}
-use Rattle.office_holds.specs.Holds.{HoldMap, HoldState, covers_in, has_target, held_in, hold_covers, is_in_force}
+use Rattle.office_rules.specs.Holds.{HoldMap, HoldState, covers_in, has_target, held_in, hold_covers, is_in_force}
 use Rattle.office_holds.specs.Numbers.{one_if}
-use Rattle.office_holds.specs.Rows.{hold_from, put_hold}
+use Rattle.office_rules.specs.HoldRows.{hold_from, put_hold}
 use Rattle.office_holds.specs.declared.counts.HoldCounts.{HoldCounts}
 use Rattle.office_records.specs.declared.hold_row.HoldRow.{HoldRow}
 use Rattle.office_records.specs.declared.target.Target.{Target}
 use Rattle.office_records.specs.declared.target.Target.TheVariants as target
-use Rattle.office_holds.proofs.Amending.{OfEach-amended, OfEach-insert}
+use Rattle.office_rules.proofs.AmendedHolds.{OfEach-amended, OfEach-insert}
 use Rattle.office_holds.proofs.BindingCounts.{any_agree, binding_count-amended, binding_count-insert, binding_count-le, held_by_counts}
 use Rattle.office_holds.proofs.BareHolds.{bare_none}
 use Rattle.office_holds.proofs.Entries.{entries_rise}

@@ -8,8 +8,8 @@ use Rattle.office_records.specs.Tree.{TreeState, chain, chain_of, own_classes, a
 use Rattle.office_records.specs.declared.aggregation.Aggregation.{Aggregation}
 use Rattle.office_records.specs.declared.head.Record.{Record}
 use Rattle.office_records.proofs.Walk.{ArePlaced, chain_same, chain-edited, class_own, class_above, walk_here, placed_parent}
-use Rattle.office_holds.proofs.Lasting.{IsWithin, above_one, next_within, own_class}
-use Rattle.office_holds.proofs.Reclassifying.{kept_or_there}
+use Rattle.office_rules.proofs.LastingHolds.{IsWithin, above_one, next_within, own_class}
+use Rattle.office_rules.proofs.ReclassifiedHolds.{kept_or_there}
 
 changed_at : {A : Type 0} (xs : List A) (i : ℕ) (f : A → A) (x : A) → slice_get xs i ≡ Some x → slice_get (edited_at xs i f) i ≡ Some (f x)
 changed_at [] i f x e = absurd cc

@@ -10,10 +10,10 @@ use Rattle.std.specs.BTreeSet as tree_set
 use Rattle.std.specs.BTreeSet.{BTreeSet}
 use Rattle.std.specs.FinSet.{contains, from_list}
 use Rattle.office_records.specs.Tree.{code_cmp}
-use Rattle.office_holds.specs.Loading.{same_target}
+use Rattle.office_rules.specs.HoldLoading.{same_target}
 use Rattle.office_holds.specs.HoldCounts.{CountsDown, CountsUp}
 use Rattle.office_holds.specs.Numbers.{AreOneLess, AreOneMore, number_at, one_if}
-use Rattle.office_holds.specs.Holds.{HoldState, has_target}
+use Rattle.office_rules.specs.Holds.{HoldState, has_target}
 use Rattle.office_holds.specs.declared.counts.HoldCounts.{HoldCounts}
 use Rattle.office_records.specs.declared.target.Target.TheVariants as target
 use Rattle.office_holds.proofs.Keys.{key_in}

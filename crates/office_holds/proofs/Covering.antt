@@ -8,7 +8,7 @@ use Rattle.std.specs.FinSet.{FinSet, contains}
 use Rattle.office_records.specs.Lists.{holds_of}
 use Rattle.office_records.specs.Sound.{IsSound}
 use Rattle.office_records.specs.Tree.{TreeState, code_cmp, above, class_of}
-use Rattle.office_holds.specs.Holds.{HoldMap, HoldState, is_in_force, hold_covers, held_in, is_held, covers_in, least_covering}
+use Rattle.office_rules.specs.Holds.{HoldMap, HoldState, is_in_force, hold_covers, held_in, is_held, covers_in, least_covering}
 use Rattle.office_holds.specs.Meanings.{HasTargetAt, Covers, IsHeld}
 use Rattle.office_records.proofs.Containing.{below_contains}
 use Rattle.office_holds.proofs.Entries.{entries_rise, Passes, any_passes, passes_any, first_least, none_passes}

@@ -1,4 +1,3 @@
-pub mod Amending
 pub mod BareHolds
 pub mod BindingCounts
 pub mod Cached
@@ -8,11 +7,8 @@ pub mod Covering
 pub mod CoveringRows
 pub mod Entries
 pub mod FirstCovering
-pub mod Keeping
 pub mod Keys
-pub mod Lasting
 pub mod NextHolds
-pub mod Reclassifying
 pub mod Representing
 pub mod Subsets
 pub mod TargetCounts

@@ -16,16 +16,16 @@ use Rattle.office_base.proofs.Ascending.{above_prefix}
 use Rattle.office_records.specs.Lists.{holds_of}
 use Rattle.office_records.specs.Tree.{code_cmp}
 use Rattle.office_records.proofs.Inserting.{len-insert_free, same_code}
-use Rattle.office_holds.specs.Forms.{FitsHoldLimits}
-use Rattle.office_holds.specs.Loading.{AreRowsOf, IsAbove, hold_rows}
-use Rattle.office_holds.specs.Holds.{HoldMap, HoldState, has_target}
-use Rattle.office_holds.specs.Rows.{hold_from, put_hold}
+use Rattle.office_rules.specs.HoldForms.{FitsHoldLimits}
+use Rattle.office_rules.specs.HoldLoading.{AreRowsOf, IsAbove, hold_rows}
+use Rattle.office_rules.specs.Holds.{HoldMap, HoldState, has_target}
+use Rattle.office_rules.specs.HoldRows.{hold_from, put_hold}
 use Rattle.office_records.specs.declared.hold_row.HoldRow.{HoldRow}
 use Rattle.office_records.specs.declared.target.Target.{Target}
-use Rattle.office_holds.proofs.Amending.{OfEach-insert}
+use Rattle.office_rules.proofs.AmendedHolds.{OfEach-insert}
 use Rattle.office_holds.proofs.BareHolds.{bare_count, bare_none, row_keys, rows_ascend, rows_length}
 use Rattle.office_holds.proofs.CoveringRows.{rows-insert}
-use Rattle.office_holds.proofs.Keeping.{HasFewTargets}
+use Rattle.office_rules.proofs.HoldSoundness.{HasFewTargets}
 
 module _ {V : Type 0} where
   above_first : (k : List ℕ) (e : List ℕ × V) (es : List (List ℕ × V)) → All (λ q. code_cmp q k ≡ Less) (keys_of (e ∷ es)) → code_cmp k e.0 ≡ Greater

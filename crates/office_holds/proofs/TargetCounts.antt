@@ -7,15 +7,15 @@ use Rattle.std.specs.FinMap.{get, nat_cmp-IsAntisymmetric}
 use Rattle.std.specs.FinSet as set
 use Rattle.office_records.specs.Lists.{holds_of}
 use Rattle.office_records.proofs.Accepting.{below}
-use Rattle.office_holds.specs.Conditions.{target_count}
-use Rattle.office_holds.specs.Effects.{held_on, with_target}
-use Rattle.office_holds.specs.Forms.{FitsHoldLimits}
-use Rattle.office_holds.specs.Loading.{takes_target}
-use Rattle.office_holds.specs.Holds.{HoldMap, HoldState, has_target}
+use Rattle.office_rules.specs.HoldConditions.{target_count}
+use Rattle.office_rules.specs.HoldEffects.{held_on, with_target}
+use Rattle.office_rules.specs.HoldForms.{FitsHoldLimits}
+use Rattle.office_rules.specs.HoldLoading.{takes_target}
+use Rattle.office_rules.specs.Holds.{HoldMap, HoldState, has_target}
 use Rattle.office_records.specs.declared.target.Target.{Target}
 use Rattle.office_records.specs.declared.target.Target.TheVariants as target
 use Rattle.office_holds.proofs.CoveringRows.{codes_apart}
-use Rattle.office_holds.proofs.Keeping.{amended_fits, with_count}
+use Rattle.office_rules.proofs.HoldSoundness.{amended_fits, with_count}
 use Rattle.office_holds.proofs.Subsets.{len_within}
 
 -- a hold that has all the targets of another has no fewer

@@ -10,12 +10,12 @@ use Rattle.std.proofs.lemmas.List.Folds.{list_any-append}
 use Rattle.office_records.specs.Lists.{holds_of}
 use Rattle.office_records.specs.Tree.{code_cmp}
 use Rattle.office_records.proofs.Accepting.{neither, not_false}
-use Rattle.office_holds.specs.Conditions.{target_count}
-use Rattle.office_holds.specs.Effects.{held_on, with_target}
-use Rattle.office_holds.specs.Forms.{FitsHoldLimits}
-use Rattle.office_holds.specs.Loading.{AreRowsOf, is_pair, same_target, takes_target}
-use Rattle.office_holds.specs.Holds.{HoldMap, HoldState, has_target}
-use Rattle.office_holds.specs.Rows.{hold_row}
+use Rattle.office_rules.specs.HoldConditions.{target_count}
+use Rattle.office_rules.specs.HoldEffects.{held_on, with_target}
+use Rattle.office_rules.specs.HoldForms.{FitsHoldLimits}
+use Rattle.office_rules.specs.HoldLoading.{AreRowsOf, is_pair, same_target, takes_target}
+use Rattle.office_rules.specs.Holds.{HoldMap, HoldState, has_target}
+use Rattle.office_rules.specs.HoldRows.{hold_row}
 use Rattle.office_records.specs.declared.hold_row.HoldRow.{HoldRow}
 use Rattle.office_records.specs.declared.target.Target.{Target}
 use Rattle.office_holds.proofs.CoveringRows.{code_itself, find-hold_rows, has-with_target, pair_itself, rows-held_on, target-held_on}

@@ -6,7 +6,7 @@ use Rattle.std.specs.FinMap.{get, values}
 use Rattle.std.specs.FinSet.{FinSet, contains}
 use Rattle.office_records.specs.Lists.{holds_of}
 use Rattle.office_records.specs.Tree.{code_cmp}
-use Rattle.office_holds.specs.Holds.{HoldMap, HoldState, has_target, is_in_force}
+use Rattle.office_rules.specs.Holds.{HoldMap, HoldState, has_target, is_in_force}
 use Rattle.office_holds.specs.Numbers.{number_at, one_if}
 use Rattle.office_holds.specs.declared.counts.HoldCounts.{HoldCounts}
 use Rattle.office_records.specs.declared.target.Target.{Target}

@@ -1,10 +1,3 @@
-pub mod Conditions
-pub mod Effects
-pub mod Forms
-pub mod Loading
 pub mod HoldCounts
-pub mod Holds
 pub mod Meanings
 pub mod Numbers
-pub mod Rows
-pub mod Sound

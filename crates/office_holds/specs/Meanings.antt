@@ -5,7 +5,7 @@ use Rattle.std.specs.FinMap.{get}
 use Rattle.std.specs.FinSet.{contains}
 use Rattle.office_records.specs.Meanings.{Contains}
 use Rattle.office_records.specs.Tree.{TreeState, class_of}
-use Rattle.office_holds.specs.Holds.{HoldMap, HoldState, is_in_force}
+use Rattle.office_rules.specs.Holds.{HoldMap, HoldState, is_in_force}
 
 -- a target of the hold is the record, an aggregation that contains it at any height, or its class
 abbrev pub HasTargetAt : HoldState → TreeState → ℕ → Type 0

@@ -2,10 +2,10 @@
 ghost use Rattle.std.specs.Prelude.{◌≡◌, OnOk, OnErr, IsOk, IsTrue, None};
 ghost use Rattle.std.specs.FinMap.{contains_key};
 ghost use Rattle.office_records.specs.Conditions.{first_of};
-ghost use Rattle.office_holds.specs.Conditions.{conditions_of_hold_off, conditions_of_hold_on, conditions_of_lift_hold, conditions_of_place_hold};
-ghost use Rattle.office_holds.specs.Effects.{held_off, held_on, lifted_hold, placed_hold};
-ghost use Rattle.office_holds.specs.Forms.{FitsHoldLimits};
-ghost use Rattle.office_holds.specs.Rows.{StaysLifted, put_hold};
+ghost use Rattle.office_rules.specs.HoldConditions.{conditions_of_hold_off, conditions_of_hold_on, conditions_of_lift_hold, conditions_of_place_hold};
+ghost use Rattle.office_rules.specs.HoldEffects.{held_off, held_on, lifted_hold, placed_hold};
+ghost use Rattle.office_rules.specs.HoldForms.{FitsHoldLimits};
+ghost use Rattle.office_rules.specs.HoldRows.{StaysLifted, put_hold};
 
 use crate::Holds;
 use crate::storing::{put_target_in, take_target_in};

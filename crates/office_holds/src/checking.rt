@@ -3,7 +3,7 @@ ghost use Rattle.std.specs.Prelude.{◌≡◌, nat_le};
 ghost use Rattle.std.specs.FinMap.{len};
 ghost use Rattle.std.specs.Option.{option_copied};
 ghost use Rattle.office_records.specs.Conditions.{IsLeastOf, first_of};
-ghost use Rattle.office_holds.specs.Conditions.{conditions_of_hold_off, conditions_of_hold_on, conditions_of_leaving_class, conditions_of_lift_hold, conditions_of_place_hold};
+ghost use Rattle.office_rules.specs.HoldConditions.{conditions_of_hold_off, conditions_of_hold_on, conditions_of_leaving_class, conditions_of_lift_hold, conditions_of_place_hold};
 
 use crate::Holds;
 use office_base::Refusal;

@@ -3,11 +3,11 @@ ghost use Rattle.std.specs.Prelude.{◌≡◌, IsTrue, OnErr, OnOk, None, Some};
 ghost use Rattle.std.specs.FinMap.{contains_key, get};
 ghost use Rattle.std.specs.Option.{is_none};
 ghost use Rattle.office_records.specs.Lists.{amended};
-ghost use Rattle.office_holds.specs.Effects.{held_off, held_on, lifted_hold};
-ghost use Rattle.office_holds.specs.Forms.{FitsHoldLimits};
+ghost use Rattle.office_rules.specs.HoldEffects.{held_off, held_on, lifted_hold};
+ghost use Rattle.office_rules.specs.HoldForms.{FitsHoldLimits};
 ghost use Rattle.office_holds.specs.HoldCounts.{binds_at, may_gain};
-ghost use Rattle.office_holds.specs.Holds.{HoldState};
-ghost use Rattle.office_holds.specs.Rows.{StaysLifted, hold_from, put_hold};
+ghost use Rattle.office_rules.specs.Holds.{HoldState};
+ghost use Rattle.office_rules.specs.HoldRows.{StaysLifted, hold_from, put_hold};
 
 use crate::Holds;
 use crate::sets::{put_code, take_code};

@@ -2,7 +2,7 @@
 //! held.
 ghost use Rattle.std.specs.Prelude.{◌≡◌, ◌+◌, ◌<◌, ◌^◌, ◌||◌, OnOk};
 ghost use Rattle.std.specs.List.{list_any};
-ghost use Rattle.office_holds.specs.Loading.{same_target};
+ghost use Rattle.office_rules.specs.HoldLoading.{same_target};
 ghost use Rattle.office_holds.specs.HoldCounts.{CountsDown, CountsUp, HasRoom, is_bound, cached_count};
 ghost use Rattle.office_records.specs.declared.target.Target.{Target};
 ghost use Rattle.office_records.specs.declared.target.Target.TheVariants as target;

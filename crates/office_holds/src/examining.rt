@@ -4,9 +4,9 @@ ghost use Rattle.std.specs.BTreeMap as map;
 ghost use Rattle.std.specs.List.{All};
 ghost use Rattle.office_records.specs.Forms.{IsCode};
 ghost use Rattle.office_records.specs.Tree.{code_cmp};
-ghost use Rattle.office_holds.specs.Forms.{AreWellFormedHolds, IsWellFormedHold};
-ghost use Rattle.office_holds.specs.Holds.{HoldState};
-ghost use Rattle.office_holds.specs.Sound.{NoHoldIsAfter, TargetsAreThere, TargetsExist};
+ghost use Rattle.office_rules.specs.HoldForms.{AreWellFormedHolds, IsWellFormedHold};
+ghost use Rattle.office_rules.specs.Holds.{HoldState};
+ghost use Rattle.office_rules.specs.SoundHolds.{NoHoldIsAfter, TargetsAreThere, TargetsExist};
 
 use crate::{Hold, Holds};
 use office_days::Day;

@@ -5,7 +5,7 @@ ghost use Rattle.std.specs.FinMap.{from_entries, get};
 ghost use Rattle.std.specs.Option.{option_copied};
 ghost use Rattle.office_records.specs.Lists.{holds_of};
 ghost use Rattle.office_records.specs.Tree.{code_cmp};
-ghost use Rattle.office_holds.specs.Holds.{hold_covers};
+ghost use Rattle.office_rules.specs.Holds.{hold_covers};
 
 use crate::Hold;
 use office_records::{AggNo, Code, RecordNo};

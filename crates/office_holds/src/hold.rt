@@ -2,13 +2,13 @@
 ghost use Rattle.std.specs.Prelude.{◌≡◌, ◌↔◌, ◌≤ℤ◌, IfSome, IsTrue, nat_le, length, Some, None, OnOk, OnErr};
 ghost use Rattle.std.specs.Option.{is_some};
 ghost use Rattle.office_days.specs.Limits.{IsDayNumber};
-ghost use Rattle.office_holds.specs.Conditions.{target_count};
-ghost use Rattle.office_holds.specs.Effects.{with_target, without_target};
-ghost use Rattle.office_holds.specs.Forms.{IsWellFormedHold};
+ghost use Rattle.office_rules.specs.HoldConditions.{target_count};
+ghost use Rattle.office_rules.specs.HoldEffects.{with_target, without_target};
+ghost use Rattle.office_rules.specs.HoldForms.{IsWellFormedHold};
 ghost use Rattle.office_holds.specs.HoldCounts.{CountsDown};
-ghost use Rattle.office_holds.specs.Holds.{has_target, hold_covers};
-ghost use Rattle.office_holds.specs.Rows.{hold_from, hold_row};
-ghost use Rattle.office_holds.specs.Sound.{TargetsAreThere};
+ghost use Rattle.office_rules.specs.Holds.{has_target, hold_covers};
+ghost use Rattle.office_rules.specs.HoldRows.{hold_from, hold_row};
+ghost use Rattle.office_rules.specs.SoundHolds.{TargetsAreThere};
 
 use crate::counts::HoldCounts;
 use crate::numbers::count_each_down;
@@ -37,7 +37,7 @@ impl Model for Hold {
     ghost use Rattle.std.specs.Coded.{codes};
     ghost use Rattle.std.specs.FinMap as map;
     ghost use Rattle.std.specs.FinSet.{from_list};
-    ghost use Rattle.office_holds.specs.Holds.{HoldState};
+    ghost use Rattle.office_rules.specs.Holds.{HoldState};
 
     ghost Value = { HoldState };
 

@@ -3,8 +3,8 @@ ghost use Rattle.std.specs.Prelude.{◌≡◌, IsTrue};
 ghost use Rattle.std.specs.FinMap.{empty, get};
 ghost use Rattle.std.specs.Option.{option_copied};
 ghost use Rattle.office_records.specs.Tree.{has_record};
-ghost use Rattle.office_holds.specs.Forms.{FitsHoldLimits};
-ghost use Rattle.office_holds.specs.Holds.{is_held, least_covering};
+ghost use Rattle.office_rules.specs.HoldForms.{FitsHoldLimits};
+ghost use Rattle.office_rules.specs.Holds.{is_held, least_covering};
 
 use crate::Hold;
 use crate::counts::HoldCounts;
@@ -31,9 +31,9 @@ impl Model for Holds {
     ghost use Rattle.std.specs.Coded.{codes};
     ghost use Rattle.std.specs.FinMap as map;
     ghost use Rattle.std.specs.FinSet.{from_list};
-    ghost use Rattle.office_holds.specs.Forms.{FitsHoldLimits};
+    ghost use Rattle.office_rules.specs.HoldForms.{FitsHoldLimits};
     ghost use Rattle.office_holds.specs.HoldCounts.{AreCached};
-    ghost use Rattle.office_holds.specs.Holds.{HoldMap};
+    ghost use Rattle.office_rules.specs.Holds.{HoldMap};
 
     ghost Value = { HoldMap };
 

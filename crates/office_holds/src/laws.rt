@@ -3,7 +3,7 @@ ghost use Rattle.std.specs.Prelude.{◌≡◌, ◌≢◌, ◌↔◌, ℕ, false,
 ghost use Rattle.std.specs.declared.cmp.Ordering.TheVariants.{Greater};
 ghost use Rattle.office_records.specs.Sound.{IsSound};
 ghost use Rattle.office_records.specs.Tree.{TreeState, code_cmp};
-ghost use Rattle.office_holds.specs.Holds.{HoldMap, is_held, least_covering};
+ghost use Rattle.office_rules.specs.Holds.{HoldMap, is_held, least_covering};
 ghost use Rattle.office_holds.specs.Meanings.{Covers, IsHeld};
 
 /// In a sound tree a record is held exactly where a hold in force has as a target the record, an

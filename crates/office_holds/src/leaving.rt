@@ -6,8 +6,8 @@ ghost use Rattle.office_records.specs.Effects.{reclassified};
 ghost use Rattle.office_records.specs.Lists.{holds_of};
 ghost use Rattle.office_records.specs.Tree.{aggregation_class_of, class_of, has_aggregation, has_record};
 ghost use Rattle.office_records.specs.declared.classified.Classified.TheVariants as classified;
-ghost use Rattle.office_holds.specs.Conditions.{would_leave_held_class};
-ghost use Rattle.office_holds.specs.Holds.{is_held_class};
+ghost use Rattle.office_rules.specs.HoldConditions.{would_leave_held_class};
+ghost use Rattle.office_rules.specs.Holds.{is_held_class};
 
 use crate::Holds;
 use office_records::{AggNo, Classified, Code, RecordNo};

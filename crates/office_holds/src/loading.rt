@@ -1,10 +1,10 @@
 //! Holds loaded from their rows: columns and targets, appended in the order of their keys.
 ghost use Rattle.std.specs.Prelude.{◌≡◌, ◌++◌, ◌∷◌, [], true, false, ℕ, List, IsTrue, OnErr, OnOk};
 ghost use Rattle.office_base.specs.Rows.{OnDamaged};
-ghost use Rattle.office_holds.specs.Effects.{held_on};
-ghost use Rattle.office_holds.specs.Forms.{FitsHoldLimits};
-ghost use Rattle.office_holds.specs.Loading.{AreRowsOf, IsAbove, hold_rows, takes_target};
-ghost use Rattle.office_holds.specs.Holds.{HoldMap};
+ghost use Rattle.office_rules.specs.HoldEffects.{held_on};
+ghost use Rattle.office_rules.specs.HoldForms.{FitsHoldLimits};
+ghost use Rattle.office_rules.specs.HoldLoading.{AreRowsOf, IsAbove, hold_rows, takes_target};
+ghost use Rattle.office_rules.specs.Holds.{HoldMap};
 ghost use Rattle.office_records.specs.declared.hold_row.HoldRow.{HoldRow};
 ghost use Rattle.office_records.specs.declared.target.Target.{Target};
 

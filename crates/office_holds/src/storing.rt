@@ -3,9 +3,9 @@ ghost use Rattle.std.specs.Prelude.{◌≡◌, OnOk, OnErr, None, Some};
 ghost use Rattle.std.specs.FinMap.{contains_key, from_entries, get, insert};
 ghost use Rattle.office_records.specs.Lists.{amended};
 ghost use Rattle.office_records.specs.Tree.{code_cmp};
-ghost use Rattle.office_holds.specs.Effects.{held_off, held_on, lifted_hold};
+ghost use Rattle.office_rules.specs.HoldEffects.{held_off, held_on, lifted_hold};
 ghost use Rattle.office_holds.specs.HoldCounts.{CountsDown, binds_at};
-ghost use Rattle.office_holds.specs.Rows.{hold_from};
+ghost use Rattle.office_rules.specs.HoldRows.{hold_from};
 
 use crate::Hold;
 use crate::counts::HoldCounts;

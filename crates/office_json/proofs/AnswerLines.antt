@@ -5,9 +5,9 @@ use Rattle.std.proofs.lemmas.List.{at_drop_more}
 use Rattle.serde_json.proofs.OnLiterals.{serde_json_on_literals}
 use Rattle.office_base.specs.Refusals.{refusal_number}
 use Rattle.office_base.specs.declared.refusal.Refusal.{Refusal}
-use Rattle.office_proof.specs.Outcomes.{outcome_word}
-use Rattle.office_proof.specs.declared.outcome.Outcome.{Outcome}
-use Rattle.office_proof.specs.declared.outcome.Outcome.TheVariants.{Destroyed, Transferred, Sent, Skipped}
+use Rattle.office_rules.specs.Outcomes.{outcome_word}
+use Rattle.office_rules.specs.declared.outcome.Outcome.{Outcome}
+use Rattle.office_rules.specs.declared.outcome.Outcome.TheVariants.{Destroyed, Transferred, Sent, Skipped}
 use Rattle.office_rules.specs.declared.answer.Answer.{Answer}
 use Rattle.office_rules.specs.declared.answer.Answer.TheVariants.{Done, Number, Same, Step, RunClosed, Refused}
 use Rattle.office_json.specs.Answers.{answer_line, answer_lines, answer_text}

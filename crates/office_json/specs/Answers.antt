@@ -4,7 +4,7 @@ use Rattle.std.specs.List.{flat_map}
 use Rattle.serde_json.specs.Data.{Data, boolean, number, unsigned, string, object, no_members, member}
 use Rattle.serde_json.specs.Written.{compact_text}
 use Rattle.office_base.specs.Refusals.{refusal_number}
-use Rattle.office_proof.specs.Outcomes.{outcome_word}
+use Rattle.office_rules.specs.Outcomes.{outcome_word}
 use Rattle.office_rules.specs.declared.answer.Answer.{Answer}
 use Rattle.office_rules.specs.declared.answer.Answer.TheVariants.{Done, Number, Same, Step, RunClosed, Refused}
 

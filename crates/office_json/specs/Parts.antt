@@ -17,7 +17,7 @@ use Rattle.office_records.specs.declared.trigger.Trigger.{Trigger}
 use Rattle.office_records.specs.Codes.{code_named}
 use Rattle.office_records.specs.TextForms.{text_named}
 use Rattle.office_records.specs.Words.{action_named, trigger_named}
-use Rattle.office_proof.specs.Digits.{digest_named}
+use Rattle.office_rules.specs.Digits.{digest_named}
 use Rattle.office_json.specs.Members.{is_given}
 use Rattle.office_json.specs.declared.read_fault.ReadFault.{ReadFault}
 use Rattle.office_json.specs.declared.read_fault.ReadFault.TheVariants.{Refused, Memory}

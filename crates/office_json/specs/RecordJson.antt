@@ -5,8 +5,8 @@ use Rattle.office_days.specs.Calendar.{civil}
 use Rattle.office_days.specs.Texts.{day_text}
 use Rattle.office_records.specs.Words.{action_word, status_word}
 use Rattle.office_records.specs.declared.head.Confirmation.{Confirmation}
-use Rattle.office_proof.specs.Outcomes.{outcome_word}
-use Rattle.office_proof.specs.declared.entry.Entry.{Entry}
+use Rattle.office_rules.specs.Outcomes.{outcome_word}
+use Rattle.office_rules.specs.declared.entry.Entry.{Entry}
 use Rattle.office_rules.specs.declared.record_view.RecordView.{RecordView}
 use Rattle.hex.specs.Hex.{encode_lower}
 

@@ -5,14 +5,13 @@ ghost use Rattle.std.specs.Io.KnownBytes.{Appends};
 ghost use Rattle.office_base.specs.Output.{AppendsSome};
 ghost use Rattle.office_base.specs.Refusals.{refusal_number};
 ghost use Rattle.office_base.specs.declared.refusal.Refusal.{Refusal as AnyRefusal};
-ghost use Rattle.office_proof.specs.Outcomes.{outcome_word};
-ghost use Rattle.office_proof.specs.declared.outcome.Outcome.{Outcome as AnyOutcome};
+ghost use Rattle.office_rules.specs.Outcomes.{outcome_word};
+ghost use Rattle.office_rules.specs.declared.outcome.Outcome.{Outcome as AnyOutcome};
 ghost use Rattle.office_json.specs.Answers.{answer_line, answer_lines, answer_text};
 
 use itoa::Buffer;
 use office_base::{Io, Refusal, put_bytes, put_parts};
-use office_proof::Outcome;
-use office_rules::Answer;
+use office_rules::{Answer, Outcome};
 use std::io::Write;
 
 /// The text of each kind of answer, letter by letter.

@@ -21,7 +21,7 @@ pub(crate) fn text_value(alloc: Global, bytes: &[u8]) -> Result<Value, AllocErro
 }
 
 /// A day, as `2024-02-29`.
-#[tactic(auto, using(office_proof::proofs::DateBytes::date_is_text))]
+#[tactic(auto, using(office_rules::proofs::DateBytes::date_is_text))]
 pub(crate) fn day_value(alloc: Global, day: Day) -> Result<Value, AllocError>
     ensures { IfOk result (λ value. view value ≡ day_data day) }
 {
@@ -29,7 +29,7 @@ pub(crate) fn day_value(alloc: Global, day: Day) -> Result<Value, AllocError>
 }
 
 /// A due day, as `2024-02-29`.
-#[tactic(auto, using(office_proof::proofs::DateBytes::date_is_text))]
+#[tactic(auto, using(office_rules::proofs::DateBytes::date_is_text))]
 pub(crate) fn due_day_value(alloc: Global, due: DueDay) -> Result<Value, AllocError>
     ensures { IfOk result (λ value. view value ≡ day_data due) }
 {
@@ -37,7 +37,7 @@ pub(crate) fn due_day_value(alloc: Global, due: DueDay) -> Result<Value, AllocEr
 }
 
 /// A deadline, as `2024-02-29`.
-#[tactic(auto, using(office_proof::proofs::DateBytes::date_is_text))]
+#[tactic(auto, using(office_rules::proofs::DateBytes::date_is_text))]
 pub(crate) fn deadline_value(alloc: Global, deadline: Deadline) -> Result<Value, AllocError>
     ensures { IfOk result (λ value. view value ≡ day_data deadline) }
 {

@@ -12,8 +12,8 @@ use crate::ReadFault;
 use crate::members::{is_given, text_at};
 use office_base::{Memory, Refusal};
 use office_days::{Day, Offset, Period, Unit};
-use office_proof::read_digest;
 use office_records::{Action, AggNo, Code, Text, Trigger};
+use office_rules::read_digest;
 use serde_json::Value;
 use std::alloc::Global;
 

@@ -8,9 +8,8 @@ use crate::member_value::{
     MemberValue, object_of, put_all, reported_code, reported_day, reported_due,
 };
 use office_base::Memory;
-use office_proof::Entry;
 use office_records::Confirmation;
-use office_rules::RecordView;
+use office_rules::{Entry, RecordView};
 use serde_json::{Map, Value};
 use std::alloc::{AllocError, Global};
 

@@ -10,11 +10,11 @@ use Rattle.office_records.specs.Lists.{holds_of}
 use Rattle.office_records.specs.Tree.{code_cmp}
 use Rattle.office_records.specs.declared.head.Record.{Record}
 use Rattle.office_records.specs.declared.status.Status.{Status}
-use Rattle.office_holds.specs.Loading.{AreRowsOf, hold_rows, is_pair}
-use Rattle.office_holds.specs.Holds.{HoldMap, HoldState, has_target}
-use Rattle.office_holds.specs.Rows.{hold_row}
+use Rattle.office_rules.specs.HoldLoading.{AreRowsOf, hold_rows, is_pair}
+use Rattle.office_rules.specs.Holds.{HoldMap, HoldState, has_target}
+use Rattle.office_rules.specs.HoldRows.{hold_row}
 use Rattle.office_records.specs.declared.target.Target.{Target}
-use Rattle.office_proof.specs.declared.entry.Entry.{Entry}
+use Rattle.office_rules.specs.declared.entry.Entry.{Entry}
 use Rattle.office_rules.specs.Loading.{entry_rows}
 use Rattle.office_loading.specs.Collected.{AreCollected}
 

@@ -13,8 +13,8 @@ use Rattle.office_records.specs.Lists.{numbered, holds_of}
 use Rattle.office_records.specs.declared.status.Status.{Status}
 use Rattle.office_records.specs.declared.status.Status.TheVariants.{Here, Sent, Received, Ended}
 use Rattle.office_records.proofs.Places.{numbered_within}
-use Rattle.office_proof.specs.Outcomes.{is_ending}
-use Rattle.office_proof.specs.declared.entry.Entry.{Entry}
+use Rattle.office_rules.specs.Outcomes.{is_ending}
+use Rattle.office_rules.specs.declared.entry.Entry.{Entry}
 use Rattle.office_rules.specs.Loading.{AreEndings, EachHasOneEnding, TwoRunsEndOne}
 use Rattle.office_rules.proofs.SoundMaps.{put_cases, put_elsewhere, put_here, same_or_not, some_is}
 

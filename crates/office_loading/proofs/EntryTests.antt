@@ -14,10 +14,10 @@ use Rattle.office_records.specs.declared.head.Record.{Record}
 use Rattle.office_records.specs.declared.status.Status.{Status}
 use Rattle.office_records.specs.declared.status.Status.TheVariants.{Ended}
 use Rattle.office_records.proofs.Places.{numbered_within}
-use Rattle.office_proof.specs.Outcomes.{is_ending, is_skipping, is_transferring}
-use Rattle.office_proof.specs.declared.entry.Entry.{Entry}
-use Rattle.office_proof.specs.declared.outcome.Outcome.{Outcome}
-use Rattle.office_proof.specs.declared.outcome.Outcome.TheVariants as outcome
+use Rattle.office_rules.specs.Outcomes.{is_ending, is_skipping, is_transferring}
+use Rattle.office_rules.specs.declared.entry.Entry.{Entry}
+use Rattle.office_rules.specs.declared.outcome.Outcome.{Outcome}
+use Rattle.office_rules.specs.declared.outcome.Outcome.TheVariants as outcome
 use Rattle.office_rules.specs.Loading.{EachHasOneEnding, is_entry_right}
 use Rattle.office_rules.specs.Sound.{EntriesAgree, IsNamedEntry}
 use Rattle.office_rules.specs.State.{Office}

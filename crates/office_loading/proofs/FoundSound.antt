@@ -11,7 +11,7 @@ use Rattle.office_records.specs.Sound as tree
 use Rattle.office_records.specs.declared.head.Record.{Record}
 use Rattle.office_records.proofs.Bridge.{from_numbers}
 use Rattle.office_records.proofs.Named.{le_to}
-use Rattle.office_proof.specs.declared.entry.Entry.{Entry}
+use Rattle.office_rules.specs.declared.entry.Entry.{Entry}
 use Rattle.office_rules.specs.Loading.{AreEntriesKeyed, AreTablesOf, DoPartsAgree, EachHasOneEnding, HaveKeys, IsWellFormedOffice, entry_rows}
 use Rattle.office_rules.specs.Rows.{rows_of}
 use Rattle.office_rules.specs.Sound.{IsSound}

@@ -7,7 +7,7 @@ use Rattle.std.specs.Map.{keys_of}
 use Rattle.std.specs.Ordering.{nat_cmp}
 use Rattle.office_base.specs.Rows.{numbered_rows}
 use Rattle.office_base.proofs.Maps.{entries_of_ordered}
-use Rattle.office_holds.specs.Loading.{AreRowsOf}
+use Rattle.office_rules.specs.HoldLoading.{AreRowsOf}
 use Rattle.office_rules.specs.Loading.{AreTablesOf, HaveKeys, entry_rows}
 use Rattle.office_rules.specs.Rows.{rows_of}
 use Rattle.office_rules.specs.State.{ByteMap, Office, State}

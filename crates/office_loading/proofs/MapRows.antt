@@ -8,7 +8,7 @@ use Rattle.std.specs.Map.{keys_of}
 use Rattle.std.specs.Ordering.{nat_cmp}
 use Rattle.std.specs.declared.cmp.Ordering.{Ordering}
 use Rattle.std.specs.declared.cmp.Ordering.TheVariants.{Less}
-use Rattle.office_proof.specs.declared.entry.Entry.{Entry}
+use Rattle.office_rules.specs.declared.entry.Entry.{Entry}
 use Rattle.office_base.proofs.Ascending.{above_prefix}
 use Rattle.office_rules.specs.Loading.{entry_rows}
 use Rattle.office_rules.specs.State.{entry_cmp}

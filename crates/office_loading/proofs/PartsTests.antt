@@ -19,10 +19,10 @@ use Rattle.office_records.specs.declared.status.Status.TheVariants.{Here, Sent, 
 use Rattle.office_records.proofs.Bridge.{at_numbers, from_numbers}
 use Rattle.office_records.proofs.Placed.{numbered_there}
 use Rattle.office_records.proofs.Places.{numbered_at, numbered_within}
-use Rattle.office_holds.specs.Holds.{HoldMap}
-use Rattle.office_holds.specs.Sound.{NoHoldIsAfter}
-use Rattle.office_proof.specs.declared.entry.Entry.{Entry}
-use Rattle.office_proof.specs.declared.outcome.Outcome.TheVariants.{Transferred}
+use Rattle.office_rules.specs.Holds.{HoldMap}
+use Rattle.office_rules.specs.SoundHolds.{NoHoldIsAfter}
+use Rattle.office_rules.specs.declared.entry.Entry.{Entry}
+use Rattle.office_rules.specs.declared.outcome.Outcome.TheVariants.{Transferred}
 use Rattle.office_rules.specs.Loading.{AreKeysOfLive, AreRunsBy}
 use Rattle.office_rules.specs.Sound.{ContentsAgree, NoDayIsAfter, DocumentsAgree}
 use Rattle.office_rules.specs.State.{ByteMap, EntryMap}

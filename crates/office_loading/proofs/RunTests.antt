@@ -17,7 +17,7 @@ use Rattle.office_records.specs.declared.status.Status.{Status}
 use Rattle.office_records.specs.declared.status.Status.TheVariants.{Here, Sent, Received, Ended}
 use Rattle.office_records.proofs.Bridge.{from_numbers}
 use Rattle.office_records.proofs.Places.{numbered_read, numbered_within}
-use Rattle.office_proof.specs.declared.entry.Entry.{Entry}
+use Rattle.office_rules.specs.declared.entry.Entry.{Entry}
 use Rattle.office_rules.specs.State.{entry_cmp}
 use Rattle.office_rules.specs.declared.run.Run.{Run}
 use Rattle.office_rules.proofs.SoundMaps.{entry_cmp-IsAntisymmetric, entry_total, pushed_keeps, tied_same}

@@ -5,10 +5,10 @@ use Rattle.std.specs.List.{list_any}
 use Rattle.office_records.specs.Lists.{holds_of}
 use Rattle.office_records.specs.declared.head.Record.{Record}
 use Rattle.office_records.specs.declared.status.Status.{Status}
-use Rattle.office_holds.specs.Loading.{is_pair}
-use Rattle.office_holds.specs.Holds.{HoldMap, has_target}
+use Rattle.office_rules.specs.HoldLoading.{is_pair}
+use Rattle.office_rules.specs.Holds.{HoldMap, has_target}
 use Rattle.office_records.specs.declared.target.Target.{Target}
-use Rattle.office_proof.specs.declared.entry.Entry.{Entry}
+use Rattle.office_rules.specs.declared.entry.Entry.{Entry}
 use Rattle.office_rules.specs.Loading.{entry_rows}
 
 -- the day that has come, if one has

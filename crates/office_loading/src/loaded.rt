@@ -2,9 +2,8 @@
 use crate::Certificate;
 use office_days::Day;
 use office_holds::Holds;
-use office_proof::{Entry, RunNo};
 use office_records::RecordNo;
-use office_rules::Run;
+use office_rules::{Entry, Run, RunNo};
 use office_tree::Tree;
 use std::collections::BTreeMap;
 use std::marker::Model;

@@ -7,14 +7,14 @@ use Rattle.office_base.specs.declared.refusal.Refusal.{Refusal}
 use Rattle.office_records.specs.Conditions.{first_of}
 use Rattle.office_records.specs.Lists.{amended_by}
 use Rattle.office_records.proofs.Accepting.{none_holds, neither}
-use Rattle.office_holds.specs.Conditions.{conditions_of_hold_off, conditions_of_hold_on, conditions_of_lift_hold, conditions_of_place_hold}
-use Rattle.office_holds.specs.Effects.{held_off, held_on, lifted_hold, placed_hold}
-use Rattle.office_holds.specs.Forms.{FitsHoldLimits}
-use Rattle.office_holds.specs.Holds.{HoldMap, HoldState}
-use Rattle.office_holds.specs.Rows.{hold_from, put_hold}
+use Rattle.office_rules.specs.HoldConditions.{conditions_of_hold_off, conditions_of_hold_on, conditions_of_lift_hold, conditions_of_place_hold}
+use Rattle.office_rules.specs.HoldEffects.{held_off, held_on, lifted_hold, placed_hold}
+use Rattle.office_rules.specs.HoldForms.{FitsHoldLimits}
+use Rattle.office_rules.specs.Holds.{HoldMap, HoldState}
+use Rattle.office_rules.specs.HoldRows.{hold_from, put_hold}
 use Rattle.office_records.specs.declared.hold_row.HoldRow.{HoldRow}
 use Rattle.office_records.specs.declared.target.Target.{Target}
-use Rattle.office_holds.proofs.Keeping.{FitsHoldLimits-held_on, FitsHoldLimits-lifted_hold, FitsHoldLimits-placed_hold, StaysLifted-free, placed_by_put}
+use Rattle.office_rules.proofs.HoldSoundness.{FitsHoldLimits-held_on, FitsHoldLimits-lifted_hold, FitsHoldLimits-placed_hold, StaysLifted-free, placed_by_put}
 use Rattle.office_rules.specs.Acts.{IsChangeTo}
 use Rattle.office_rules.specs.Conditions.{conditions_of_covering, dated, lacks_target, refusals_of_hold_off, refusals_of_hold_on, refusals_of_lift_hold, refusals_of_place_hold}
 use Rattle.office_rules.specs.Effects.{with_holds}

@@ -7,8 +7,8 @@ use Rattle.std.specs.FinMap.{get, values}
 use Rattle.std.specs.List.{Contains, find, list_any}
 use Rattle.office_records.specs.Lists.{numbered}
 use Rattle.office_records.specs.declared.status.Status.TheVariants.{Ended}
-use Rattle.office_proof.specs.Outcomes.{is_ending}
-use Rattle.office_proof.specs.declared.entry.Entry.{Entry}
+use Rattle.office_rules.specs.Outcomes.{is_ending}
+use Rattle.office_rules.specs.declared.entry.Entry.{Entry}
 use Rattle.office_rules.proofs.Listing.{found_value, is_any, value_found}
 use Rattle.office_rules.proofs.SoundMaps.{one_there}
 use Rattle.office_rules.specs.Readings.{ending_entry}

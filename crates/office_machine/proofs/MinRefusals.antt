@@ -8,7 +8,7 @@ use Rattle.office_records.specs.Conditions.{classified_status, conditions_of_rec
 use Rattle.office_records.specs.Disposal.{is_ended, is_in_transfer}
 use Rattle.office_records.specs.Lists.{holds_of}
 use Rattle.office_records.specs.declared.classified.Classified.{Classified}
-use Rattle.office_holds.specs.Conditions.{conditions_of_hold_on, conditions_of_leaving_class, has_all_targets, holds_target, is_lifted, would_leave_held_class}
+use Rattle.office_rules.specs.HoldConditions.{conditions_of_hold_on, conditions_of_leaving_class, has_all_targets, holds_target, is_lifted, would_leave_held_class}
 use Rattle.office_records.specs.declared.target.Target.{Target}
 use Rattle.office_rules.specs.Conditions.{conditions_of_covering, conditions_of_reclassifying, conditions_of_target, lacks_target, target_status}
 use Rattle.office_machine.specs.MinRefusal.{min_refusal}

@@ -1,7 +1,7 @@
 -- What it says of an office's parts that the office is sound.
 use Rattle.std.proofs.Common.{◌≤◌, length}
 use Rattle.office_records.specs.Sound.{IsSound}
-use Rattle.office_holds.specs.Forms.{FitsHoldLimits}
+use Rattle.office_rules.specs.HoldForms.{FitsHoldLimits}
 use Rattle.office_rules.specs.Sound.{IsSoundOffice}
 use Rattle.office_rules.specs.State.{Office, with_contents}
 use Rattle.office_rules.proofs.Accepted.{tree_sound}

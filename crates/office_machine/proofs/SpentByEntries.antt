@@ -6,8 +6,8 @@ use Rattle.std.specs.List.{list_any}
 use Rattle.office_records.specs.Disposal.{is_below, is_spent, records_below}
 use Rattle.office_records.specs.Lists.{numbers_after}
 use Rattle.office_records.specs.Tree.{TreeState, has_record}
-use Rattle.office_proof.specs.Outcomes.{is_ending}
-use Rattle.office_proof.specs.declared.entry.Entry.{Entry}
+use Rattle.office_rules.specs.Outcomes.{is_ending}
+use Rattle.office_rules.specs.declared.entry.Entry.{Entry}
 use Rattle.office_rules.specs.Runs.{ended_below, is_ended_in, spent_list}
 use Rattle.office_rules.proofs.Listing.{HasEndedBelow, any_is, is_any, ended_below_is, is_ended_below, is_spent_by}
 

@@ -2,7 +2,7 @@
 use Rattle.std.specs.Prelude.{◌≡◌, ◌+◌, ◌<◌, ℕ, Bool, false, List, length, slice_index_or}
 use Rattle.std.specs.List.{list_any}
 use Rattle.office_records.specs.Tree.{TreeState}
-use Rattle.office_proof.specs.declared.entry.Entry.{Entry}
+use Rattle.office_rules.specs.declared.entry.Entry.{Entry}
 use Rattle.office_rules.specs.Runs.{ended_below}
 
 -- marked are those that have a record below that one of the entries ended

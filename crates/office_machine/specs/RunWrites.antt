@@ -2,9 +2,9 @@
 use Rattle.std.specs.Prelude.{ℕ, List, [], ◌∷◌, ◌++◌}
 use Rattle.office_records.specs.declared.head.Record.{Record}
 use Rattle.office_records.specs.declared.status.Status.TheVariants as status
-use Rattle.office_proof.specs.declared.entry.Entry.{Entry}
-use Rattle.office_proof.specs.declared.outcome.Outcome.{Outcome}
-use Rattle.office_proof.specs.declared.outcome.Outcome.TheVariants as outcome
+use Rattle.office_rules.specs.declared.entry.Entry.{Entry}
+use Rattle.office_rules.specs.declared.outcome.Outcome.{Outcome}
+use Rattle.office_rules.specs.declared.outcome.Outcome.TheVariants as outcome
 use Rattle.office_rules.specs.declared.rows.RowWrite.{RowWrite}
 use Rattle.office_rules.specs.declared.rows.RowWrite.TheVariants as row_write
 use Rattle.office_rules.specs.declared.run.Run.{Run}

@@ -10,8 +10,8 @@ use crate::parts::Parts;
 use crate::storing::{put_certificate, put_entry};
 use crate::{Change, RowWrite, Run};
 use office_base::Memory;
-use office_proof::RunNo;
 use office_records::{Record, RecordNo, Status};
+use office_rules::RunNo;
 use office_tree::{Tree, put_row};
 
 /// Puts a record's head and status in place of those that are there.

@@ -8,8 +8,9 @@ ghost use Rattle.office_rules.specs.Sound.{IsSoundOffice};
 use crate::marking::marks_above;
 use crate::parts::Parts;
 use office_base::Memory;
-use office_proof::{Entry, RunNo, certificate_text};
+use office_proof::certificate_text;
 use office_records::{AggNo, RecordNo};
+use office_rules::{Entry, RunNo};
 use office_tree::Tree;
 use std::alloc::Global;
 

@@ -17,11 +17,10 @@ use crate::parts::Parts;
 use crate::{Answer, Change, Decision, RowWrite};
 use office_base::Memory;
 use office_days::{Day, DueDay};
-use office_proof::digest_of;
 use office_records::{
     Action, Code, Confirmation, Event, Receipt, Record, RecordNo, Review, Status, Text,
 };
-use office_rules::{copy_code, copy_plan, copy_texts};
+use office_rules::{copy_code, copy_plan, copy_texts, digest_of};
 use std::alloc::Global;
 
 /// A second code that is equal to the first, if there is one, else to the other.

@@ -13,8 +13,8 @@ use crate::parts::Parts;
 use crate::{Answer, Change, Decision, RowWrite, Run};
 use office_base::{Memory, Refusal};
 use office_days::Day;
-use office_proof::RunNo;
 use office_records::{RecordNo, Text};
+use office_rules::RunNo;
 use std::alloc::Global;
 
 impl Parts {

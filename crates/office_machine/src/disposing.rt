@@ -1,10 +1,10 @@
 //! What a disposal run does with one record, by how far its disposal has come.
 ghost use Rattle.std.specs.Prelude.{◌≡◌, Some, if◌then◌else◌};
-ghost use Rattle.office_proof.specs.declared.outcome.Outcome.TheVariants.{Skipped};
+ghost use Rattle.office_rules.specs.declared.outcome.Outcome.TheVariants.{Skipped};
 ghost use Rattle.office_rules.specs.Disposing.{outcome_by};
 
-use office_proof::Outcome;
 use office_records::{Action, Status};
+use office_rules::Outcome;
 
 /// That end, or `Skipped` where a hold keeps the record from it.
 fn unless_held(ending: Outcome, held: bool) -> Outcome

@@ -7,9 +7,8 @@ ghost use Rattle.office_rules.specs.Registers.{EntryView, and_entry, entry_rows,
 ghost use Rattle.office_machine.specs.EntryPlaces.{AreOfRecords};
 
 use crate::parts::Parts;
-use office_proof::{Entry, RunNo};
 use office_records::RecordNo;
-use office_rules::EntryRow;
+use office_rules::{Entry, EntryRow, RunNo};
 use office_tree::Tree;
 use std::collections::btree_map;
 use std::marker::Model;

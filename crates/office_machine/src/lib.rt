@@ -35,9 +35,8 @@ pub use due_rows::DueRows;
 pub use entry_rows::EntryRows;
 pub use machine::Machine;
 pub use office_base::Rebuild;
-pub use office_proof::Entry;
 pub use office_records::{Aggregation, Class, Event, HoldRow, Schedule, Target};
 pub use office_rules::{
-    Act, Answer, Change, Content, Decision, DueRow, EntryRow, Intake, RecordRow, RecordView, Row,
-    RowWrite, Run, Tables,
+    Act, Answer, Change, Content, Decision, DueRow, Entry, EntryRow, Intake, RecordRow, RecordView,
+    Row, RowWrite, Run, Tables,
 };

@@ -5,8 +5,8 @@ ghost use Rattle.office_rules.specs.Runs.{ended_below};
 ghost use Rattle.office_machine.specs.Marks.{AreMarks};
 
 use office_base::Memory;
-use office_proof::Entry;
 use office_records::AggNo;
+use office_rules::Entry;
 use office_tree::Tree;
 use std::alloc::Global;
 

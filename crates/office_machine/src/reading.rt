@@ -13,9 +13,8 @@ ghost use Rattle.office_rules.specs.State.{entry_cmp};
 use crate::RecordView;
 use crate::parts::Parts;
 use office_base::Memory;
-use office_proof::{Entry, RunNo};
 use office_records::{Confirmation, RecordNo, Status};
-use office_rules::{copy_code, copy_codes, copy_entry, copy_texts};
+use office_rules::{Entry, RunNo, copy_code, copy_codes, copy_entry, copy_texts};
 use std::alloc::Global;
 use std::collections::BTreeMap;
 

@@ -10,8 +10,8 @@ ghost use Rattle.office_rules.specs.Sound.{IsSoundOffice};
 use crate::Run;
 use crate::parts::Parts;
 use office_days::Day;
-use office_proof::RunNo;
 use office_records::{RecordNo, Status};
+use office_rules::RunNo;
 
 impl Parts {
     /// How many runs there are: the number of the last one.

@@ -7,8 +7,8 @@ ghost use Rattle.office_rules.specs.State.{entry_cmp};
 
 use office_base::Memory;
 use office_loading::Certificate;
-use office_proof::{Entry, RunNo};
 use office_records::RecordNo;
+use office_rules::{Entry, RunNo};
 use std::collections::BTreeMap;
 
 /// Puts an entry in under its run and record.

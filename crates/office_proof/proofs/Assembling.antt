@@ -6,9 +6,9 @@ use Rattle.hex.specs.Hex.{encode_lower}
 use Rattle.office_records.specs.Lists.{numbered}
 use Rattle.office_records.specs.Tree.{TreeState}
 use Rattle.office_records.specs.declared.head.Record.{Record}
-use Rattle.office_proof.specs.Certificates.{aggregation_words, certificate_lines, certificate_text, counted, date_text, entry_line, entry_words, lines_text, made_of, sealed, tabbed}
-use Rattle.office_proof.specs.Outcomes.{is_ending, is_sending, is_skipping, outcome_word}
-use Rattle.office_proof.specs.declared.entry.Entry.{Entry}
+use Rattle.office_rules.specs.Certificates.{aggregation_words, certificate_lines, certificate_text, counted, date_text, entry_line, entry_words, lines_text, made_of, sealed, tabbed}
+use Rattle.office_rules.specs.Outcomes.{is_ending, is_sending, is_skipping, outcome_word}
+use Rattle.office_rules.specs.declared.entry.Entry.{Entry}
 use Rattle.office_proof.proofs.Texts.{more_lines}
 
 abbrev reported : Entry → Record → List ℕ → List ℕ → List ℕ → List ℕ → List ℕ

@@ -9,13 +9,13 @@ use Rattle.office_records.specs.Lists.{numbered}
 use Rattle.office_records.specs.Tree.{TreeState}
 use Rattle.office_records.specs.declared.aggregation.Aggregation.{Aggregation}
 use Rattle.office_records.specs.declared.head.Record.{Record}
-use Rattle.office_proof.specs.Certificates.{tabbed, lines_text, date_text, counted, entry_words, aggregation_words, made_of, certificate_lines}
-use Rattle.office_proof.specs.Forms.{IsWellFormedEntry}
+use Rattle.office_rules.specs.Certificates.{tabbed, lines_text, date_text, counted, entry_words, aggregation_words, made_of, certificate_lines}
+use Rattle.office_rules.specs.EntryForms.{IsWellFormedEntry}
 use Rattle.office_proof.specs.Meanings.{IsOneLine, IsOneColumn, entry_columns, before_first, split_at}
-use Rattle.office_proof.specs.Outcomes.{is_ending, is_sending, is_skipping, outcome_word}
-use Rattle.office_proof.specs.declared.entry.Entry.{Entry}
-use Rattle.office_proof.specs.declared.outcome.Outcome.{Outcome}
-use Rattle.office_proof.specs.declared.outcome.Outcome.TheVariants.{Destroyed, Transferred, Sent, Skipped}
+use Rattle.office_rules.specs.Outcomes.{is_ending, is_sending, is_skipping, outcome_word}
+use Rattle.office_rules.specs.declared.entry.Entry.{Entry}
+use Rattle.office_rules.specs.declared.outcome.Outcome.{Outcome}
+use Rattle.office_rules.specs.declared.outcome.Outcome.TheVariants.{Destroyed, Transferred, Sent, Skipped}
 use Rattle.office_proof.proofs.Columns.{line_from_column, literal_column, code_column, text_column, decimal_column, date_column, digest_column, hold_column}
 
 -- a fact of the first of a list, beside those of the others

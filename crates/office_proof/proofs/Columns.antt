@@ -14,7 +14,7 @@ use Rattle.office_days.specs.Texts.{day_text}
 use Rattle.office_records.specs.Codes.{is_code_byte}
 use Rattle.office_records.specs.Forms.{IsCode, IsText}
 use Rattle.office_records.specs.TextForms.{is_text_character}
-use Rattle.office_proof.specs.Certificates.{date_text}
+use Rattle.office_rules.specs.Certificates.{date_text}
 use Rattle.office_proof.specs.Meanings.{IsOneLine, IsOneColumn}
 
 -- neither a tab nor a line feed

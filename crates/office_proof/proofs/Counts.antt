@@ -1,8 +1,8 @@
 -- How many entries have such an outcome, counted in a slice of references.
 use Rattle.std.proofs.Common.{◌≡◌, ◌∙◌, sym, ap, refl, suc, Bool, true, false, cond, List, [], ◌∷◌, length, filter, map, count_by, Bor}
 use Rattle.std.proofs.lemmas.List.Sums.{length-filter}
-use Rattle.office_proof.specs.declared.entry.Entry.{Entry}
-use Rattle.office_proof.specs.declared.outcome.Outcome.{Outcome}
+use Rattle.office_rules.specs.declared.entry.Entry.{Entry}
+use Rattle.office_rules.specs.declared.outcome.Outcome.{Outcome}
 
 by_first : {X Y : Type 0} (first : Bool) (x : X) (y : Y) (xs : List X) (ys : List Y) → length xs ≡ length ys → length (cond first (x ∷ xs) xs) ≡ length (cond first (y ∷ ys) ys)
 by_first true x y xs ys same = ap suc same

@@ -2,9 +2,4 @@ pub mod Assembling
 pub mod CertificateLines
 pub mod Columns
 pub mod Counts
-pub mod DateBytes
-pub mod DigestDigits
-pub mod Digests
-pub mod LowerDigits
-pub mod ReadDigests
 pub mod Texts

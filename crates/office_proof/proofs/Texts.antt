@@ -2,7 +2,7 @@
 use Rattle.std.proofs.Common.{◌≡◌, ◌∙◌, sym, ap, refl, ℕ, List, [], ◌∷◌, ◌++◌, map, append_assoc, append-nil, Bor}
 use Rattle.std.specs.List.{join_by}
 use Rattle.std.proofs.lemmas.List.Concat.{flat_map-append}
-use Rattle.office_proof.specs.Certificates.{lines_text, tabbed}
+use Rattle.office_rules.specs.Certificates.{lines_text, tabbed}
 
 pub joined_is : (words : List (Bor (List ℕ))) → join_by (λ word. word.now) (9 ∷ []) words ≡ tabbed (map (λ word. word.now) words)
 joined_is [] = refl

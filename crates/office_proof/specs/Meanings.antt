@@ -6,9 +6,9 @@ use Rattle.std.specs.List.{All}
 use Rattle.std.specs.Option.{unwrap_or}
 use Rattle.hex.specs.Hex.{encode_lower}
 use Rattle.office_records.specs.declared.head.Record.{Record}
-use Rattle.office_proof.specs.Certificates.{date_text}
-use Rattle.office_proof.specs.Outcomes.{outcome_word}
-use Rattle.office_proof.specs.declared.entry.Entry.{Entry}
+use Rattle.office_rules.specs.Certificates.{date_text}
+use Rattle.office_rules.specs.Outcomes.{outcome_word}
+use Rattle.office_rules.specs.declared.entry.Entry.{Entry}
 
 -- no byte of it is a line feed
 abbrev pub IsOneLine : List ℕ → Type 0

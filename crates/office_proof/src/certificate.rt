@@ -2,8 +2,8 @@
 ghost use Rattle.std.specs.Prelude.{◌≡◌, ◌∷◌, ◌++◌, [], codes, IfOk, OnOk, map};
 ghost use Rattle.std.specs.Option.{unwrap_or};
 ghost use Rattle.std.specs.String.{string_bytes};
-ghost use Rattle.office_proof.specs.Certificates.{certificate_text, entry_line, sealed, tabbed};
-ghost use Rattle.office_proof.specs.Outcomes.{outcome_word};
+ghost use Rattle.office_rules.specs.Certificates.{certificate_text, entry_line, sealed, tabbed};
+ghost use Rattle.office_rules.specs.Outcomes.{outcome_word};
 
 use crate::lines::{push_counts, push_entries, push_line, push_run, push_spent};
 use crate::words::{due_word, hold_word, line_of, number_word, outcome_of};

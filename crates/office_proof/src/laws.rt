@@ -7,11 +7,11 @@ ghost use Rattle.office_records.specs.Lists.{numbered};
 ghost use Rattle.office_records.specs.Tree.{TreeState};
 ghost use Rattle.office_records.specs.declared.aggregation.Aggregation.{Aggregation};
 ghost use Rattle.office_records.specs.declared.head.Record.{Record};
-ghost use Rattle.office_proof.specs.Certificates.{certificate_lines, entry_words, tabbed, lines_text, date_text};
-ghost use Rattle.office_proof.specs.Forms.{IsWellFormedEntry};
+ghost use Rattle.office_rules.specs.Certificates.{certificate_lines, entry_words, tabbed, lines_text, date_text};
+ghost use Rattle.office_rules.specs.EntryForms.{IsWellFormedEntry};
 ghost use Rattle.office_proof.specs.Meanings.{IsOneLine, IsOneColumn, entry_columns, split_at};
-ghost use Rattle.office_proof.specs.Outcomes.{is_ending, is_sending, is_skipping};
-ghost use Rattle.office_proof.specs.declared.entry.Entry.{Entry};
+ghost use Rattle.office_rules.specs.Outcomes.{is_ending, is_sending, is_skipping};
+ghost use Rattle.office_rules.specs.declared.entry.Entry.{Entry};
 
 /// Where the tree, the entries and the opener's name are of their forms, no title, ref or name
 /// breaks a certificate: each line above the last is one line, and the line of an entry has eleven

@@ -6,20 +6,14 @@
 //! record number, and the aggregations that are spent by this run: they are spent as it closes, and
 //! it ended a record below them. It ends with the SHA-256 of all bytes above.
 //!
-//! The crate has the types, the definitions (`specs`) and laws of what these mean, the words of
-//! outcomes, the digest of a content and the digits that write one, the line of an entry and the
-//! text of a certificate.
+//! Not the proofs of this house: the evidence that its user keeps. The types and the definitions
+//! are in `office_rules`; here are the line of an entry and the text of a certificate.
 #![tactic(auto)]
 
 mod certificate;
-mod digest;
-mod entry;
 pub mod laws;
 mod lines;
-mod outcome;
 mod words;
 
 pub use certificate::{certificate_text, entry_line};
-pub use digest::{digest_of, read_digest};
-pub use entry::{Entry, RunNo};
-pub use outcome::Outcome;
+pub use office_rules::{Entry, Outcome, RunNo, digest_of, read_digest};

@@ -4,8 +4,8 @@ ghost use Rattle.std.specs.Fmt.{decimal};
 ghost use Rattle.std.specs.List.{flat_map};
 ghost use Rattle.std.specs.String.{string_bytes};
 ghost use Rattle.office_records.specs.Lists.{numbered};
-ghost use Rattle.office_proof.specs.Certificates.{aggregation_words, counted, date_text, entry_words, lines_text, made_of};
-ghost use Rattle.office_proof.specs.Outcomes.{is_ending, is_sending, is_skipping};
+ghost use Rattle.office_rules.specs.Certificates.{aggregation_words, counted, date_text, entry_words, lines_text, made_of};
+ghost use Rattle.office_rules.specs.Outcomes.{is_ending, is_sending, is_skipping};
 
 use crate::certificate::entry_line;
 use crate::words::{day_word, line_of, number_word};

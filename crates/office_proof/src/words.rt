@@ -4,8 +4,8 @@ ghost use Rattle.std.specs.Fmt.{decimal};
 ghost use Rattle.std.specs.Option.{unwrap_or};
 ghost use Rattle.std.specs.Str.{IsUtf8};
 ghost use Rattle.std.specs.String.{string_bytes};
-ghost use Rattle.office_proof.specs.Certificates.{date_text, tabbed};
-ghost use Rattle.office_proof.specs.Outcomes.{outcome_word};
+ghost use Rattle.office_rules.specs.Certificates.{date_text, tabbed};
+ghost use Rattle.office_rules.specs.Outcomes.{outcome_word};
 
 use crate::Entry;
 use office_base::Memory;
@@ -31,7 +31,7 @@ fn text_of(alloc: Global, bytes: &[u8]) -> Result<String, Memory>
 }
 
 /// A day as `2024-02-29`.
-#[tactic(auto, using(crate::proofs::DateBytes::date_is_text))]
+#[tactic(auto, using(office_rules::proofs::DateBytes::date_is_text))]
 pub(crate) fn day_word(alloc: Global, day: Day) -> Result<String, Memory>
     ensures { IfOk result (λ word. string_bytes word ≡ date_text day) }
 {
@@ -39,7 +39,7 @@ pub(crate) fn day_word(alloc: Global, day: Day) -> Result<String, Memory>
 }
 
 /// A due day as `2024-02-29`.
-#[tactic(auto, using(crate::proofs::DateBytes::date_is_text))]
+#[tactic(auto, using(office_rules::proofs::DateBytes::date_is_text))]
 pub(crate) fn due_word(alloc: Global, due: DueDay) -> Result<String, Memory>
     ensures { IfOk result (λ word. string_bytes word ≡ date_text due) }
 {

@@ -8,7 +8,7 @@ use Rattle.office_records.specs.Conditions.{first_of, conditions_of_reclassify}
 use Rattle.office_records.specs.Sound as tree
 use Rattle.office_records.specs.declared.classified.Classified.{Classified}
 use Rattle.office_records.proofs.Accepting.{none_holds}
-use Rattle.office_holds.specs.Conditions.{would_leave_held_class}
+use Rattle.office_rules.specs.HoldConditions.{would_leave_held_class}
 use Rattle.office_rules.specs.Conditions.{dated, refusals_of_reclassify}
 use Rattle.office_rules.specs.Meanings.{IsAccepted}
 use Rattle.office_rules.specs.Sound.{IsSound}

@@ -5,7 +5,7 @@ use Rattle.std.specs.Option.{option_map}
 use Rattle.std.specs.Cmp.{nat_cmp_total}
 use Rattle.std.specs.FinMap.{get, nat_cmp-IsAntisymmetric}
 use Rattle.office_records.specs.Lists.{numbered}
-use Rattle.office_proof.specs.Certificates.{certificate_text}
+use Rattle.office_rules.specs.Certificates.{certificate_text}
 use Rattle.office_rules.specs.Runs.{entries_of, spent_list, certificate_of, closed}
 use Rattle.office_rules.specs.State.{State, Office}
 use Rattle.office_rules.specs.declared.run.Run.{Run}

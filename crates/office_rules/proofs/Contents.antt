@@ -7,8 +7,8 @@ use Rattle.std.specs.FinMap.{get, get-insert, get-remove}
 use Rattle.std.specs.Ordering.{nat_cmp, eq_by_cmp}
 use Rattle.office_records.specs.Lists.{holds_of}
 use Rattle.office_base.specs.declared.refusal.Refusal.TheVariants.{NoRun}
-use Rattle.office_proof.specs.declared.outcome.Outcome.{Outcome}
-use Rattle.office_proof.specs.declared.outcome.Outcome.TheVariants as outcome
+use Rattle.office_rules.specs.declared.outcome.Outcome.{Outcome}
+use Rattle.office_rules.specs.declared.outcome.Outcome.TheVariants as outcome
 use Rattle.office_rules.specs.Disposing.{outcome_of}
 use Rattle.office_rules.specs.Effects.{with_new_record}
 use Rattle.office_rules.specs.Meanings.{ended_by}

@@ -10,7 +10,7 @@ use Rattle.office_records.specs.declared.event.Event.{Event}
 use Rattle.office_records.specs.declared.schedule.Schedule.{Schedule}
 use Rattle.office_records.specs.declared.hold_row.HoldRow.{HoldRow}
 use Rattle.office_records.specs.declared.target.Target.{Target}
-use Rattle.office_proof.specs.declared.entry.Entry.{Entry}
+use Rattle.office_rules.specs.declared.entry.Entry.{Entry}
 use Rattle.office_rules.specs.Giving.{RepresentNoneFrom, up_to_classes, up_to_contents, up_to_targets}
 use Rattle.office_rules.specs.Tables.{Begins, IsPrefix, RepresentNone, TableLists, no_rows, with_row, with_rows}
 use Rattle.office_rules.specs.declared.rows.RecordRow.{RecordRow}

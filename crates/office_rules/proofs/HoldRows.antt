@@ -12,10 +12,10 @@ use Rattle.std.proofs.lemmas.Map.Text.{is_eq-slice_cmp}
 use Rattle.office_records.specs.Lists.{amended, holds_of}
 use Rattle.office_records.specs.Tree.{code_cmp}
 use Rattle.office_records.proofs.Inserting.{get-amended, same_code}
-use Rattle.office_holds.specs.Effects.{with_target, without_target}
-use Rattle.office_holds.specs.Loading.{is_pair, same_target}
-use Rattle.office_holds.specs.Holds.{HoldMap, HoldState, has_target}
-use Rattle.office_holds.specs.Rows.{hold_from, hold_row}
+use Rattle.office_rules.specs.HoldEffects.{with_target, without_target}
+use Rattle.office_rules.specs.HoldLoading.{is_pair, same_target}
+use Rattle.office_rules.specs.Holds.{HoldMap, HoldState, has_target}
+use Rattle.office_rules.specs.HoldRows.{hold_from, hold_row}
 use Rattle.office_records.specs.declared.hold_row.HoldRow.{HoldRow}
 use Rattle.office_records.specs.declared.target.Target.{Target}
 use Rattle.office_records.specs.declared.target.Target.TheVariants as target

@@ -1,9 +1,9 @@
 -- A record that is held before an act that takes nothing off a hold and lifts none is held after its step.
 use Rattle.std.proofs.Common.{◌≡◌, ℕ, ℤ, false, Option, Some, None}
 use Rattle.office_base.specs.declared.refusal.Refusal.{Refusal}
-use Rattle.office_holds.specs.Conditions.{conditions_of_place_hold}
-use Rattle.office_holds.proofs.Lasting.{held-add_schedule, held-add_class, held-set_class_schedule, held-add_aggregation, held-close_aggregation, held-add_record, held-set_record_schedule, held-confirm, held-receipt, held-review, held-place_hold, held-hold_on}
-use Rattle.office_holds.proofs.Reclassifying.{held-reclassify}
+use Rattle.office_rules.specs.HoldConditions.{conditions_of_place_hold}
+use Rattle.office_rules.proofs.LastingHolds.{held-add_schedule, held-add_class, held-set_class_schedule, held-add_aggregation, held-close_aggregation, held-add_record, held-set_record_schedule, held-confirm, held-receipt, held-review, held-place_hold, held-hold_on}
+use Rattle.office_rules.proofs.ReclassifiedHolds.{held-reclassify}
 use Rattle.office_records.specs.declared.class.Class.{Class}
 use Rattle.office_records.specs.declared.schedule.Schedule.{Schedule}
 use Rattle.office_rules.specs.Acts.{may_release, step}

@@ -8,7 +8,7 @@ use Rattle.std.specs.Cmp.{tied_itself}
 use Rattle.std.specs.Cmp.Lexicographic.{nat_list_cmp_total}
 use Rattle.std.specs.FinMap.{get, entries, find, get-entries}
 use Rattle.office_records.specs.Tree.{TreeState, code_cmp}
-use Rattle.office_holds.specs.Holds.{HoldMap, HoldState, hold_covers, covers_in, held_in, is_held, least_covering}
+use Rattle.office_rules.specs.Holds.{HoldMap, HoldState, hold_covers, covers_in, held_in, is_held, least_covering}
 
 abbrev first_passing : {V : Type 0} → (V → Bool) → List (List ℕ × V) → Option (List ℕ)
 first_passing test es = slice_get (map (λ e. e.0) (filter (λ e. test e.1) es)) 0

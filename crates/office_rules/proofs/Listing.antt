@@ -17,8 +17,8 @@ use Rattle.std.specs.Ordering.{is_eq, is_lt, eq_by_cmp, nat_cmp, ordering_then}
 use Rattle.office_records.specs.Disposal.{is_below, is_spent, records_below}
 use Rattle.office_records.specs.Lists.{numbers_after}
 use Rattle.office_records.specs.Tree.{TreeState, has_aggregation, has_record}
-use Rattle.office_proof.specs.Outcomes.{is_ending}
-use Rattle.office_proof.specs.declared.entry.Entry.{Entry}
+use Rattle.office_rules.specs.Outcomes.{is_ending}
+use Rattle.office_rules.specs.declared.entry.Entry.{Entry}
 use Rattle.office_rules.specs.Runs.{entries_of, is_ended_in, spent_list}
 use Rattle.office_rules.specs.Sound.{IsSound}
 use Rattle.office_rules.specs.State.{State, EntryMap, entry_cmp}

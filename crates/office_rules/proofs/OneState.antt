@@ -8,8 +8,8 @@ use Rattle.std.specs.FinMap.Entries.{find}
 use Rattle.std.specs.FinSet.{same_set}
 use Rattle.office_records.specs.Lists.{holds_of}
 use Rattle.office_records.specs.Tree.{code_cmp}
-use Rattle.office_holds.specs.Holds.{HoldMap, HoldState, has_target}
-use Rattle.office_holds.specs.Rows.{hold_row}
+use Rattle.office_rules.specs.Holds.{HoldMap, HoldState, has_target}
+use Rattle.office_rules.specs.HoldRows.{hold_row}
 use Rattle.office_records.specs.declared.target.Target.{Target}
 use Rattle.office_records.specs.declared.target.Target.TheVariants as target
 use Rattle.office_rules.specs.Rows.{rows_of, record_rows, targets_of}

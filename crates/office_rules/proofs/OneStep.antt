@@ -5,9 +5,9 @@ use Rattle.std.specs.Prelude.{slice_get}
 use Rattle.office_records.specs.Lists.{numbered, numbers_after}
 use Rattle.office_records.specs.Tree.{action_of}
 use Rattle.office_records.specs.declared.status.Status.{Status}
-use Rattle.office_holds.specs.Holds.{is_held}
-use Rattle.office_proof.specs.declared.outcome.Outcome.{Outcome}
-use Rattle.office_proof.specs.declared.outcome.Outcome.TheVariants as outcome
+use Rattle.office_rules.specs.Holds.{is_held}
+use Rattle.office_rules.specs.declared.outcome.Outcome.{Outcome}
+use Rattle.office_rules.specs.declared.outcome.Outcome.TheVariants as outcome
 use Rattle.office_rules.specs.Disposing.{is_ready, outcome_of, entry_of, ready_by, outcome_by, may_begin}
 use Rattle.office_rules.specs.Runs.{run_day, cursor_of, above_cursor, candidates, statuses_with, contents_with, entries_with, all_statuses, all_contents, all_entries, with_cursor, cursor_at_last, with_outcomes, closed, next_ready, step_at, run_step, open_run}
 use Rattle.office_rules.specs.State.{State, Office, EntryMap, ByteMap}

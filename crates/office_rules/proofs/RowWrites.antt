@@ -6,8 +6,8 @@ use Rattle.std.specs.FinMap.{get, entries-insert, nat_cmp-IsAntisymmetric}
 use Rattle.std.specs.FinMap.Entries.{put}
 use Rattle.std.specs.String.{string_bytes}
 use Rattle.office_records.specs.Tree.{code_cmp}
-use Rattle.office_holds.specs.Effects.{with_target, without_target}
-use Rattle.office_holds.specs.Rows.{hold_from, hold_row}
+use Rattle.office_rules.specs.HoldEffects.{with_target, without_target}
+use Rattle.office_rules.specs.HoldRows.{hold_from, hold_row}
 use Rattle.office_rules.specs.Rows.{all_row_writes, record_row, record_rows, rows_of, write_rows}
 use Rattle.office_base.specs.Rows.{numbered_rows}
 use Rattle.office_rules.specs.State.{State}

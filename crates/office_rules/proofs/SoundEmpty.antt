@@ -9,7 +9,7 @@ use Rattle.office_records.specs.Lists.{numbered}
 use Rattle.office_records.specs.Tree.{code_cmp, chain, chain_of}
 use Rattle.office_records.specs.declared.class.Class.{Class}
 use Rattle.office_records.specs.declared.schedule.Schedule.{Schedule}
-use Rattle.office_holds.specs.Holds.{HoldState}
+use Rattle.office_rules.specs.Holds.{HoldState}
 use Rattle.office_records.proofs.Refs.{RefsDiffer-empty}
 use Rattle.office_rules.specs.Sound.{IsSound}
 use Rattle.office_rules.specs.State.{empty_state, entry_cmp}

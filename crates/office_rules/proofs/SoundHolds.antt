@@ -9,12 +9,12 @@ use Rattle.office_records.specs.Tree.{TreeState, has_aggregation, has_record}
 use Rattle.office_records.proofs.Accepting.{none_holds, not_false, neither}
 use Rattle.office_records.proofs.Inserting.{insert_keeps, amended_keeps}
 use Rattle.office_records.proofs.Reading.{aggregation_within, record_within}
-use Rattle.office_holds.specs.Conditions.{conditions_of_place_hold, conditions_of_hold_on, conditions_of_hold_off, conditions_of_lift_hold}
-use Rattle.office_holds.specs.Effects.{new_hold, placed_hold, with_target, without_target, held_on, held_off, lifted_hold}
-use Rattle.office_holds.specs.Forms.{IsWellFormedTarget}
+use Rattle.office_rules.specs.HoldConditions.{conditions_of_place_hold, conditions_of_hold_on, conditions_of_hold_off, conditions_of_lift_hold}
+use Rattle.office_rules.specs.HoldEffects.{new_hold, placed_hold, with_target, without_target, held_on, held_off, lifted_hold}
+use Rattle.office_rules.specs.HoldForms.{IsWellFormedTarget}
 use Rattle.office_records.specs.declared.target.Target.{Target}
 use Rattle.office_records.specs.declared.target.Target.TheVariants as target
-use Rattle.office_holds.proofs.Keeping.{TargetIsThere, TargetsExist-placed_hold, TargetsExist-held_on, TargetsExist-held_off, TargetsExist-lifted_hold, AreWellFormedHolds-placed_hold, AreWellFormedHolds-held_on, AreWellFormedHolds-held_off, AreWellFormedHolds-lifted_hold, FitsHoldLimits-placed_hold, FitsHoldLimits-held_on, FitsHoldLimits-held_off, FitsHoldLimits-lifted_hold, NoHoldIsAfter-placed_hold, NoHoldIsAfter-held_on, NoHoldIsAfter-held_off, NoHoldIsAfter-lifted_hold}
+use Rattle.office_rules.proofs.HoldSoundness.{TargetIsThere, TargetsExist-placed_hold, TargetsExist-held_on, TargetsExist-held_off, TargetsExist-lifted_hold, AreWellFormedHolds-placed_hold, AreWellFormedHolds-held_on, AreWellFormedHolds-held_off, AreWellFormedHolds-lifted_hold, FitsHoldLimits-placed_hold, FitsHoldLimits-held_on, FitsHoldLimits-held_off, FitsHoldLimits-lifted_hold, NoHoldIsAfter-placed_hold, NoHoldIsAfter-held_on, NoHoldIsAfter-held_off, NoHoldIsAfter-lifted_hold}
 use Rattle.office_rules.specs.Conditions.{refusals_of_place_hold, refusals_of_hold_on, refusals_of_hold_off, refusals_of_lift_hold, lacks_target}
 use Rattle.office_rules.specs.Effects.{after_place_hold, after_hold_on, after_hold_off, after_lift_hold}
 use Rattle.office_rules.specs.Meanings.{IsAccepted}

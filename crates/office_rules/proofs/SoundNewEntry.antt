@@ -11,10 +11,10 @@ use Rattle.office_records.specs.declared.head.Confirmation.{Confirmation}
 use Rattle.office_records.specs.declared.head.Record.{Record}
 use Rattle.office_records.specs.declared.status.Status.{Status}
 use Rattle.office_records.proofs.Places.{numbered_within}
-use Rattle.office_holds.specs.Holds.{least_covering}
-use Rattle.office_proof.specs.Forms.{IsWellFormedEntry}
-use Rattle.office_proof.specs.declared.outcome.Outcome.{Outcome}
-use Rattle.office_proof.specs.declared.outcome.Outcome.TheVariants.{Destroyed, Transferred, Sent, Skipped}
+use Rattle.office_rules.specs.Holds.{least_covering}
+use Rattle.office_rules.specs.EntryForms.{IsWellFormedEntry}
+use Rattle.office_rules.specs.declared.outcome.Outcome.{Outcome}
+use Rattle.office_rules.specs.declared.outcome.Outcome.TheVariants.{Destroyed, Transferred, Sent, Skipped}
 use Rattle.office_rules.specs.Disposing.{hold_by, entry_of}
 use Rattle.office_rules.specs.Sound.{IsSound, IsNamedEntry}
 use Rattle.office_rules.specs.State.{State}

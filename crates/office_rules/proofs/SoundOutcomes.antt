@@ -8,9 +8,9 @@ use Rattle.office_records.specs.Lists.{numbered}
 use Rattle.office_records.specs.declared.status.Status.{Status}
 use Rattle.office_records.specs.declared.status.Status.TheVariants as status
 use Rattle.office_records.proofs.Places.{length-edited}
-use Rattle.office_proof.specs.Outcomes.{is_ending}
-use Rattle.office_proof.specs.declared.outcome.Outcome.{Outcome}
-use Rattle.office_proof.specs.declared.outcome.Outcome.TheVariants.{Destroyed, Transferred, Sent, Skipped}
+use Rattle.office_rules.specs.Outcomes.{is_ending}
+use Rattle.office_rules.specs.declared.outcome.Outcome.{Outcome}
+use Rattle.office_rules.specs.declared.outcome.Outcome.TheVariants.{Destroyed, Transferred, Sent, Skipped}
 use Rattle.office_rules.specs.Runs.{statuses_with, contents_with}
 use Rattle.office_rules.specs.Sound.{ContentsAgree}
 use Rattle.office_rules.specs.State.{ByteMap}

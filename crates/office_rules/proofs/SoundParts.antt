@@ -14,11 +14,11 @@ use Rattle.office_records.specs.declared.head.Confirmation.{Confirmation}
 use Rattle.office_records.specs.declared.head.Record.{Record}
 use Rattle.office_records.proofs.Forming.{EachNumbered}
 use Rattle.office_records.proofs.Places.{numbered_push, numbered_edited, length-edited}
-use Rattle.office_holds.specs.Forms.{AreWellFormedHolds, FitsHoldLimits}
-use Rattle.office_holds.specs.Holds.{HoldMap}
-use Rattle.office_holds.specs.Sound.{TargetsExist, NoHoldIsAfter}
-use Rattle.office_holds.proofs.Keeping.{TargetsExist-more, NoHoldIsAfter-later}
-use Rattle.office_proof.specs.declared.entry.Entry.{Entry}
+use Rattle.office_rules.specs.HoldForms.{AreWellFormedHolds, FitsHoldLimits}
+use Rattle.office_rules.specs.Holds.{HoldMap}
+use Rattle.office_rules.specs.SoundHolds.{TargetsExist, NoHoldIsAfter}
+use Rattle.office_rules.proofs.HoldSoundness.{TargetsExist-more, NoHoldIsAfter-later}
+use Rattle.office_rules.specs.declared.entry.Entry.{Entry}
 use Rattle.office_rules.specs.Sound.{IsSound, IsWithinLimits, IsNamedEntry, AllNamesExist, NoDayIsAfter}
 use Rattle.office_rules.specs.State.{State}
 

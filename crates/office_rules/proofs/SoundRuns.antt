@@ -10,7 +10,7 @@ use Rattle.office_records.specs.Forms.{IsText}
 use Rattle.office_records.specs.Lists.{numbered}
 use Rattle.office_records.proofs.Accepting.{none_holds, below}
 use Rattle.office_records.proofs.Places.{numbered_push, numbered_edited, length-edited}
-use Rattle.office_proof.specs.declared.entry.Entry.{Entry}
+use Rattle.office_rules.specs.declared.entry.Entry.{Entry}
 use Rattle.office_rules.specs.Conditions.{conditions_of_open_run, refusals_of_open_run}
 use Rattle.office_rules.specs.Effects.{after_open_run, new_run}
 use Rattle.office_rules.specs.Meanings.{IsAccepted}

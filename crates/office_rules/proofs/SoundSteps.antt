@@ -9,11 +9,11 @@ use Rattle.office_records.specs.declared.head.Record.{Record}
 use Rattle.office_records.specs.declared.status.Status.{Status}
 use Rattle.office_records.specs.declared.status.Status.TheVariants.{Here, Received, Ended}
 use Rattle.office_records.proofs.Places.{numbered_edited, numbered_within, length-edited}
-use Rattle.office_proof.specs.Forms.{IsWellFormedEntry}
-use Rattle.office_proof.specs.Outcomes.{is_ending}
-use Rattle.office_proof.specs.declared.entry.Entry.{Entry}
-use Rattle.office_proof.specs.declared.outcome.Outcome.{Outcome}
-use Rattle.office_proof.specs.declared.outcome.Outcome.TheVariants.{Transferred, Skipped}
+use Rattle.office_rules.specs.EntryForms.{IsWellFormedEntry}
+use Rattle.office_rules.specs.Outcomes.{is_ending}
+use Rattle.office_rules.specs.declared.entry.Entry.{Entry}
+use Rattle.office_rules.specs.declared.outcome.Outcome.{Outcome}
+use Rattle.office_rules.specs.declared.outcome.Outcome.TheVariants.{Transferred, Skipped}
 use Rattle.office_rules.specs.Disposing.{entry_of, outcome_of}
 use Rattle.office_rules.specs.Runs.{open_run, run_step, step_at, next_ready, with_outcomes, statuses_with, contents_with, entries_with, with_cursor}
 use Rattle.office_rules.specs.Sound.{IsSound, IsWithinLimits, IsWellFormedRun, AllNamesExist, IsNamedEntry, ContentsAgree, DocumentsAgree, EntriesAgree, RunsAgree, NoDayIsAfter}

@@ -12,9 +12,9 @@ use Rattle.office_records.specs.declared.head.Confirmation.{Confirmation}
 use Rattle.office_records.specs.declared.head.Record.{Record}
 use Rattle.office_records.specs.declared.status.Status.{Status}
 use Rattle.office_records.specs.declared.status.Status.TheVariants.{Here, Sent, Received, Ended}
-use Rattle.office_holds.specs.Holds.{is_held}
-use Rattle.office_proof.specs.declared.outcome.Outcome.{Outcome}
-use Rattle.office_proof.specs.declared.outcome.Outcome.TheVariants as outcome
+use Rattle.office_rules.specs.Holds.{is_held}
+use Rattle.office_rules.specs.declared.outcome.Outcome.{Outcome}
+use Rattle.office_rules.specs.declared.outcome.Outcome.TheVariants as outcome
 use Rattle.office_rules.specs.Disposing.{may_begin, ready_by, outcome_by, outcome_of}
 use Rattle.office_rules.specs.Meanings.{IsCandidate}
 use Rattle.office_rules.specs.Runs.{cursor_of, run_day, next_ready}

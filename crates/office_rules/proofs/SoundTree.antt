@@ -25,8 +25,8 @@ use Rattle.office_rules.specs.NewRecords.{NewRecord}
 use Rattle.office_rules.specs.Sound.{IsSound, ContentsAgree, DocumentsAgree, EntriesAgree}
 use Rattle.office_rules.specs.State.{State, EntryMap, ByteMap, with_office}
 use Rattle.office_rules.specs.declared.run.Run.{Run}
-use Rattle.office_proof.specs.declared.entry.Entry.{Entry}
-use Rattle.office_proof.proofs.Digests.{IsDigest-sha256}
+use Rattle.office_rules.specs.declared.entry.Entry.{Entry}
+use Rattle.office_rules.proofs.Digests.{IsDigest-sha256}
 use Rattle.office_rules.proofs.Accepted.{tree_sound, dated_accepted}
 use Rattle.office_rules.proofs.SoundParts.{IsClosedBy, IsHeadBy, closed_by, heads_by, each_push, each_edited, as_many, more_pushed, no_fewer_edited, NamesDisposal, limits_after, names_after, days_after, events_later}
 

@@ -14,9 +14,9 @@ use Rattle.office_base.specs.declared.refusal.Refusal.TheVariants.{DayBack, NoSu
 use Rattle.office_records.specs.Conditions.{first_of, lacks_class}
 use Rattle.office_records.specs.Tree.{TreeState, code_cmp, above, above_in, chain, class_in, class_of, aggregation_class_in}
 use Rattle.office_records.specs.declared.classified.Classified.TheVariants as classified
-use Rattle.office_holds.specs.Conditions.{would_leave_held_class}
-use Rattle.office_holds.specs.Effects.{new_hold, with_target, without_target}
-use Rattle.office_holds.specs.Holds.{HoldMap, HoldState, is_in_force, hold_covers, held_in, is_held, covers_in, least_covering, is_held_class}
+use Rattle.office_rules.specs.HoldConditions.{would_leave_held_class}
+use Rattle.office_rules.specs.HoldEffects.{new_hold, with_target, without_target}
+use Rattle.office_rules.specs.Holds.{HoldMap, HoldState, is_in_force, hold_covers, held_in, is_held, covers_in, least_covering, is_held_class}
 use Rattle.office_records.specs.declared.target.Target.TheVariants as target
 use Rattle.office_rules.specs.Conditions.{refusals_of_reclassify}
 use Rattle.office_rules.specs.Meanings.{IsAccepted}

@@ -8,8 +8,8 @@ use Rattle.std.proofs.lemmas.Int.{ints}
 use Rattle.office_base.specs.declared.refusal.Refusal.TheVariants.{DayBack, NoRun}
 use Rattle.office_records.specs.Conditions.{first_of}
 use Rattle.office_records.specs.Tree.{empty_tree}
-use Rattle.office_proof.specs.Certificates.{certificate_lines, certificate_text, lines_text, date_text, sealed}
-use Rattle.office_proof.specs.declared.entry.Entry.{Entry}
+use Rattle.office_rules.specs.Certificates.{certificate_lines, certificate_text, lines_text, date_text, sealed}
+use Rattle.office_rules.specs.declared.entry.Entry.{Entry}
 use Rattle.office_rules.specs.Effects.{after_open_run}
 use Rattle.office_rules.specs.Runs.{run_step, closed, spent_list, certificate_of}
 use Rattle.office_rules.specs.State.{State, empty_state, first_day, with_office, entry_cmp}

@@ -11,8 +11,8 @@ use Rattle.office_records.specs.Conditions.{first_of}
 use Rattle.office_records.specs.Tree.{status_of, action_of}
 use Rattle.office_records.specs.declared.action.Action.TheVariants as action
 use Rattle.office_records.specs.declared.status.Status.TheVariants as status
-use Rattle.office_holds.specs.Holds.{is_held}
-use Rattle.office_proof.specs.declared.outcome.Outcome.TheVariants as outcome
+use Rattle.office_rules.specs.Holds.{is_held}
+use Rattle.office_rules.specs.declared.outcome.Outcome.TheVariants as outcome
 use Rattle.office_rules.specs.Conditions.{refusals_of_receipt}
 use Rattle.office_rules.specs.Disposing.{outcome_by, outcome_of}
 use Rattle.office_rules.specs.Effects.{after_receipt}

@@ -17,7 +17,7 @@ use Rattle.office_records.specs.declared.class.Class.{Class}
 use Rattle.office_records.specs.declared.classified.Classified.{Classified}
 use Rattle.office_records.specs.declared.head.Record.{Record}
 use Rattle.office_records.specs.declared.status.Status.{Status}
-use Rattle.office_holds.specs.Conditions.{conditions_of_place_hold, conditions_of_hold_off, conditions_of_lift_hold, holds_target, has_all_targets, is_lifted, would_leave_held_class}
+use Rattle.office_rules.specs.HoldConditions.{conditions_of_place_hold, conditions_of_hold_off, conditions_of_lift_hold, holds_target, has_all_targets, is_lifted, would_leave_held_class}
 use Rattle.office_records.specs.declared.target.Target.{Target}
 use Rattle.office_records.specs.declared.target.Target.TheVariants as target
 use Rattle.office_rules.specs.NewRecords.{NewRecord}

@@ -9,10 +9,10 @@ use Rattle.office_records.specs.declared.action.Action.{Action}
 use Rattle.office_records.specs.declared.action.Action.TheVariants as action
 use Rattle.office_records.specs.declared.status.Status.{Status}
 use Rattle.office_records.specs.declared.status.Status.TheVariants as status
-use Rattle.office_holds.specs.Holds.{is_held, least_covering}
-use Rattle.office_proof.specs.declared.entry.Entry.{Entry}
-use Rattle.office_proof.specs.declared.outcome.Outcome.{Outcome}
-use Rattle.office_proof.specs.declared.outcome.Outcome.TheVariants as outcome
+use Rattle.office_rules.specs.Holds.{is_held, least_covering}
+use Rattle.office_rules.specs.declared.entry.Entry.{Entry}
+use Rattle.office_rules.specs.declared.outcome.Outcome.{Outcome}
+use Rattle.office_rules.specs.declared.outcome.Outcome.TheVariants as outcome
 use Rattle.office_rules.specs.State.{Office}
 
 -- its action is to transfer or to destroy, it is due, and its confirmation counts

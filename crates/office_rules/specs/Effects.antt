@@ -10,8 +10,8 @@ use Rattle.office_records.specs.declared.class.Class.{Class}
 use Rattle.office_records.specs.declared.classified.Classified.{Classified}
 use Rattle.office_records.specs.declared.head.Record.{Record}
 use Rattle.office_records.specs.declared.schedule.Schedule.{Schedule}
-use Rattle.office_holds.specs.Effects.{placed_hold, held_on, held_off, lifted_hold}
-use Rattle.office_holds.specs.Holds.{HoldMap}
+use Rattle.office_rules.specs.HoldEffects.{placed_hold, held_on, held_off, lifted_hold}
+use Rattle.office_rules.specs.Holds.{HoldMap}
 use Rattle.office_records.specs.declared.target.Target.{Target}
 use Rattle.office_rules.specs.NewRecords.{NewRecord}
 use Rattle.office_rules.specs.State.{Office, State}

@@ -2,7 +2,7 @@
 use Rattle.std.specs.Prelude.{◌≤◌, IfSome}
 use Rattle.office_days.specs.Limits.{IsDayNumber, longest}
 use Rattle.office_records.specs.Forms.{IsCode, IsText}
-use Rattle.office_holds.specs.Forms.{IsWellFormedTarget}
+use Rattle.office_rules.specs.HoldForms.{IsWellFormedTarget}
 use Rattle.office_rules.specs.Meanings.{IsWellFormedNewRecord}
 use Rattle.office_rules.specs.NewRecords.{new_record}
 use Rattle.office_rules.specs.declared.act.Act.{Act}

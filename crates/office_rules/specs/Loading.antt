@@ -15,11 +15,11 @@ use Rattle.office_records.specs.Sound.{AreEventsSound}
 use Rattle.office_records.specs.Tree.{status_of}
 use Rattle.office_records.specs.declared.status.Status.{Status}
 use Rattle.office_records.specs.declared.status.Status.TheVariants.{Ended}
-use Rattle.office_holds.specs.Forms.{AreWellFormedHolds, FitsHoldLimits}
-use Rattle.office_holds.specs.Sound.{NoHoldIsAfter, TargetsExist}
-use Rattle.office_proof.specs.Forms.{IsWellFormedEntry}
-use Rattle.office_proof.specs.Outcomes.{is_ending, is_skipping, is_transferring}
-use Rattle.office_proof.specs.declared.entry.Entry.{Entry}
+use Rattle.office_rules.specs.HoldForms.{AreWellFormedHolds, FitsHoldLimits}
+use Rattle.office_rules.specs.SoundHolds.{NoHoldIsAfter, TargetsExist}
+use Rattle.office_rules.specs.EntryForms.{IsWellFormedEntry}
+use Rattle.office_rules.specs.Outcomes.{is_ending, is_skipping, is_transferring}
+use Rattle.office_rules.specs.declared.entry.Entry.{Entry}
 use Rattle.office_rules.specs.Sound.{IsWellFormedRun, RunsAgree}
 use Rattle.office_rules.specs.State.{Office, ByteMap, EntryMap, with_contents}
 use Rattle.office_rules.specs.Tables.{Represents, TableLists}

@@ -4,8 +4,8 @@ use Rattle.office_base.specs.declared.refusal.Refusal.{Refusal}
 use Rattle.office_records.specs.Conditions.{first_of}
 use Rattle.office_records.specs.Forms.{IsCode, IsText}
 use Rattle.office_days.specs.Limits.{IsDayNumber}
-use Rattle.office_holds.specs.Holds.{is_held}
-use Rattle.office_proof.specs.declared.outcome.Outcome.TheVariants.{Destroyed, Transferred}
+use Rattle.office_rules.specs.Holds.{is_held}
+use Rattle.office_rules.specs.declared.outcome.Outcome.TheVariants.{Destroyed, Transferred}
 use Rattle.office_rules.specs.Disposing.{is_ready}
 use Rattle.office_rules.specs.NewRecords.{NewRecord}
 use Rattle.office_rules.specs.Runs.{cursor_of, run_day}

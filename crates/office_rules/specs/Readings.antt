@@ -14,9 +14,9 @@ use Rattle.office_records.specs.Tree.{TreeState, action_of, class_of, due_of, ev
 use Rattle.office_records.specs.declared.action.Action.TheVariants.{Keep}
 use Rattle.office_records.specs.declared.head.Record.{Record}
 use Rattle.office_records.specs.declared.status.Status.{Status}
-use Rattle.office_holds.specs.Holds.{least_covering}
-use Rattle.office_proof.specs.Outcomes.{is_ending}
-use Rattle.office_proof.specs.declared.entry.Entry.{Entry}
+use Rattle.office_rules.specs.Holds.{least_covering}
+use Rattle.office_rules.specs.Outcomes.{is_ending}
+use Rattle.office_rules.specs.declared.entry.Entry.{Entry}
 use Rattle.office_rules.specs.State.{Office}
 use Rattle.office_rules.specs.declared.record_view.RecordView.{RecordView}
 

@@ -9,8 +9,8 @@ use Rattle.office_records.specs.Tree.{TreeState, action_of, class_of, due_of, pl
 use Rattle.office_records.specs.declared.action.Action.{Action}
 use Rattle.office_records.specs.declared.action.Action.TheVariants.{Keep}
 use Rattle.office_records.specs.declared.head.Record.{Record}
-use Rattle.office_holds.specs.Holds.{least_covering}
-use Rattle.office_proof.specs.declared.entry.Entry.{Entry}
+use Rattle.office_rules.specs.Holds.{least_covering}
+use Rattle.office_rules.specs.declared.entry.Entry.{Entry}
 use Rattle.office_rules.specs.Readings.{IsDueList, IsOverdueList, all_entries_of}
 use Rattle.office_rules.specs.State.{Office}
 use Rattle.office_rules.specs.declared.due_row.DueRow.{DueRow}

@@ -14,12 +14,12 @@ use Rattle.office_records.specs.declared.event.Event.{Event}
 use Rattle.office_records.specs.declared.head.Record.{Record}
 use Rattle.office_records.specs.declared.schedule.Schedule.{Schedule}
 use Rattle.office_records.specs.declared.status.Status.{Status}
-use Rattle.office_holds.specs.Loading.{is_pair}
-use Rattle.office_holds.specs.Holds.{HoldMap, has_target}
-use Rattle.office_holds.specs.Rows.{hold_row}
+use Rattle.office_rules.specs.HoldLoading.{is_pair}
+use Rattle.office_rules.specs.Holds.{HoldMap, has_target}
+use Rattle.office_rules.specs.HoldRows.{hold_row}
 use Rattle.office_records.specs.declared.hold_row.HoldRow.{HoldRow}
 use Rattle.office_records.specs.declared.target.Target.{Target}
-use Rattle.office_proof.specs.declared.entry.Entry.{Entry}
+use Rattle.office_rules.specs.declared.entry.Entry.{Entry}
 use Rattle.office_rules.specs.State.{State, entry_cmp}
 use Rattle.office_rules.specs.declared.rows.RecordRow.{RecordRow}
 use Rattle.office_rules.specs.declared.rows.RowWrite.{RowWrite}

@@ -9,11 +9,11 @@ use Rattle.office_records.specs.Candidates.{is_candidate}
 use Rattle.office_records.specs.Tree.{TreeState, has_record}
 use Rattle.office_records.specs.declared.status.Status.{Status}
 use Rattle.office_records.specs.declared.status.Status.TheVariants as status
-use Rattle.office_proof.specs.Certificates.{certificate_text}
-use Rattle.office_proof.specs.Outcomes.{is_ending}
-use Rattle.office_proof.specs.declared.entry.Entry.{Entry}
-use Rattle.office_proof.specs.declared.outcome.Outcome.{Outcome}
-use Rattle.office_proof.specs.declared.outcome.Outcome.TheVariants as outcome
+use Rattle.office_rules.specs.Certificates.{certificate_text}
+use Rattle.office_rules.specs.Outcomes.{is_ending}
+use Rattle.office_rules.specs.declared.entry.Entry.{Entry}
+use Rattle.office_rules.specs.declared.outcome.Outcome.{Outcome}
+use Rattle.office_rules.specs.declared.outcome.Outcome.TheVariants as outcome
 use Rattle.office_rules.specs.Disposing.{is_ready, outcome_of, entry_of}
 use Rattle.office_rules.specs.State.{State, Office, EntryMap, ByteMap}
 use Rattle.office_rules.specs.declared.run.Run.{Run}

@@ -14,13 +14,13 @@ use Rattle.office_records.specs.declared.head.Record.{Record}
 use Rattle.office_records.specs.declared.schedule.Schedule.{Schedule}
 use Rattle.office_records.specs.declared.status.Status.{Status}
 use Rattle.office_records.specs.declared.status.Status.TheVariants.{Here, Received, Ended}
-use Rattle.office_holds.specs.Forms.{AreWellFormedHolds, FitsHoldLimits}
-use Rattle.office_holds.specs.Holds.{HoldMap}
-use Rattle.office_holds.specs.Sound.{TargetsExist, NoHoldIsAfter}
-use Rattle.office_proof.specs.Forms.{IsWellFormedEntry}
-use Rattle.office_proof.specs.Outcomes.{is_ending}
-use Rattle.office_proof.specs.declared.entry.Entry.{Entry}
-use Rattle.office_proof.specs.declared.outcome.Outcome.TheVariants.{Transferred, Skipped}
+use Rattle.office_rules.specs.HoldForms.{AreWellFormedHolds, FitsHoldLimits}
+use Rattle.office_rules.specs.Holds.{HoldMap}
+use Rattle.office_rules.specs.SoundHolds.{TargetsExist, NoHoldIsAfter}
+use Rattle.office_rules.specs.EntryForms.{IsWellFormedEntry}
+use Rattle.office_rules.specs.Outcomes.{is_ending}
+use Rattle.office_rules.specs.declared.entry.Entry.{Entry}
+use Rattle.office_rules.specs.declared.outcome.Outcome.TheVariants.{Transferred, Skipped}
 use Rattle.office_rules.specs.State.{State, Office, EntryMap, ByteMap, with_contents}
 use Rattle.office_rules.specs.declared.run.Run.{Run}
 

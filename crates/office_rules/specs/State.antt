@@ -6,8 +6,8 @@ use Rattle.std.specs.Ordering.{nat_cmp, ordering_then}
 use Rattle.std.specs.declared.cmp.Ordering.{Ordering}
 use Rattle.std.specs.FinMap.{FinMap, empty}
 use Rattle.office_records.specs.Tree.{TreeState, empty_tree}
-use Rattle.office_holds.specs.Holds.{HoldMap}
-use Rattle.office_proof.specs.declared.entry.Entry.{Entry}
+use Rattle.office_rules.specs.Holds.{HoldMap}
+use Rattle.office_rules.specs.declared.entry.Entry.{Entry}
 use Rattle.office_rules.specs.declared.run.Run.{Run}
 
 -- entries are by run, then record

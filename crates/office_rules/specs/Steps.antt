@@ -9,7 +9,7 @@ use Rattle.office_records.specs.declared.class.Class.{Class}
 use Rattle.office_records.specs.declared.classified.Classified.{Classified}
 use Rattle.office_records.specs.declared.schedule.Schedule.{Schedule}
 use Rattle.office_records.specs.declared.target.Target.{Target}
-use Rattle.office_proof.specs.declared.outcome.Outcome.TheVariants.{Skipped}
+use Rattle.office_rules.specs.declared.outcome.Outcome.TheVariants.{Skipped}
 use Rattle.office_rules.specs.Conditions.{refusals_of_add_schedule, refusals_of_add_class, refusals_of_set_class_schedule, refusals_of_add_aggregation, refusals_of_close_aggregation, refusals_of_add_record, refusals_of_set_record_schedule, refusals_of_reclassify, refusals_of_place_hold, refusals_of_hold_on, refusals_of_hold_off, refusals_of_lift_hold, refusals_of_confirm, refusals_of_review, refusals_of_open_run, refusals_of_run_step, refusals_of_receipt, refusals_of_event, same_record}
 use Rattle.office_rules.specs.Disposing.{outcome_of}
 use Rattle.office_rules.specs.Effects.{after_add_schedule, after_add_class, after_set_class_schedule, after_add_aggregation, after_close_aggregation, with_new_record, after_set_record_schedule, after_reclassify, after_place_hold, after_hold_on, after_hold_off, after_lift_hold, after_confirm, after_review, after_open_run, after_receipt, after_event}

@@ -6,10 +6,10 @@ use Rattle.office_records.specs.declared.aggregation.Aggregation.{Aggregation}
 use Rattle.office_records.specs.declared.class.Class.{Class}
 use Rattle.office_records.specs.declared.event.Event.{Event}
 use Rattle.office_records.specs.declared.schedule.Schedule.{Schedule}
-use Rattle.office_holds.specs.Loading.{is_pair}
+use Rattle.office_rules.specs.HoldLoading.{is_pair}
 use Rattle.office_records.specs.declared.hold_row.HoldRow.{HoldRow}
 use Rattle.office_records.specs.declared.target.Target.{Target}
-use Rattle.office_proof.specs.declared.entry.Entry.{Entry}
+use Rattle.office_rules.specs.declared.entry.Entry.{Entry}
 use Rattle.office_rules.specs.Rows.{rows_of}
 use Rattle.office_rules.specs.Sound.{IsSound}
 use Rattle.office_rules.specs.State.{State}

@@ -13,8 +13,8 @@ use Rattle.office_records.specs.declared.status.Status.{Status}
 use Rattle.office_records.specs.declared.status.Status.TheVariants.{Here, Sent, Ended}
 use Rattle.office_records.specs.declared.trigger.Trigger.TheVariants.{Added, Event}
 use Rattle.office_records.specs.declared.target.Target.TheVariants as target
-use Rattle.office_proof.specs.declared.entry.Entry.{Entry}
-use Rattle.office_proof.specs.declared.outcome.Outcome.TheVariants.{Destroyed}
+use Rattle.office_rules.specs.declared.entry.Entry.{Entry}
+use Rattle.office_rules.specs.declared.outcome.Outcome.TheVariants.{Destroyed}
 use Rattle.office_rules.specs.Effects.{with_tree, after_add_schedule, after_add_class, after_add_aggregation, after_close_aggregation, after_confirm, after_event, after_set_record_schedule, after_place_hold, after_hold_on, after_hold_off, after_lift_hold}
 use Rattle.office_rules.specs.NewRecords.{NewRecord}
 use Rattle.office_rules.specs.State.{Office, empty_office, empty_state, State}

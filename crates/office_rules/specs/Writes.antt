@@ -9,9 +9,9 @@ use Rattle.office_records.specs.Sound as tree
 use Rattle.office_records.specs.Tree.{has_record}
 use Rattle.office_records.specs.declared.aggregation.Aggregation.{Aggregation}
 use Rattle.office_records.specs.declared.head.Record.{Record}
-use Rattle.office_holds.specs.Effects.{held_on, held_off}
-use Rattle.office_holds.specs.Forms.{FitsHoldLimits}
-use Rattle.office_holds.specs.Rows.{StaysLifted, put_hold}
+use Rattle.office_rules.specs.HoldEffects.{held_on, held_off}
+use Rattle.office_rules.specs.HoldForms.{FitsHoldLimits}
+use Rattle.office_rules.specs.HoldRows.{StaysLifted, put_hold}
 use Rattle.office_rules.specs.State.{State, Office, ByteMap}
 use Rattle.office_rules.specs.declared.rows.RowWrite.{RowWrite}
 use Rattle.office_rules.specs.declared.rows.RowWrite.TheVariants as row_write

@@ -3,8 +3,8 @@ ghost use Rattle.std.specs.Prelude.{◌≡◌};
 ghost use Rattle.std.specs.List.{list_any};
 ghost use Rattle.office_rules.specs.Answers.{is_refusal};
 
+use crate::{Outcome, RunNo};
 use office_base::Refusal;
-use office_proof::{Outcome, RunNo};
 use office_records::RecordNo;
 
 /// What the office answers to an act.

@@ -3,8 +3,8 @@
 ghost use Rattle.std.specs.Prelude.{◌≡◌, IfOk};
 ghost use Rattle.std.specs.Option.{option_copied};
 
+use crate::Entry;
 use office_base::Memory;
-use office_proof::Entry;
 use office_records::{Code, Text};
 use std::alloc::Global;
 

@@ -1,5 +1,5 @@
 //! A row of the register of entries.
-use office_proof::Entry;
+use crate::Entry;
 use office_records::Text;
 
 /// An entry of a run, as the register of entries reports it: the entry and, of its record, what its

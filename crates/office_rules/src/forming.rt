@@ -2,7 +2,7 @@
 //! types see to it.
 ghost use Rattle.std.specs.Prelude.{IfSome};
 ghost use Rattle.office_records.specs.Forms.{IsCode};
-ghost use Rattle.office_holds.specs.Forms.{IsWellFormedTarget};
+ghost use Rattle.office_rules.specs.HoldForms.{IsWellFormedTarget};
 ghost use Rattle.office_rules.specs.Acts.{IsOnAggregations, IsOnHolds, IsOnNewRecord, IsOnRecords, IsOnRuns, IsOnSchedules};
 ghost use Rattle.office_rules.specs.Forms.{IsWellFormedAct};
 

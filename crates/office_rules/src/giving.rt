@@ -6,9 +6,8 @@ ghost use Rattle.office_rules.specs.Tables.{Begins, RepresentNone, TableLists, l
 ghost use Rattle.office_rules.specs.declared.table_row.Row.TheVariants as of_table;
 
 use crate::copies::copy_entry;
-use crate::{Intake, RecordRow, Row, Run, Tables};
+use crate::{Entry, Intake, RecordRow, Row, Run, RunNo, Tables};
 use office_base::{Memory, Rebuild};
-use office_proof::{Entry, RunNo};
 use office_records::{AggNo, Aggregation, Class, Code, Event, HoldRow, RecordNo, Schedule, Target};
 use std::alloc::Global;
 

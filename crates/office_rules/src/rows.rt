@@ -1,11 +1,10 @@
 //! The rows of the office's tables, and what writes one of them.
 ghost use Rattle.std.specs.Prelude.{◌≡◌, IfOk};
 
-use crate::Run;
 use crate::copies::{copy_plan, copy_text, copy_texts};
+use crate::{Entry, Run, RunNo};
 use office_base::Memory;
 use office_days::{Day, DueDay};
-use office_proof::{Entry, RunNo};
 use office_records::{
     Action, AggNo, Aggregation, Class, Code, Event, HoldRow, Record, RecordNo, Schedule, Status,
     Target, Text,

@@ -1,7 +1,6 @@
 //! A row of one of the office's tables.
-use crate::{RecordRow, Run};
+use crate::{Entry, RecordRow, Run, RunNo};
 use office_days::Day;
-use office_proof::{Entry, RunNo};
 use office_records::{AggNo, Aggregation, Class, Code, Event, HoldRow, RecordNo, Schedule, Target};
 
 /// A row of one of the office's tables, with its key. Of `contents` it is the key alone, of

@@ -1,7 +1,6 @@
 //! The rows of all of the office's tables.
-use crate::{RecordRow, Run};
+use crate::{Entry, RecordRow, Run, RunNo};
 use office_days::Day;
-use office_proof::{Entry, RunNo};
 use office_records::{AggNo, Aggregation, Class, Code, Event, HoldRow, RecordNo, Schedule, Target};
 
 /// The rows of the office's tables, each row with its key before it, in the order of the keys; the

@@ -16,14 +16,14 @@ use Rattle.office_records.specs.declared.head.Record.{Record}
 use Rattle.office_records.specs.declared.schedule.Schedule.{Schedule}
 use Rattle.office_records.specs.declared.status.Status.{Status}
 use Rattle.office_records.proofs.Places.{numbered_within}
-use Rattle.office_holds.specs.Forms.{IsWellFormedHold}
-use Rattle.office_holds.specs.Holds.{HoldState, has_target}
-use Rattle.office_holds.specs.Rows.{hold_row}
-use Rattle.office_holds.specs.Sound.{TargetsAreThere}
+use Rattle.office_rules.specs.HoldForms.{IsWellFormedHold}
+use Rattle.office_rules.specs.Holds.{HoldState, has_target}
+use Rattle.office_rules.specs.HoldRows.{hold_row}
+use Rattle.office_rules.specs.SoundHolds.{TargetsAreThere}
 use Rattle.office_records.specs.declared.hold_row.HoldRow.{HoldRow}
 use Rattle.office_records.specs.declared.target.Target.{Target}
 use Rattle.office_records.specs.declared.target.Target.TheVariants as target
-use Rattle.office_proof.specs.declared.entry.Entry.{Entry}
+use Rattle.office_rules.specs.declared.entry.Entry.{Entry}
 use Rattle.office_rules.specs.Rows.{record_row, record_rows, rows_of}
 use Rattle.office_rules.specs.Sound.{IsSound}
 use Rattle.office_rules.specs.State.{State}

@@ -7,7 +7,7 @@ use Rattle.sqlite_trees.specs.Tree.{Trees}
 use Rattle.sqlite_schema.specs.declared.schema.Table.{Table}
 use Rattle.sqlite.specs.Effect.{Database}
 use Rattle.sqlite.specs.State.{State}
-use Rattle.office_holds.specs.Loading.{is_pair}
+use Rattle.office_rules.specs.HoldLoading.{is_pair}
 use Rattle.office_records.specs.declared.target.Target.{Target}
 use Rattle.office_rules.specs.Rows.{TableRows, rows_of}
 use Rattle.office_rules.specs.State.{ByteMap, State as OfficeState, empty_state}

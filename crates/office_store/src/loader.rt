@@ -5,9 +5,8 @@ ghost use Rattle.office_store.specs.Collected.{collected_lists};
 
 use office_base::Rebuild;
 use office_days::Day;
-use office_proof::{Entry, RunNo};
 use office_records::{AggNo, Aggregation, Class, Code, Event, HoldRow, RecordNo, Schedule, Target};
-use office_rules::{Intake, RecordRow, Row, Run, Tables};
+use office_rules::{Entry, Intake, RecordRow, Row, Run, RunNo, Tables};
 use std::alloc::Global;
 
 /// The rows that have come, table by table.

@@ -14,9 +14,8 @@ ghost use Rattle.office_store.specs.Written.{AreWritten, IsWritten, needed_text}
 
 use crate::texts::target_kind;
 use office_days::Day;
-use office_proof::Entry;
 use office_records::{Aggregation, Class, Code, Event, HoldRow, Record, Schedule, Status, Target};
-use office_rules::{RowWrite, Run};
+use office_rules::{Entry, RowWrite, Run};
 use office_sql::{OfficeTable, put, remove_content, remove_target};
 use sqlite::{Alter, Error, Transaction, params};
 

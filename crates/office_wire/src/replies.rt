@@ -16,8 +16,7 @@ use office_json::{
     answer_value, answers_value, bad_act_value, due_row_value, due_value, fault_value,
     overdue_row_value, overdue_value, record_value, stopped_value, text_of,
 };
-use office_proof::Entry;
-use office_rules::{Answer, RecordView, has_refusal};
+use office_rules::{Answer, Entry, RecordView, has_refusal};
 use office_store::Fault;
 use serde_json::Value;
 use std::alloc::Global;

@@ -6,9 +6,8 @@ ghost use Rattle.office_rules.specs.declared.table_row.Row.TheVariants as of_tab
 
 use crate::{Certificate, Loader};
 use office_base::{Rebuild, push_keyed, push_numbered};
-use office_proof::{Entry, RunNo};
 use office_records::{Code, HoldRow, Target};
-use office_rules::Run;
+use office_rules::{Entry, Run, RunNo};
 
 impl Loader {
     /// Takes a hold in.

@@ -9,14 +9,14 @@ ghost use Rattle.office_records.specs.Loading.{is_there};
 ghost use Rattle.office_records.specs.Lists.{holds_of, numbered};
 ghost use Rattle.office_records.specs.Tree.{has_record, status_of};
 ghost use Rattle.office_records.specs.declared.status.Status.TheVariants.{Ended};
-ghost use Rattle.office_proof.specs.Outcomes.{is_ending, is_skipping, is_transferring};
+ghost use Rattle.office_rules.specs.Outcomes.{is_ending, is_skipping, is_transferring};
 ghost use Rattle.office_rules.specs.Loading.{AreEndings, EachHasOneEnding, TwoRunsEndOne, is_entry_right};
 ghost use Rattle.office_rules.specs.State.{entry_cmp};
 
 use crate::Loaded;
 use office_base::Memory;
-use office_proof::{Entry, Outcome, RunNo};
 use office_records::{RecordNo, Status};
+use office_rules::{Entry, Outcome, RunNo};
 use std::alloc::Global;
 use std::collections::BTreeMap;
 

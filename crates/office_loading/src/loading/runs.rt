@@ -12,15 +12,14 @@ ghost use Rattle.office_records.specs.declared.status.Status.{Status};
 ghost use Rattle.office_rules.specs.Loading.{AreKeysOfLive, AreRunsBy};
 ghost use Rattle.office_rules.specs.Sound.{IsWellFormedRun, RunsAgree};
 ghost use Rattle.office_rules.specs.declared.run.Run.{Run};
-ghost use Rattle.office_proof.specs.Forms.{IsWellFormedEntry};
-ghost use Rattle.office_proof.specs.declared.entry.Entry.{Entry};
+ghost use Rattle.office_rules.specs.EntryForms.{IsWellFormedEntry};
+ghost use Rattle.office_rules.specs.declared.entry.Entry.{Entry};
 ghost use Rattle.office_loading.specs.Keys.{bare_contents};
 
 use crate::{Certificate, Loaded};
 use office_days::Day;
-use office_proof::{Entry, RunNo};
 use office_records::{RecordNo, Status};
-use office_rules::Run;
+use office_rules::{Entry, Run, RunNo};
 use office_tree::Tree;
 use std::collections::BTreeMap;
 

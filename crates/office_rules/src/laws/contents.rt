@@ -2,7 +2,7 @@
 ghost use Rattle.std.specs.Prelude.{◌≡◌, ◌≤◌, ◌==◌, ℕ, suc, true, false, length, Some, None, if◌then◌else◌};
 ghost use Rattle.std.specs.FinMap.{get};
 ghost use Rattle.office_records.specs.Lists.{holds_of};
-ghost use Rattle.office_holds.specs.Holds.{is_held};
+ghost use Rattle.office_rules.specs.Holds.{is_held};
 ghost use Rattle.office_rules.specs.Effects.{with_new_record};
 ghost use Rattle.office_rules.specs.Meanings.{ended_by};
 ghost use Rattle.office_rules.specs.NewRecords.{NewRecord};

@@ -12,9 +12,9 @@ ghost use Rattle.office_records.specs.declared.action.Action.TheVariants as acti
 ghost use Rattle.office_records.specs.declared.classified.Classified.TheVariants as classified;
 ghost use Rattle.office_records.specs.declared.status.Status.{Status};
 ghost use Rattle.office_records.specs.declared.status.Status.TheVariants as status;
-ghost use Rattle.office_holds.specs.Holds.{is_held, least_covering};
-ghost use Rattle.office_proof.specs.Certificates.{lines_text, date_text, sealed};
-ghost use Rattle.office_proof.specs.declared.outcome.Outcome.TheVariants as outcome;
+ghost use Rattle.office_rules.specs.Holds.{is_held, least_covering};
+ghost use Rattle.office_rules.specs.Certificates.{lines_text, date_text, sealed};
+ghost use Rattle.office_rules.specs.declared.outcome.Outcome.TheVariants as outcome;
 ghost use Rattle.office_rules.specs.Conditions.{refusals_of_add_schedule, refusals_of_add_class, refusals_of_add_aggregation, refusals_of_close_aggregation, refusals_of_confirm, refusals_of_event, refusals_of_open_run, refusals_of_receipt, refusals_of_reclassify, refusals_of_add_record, same_record};
 ghost use Rattle.office_rules.specs.Disposing.{outcome_of};
 ghost use Rattle.office_rules.specs.Effects.{after_add_record, after_receipt};

@@ -1,6 +1,6 @@
 use Rattle.std.specs.List.{AllByRecursion}
 use Rattle.office_records.specs.Forms.{IsCode}
-use Rattle.office_holds.specs.Forms.{IsWellFormedHold}
+use Rattle.office_rules.specs.HoldForms.{IsWellFormedHold}
 use Rattle.office_holds.proofs.examining.well_formed_holds.Given as goal
 
 abbrev pub invariant-loop-code : goal.invariant-loop-code

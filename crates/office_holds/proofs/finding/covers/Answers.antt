@@ -1,7 +1,7 @@
 use Rattle.std.proofs.Common.{Option, Some, ap, sym, ◌∙◌}
 use Rattle.office_records.specs.Lists.{holds_of}
 use Rattle.office_records.proofs.Plan.{get_is}
-use Rattle.office_holds.specs.Holds.{HoldState, hold_covers}
+use Rattle.office_rules.specs.Holds.{HoldState, hold_covers}
 use Rattle.office_holds.proofs.finding.covers.Goals as goal
 
 pub returns-in-Some : goal.returns-in-Some

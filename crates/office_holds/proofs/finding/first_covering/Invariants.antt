@@ -2,7 +2,7 @@ use Rattle.std.proofs.Common.{◌≡◌, Some, filter, slice_get}
 use Rattle.std.specs.FinMap.{from_entries, get}
 use Rattle.office_records.specs.Lists.{holds_of}
 use Rattle.office_records.specs.Tree.{code_cmp}
-use Rattle.office_holds.specs.Holds.{hold_covers}
+use Rattle.office_rules.specs.Holds.{hold_covers}
 use Rattle.office_holds.proofs.finding.first_covering.Given as goal
 
 abbrev pub invariant-loop-code : goal.invariant-loop-code

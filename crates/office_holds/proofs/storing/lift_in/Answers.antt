@@ -4,7 +4,7 @@ use Rattle.std.specs.BTreeMap.{BTreeMap}
 use Rattle.std.specs.Option.{is_some}
 use Rattle.office_records.specs.Tree.{code_cmp}
 use Rattle.office_records.proofs.Inserting.{amended_written}
-use Rattle.office_holds.specs.Holds.{HoldState}
+use Rattle.office_rules.specs.Holds.{HoldState}
 use Rattle.office_holds.proofs.Keys.{unchanged}
 use Rattle.office_holds.proofs.storing.lift_in.Goals as goal
 

@@ -6,8 +6,8 @@ use Rattle.std.proofs.lemmas.Map.Steps.{set_value_same}
 use Rattle.std.specs.Option.{is_some}
 use Rattle.office_records.specs.Tree.{code_cmp}
 use Rattle.office_records.proofs.Inserting.{amended_written}
-use Rattle.office_holds.specs.Effects.{with_target}
-use Rattle.office_holds.specs.Holds.{HoldState}
+use Rattle.office_rules.specs.HoldEffects.{with_target}
+use Rattle.office_rules.specs.Holds.{HoldState}
 use Rattle.office_holds.proofs.Keys.{on_ok, on_err, unchanged}
 use Rattle.office_holds.proofs.storing.put_target_in.Goals as goal
 

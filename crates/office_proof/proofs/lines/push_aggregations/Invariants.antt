@@ -2,7 +2,7 @@ use Rattle.std.proofs.Common.{◌≡◌, ℕ, ◌++◌, take}
 use Rattle.std.specs.List.{flat_map}
 use Rattle.std.specs.String.{string_bytes}
 use Rattle.office_records.specs.Lists.{numbered}
-use Rattle.office_proof.specs.Certificates.{aggregation_words, lines_text, made_of}
+use Rattle.office_rules.specs.Certificates.{aggregation_words, lines_text, made_of}
 use Rattle.office_proof.proofs.lines.push_aggregations.Given as goal
 
 -- the lines of the aggregations so far

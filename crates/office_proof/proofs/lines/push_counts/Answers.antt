@@ -1,7 +1,7 @@
 use Rattle.std.proofs.Common.{◌∙◌, ap, ◌++◌, codes, map}
 use Rattle.std.specs.Fmt.{decimal}
-use Rattle.office_proof.specs.Certificates.{counted}
-use Rattle.office_proof.specs.Outcomes.{is_ending, is_sending, is_skipping}
+use Rattle.office_rules.specs.Certificates.{counted}
+use Rattle.office_rules.specs.Outcomes.{is_ending, is_sending, is_skipping}
 use Rattle.office_proof.proofs.Counts.{counted_is}
 use Rattle.office_proof.proofs.Texts.{three_lines, reported_as}
 use Rattle.office_proof.proofs.lines.push_counts.Goals as goal

@@ -1,6 +1,6 @@
 use Rattle.std.proofs.Common.{◌++◌, codes}
 use Rattle.std.specs.Fmt.{decimal}
-use Rattle.office_proof.specs.Certificates.{date_text}
+use Rattle.office_rules.specs.Certificates.{date_text}
 use Rattle.office_proof.proofs.Texts.{three_lines, reported_as}
 use Rattle.office_proof.proofs.lines.push_run.Goals as goal
 

@@ -1,5 +1,5 @@
 use Rattle.std.proofs.Common.{sym, subst}
-use Rattle.office_holds.specs.Loading.{same_target}
+use Rattle.office_rules.specs.HoldLoading.{same_target}
 use Rattle.office_holds.specs.HoldCounts.{CountsDown}
 use Rattle.office_records.specs.declared.target.Target.{Target}
 use Rattle.office_holds.proofs.CountedTargets.{class_down, aggregation_down, record_down}

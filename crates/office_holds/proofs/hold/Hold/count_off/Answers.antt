@@ -1,5 +1,5 @@
 use Rattle.std.proofs.Common.{ap}
-use Rattle.office_holds.specs.Holds.{HoldState}
+use Rattle.office_rules.specs.Holds.{HoldState}
 use Rattle.office_holds.proofs.CountedTargets.{each_down}
 use Rattle.office_holds.proofs.hold.Hold.count_off.Goals as goal
 

@@ -2,11 +2,11 @@ use Rattle.std.proofs.Common.{List, ap, sym, subst, ◌∙◌}
 use Rattle.std.specs.FinMap.{from_entries, get, insert}
 use Rattle.std.specs.FinSet.{FinSet, contains, from_list}
 use Rattle.office_records.specs.Tree.{code_cmp}
-use Rattle.office_holds.specs.Forms.{FitsHoldLimits}
+use Rattle.office_rules.specs.HoldForms.{FitsHoldLimits}
 use Rattle.office_holds.specs.HoldCounts.{AreCached}
-use Rattle.office_holds.specs.Holds.{HoldMap, HoldState}
+use Rattle.office_rules.specs.Holds.{HoldMap, HoldState}
 use Rattle.office_holds.specs.contracts.holds.Holds.{the_view}
-use Rattle.office_holds.specs.Rows.{hold_from, put_hold}
+use Rattle.office_rules.specs.HoldRows.{hold_from, put_hold}
 use Rattle.std.proofs.Common.{ℕ}
 use Rattle.office_holds.proofs.Keys.{either_way}
 use Rattle.office_holds.proofs.Cached.{AreCached-added, AreCached-more, just_in}

@@ -1,7 +1,7 @@
 use Rattle.std.proofs.Common.{sym, ◌≤ℤ◌}
 use Rattle.std.specs.Prelude.{IfSome}
 use Rattle.office_records.proofs.Named.{at_codes, from_codes}
-use Rattle.office_holds.specs.Holds.{HoldState}
+use Rattle.office_rules.specs.Holds.{HoldState}
 use Rattle.office_holds.proofs.Representing.{not_both}
 use Rattle.office_holds.proofs.holds.Holds.are_by.Goals as goal
 

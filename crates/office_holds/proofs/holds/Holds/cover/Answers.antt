@@ -1,4 +1,4 @@
-use Rattle.office_holds.proofs.Keeping.{FitsHoldLimits-held_on}
+use Rattle.office_rules.proofs.HoldSoundness.{FitsHoldLimits-held_on}
 use Rattle.office_holds.proofs.holds.Holds.cover.Goals as goal
 
 pub put_target-requires : goal.put_target-requires

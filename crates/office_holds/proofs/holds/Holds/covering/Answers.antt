@@ -2,7 +2,7 @@ use Rattle.std.proofs.Common.{ap, sym, ◌∙◌, Some, filter, slice_get}
 use Rattle.std.specs.FinMap.{get}
 use Rattle.office_records.specs.Lists.{holds_of}
 use Rattle.office_records.specs.Tree.{above, class_of}
-use Rattle.office_holds.specs.Holds.{hold_covers, least_covering}
+use Rattle.office_rules.specs.Holds.{hold_covers, least_covering}
 use Rattle.office_holds.specs.contracts.holds.Holds.{the_view}
 use Rattle.office_holds.proofs.Cached.{least_by_cached}
 use Rattle.office_holds.proofs.holds.Holds.covering.Goals as goal

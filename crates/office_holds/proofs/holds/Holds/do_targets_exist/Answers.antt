@@ -1,6 +1,6 @@
 use Rattle.std.proofs.Common.{length, sym}
 use Rattle.office_records.proofs.Named.{at_codes, from_codes}
-use Rattle.office_holds.specs.Sound.{TargetsAreThere}
+use Rattle.office_rules.specs.SoundHolds.{TargetsAreThere}
 use Rattle.office_holds.proofs.Representing.{not_both}
 use Rattle.office_holds.proofs.holds.Holds.do_targets_exist.Goals as goal
 

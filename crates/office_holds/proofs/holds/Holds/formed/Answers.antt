@@ -1,6 +1,6 @@
 use Rattle.std.proofs.Common.{sym}
 use Rattle.office_records.specs.Forms.{IsCode}
-use Rattle.office_holds.specs.Forms.{IsWellFormedHold}
+use Rattle.office_rules.specs.HoldForms.{IsWellFormedHold}
 use Rattle.office_holds.proofs.Representing.{at_entries}
 use Rattle.office_holds.proofs.holds.Holds.formed.Goals as goal
 

@@ -1,7 +1,7 @@
 use Rattle.std.proofs.Common.{ap, sym, ◌∙◌, Some}
 use Rattle.std.specs.FinSet.{from_list}
 use Rattle.office_records.specs.Tree.{above, code_cmp}
-use Rattle.office_holds.specs.Holds.{held_in, is_held}
+use Rattle.office_rules.specs.Holds.{held_in, is_held}
 use Rattle.office_holds.specs.contracts.holds.Holds.{the_view}
 use Rattle.office_holds.proofs.Cached.{held_by_cached}
 use Rattle.office_holds.proofs.holds.Holds.held.Goals as goal

@@ -1,6 +1,6 @@
 use Rattle.std.proofs.Common.{ap, sym, ◌∙◌}
 use Rattle.std.specs.Prelude.{nat_lt}
-use Rattle.office_holds.specs.Holds.{is_held_class}
+use Rattle.office_rules.specs.Holds.{is_held_class}
 use Rattle.office_holds.specs.contracts.holds.Holds.{the_view}
 use Rattle.office_records.specs.declared.target.Target.TheVariants as target
 use Rattle.office_holds.proofs.BindingCounts.{class_by_count}

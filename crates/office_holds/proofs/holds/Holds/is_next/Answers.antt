@@ -4,7 +4,7 @@ use Rattle.std.specs.List.{All}
 use Rattle.std.specs.declared.cmp.Ordering.TheVariants.{Less}
 use Rattle.office_records.specs.Tree.{code_cmp}
 use Rattle.office_records.proofs.Maps.{entries_of_ordered}
-use Rattle.office_holds.specs.Holds.{HoldState}
+use Rattle.office_rules.specs.Holds.{HoldState}
 use Rattle.office_holds.proofs.holds.Holds.is_next.Goals as goal
 
 -- the code is above those of these entries

@@ -1,6 +1,6 @@
 use Rattle.std.specs.FinSet.{from_list}
 use Rattle.office_records.specs.Tree.{code_cmp}
-use Rattle.office_holds.proofs.Keeping.{FitsHoldLimits-empty}
+use Rattle.office_rules.proofs.HoldSoundness.{FitsHoldLimits-empty}
 use Rattle.office_holds.proofs.Cached.{AreCached-empty}
 use Rattle.office_holds.proofs.holds.Holds.new.Goals as goal
 

@@ -1,6 +1,6 @@
 use Rattle.std.proofs.Common.{None, sym, subst}
-use Rattle.office_holds.specs.Forms.{FitsHoldLimits}
-use Rattle.office_holds.proofs.Keeping.{FitsHoldLimits-placed_hold, StaysLifted-free, placed_by_put}
+use Rattle.office_rules.specs.HoldForms.{FitsHoldLimits}
+use Rattle.office_rules.proofs.HoldSoundness.{FitsHoldLimits-placed_hold, StaysLifted-free, placed_by_put}
 use Rattle.office_holds.proofs.holds.Holds.place.Goals as goal
 
 pub put-requires-clause-fits : goal.put-requires-clause-fits

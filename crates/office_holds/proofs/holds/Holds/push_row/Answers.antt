@@ -1,7 +1,7 @@
 use Rattle.std.proofs.Common.{◌≡◌, true, sym, subst, ◌∙◌, arith}
 use Rattle.std.specs.Prelude.{nat_le}
 use Rattle.std.proofs.lemmas.Bool.Decides.{nat_tests}
-use Rattle.office_holds.specs.Loading.{AreRowsOf}
+use Rattle.office_rules.specs.HoldLoading.{AreRowsOf}
 use Rattle.office_holds.proofs.NextHolds.{above-next, fits-next, get-above, more-next, rows-next}
 use Rattle.office_holds.proofs.holds.Holds.push_row.Goals as goal
 

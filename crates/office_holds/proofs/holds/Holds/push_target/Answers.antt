@@ -1,5 +1,5 @@
 use Rattle.std.proofs.Common.{subst, sym, ◌∙◌}
-use Rattle.office_holds.specs.Loading.{AreRowsOf}
+use Rattle.office_rules.specs.HoldLoading.{AreRowsOf}
 use Rattle.office_holds.proofs.TargetCounts.{FitsHoldLimits-taken}
 use Rattle.office_holds.proofs.TargetRows.{not_taken, rows-taken}
 use Rattle.office_holds.proofs.holds.Holds.push_target.Goals as goal

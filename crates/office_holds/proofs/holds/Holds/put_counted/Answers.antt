@@ -1,11 +1,11 @@
 use Rattle.std.proofs.Common.{ap, sym, subst, ◌∙◌}
 use Rattle.std.specs.FinSet.{from_list}
 use Rattle.office_records.specs.Tree.{code_cmp}
-use Rattle.office_holds.specs.Forms.{FitsHoldLimits}
+use Rattle.office_rules.specs.HoldForms.{FitsHoldLimits}
 use Rattle.office_holds.specs.HoldCounts.{AreCached}
-use Rattle.office_holds.specs.Holds.{HoldMap}
+use Rattle.office_rules.specs.Holds.{HoldMap}
 use Rattle.office_holds.specs.contracts.holds.Holds.{the_view}
-use Rattle.office_holds.specs.Effects.{held_on}
+use Rattle.office_rules.specs.HoldEffects.{held_on}
 use Rattle.office_holds.specs.HoldCounts.{may_gain}
 use Rattle.office_holds.proofs.Cached.{AreCached-gained, AreCached-same, count_fits}
 use Rattle.office_holds.proofs.holds.Holds.put_counted.Goals as goal

@@ -4,8 +4,8 @@ use Rattle.std.specs.Str.{bytes_eq}
 use Rattle.office_records.specs.Effects.{reclassified}
 use Rattle.office_records.specs.Lists.{holds_of}
 use Rattle.office_records.specs.declared.classified.Classified.TheVariants as classified
-use Rattle.office_holds.specs.Conditions.{classified_class}
-use Rattle.office_holds.specs.Holds.{is_held_class}
+use Rattle.office_rules.specs.HoldConditions.{classified_class}
+use Rattle.office_rules.specs.Holds.{is_held_class}
 use Rattle.office_holds.proofs.Classes.{no_record}
 use Rattle.office_holds.proofs.holds.Holds.record_leaves.Goals as goal
 

@@ -2,8 +2,8 @@ use Rattle.std.proofs.Common.{Some, ap, sym, ◌∙◌}
 use Rattle.std.specs.FinMap.{get}
 use Rattle.std.specs.Option.{is_none}
 use Rattle.office_records.specs.Lists.{amended}
-use Rattle.office_holds.specs.Holds.{HoldMap}
-use Rattle.office_holds.specs.Rows.{hold_from}
+use Rattle.office_rules.specs.Holds.{HoldMap}
+use Rattle.office_rules.specs.HoldRows.{hold_from}
 use Rattle.office_holds.proofs.Cached.{lifted_then, put_over_lifted}
 use Rattle.office_holds.proofs.holds.Holds.replace.Goals as goal
 

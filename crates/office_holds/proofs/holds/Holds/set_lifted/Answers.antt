@@ -1,12 +1,12 @@
 use Rattle.std.proofs.Common.{sym, subst}
 use Rattle.std.specs.FinSet.{FinSet, from_list}
 use Rattle.office_records.specs.Tree.{code_cmp}
-use Rattle.office_holds.specs.Forms.{FitsHoldLimits}
+use Rattle.office_rules.specs.HoldForms.{FitsHoldLimits}
 use Rattle.office_holds.specs.HoldCounts.{AreCached}
-use Rattle.office_holds.specs.Holds.{HoldMap}
+use Rattle.office_rules.specs.Holds.{HoldMap}
 use Rattle.office_holds.specs.contracts.holds.Holds.{the_view}
-use Rattle.office_holds.specs.Effects.{lifted_hold}
-use Rattle.office_holds.proofs.Keeping.{FitsHoldLimits-lifted_hold}
+use Rattle.office_rules.specs.HoldEffects.{lifted_hold}
+use Rattle.office_rules.proofs.HoldSoundness.{FitsHoldLimits-lifted_hold}
 use Rattle.office_holds.proofs.Cached.{AreCached-lifted_hold}
 use Rattle.office_holds.proofs.holds.Holds.set_lifted.Goals as goal
 

@@ -2,12 +2,12 @@ use Rattle.std.proofs.Common.{Some, ap, sym, subst, ◌∙◌}
 use Rattle.std.specs.FinMap.{get}
 use Rattle.std.specs.FinSet.{from_list}
 use Rattle.office_records.specs.Tree.{code_cmp}
-use Rattle.office_holds.specs.Forms.{FitsHoldLimits}
+use Rattle.office_rules.specs.HoldForms.{FitsHoldLimits}
 use Rattle.office_holds.specs.HoldCounts.{AreCached}
-use Rattle.office_holds.specs.Holds.{HoldMap}
+use Rattle.office_rules.specs.Holds.{HoldMap}
 use Rattle.office_holds.specs.contracts.holds.Holds.{the_view}
-use Rattle.office_holds.specs.Rows.{hold_from}
-use Rattle.office_holds.proofs.Keeping.{amended_fits}
+use Rattle.office_rules.specs.HoldRows.{hold_from}
+use Rattle.office_rules.proofs.HoldSoundness.{amended_fits}
 use Rattle.office_holds.proofs.Cached.{AreCached-set_row}
 use Rattle.office_holds.proofs.holds.Holds.set_row.Goals as goal
 

@@ -1,12 +1,12 @@
 use Rattle.std.proofs.Common.{ap, sym, subst, ◌∙◌}
 use Rattle.std.specs.FinSet.{from_list}
 use Rattle.office_records.specs.Tree.{code_cmp}
-use Rattle.office_holds.specs.Forms.{FitsHoldLimits}
+use Rattle.office_rules.specs.HoldForms.{FitsHoldLimits}
 use Rattle.office_holds.specs.HoldCounts.{AreCached}
-use Rattle.office_holds.specs.Holds.{HoldMap}
+use Rattle.office_rules.specs.Holds.{HoldMap}
 use Rattle.office_holds.specs.contracts.holds.Holds.{the_view}
 use Rattle.office_holds.specs.HoldCounts.{binds_at}
-use Rattle.office_holds.proofs.Keeping.{FitsHoldLimits-held_off}
+use Rattle.office_rules.proofs.HoldSoundness.{FitsHoldLimits-held_off}
 use Rattle.office_holds.proofs.Cached.{AreCached-held_off}
 use Rattle.office_holds.proofs.holds.Holds.take_target.Goals as goal
 

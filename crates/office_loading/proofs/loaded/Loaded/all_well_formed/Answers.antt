@@ -1,7 +1,7 @@
 use Rattle.std.proofs.Common.{subst}
 use Rattle.office_records.specs.Forms.{IsWellFormedTree}
 use Rattle.office_records.specs.Sound as tree
-use Rattle.office_holds.specs.Forms.{AreWellFormedHolds, FitsHoldLimits}
+use Rattle.office_rules.specs.HoldForms.{AreWellFormedHolds, FitsHoldLimits}
 use Rattle.office_rules.specs.State.{Office}
 use Rattle.office_loading.proofs.loaded.Loaded.all_well_formed.Goals as goal
 

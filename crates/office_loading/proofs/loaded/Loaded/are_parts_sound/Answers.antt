@@ -1,5 +1,5 @@
 use Rattle.std.proofs.Common.{length, subst, sym}
-use Rattle.office_holds.specs.Sound.{TargetsExist}
+use Rattle.office_rules.specs.SoundHolds.{TargetsExist}
 use Rattle.office_rules.specs.State.{Office}
 use Rattle.office_loading.proofs.loaded.Loaded.are_parts_sound.Goals as goal
 

@@ -1,8 +1,8 @@
 use Rattle.std.proofs.Common.{◌≡◌, ◌∙◌, ℕ, Some, ap, subst}
 use Rattle.std.specs.FinMap.{get}
 use Rattle.office_records.specs.Lists.{numbered}
-use Rattle.office_proof.specs.Forms.{IsWellFormedEntry}
-use Rattle.office_proof.specs.declared.entry.Entry.{Entry}
+use Rattle.office_rules.specs.EntryForms.{IsWellFormedEntry}
+use Rattle.office_rules.specs.declared.entry.Entry.{Entry}
 use Rattle.office_rules.specs.Sound.{IsWellFormedRun}
 use Rattle.office_rules.specs.State.{Office}
 use Rattle.office_rules.specs.declared.run.Run.{Run}

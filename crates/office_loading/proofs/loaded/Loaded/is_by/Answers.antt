@@ -1,7 +1,7 @@
 use Rattle.std.proofs.Common.{length, subst, sym}
 use Rattle.office_records.specs.Examined.{IsTreeBy}
 use Rattle.office_records.specs.Sound.{AreEventsSound}
-use Rattle.office_holds.specs.Sound.{NoHoldIsAfter}
+use Rattle.office_rules.specs.SoundHolds.{NoHoldIsAfter}
 use Rattle.office_rules.specs.State.{Office}
 use Rattle.office_loading.proofs.loaded.Loaded.is_by.Goals as goal
 

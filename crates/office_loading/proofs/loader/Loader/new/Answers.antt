@@ -1,6 +1,6 @@
 use Rattle.std.proofs.Common.{[], map, ap, ◌∙◌}
 use Rattle.office_base.specs.Rows.{numbered_rows}
-use Rattle.office_holds.specs.Loading.{hold_rows}
+use Rattle.office_rules.specs.HoldLoading.{hold_rows}
 use Rattle.office_rules.specs.Rows.{record_rows}
 use Rattle.office_loading.proofs.Collected.{no_hold_rows, nothing_collected}
 use Rattle.office_loading.proofs.loader.Loader.new.Goals as goal

@@ -2,7 +2,7 @@ use Rattle.std.proofs.Common.{sym, ap, subst, ◌∙◌}
 use Rattle.std.proofs.lemmas.Result.{IfOk-weaker}
 use Rattle.office_base.proofs.Exits.{damaged_so}
 use Rattle.office_holds.proofs.Keys.{either_way}
-use Rattle.office_holds.specs.Holds.{HoldMap}
+use Rattle.office_rules.specs.Holds.{HoldMap}
 use Rattle.office_rules.specs.Tables.{Begins, TableLists, with_row}
 use Rattle.office_rules.specs.declared.table_row.Row.TheVariants as row
 use Rattle.office_loading.specs.Collected.{AreCollected}

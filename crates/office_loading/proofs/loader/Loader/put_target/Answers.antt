@@ -1,6 +1,6 @@
 use Rattle.std.proofs.Common.{[], ◌∷◌, ◌++◌, sym, ap, subst, ◌∙◌}
 use Rattle.office_base.proofs.Exits.{damaged_exit}
-use Rattle.office_holds.specs.Loading.{hold_rows}
+use Rattle.office_rules.specs.HoldLoading.{hold_rows}
 use Rattle.office_rules.specs.Tables.{Begins, TableLists, with_row}
 use Rattle.office_rules.specs.declared.table_row.Row.TheVariants as row
 use Rattle.office_loading.specs.Collected.{AreCollected}

@@ -2,7 +2,7 @@ use Rattle.std.proofs.Common.{◌≡◌, map, rules, sym}
 use Rattle.std.specs.Map.{values_of}
 use Rattle.std.proofs.lemmas.List.Elements.{All-map, All-push, All-same}
 use Rattle.std.proofs.lemmas.Map.Iter.{iter_end}
-use Rattle.office_proof.specs.Forms.{IsWellFormedEntry}
+use Rattle.office_rules.specs.EntryForms.{IsWellFormedEntry}
 use Rattle.office_loading.proofs.loading.runs.well_formed_entries.Goals as goal
 
 pub loop-entry-preserved : goal.loop-entry-preserved

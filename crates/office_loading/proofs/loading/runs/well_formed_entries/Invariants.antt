@@ -1,5 +1,5 @@
 use Rattle.std.specs.List.{All}
-use Rattle.office_proof.specs.Forms.{IsWellFormedEntry}
+use Rattle.office_rules.specs.EntryForms.{IsWellFormedEntry}
 use Rattle.office_loading.proofs.loading.runs.well_formed_entries.Given as goal
 
 -- so it is of those so far

@@ -1,6 +1,6 @@
 use Rattle.std.proofs.Common.{◌≡◌, ◌∙◌, ◌∷◌, sym, ap, refl}
 use Rattle.office_records.specs.Conditions.{first_of}
-use Rattle.office_holds.specs.Conditions.{conditions_of_hold_on}
+use Rattle.office_rules.specs.HoldConditions.{conditions_of_hold_on}
 use Rattle.office_rules.specs.Conditions.{conditions_of_covering, conditions_of_target, refusals_of_hold_on}
 use Rattle.office_rules.specs.Effects.{after_hold_on}
 use Rattle.office_machine.specs.MinRefusal.{min_refusal}

@@ -2,8 +2,8 @@ use Rattle.std.proofs.Common.{◌≡◌, ◌∙◌, ◌∷◌, Some, sym, ap, re
 use Rattle.std.specs.FinMap.{get}
 use Rattle.std.specs.Option.{option_copied}
 use Rattle.office_records.specs.Conditions.{first_of}
-use Rattle.office_holds.specs.Conditions.{conditions_of_lift_hold}
-use Rattle.office_holds.specs.Holds.{HoldMap}
+use Rattle.office_rules.specs.HoldConditions.{conditions_of_lift_hold}
+use Rattle.office_rules.specs.Holds.{HoldMap}
 use Rattle.office_rules.specs.Conditions.{refusals_of_lift_hold}
 use Rattle.office_rules.specs.Effects.{after_lift_hold}
 use Rattle.office_rules.specs.State.{ByteMap, with_contents, with_office}

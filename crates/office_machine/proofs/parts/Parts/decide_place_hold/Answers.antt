@@ -1,7 +1,7 @@
 use Rattle.std.proofs.Common.{◌≡◌, ◌∙◌, ◌∷◌, sym, ap, refl}
 use Rattle.office_records.specs.Conditions.{first_of}
-use Rattle.office_holds.specs.Conditions.{conditions_of_place_hold}
-use Rattle.office_holds.specs.Holds.{HoldMap}
+use Rattle.office_rules.specs.HoldConditions.{conditions_of_place_hold}
+use Rattle.office_rules.specs.Holds.{HoldMap}
 use Rattle.office_rules.specs.Conditions.{refusals_of_place_hold}
 use Rattle.office_rules.specs.Effects.{after_place_hold}
 use Rattle.office_rules.specs.State.{ByteMap, with_contents, with_office}

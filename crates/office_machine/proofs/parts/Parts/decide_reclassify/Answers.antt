@@ -2,7 +2,7 @@ use Rattle.std.proofs.Common.{◌≡◌, ◌∙◌, None, sym, ap, subst, refl}
 use Rattle.std.specs.Option.{option_copied}
 use Rattle.office_records.specs.Conditions.{conditions_of_reclassify, first_of}
 use Rattle.office_records.specs.declared.classified.Classified.{Classified}
-use Rattle.office_holds.specs.Conditions.{conditions_of_leaving_class}
+use Rattle.office_rules.specs.HoldConditions.{conditions_of_leaving_class}
 use Rattle.office_rules.specs.Conditions.{conditions_of_reclassifying, refusals_of_reclassify}
 use Rattle.office_rules.specs.Effects.{after_reclassify}
 use Rattle.office_machine.specs.MinRefusal.{min_refusal}

@@ -3,7 +3,7 @@ use Rattle.std.specs.Prelude.{ℕ, List, Some, None, ℤ}
 use Rattle.std.specs.FinMap.{insert}
 use Rattle.std.specs.FinSet as set
 use Rattle.office_records.specs.Lists.{amended}
-use Rattle.office_holds.specs.Holds.{HoldMap, HoldState}
+use Rattle.office_rules.specs.Holds.{HoldMap, HoldState}
 use Rattle.office_records.specs.declared.target.Target.{Target}
 use Rattle.office_records.specs.declared.target.Target.TheVariants as target
 

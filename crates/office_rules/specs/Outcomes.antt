@@ -2,8 +2,8 @@
 use Rattle.std.specs.Prelude.{Bool, true, false, List, [], ◌∷◌, ℕ, Option, codes}
 use Rattle.std.specs.List.{find}
 use Rattle.std.specs.Str.{bytes_eq}
-use Rattle.office_proof.specs.declared.outcome.Outcome.{Outcome}
-use Rattle.office_proof.specs.declared.outcome.Outcome.TheVariants.{Destroyed, Transferred, Sent, Skipped}
+use Rattle.office_rules.specs.declared.outcome.Outcome.{Outcome}
+use Rattle.office_rules.specs.declared.outcome.Outcome.TheVariants.{Destroyed, Transferred, Sent, Skipped}
 
 -- the record is ended by it, and its content gone
 abbrev pub is_ending : Outcome → Bool

@@ -6,7 +6,7 @@ use Rattle.std.proofs.lemmas.Bool.{cases_lt}
 use Rattle.std.proofs.lemmas.List.Elements.{All-from_recursion, recursion_from_All}
 use Rattle.hex.specs.Hex.{encode_lower, encode_with, lower_digits}
 use Rattle.office_records.specs.Forms.{IsDigest}
-use Rattle.office_proof.specs.Digits.{IsLowerDigit}
+use Rattle.office_rules.specs.Digits.{IsLowerDigit}
 
 -- ---- what writes bytes
 

@@ -19,17 +19,17 @@ use Rattle.office_records.specs.Tree.{code_cmp}
 use Rattle.office_records.specs.declared.class.Class.{Class}
 use Rattle.office_records.proofs.Accepting.{none_holds, below}
 use Rattle.office_records.proofs.Inserting.{len-insert_free}
-use Rattle.office_holds.specs.Conditions.{target_count, has_all_targets, conditions_of_place_hold, conditions_of_hold_on}
-use Rattle.office_holds.specs.Effects.{new_hold, placed_hold, with_target, without_target, held_on, held_off, lifted_hold}
-use Rattle.office_holds.specs.Forms.{IsWellFormedHold, AreWellFormedHolds, FitsHoldLimits, IsWellFormedTarget}
-use Rattle.office_holds.specs.Holds.{HoldMap, HoldState}
-use Rattle.office_holds.specs.Rows.{StaysLifted, hold_from, put_hold}
+use Rattle.office_rules.specs.HoldConditions.{target_count, has_all_targets, conditions_of_place_hold, conditions_of_hold_on}
+use Rattle.office_rules.specs.HoldEffects.{new_hold, placed_hold, with_target, without_target, held_on, held_off, lifted_hold}
+use Rattle.office_rules.specs.HoldForms.{IsWellFormedHold, AreWellFormedHolds, FitsHoldLimits, IsWellFormedTarget}
+use Rattle.office_rules.specs.Holds.{HoldMap, HoldState}
+use Rattle.office_rules.specs.HoldRows.{StaysLifted, hold_from, put_hold}
 use Rattle.office_records.specs.declared.hold_row.HoldRow.{HoldRow}
-use Rattle.office_holds.specs.Sound.{TargetsAreThere, TargetsExist, NoHoldIsAfter}
+use Rattle.office_rules.specs.SoundHolds.{TargetsAreThere, TargetsExist, NoHoldIsAfter}
 use Rattle.office_records.specs.declared.target.Target.{Target}
 use Rattle.office_records.specs.declared.target.Target.TheVariants as target
 use Rattle.office_records.proofs.Inserting.{len-amended}
-use Rattle.office_holds.proofs.Amending.{OfEach-insert, OfEach-amended}
+use Rattle.office_rules.proofs.AmendedHolds.{OfEach-insert, OfEach-amended}
 
 -- ---- what is in a set after a change
 

@@ -1,7 +1,7 @@
 use Rattle.std.proofs.Common.{◌≡◌, ◌*◌, ◌+◌, ◌<◌, length, refl, arith}
 use Rattle.std.proofs.lemmas.List.Elements.{All-replicate}
-use Rattle.office_proof.proofs.DigestDigits.{with_byte, written_all, written_more, written_none}
-use Rattle.office_proof.proofs.digest.digest_of_digits.Goals as goal
+use Rattle.office_rules.proofs.DigestDigits.{with_byte, written_all, written_more, written_none}
+use Rattle.office_rules.proofs.digest.digest_of_digits.Goals as goal
 
 pub loop-i-init : goal.loop-i-init
 loop-i-init c = ((refl, All-replicate (λ b. b < 256) 32 0 (omega arith)), written_none)

@@ -4,7 +4,7 @@ ghost use Rattle.std.specs.List.{All};
 ghost use Rattle.hex.specs.Hex.{encode_lower, lower_digits};
 ghost use Rattle.sha2.specs.Sha256.{sha256};
 ghost use Rattle.office_records.specs.Forms.{IsDigest};
-ghost use Rattle.office_proof.specs.Digits.{IsLowerDigit, digest_named};
+ghost use Rattle.office_rules.specs.Digits.{IsLowerDigit, digest_named};
 
 use sha2::{Digest, Sha256};
 

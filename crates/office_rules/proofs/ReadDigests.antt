@@ -9,7 +9,7 @@ use Rattle.hex.specs.Hex.{IsBytes, decode_sized, encode_lower, lower_digits}
 use Rattle.hex.specs.declared.error.FromHexError.{FromHexError}
 use Rattle.hex.proofs.HexLemmas.{decode_of-ok, decode_sized-encode_lower, decode_sized-ok, decode_sized-twice, length-encode_with}
 use Rattle.office_records.specs.Forms.{IsDigest}
-use Rattle.office_proof.specs.Digits.{digest_named, digest_written}
+use Rattle.office_rules.specs.Digits.{digest_named, digest_written}
 
 pub IsBytes-digest : (digest : List ℕ) → IsDigest digest → IsBytes digest
 IsBytes-digest digest formed k =

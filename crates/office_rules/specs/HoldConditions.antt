@@ -12,7 +12,7 @@ use Rattle.office_records.specs.Lists.{holds_of}
 use Rattle.office_records.specs.Tree.{TreeState, class_of, aggregation_class_of}
 use Rattle.office_records.specs.declared.classified.Classified.{Classified}
 use Rattle.office_records.specs.declared.classified.Classified.TheVariants as classified
-use Rattle.office_holds.specs.Holds.{HoldMap, HoldState, has_target, is_held_class}
+use Rattle.office_rules.specs.Holds.{HoldMap, HoldState, has_target, is_held_class}
 use Rattle.office_records.specs.declared.target.Target.{Target}
 
 -- how many targets a hold has

@@ -1,6 +1,6 @@
 use Rattle.std.proofs.Common.{◌*◌, ◌+◌, refl}
-use Rattle.office_proof.proofs.DigestDigits.{byte_written}
-use Rattle.office_proof.proofs.digest.byte_of.Goals as goal
+use Rattle.office_rules.proofs.DigestDigits.{byte_written}
+use Rattle.office_rules.proofs.digest.byte_of.Goals as goal
 
 pub returns : goal.returns
 returns c =

@@ -12,9 +12,9 @@ use Rattle.office_records.specs.Lists.{numbered}
 use Rattle.office_records.specs.Tree.{TreeState}
 use Rattle.office_records.specs.declared.aggregation.Aggregation.{Aggregation}
 use Rattle.office_records.specs.declared.head.Record.{Record}
-use Rattle.office_proof.specs.Outcomes.{is_ending, is_sending, is_skipping, outcome_word}
-use Rattle.office_proof.specs.declared.entry.Entry.{Entry}
-use Rattle.office_proof.specs.declared.outcome.Outcome.{Outcome}
+use Rattle.office_rules.specs.Outcomes.{is_ending, is_sending, is_skipping, outcome_word}
+use Rattle.office_rules.specs.declared.entry.Entry.{Entry}
+use Rattle.office_rules.specs.declared.outcome.Outcome.{Outcome}
 
 -- words with a tab between each two
 abbrev pub tabbed : List (List ℕ) → List ℕ

@@ -1,7 +1,7 @@
 use Rattle.std.proofs.Common.{get_or, arith}
 use Rattle.std.proofs.lemmas.List.{get_or_default}
-use Rattle.office_proof.proofs.LowerDigits.{tells_more, tells_none}
-use Rattle.office_proof.proofs.digest.are_digits.Goals as goal
+use Rattle.office_rules.proofs.LowerDigits.{tells_more, tells_none}
+use Rattle.office_rules.proofs.digest.are_digits.Goals as goal
 
 pub loop-i-init : goal.loop-i-init
 loop-i-init c = tells_none c.args.text.now

@@ -1,5 +1,5 @@
-use Rattle.office_proof.proofs.LowerDigits.{TellsDigits}
-use Rattle.office_proof.proofs.digest.are_digits.Given as goal
+use Rattle.office_rules.proofs.LowerDigits.{TellsDigits}
+use Rattle.office_rules.proofs.digest.are_digits.Given as goal
 
 -- whether those so far are digits
 abbrev pub invariant-loop-i : goal.invariant-loop-i

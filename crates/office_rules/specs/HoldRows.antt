@@ -2,7 +2,7 @@
 use Rattle.std.specs.Prelude.{◌≡◌, List, ℕ, Option, Some, None, IsSome}
 use Rattle.std.specs.FinMap.{get, insert}
 use Rattle.std.specs.FinSet as set
-use Rattle.office_holds.specs.Holds.{HoldMap, HoldState}
+use Rattle.office_rules.specs.Holds.{HoldMap, HoldState}
 use Rattle.office_records.specs.declared.hold_row.HoldRow.{HoldRow}
 
 -- a hold's columns

@@ -2,7 +2,7 @@
 use Rattle.std.specs.Prelude.{IfSome}
 use Rattle.office_days.specs.Limits.{IsDueNumber}
 use Rattle.office_records.specs.Forms.{IsCode, IsText}
-use Rattle.office_proof.specs.declared.entry.Entry.{Entry}
+use Rattle.office_rules.specs.declared.entry.Entry.{Entry}
 
 -- the codes, the text and the due day of an entry
 pub record IsWellFormedEntry (entry : Entry) : Type 0 where

@@ -1,6 +1,6 @@
 //! The outcomes of a run for a record, and their words.
 ghost use Rattle.std.specs.Prelude.{◌≡◌};
-ghost use Rattle.office_proof.specs.Outcomes.{is_ending, is_sending, is_skipping, outcome_named, outcome_word};
+ghost use Rattle.office_rules.specs.Outcomes.{is_ending, is_sending, is_skipping, outcome_named, outcome_word};
 
 /// What a disposal run did with a record.
 #[derive(Clone, Copy, PartialEq, Eq, Debug)]
@@ -49,14 +49,14 @@ impl Outcome {
     }
 
     /// Whether a copy may be sent.
-    pub(crate) fn is_sending(self) -> bool
+    pub fn is_sending(self) -> bool
         ensures { result ≡ is_sending self }
     {
         matches!(self, Outcome::Sent)
     }
 
     /// Whether a hold kept the record.
-    pub(crate) fn is_skipping(self) -> bool
+    pub fn is_skipping(self) -> bool
         ensures { result ≡ is_skipping self }
     {
         matches!(self, Outcome::Skipped)

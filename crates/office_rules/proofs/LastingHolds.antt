@@ -25,9 +25,9 @@ use Rattle.office_records.specs.declared.head.Record.{Record}
 use Rattle.office_records.specs.declared.schedule.Schedule.{Schedule}
 use Rattle.office_records.proofs.Accepting.{none_holds}
 use Rattle.office_records.proofs.Walk.{ArePlaced, IsWellPlaced, placed_in, placed_parent, chain-edited}
-use Rattle.office_holds.specs.Conditions.{conditions_of_place_hold}
-use Rattle.office_holds.specs.Effects.{placed_hold, new_hold, held_on, with_target}
-use Rattle.office_holds.specs.Holds.{HoldMap, HoldState, is_in_force, hold_covers, held_in, is_held}
+use Rattle.office_rules.specs.HoldConditions.{conditions_of_place_hold}
+use Rattle.office_rules.specs.HoldEffects.{placed_hold, new_hold, held_on, with_target}
+use Rattle.office_rules.specs.Holds.{HoldMap, HoldState, is_in_force, hold_covers, held_in, is_held}
 use Rattle.office_records.specs.declared.target.Target.{Target}
 use Rattle.office_records.specs.declared.target.Target.TheVariants as target
 

@@ -4,7 +4,7 @@ use Rattle.std.specs.FinMap.{FinMap, get}
 use Rattle.std.specs.FinSet.{contains}
 use Rattle.office_records.specs.Tree.{code_cmp}
 use Rattle.office_records.specs.declared.class.Class.{Class}
-use Rattle.office_holds.specs.Holds.{HoldMap, HoldState}
+use Rattle.office_rules.specs.Holds.{HoldMap, HoldState}
 
 -- the targets of a hold are there, among so many aggregations and records
 pub record TargetsAreThere (classes : FinMap code_cmp Class) (aggregation_count record_count : ℕ) (hold : HoldState) :

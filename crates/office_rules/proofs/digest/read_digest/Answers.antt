@@ -1,7 +1,7 @@
 use Rattle.std.proofs.Common.{sym, ap, ◌∙◌}
-use Rattle.office_proof.specs.Digits.{digest_named}
-use Rattle.office_proof.proofs.ReadDigests.{long_text, named_by, named_none, named_some}
-use Rattle.office_proof.proofs.digest.read_digest.Goals as goal
+use Rattle.office_rules.specs.Digits.{digest_named}
+use Rattle.office_rules.proofs.ReadDigests.{long_text, named_by, named_none, named_some}
+use Rattle.office_rules.proofs.digest.read_digest.Goals as goal
 
 pub returns-then-text-ne64-clause-named : goal.returns-then-text-ne64-clause-named
 returns-then-text-ne64-clause-named c =

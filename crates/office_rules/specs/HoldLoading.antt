@@ -6,9 +6,9 @@ use Rattle.std.specs.Str.{bytes_eq}
 use Rattle.std.specs.declared.cmp.Ordering.TheVariants.{Less}
 use Rattle.office_records.specs.Lists.{holds_of}
 use Rattle.office_records.specs.Tree.{code_cmp}
-use Rattle.office_holds.specs.Conditions.{target_count}
-use Rattle.office_holds.specs.Holds.{HoldMap, has_target}
-use Rattle.office_holds.specs.Rows.{hold_row}
+use Rattle.office_rules.specs.HoldConditions.{target_count}
+use Rattle.office_rules.specs.Holds.{HoldMap, has_target}
+use Rattle.office_rules.specs.HoldRows.{hold_row}
 use Rattle.office_records.specs.declared.hold_row.HoldRow.{HoldRow}
 use Rattle.office_records.specs.declared.target.Target.{Target}
 use Rattle.office_records.specs.declared.target.Target.TheVariants as target

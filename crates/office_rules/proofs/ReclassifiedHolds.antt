@@ -18,9 +18,9 @@ use Rattle.office_records.specs.declared.classified.Classified.TheVariants as cl
 use Rattle.office_records.specs.declared.head.Record.{Record}
 use Rattle.office_records.proofs.Accepting.{neither}
 use Rattle.office_records.proofs.Walk.{ArePlaced, placed_in, chain_same, chain-edited}
-use Rattle.office_holds.specs.Conditions.{would_leave_held_class}
-use Rattle.office_holds.specs.Holds.{HoldMap, is_in_force, hold_covers, held_in, is_held, is_held_class}
-use Rattle.office_holds.proofs.Lasting.{either_more, held_more, class_of_none, own_class, above-with_head, above-edited, same_head, IsWithin, above_one, next_within, ContainerFits, container_fits}
+use Rattle.office_rules.specs.HoldConditions.{would_leave_held_class}
+use Rattle.office_rules.specs.Holds.{HoldMap, is_in_force, hold_covers, held_in, is_held, is_held_class}
+use Rattle.office_rules.proofs.LastingHolds.{either_more, held_more, class_of_none, own_class, above-with_head, above-edited, same_head, IsWithin, above_one, next_within, ContainerFits, container_fits}
 
 -- ---- a class that is left and not held
 

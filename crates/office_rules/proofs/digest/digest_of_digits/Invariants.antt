@@ -1,7 +1,7 @@
 use Rattle.std.proofs.Common.{◌≡◌, ◌*◌, take}
 use Rattle.hex.specs.Hex.{encode_lower}
 use Rattle.office_records.specs.Forms.{IsDigest}
-use Rattle.office_proof.proofs.digest.digest_of_digits.Given as goal
+use Rattle.office_rules.proofs.digest.digest_of_digits.Given as goal
 
 -- the bytes so far are those that the digits so far write
 abbrev pub invariant-loop-i : goal.invariant-loop-i

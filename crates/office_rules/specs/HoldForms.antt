@@ -4,8 +4,8 @@ use Rattle.std.specs.FinMap.{get, len}
 use Rattle.std.specs.FinSet.{contains}
 use Rattle.office_days.specs.Limits.{IsDayNumber}
 use Rattle.office_records.specs.Forms.{IsCode, IsText}
-use Rattle.office_holds.specs.Conditions.{target_count}
-use Rattle.office_holds.specs.Holds.{HoldMap, HoldState}
+use Rattle.office_rules.specs.HoldConditions.{target_count}
+use Rattle.office_rules.specs.Holds.{HoldMap, HoldState}
 use Rattle.office_records.specs.declared.target.Target.{Target}
 use Rattle.office_records.specs.declared.target.Target.TheVariants as target
 
