@@ -9,10 +9,10 @@ use Rattle.office_records.specs.Codes.{code_named}
 use Rattle.office_records.specs.TextForms.{text_named}
 use Rattle.office_rules.specs.declared.act.Act.{Act}
 use Rattle.office_rules.specs.declared.act.Act.TheVariants.{AddRecord}
-use Rattle.office_json.specs.Contents.{content_named, content_of}
-use Rattle.office_json.specs.Parts.{both, fault_of, made}
-use Rattle.office_json.specs.declared.read_fault.ReadFault.{ReadFault}
-use Rattle.office_json.specs.declared.read_fault.ReadFault.TheVariants.{Memory}
+use Rattle.office_rules.specs.ContentTexts.{content_named, content_of}
+use Rattle.office_rules.specs.Parts.{both, fault_of, made}
+use Rattle.office_rules.specs.declared.read_fault.ReadFault.{ReadFault}
+use Rattle.office_rules.specs.declared.read_fault.ReadFault.TheVariants.{Memory}
 use Rattle.office_csv.specs.declared.import_row.ImportRow.{ImportRow}
 
 -- the fields of a row, by the names of their columns

@@ -1,14 +1,13 @@
 //! A row of an import as the act that adds its record.
 ghost use Rattle.std.specs.Prelude.{◌≡◌};
 ghost use Rattle.office_base.specs.ThingNumbers.{thing_number};
-ghost use Rattle.office_json.specs.Parts.{IsReadAs};
+ghost use Rattle.office_rules.specs.Parts.{IsReadAs};
 ghost use Rattle.office_csv.specs.ImportRows.{IsRowRead, addition, code_field, day_field, is_first_column, is_header, named};
 
 use office_base::{Refusal, read_thing_number};
 use office_days::Day;
-use office_json::{Content, ReadFault, as_part, both, read_code, read_content, read_words};
 use office_records::{AggNo, Code, Text};
-use office_rules::Act;
+use office_rules::{Act, Content, ReadFault, as_part, both, read_code, read_content, read_words};
 use std::alloc::Global;
 
 /// The fields of a row of an import, as texts.
@@ -62,7 +61,7 @@ fn number_of(field: &str) -> Result<AggNo, ReadFault>
 }
 
 /// The code that a field is; none where it is empty.
-#[tactic(auto, using(office_json::proofs::Made::fault_made))]
+#[tactic(auto, using(office_rules::proofs::Made::fault_made))]
 fn code_of(alloc: Global, field: &str) -> Result<Option<Code>, ReadFault>
     ensures { IsReadAs (code_field field.now) result }
 {

@@ -5,10 +5,10 @@ use Rattle.office_base.specs.declared.refusal.Refusal.{Refusal}
 use Rattle.office_base.specs.declared.refusal.Refusal.TheVariants.{BadText}
 use Rattle.office_rules.specs.declared.act.Act.{Act}
 use Rattle.office_json.specs.Acts.{IsActRead, IsReadFault}
-use Rattle.office_json.specs.Parts.{IsReadAs, fault_of, made}
-use Rattle.office_json.specs.declared.read_fault.ReadFault.{ReadFault}
-use Rattle.office_json.specs.declared.read_fault.ReadFault.TheVariants.{Refused, Memory}
-use Rattle.office_json.proofs.Made.{fault_made}
+use Rattle.office_rules.specs.Parts.{IsReadAs, fault_of, made}
+use Rattle.office_rules.specs.declared.read_fault.ReadFault.{ReadFault}
+use Rattle.office_rules.specs.declared.read_fault.ReadFault.TheVariants.{Refused, Memory}
+use Rattle.office_rules.proofs.Made.{fault_made}
 
 -- the parts of an object without strange members are there
 pub act_ok : {A : Type 0} (plain : Bool) (f : A → Act) (part : Result A Refusal) (p : A) → plain ≡ true → part ≡ Ok p → cond plain (made f part) (Err BadText) ≡ Ok (f p)

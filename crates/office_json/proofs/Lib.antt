@@ -5,8 +5,6 @@ pub mod Encodings
 pub mod Faults
 pub mod Floatless
 pub mod ListSteps
-pub mod Made
-pub mod Pairs
 pub mod RecordMembers
 pub mod Stripped
 pub mod Texts

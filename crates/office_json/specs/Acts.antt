@@ -11,11 +11,12 @@ use Rattle.office_rules.specs.declared.act.Act.TheVariants as act
 use Rattle.office_records.specs.declared.target.Target.{Target}
 use Rattle.office_json.specs.Contents.{content_part}
 use Rattle.office_json.specs.Members.{only}
-use Rattle.office_json.specs.Parts.{both, fault_of, made, optional, day_part, code_part, text_part, trigger_part, offset_part, action_part, digest_part, number_part, period_part}
+use Rattle.office_rules.specs.Parts.{both, fault_of, made}
+use Rattle.office_json.specs.Parts.{optional, day_part, code_part, text_part, trigger_part, offset_part, action_part, digest_part, number_part, period_part}
 use Rattle.office_json.specs.Targets.{classified_part, target_part}
 use Rattle.office_json.specs.declared.acts.new_record.Heading.{Heading}
-use Rattle.office_json.specs.declared.read_fault.ReadFault.{ReadFault}
-use Rattle.office_json.specs.declared.read_fault.ReadFault.TheVariants.{Refused, Memory}
+use Rattle.office_rules.specs.declared.read_fault.ReadFault.{ReadFault}
+use Rattle.office_rules.specs.declared.read_fault.ReadFault.TheVariants.{Refused, Memory}
 
 -- ---- one kind of act each, by its members
 

@@ -1,6 +1,6 @@
 -- How the members of an act are read, and why they are refused: 2 (BadText) where one is missing, of another type or
 -- not of its form, else 3 (BadNumber) where a number is out of its range. Source: own.
-use Rattle.std.specs.Prelude.{◌≡◌, ℕ, ℤ, ◌&&◌, Bool, List, nat_le, Option, Some, None, Result, Ok, Err, MatchResult, ok_or, option_and_then, if◌then◌else◌}
+use Rattle.std.specs.Prelude.{ℕ, ℤ, ◌&&◌, Bool, List, nat_le, Option, Some, None, Result, Ok, Err, ok_or, option_and_then, if◌then◌else◌}
 use Rattle.serde_json.specs.Data.{Data, Num}
 use Rattle.serde_json.specs.Find.{as_number, as_str, as_u64}
 use Rattle.office_days.specs.declared.offset.Offset.{Offset}
@@ -9,7 +9,6 @@ use Rattle.office_base.specs.declared.refusal.Refusal.TheVariants.{BadText, BadN
 use Rattle.office_days.specs.declared.unit.Unit.{Unit}
 use Rattle.office_days.specs.Limits.{longest}
 use Rattle.office_days.specs.Periods.{RetentionPeriod}
-use Rattle.office_base.specs.Refusals.{refusal_number}
 use Rattle.office_days.specs.Texts.{day_named}
 use Rattle.office_days.specs.Words.{offset_named, unit_named}
 use Rattle.office_records.specs.declared.action.Action.{Action}
@@ -18,25 +17,8 @@ use Rattle.office_records.specs.Codes.{code_named}
 use Rattle.office_records.specs.TextForms.{text_named}
 use Rattle.office_records.specs.Words.{action_named, trigger_named}
 use Rattle.office_rules.specs.Digits.{digest_named}
+use Rattle.office_rules.specs.Parts.{made}
 use Rattle.office_json.specs.Members.{is_given}
-use Rattle.office_json.specs.declared.read_fault.ReadFault.{ReadFault}
-use Rattle.office_json.specs.declared.read_fault.ReadFault.TheVariants.{Refused, Memory}
-
--- of two refusals the one with the least number
-abbrev pub least : Refusal → Refusal → Refusal
-least e f = if nat_le (refusal_number e) (refusal_number f) then e else f
-
--- both parts, or why they are refused
-abbrev pub both : {A B : Type 0} → Result A Refusal → Result B Refusal → Result (A × B) Refusal
-both (Ok a) (Ok b) = Ok (a, b)
-both (Ok a) (Err f) = Err f
-both (Err e) (Ok b) = Err e
-both (Err e) (Err f) = Err (least e f)
-
--- what is made of a part that was read
-abbrev pub made : {A B : Type 0} → (A → B) → Result A Refusal → Result B Refusal
-made f (Ok a) = Ok (f a)
-made f (Err e) = Err e
 
 -- ---- texts
 
@@ -111,20 +93,3 @@ period_part unit count = period_of (option_and_then unit_named (option_and_then 
 -- a part that may be null or missing, and then there is none
 abbrev pub optional : {A : Type 0} → (Option Data → Result A Refusal) → Option Data → Result (Option A) Refusal
 optional part member = if is_given member then made (λ a. Some a) (part member) else Ok None
-
--- ---- what the code answers
-
--- why nothing was read of a part: the part is refused, or it is of its form and memory ran out
-abbrev pub fault_of : {A : Type 0} → Result A Refusal → ReadFault
-fault_of (Ok a) = Memory
-fault_of (Err refusal) = Refused refusal
-
--- what was read is the part, or why nothing was read of it
-abbrev pub IsReadAs : {A : Type 0} → Result A Refusal → Result A ReadFault → Type 0
-IsReadAs part read = MatchResult read (λ a. part ≡ Ok a) (λ fault. fault ≡ fault_of part)
-
--- of two faults the one to report: a refusal before lack of memory
-abbrev pub min_refusal : ReadFault → ReadFault → ReadFault
-min_refusal Memory other = other
-min_refusal (Refused e) Memory = Refused e
-min_refusal (Refused e) (Refused f) = Refused (least e f)

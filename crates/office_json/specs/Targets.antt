@@ -11,7 +11,8 @@ use Rattle.office_records.specs.declared.classified.Classified.TheVariants as cl
 use Rattle.office_records.specs.Codes.{code_named}
 use Rattle.office_records.specs.declared.target.Target.{Target}
 use Rattle.office_records.specs.declared.target.Target.TheVariants as target
-use Rattle.office_json.specs.Parts.{made, thing_numbered}
+use Rattle.office_rules.specs.Parts.{made}
+use Rattle.office_json.specs.Parts.{thing_numbered}
 
 -- what is after those bytes, in a text that begins with them
 unfoldable pub after : List ℕ → List ℕ → Option (List ℕ)

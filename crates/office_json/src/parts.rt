@@ -1,42 +1,17 @@
 //! The parts of an act: days, codes, texts, words, digests and numbers, each a member of its name.
-ghost use Rattle.std.specs.Prelude.{◌≡◌, Result, codes, ok_or};
+ghost use Rattle.std.specs.Prelude.{◌≡◌, codes};
 ghost use Rattle.serde_json.specs.Find.{get};
 ghost use Rattle.serde_json.specs.View.{view};
-ghost use Rattle.office_base.specs.declared.refusal.Refusal.{Refusal};
-ghost use Rattle.office_base.specs.declared.refusal.Refusal.TheVariants.{BadText};
-ghost use Rattle.office_records.specs.Codes.{code_named};
-ghost use Rattle.office_records.specs.TextForms.{text_named};
-ghost use Rattle.office_json.specs.Parts.{both, IsReadAs, action_part, code_part, count_part, day_part, digest_part, number_part, offset_part, optional, period_part, text_part, trigger_part};
+ghost use Rattle.office_rules.specs.Parts.{IsReadAs};
+ghost use Rattle.office_json.specs.Parts.{action_part, code_part, count_part, day_part, digest_part, number_part, offset_part, optional, period_part, text_part, trigger_part};
 
-use crate::ReadFault;
 use crate::members::{is_given, text_at};
-use office_base::{Memory, Refusal};
+use office_base::Refusal;
 use office_days::{Day, Offset, Period, Unit};
 use office_records::{Action, AggNo, Code, Text, Trigger};
-use office_rules::read_digest;
+use office_rules::{ReadFault, read_code, read_digest, read_words};
 use serde_json::Value;
 use std::alloc::Global;
-
-/// Both parts, or the fault that is to be reported of them: a refusal before lack of memory, and of
-/// two refusals that with the least number.
-pub fn both<A: Drop, B: Drop>(
-    first: Result<A, ReadFault>,
-    second: Result<B, ReadFault>,
-) -> Result<(A, B), ReadFault>
-    ensures { (a : Result A Refusal) (b : Result B Refusal) → IsReadAs a first → IsReadAs b second
-        → IsReadAs (both a b) result }
-{
-    match first {
-        Ok(a) => match second {
-            Ok(b) => Ok((a, b)),
-            Err(fault) => Err(fault),
-        },
-        Err(fault) => match second {
-            Ok(_) => Err(fault),
-            Err(other) => Err(fault.min_refusal(other)),
-        },
-    }
-}
 
 /// A day.
 #[tactic(auto, unfolding(crate::specs::Parts::day_part))]
@@ -46,28 +21,6 @@ pub(crate) fn day_at(value: &Value, name: &str) -> Result<Day, ReadFault>
     text_at(value, name)
         .and_then(Day::read)
         .ok_or(ReadFault::Refused(Refusal::BadText))
-}
-
-/// The code that a text is; else `BadText`.
-pub fn read_code(alloc: Global, text: &str) -> Result<Code, ReadFault>
-    ensures { IsReadAs (ok_or (code_named text.now) BadText) result }
-{
-    match Code::read(alloc, text) {
-        Ok(Some(code)) => Ok(code),
-        Ok(None) => Err(ReadFault::Refused(Refusal::BadText)),
-        Err(Memory) => Err(ReadFault::Memory),
-    }
-}
-
-/// The words that a text is, as of a title; else `BadText`.
-pub fn read_words(alloc: Global, text: &str) -> Result<Text, ReadFault>
-    ensures { IsReadAs (ok_or (text_named text.now) BadText) result }
-{
-    match Text::read(alloc, text) {
-        Ok(Some(words)) => Ok(words),
-        Ok(None) => Err(ReadFault::Refused(Refusal::BadText)),
-        Err(Memory) => Err(ReadFault::Memory),
-    }
 }
 
 /// A code.
@@ -171,7 +124,7 @@ pub(crate) fn period_at(value: &Value) -> Result<Period, ReadFault>
 }
 
 /// A code that may be null or missing.
-#[tactic(auto, using(crate::proofs::Made::fault_made))]
+#[tactic(auto, using(office_rules::proofs::Made::fault_made))]
 pub(crate) fn optional_code_at(
     alloc: Global,
     value: &Value,
@@ -189,7 +142,7 @@ pub(crate) fn optional_code_at(
 }
 
 /// The number of an aggregation that may be null or missing.
-#[tactic(auto, using(crate::proofs::Made::fault_made))]
+#[tactic(auto, using(office_rules::proofs::Made::fault_made))]
 pub(crate) fn optional_number_at(value: &Value, name: &str) -> Result<Option<AggNo>, ReadFault>
     ensures { IsReadAs (optional number_part (get name.now (view value.now))) result }
 {

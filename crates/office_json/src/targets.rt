@@ -3,14 +3,14 @@ ghost use Rattle.std.specs.Prelude.{◌≡◌, option_map};
 ghost use Rattle.serde_json.specs.Find.{get};
 ghost use Rattle.serde_json.specs.View.{view};
 ghost use Rattle.office_records.specs.declared.classified.Classified.TheVariants as classified;
-ghost use Rattle.office_json.specs.Parts.{IsReadAs, made};
+ghost use Rattle.office_rules.specs.Parts.{IsReadAs, made};
 ghost use Rattle.office_json.specs.Targets.{after, classified_named, classified_part, is_plain, target_named, target_part, targeted, thing_named};
 
 use crate::ReadFault;
 use crate::members::text_at;
-use crate::parts::read_code;
 use office_base::{Refusal, read_numeral};
 use office_records::{Classified, Target};
+use office_rules::read_code;
 use serde_json::Value;
 use std::alloc::Global;
 
@@ -87,7 +87,7 @@ fn targeted(classified: Classified) -> Target
 }
 
 /// The target that a text names.
-#[tactic(auto, using(crate::proofs::Made::fault_made), unfolding(crate::specs::Targets::target_named))]
+#[tactic(auto, using(office_rules::proofs::Made::fault_made), unfolding(crate::specs::Targets::target_named))]
 fn read_target(alloc: Global, text: &str) -> Result<Target, ReadFault>
     ensures { IsReadAs (target_named text.now) result }
 {

@@ -19,10 +19,12 @@ pub mod LastingHolds
 pub mod LeastHolds
 pub mod Listing
 pub mod LowerDigits
+pub mod Made
 pub mod NumberedRows
 pub mod OneState
 pub mod OneStep
 pub mod OpenRun
+pub mod Pairs
 pub mod Places
 pub mod ReadDigests
 pub mod ReclassifiedHolds

@@ -2,6 +2,7 @@ pub mod Acts
 pub mod Answers
 pub mod Certificates
 pub mod Conditions
+pub mod ContentTexts
 pub mod Digits
 pub mod Disposing
 pub mod Effects
@@ -18,6 +19,7 @@ pub mod Loading
 pub mod Meanings
 pub mod NewRecords
 pub mod Outcomes
+pub mod Parts
 pub mod Readings
 pub mod Refusals
 pub mod Registers

@@ -19,8 +19,8 @@ use Rattle.office_store.specs.declared.fault.Fault.TheVariants as fault
 use Rattle.office_desk.specs.Calling.{PerformedOne}
 use Rattle.office_desk.specs.Desk.{DeskState}
 use Rattle.office_desk.specs.Leaving.{IsAt, StopsAt}
-use Rattle.office_json.specs.Parts.{fault_of}
-use Rattle.office_json.specs.declared.read_fault.ReadFault.TheVariants.{Refused, Memory}
+use Rattle.office_rules.specs.Parts.{fault_of}
+use Rattle.office_rules.specs.declared.read_fault.ReadFault.TheVariants.{Refused, Memory}
 use Rattle.office_json.proofs.Appending.{appends_both}
 use Rattle.office_csv.specs.ImportRows.{Fields, act_asked, fields_in}
 use Rattle.office_csv.specs.ImportText.{AreAtPrefix, HeadsText, TakesNoText}

@@ -4,12 +4,10 @@ ghost use Rattle.office_json.specs.Acts.{IsActRead, add_aggregation_asked, close
 
 use crate::ReadFault;
 use crate::members::has_only;
-use crate::parts::{
-    both, code_at, day_at, number_at, optional_code_at, optional_number_at, words_at,
-};
+use crate::parts::{code_at, day_at, number_at, optional_code_at, optional_number_at, words_at};
 use crate::targets::classified_at;
 use office_base::Refusal;
-use office_rules::Act;
+use office_rules::{Act, both};
 use serde_json::Value;
 use std::alloc::Global;
 

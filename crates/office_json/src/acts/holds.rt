@@ -1,16 +1,16 @@
 //! The acts on holds.
 ghost use Rattle.serde_json.specs.View.{view};
 ghost use Rattle.office_json.specs.Acts.{IsActRead, hold_off_asked, hold_on_asked, hold_target_part, lift_hold_asked, place_hold_asked};
-ghost use Rattle.office_json.specs.Parts.{IsReadAs};
+ghost use Rattle.office_rules.specs.Parts.{IsReadAs};
 
 use crate::ReadFault;
 use crate::members::has_only;
-use crate::parts::{both, code_at, day_at, words_at};
+use crate::parts::{code_at, day_at, words_at};
 use crate::targets::target_at;
 use office_base::Refusal;
 use office_days::Day;
 use office_records::{Code, Target};
-use office_rules::Act;
+use office_rules::{Act, both};
 use serde_json::Value;
 use std::alloc::Global;
 
@@ -54,7 +54,7 @@ fn hold_target(alloc: Global, value: &Value) -> Result<(Day, (Code, Target)), Re
 }
 
 /// `hold-on`: a target is put on a hold.
-#[tactic(auto, using(crate::proofs::Made::fault_made), unfolding(crate::specs::Acts::hold_on_asked))]
+#[tactic(auto, using(office_rules::proofs::Made::fault_made), unfolding(crate::specs::Acts::hold_on_asked))]
 pub(crate) fn hold_on(alloc: Global, value: &Value) -> Result<Act, ReadFault>
     ensures { IsActRead (hold_on_asked (view value.now)) result }
 {
@@ -65,7 +65,7 @@ pub(crate) fn hold_on(alloc: Global, value: &Value) -> Result<Act, ReadFault>
 }
 
 /// `hold-off`: a target is taken off a hold.
-#[tactic(auto, using(crate::proofs::Made::fault_made), unfolding(crate::specs::Acts::hold_off_asked))]
+#[tactic(auto, using(office_rules::proofs::Made::fault_made), unfolding(crate::specs::Acts::hold_off_asked))]
 pub(crate) fn hold_off(alloc: Global, value: &Value) -> Result<Act, ReadFault>
     ensures { IsActRead (hold_off_asked (view value.now)) result }
 {

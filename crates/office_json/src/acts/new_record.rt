@@ -2,16 +2,16 @@
 ghost use Rattle.std.specs.Prelude.{◌≡◌, IfErr, IfOk, Ok};
 ghost use Rattle.serde_json.specs.View.{view};
 ghost use Rattle.office_json.specs.Acts.{IsReadFault, add_record_asked, added, heading_part};
-ghost use Rattle.office_json.specs.Parts.{IsReadAs};
+ghost use Rattle.office_rules.specs.Parts.{IsReadAs};
 
 use crate::ReadFault;
 use crate::content::{as_part, content_at};
 use crate::members::has_only;
-use crate::parts::{both, day_at, number_at, optional_code_at, words_at};
+use crate::parts::{day_at, number_at, optional_code_at, words_at};
 use office_base::Refusal;
 use office_days::Day;
 use office_records::{AggNo, Code, Text};
-use office_rules::{Act, Content};
+use office_rules::{Act, Content, both};
 use serde_json::Value;
 use std::alloc::Global;
 

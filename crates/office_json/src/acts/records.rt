@@ -5,11 +5,11 @@ ghost use Rattle.office_json.specs.Acts.{IsActRead, confirm_asked, event_asked, 
 
 use crate::ReadFault;
 use crate::members::has_only;
-use crate::parts::{action_at, both, day_at, digest_at, number_at, optional_code_at, words_at};
+use crate::parts::{action_at, day_at, digest_at, number_at, optional_code_at, words_at};
 use office_base::Refusal;
 use office_days::Day;
 use office_records::{RecordNo, Text};
-use office_rules::Act;
+use office_rules::{Act, both};
 use serde_json::Value;
 use std::alloc::Global;
 

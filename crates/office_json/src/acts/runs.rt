@@ -4,9 +4,9 @@ ghost use Rattle.office_json.specs.Acts.{IsActRead, open_run_asked, run_step_ask
 
 use crate::ReadFault;
 use crate::members::has_only;
-use crate::parts::{both, day_at, words_at};
+use crate::parts::{day_at, words_at};
 use office_base::Refusal;
-use office_rules::Act;
+use office_rules::{Act, both};
 use serde_json::Value;
 use std::alloc::Global;
 

@@ -4,9 +4,9 @@ ghost use Rattle.office_json.specs.Acts.{IsActRead, add_class_asked, add_schedul
 
 use crate::ReadFault;
 use crate::members::has_only;
-use crate::parts::{action_at, both, code_at, day_at, offset_at, period_at, trigger_at, words_at};
+use crate::parts::{action_at, code_at, day_at, offset_at, period_at, trigger_at, words_at};
 use office_base::Refusal;
-use office_rules::Act;
+use office_rules::{Act, both};
 use serde_json::Value;
 use std::alloc::Global;
 

@@ -1,8 +1,8 @@
 use Rattle.std.proofs.Common.{◌∙◌, ℕ, List, Ok, Result, ap, inr, subst, sym}
 use Rattle.office_base.specs.declared.refusal.Refusal.{Refusal}
 use Rattle.office_rules.specs.declared.act.Act.{Act}
-use Rattle.office_json.specs.Parts.{IsReadAs, made}
-use Rattle.office_json.proofs.Made.{fault_made}
+use Rattle.office_rules.specs.Parts.{IsReadAs, made}
+use Rattle.office_rules.proofs.Made.{fault_made}
 use Rattle.office_csv.specs.ImportRows.{act_asked, addition}
 use Rattle.office_csv.proofs.import_row.read_import_row.Goals as goal
 

@@ -5,7 +5,7 @@ use Rattle.office_base.specs.declared.refusal.Refusal.{Refusal}
 use Rattle.office_json.specs.Acts.{added, add_record_asked}
 use Rattle.office_rules.specs.declared.act.Act.{Act}
 use Rattle.office_json.specs.Contents.{content_part}
-use Rattle.office_json.specs.Parts.{IsReadAs}
+use Rattle.office_rules.specs.Parts.{IsReadAs}
 use Rattle.office_json.proofs.Faults.{act_fault, act_ok, plain_fault}
 use Rattle.office_json.proofs.acts.new_record.add_record.Goals as goal
 

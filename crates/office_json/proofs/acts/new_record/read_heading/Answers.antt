@@ -1,7 +1,7 @@
 use Rattle.std.proofs.Common.{◌∙◌, ap, sym}
 use Rattle.office_json.specs.Acts.{headed, heading_part}
-use Rattle.office_json.specs.Parts.{made}
-use Rattle.office_json.proofs.Made.{fault_made}
+use Rattle.office_rules.specs.Parts.{made}
+use Rattle.office_rules.proofs.Made.{fault_made}
 use Rattle.office_json.proofs.acts.new_record.read_heading.Goals as goal
 
 pub returns-in-Ok : goal.returns-in-Ok

@@ -1,8 +1,8 @@
 -- What is reported of two parts together.
 use Rattle.std.proofs.Common.{◌≡◌, Result, Ok, Err, refl}
 use Rattle.office_base.specs.declared.refusal.Refusal.{Refusal}
-use Rattle.office_json.specs.Parts.{both, fault_of, min_refusal, IsReadAs}
-use Rattle.office_json.specs.declared.read_fault.ReadFault.{ReadFault}
+use Rattle.office_rules.specs.Parts.{both, fault_of, min_refusal, IsReadAs}
+use Rattle.office_rules.specs.declared.read_fault.ReadFault.{ReadFault}
 
 fault_first : {A B : Type 0} (a : Result A Refusal) (v : B) → fault_of a ≡ fault_of (both a (Ok v))
 fault_first (Ok u) v = refl

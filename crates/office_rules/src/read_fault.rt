@@ -13,7 +13,7 @@ pub enum ReadFault {
 
 impl ReadFault {
     ghost use Rattle.std.specs.Prelude.{◌≡◌};
-    ghost use Rattle.office_json.specs.Parts.{min_refusal};
+    ghost use Rattle.office_rules.specs.Parts.{min_refusal};
 
     /// Of two faults the one to report: a refusal before lack of memory, and of two refusals that
     /// with the least number.
@@ -32,7 +32,7 @@ impl ReadFault {
 
 impl From<Memory> for ReadFault {
     ghost use Rattle.std.specs.Prelude.{◌≡◌};
-    ghost use Rattle.office_json.specs.declared.read_fault.ReadFault.TheVariants.{Memory};
+    ghost use Rattle.office_rules.specs.declared.read_fault.ReadFault.TheVariants.{Memory};
 
     ghost from_gives = { λ _ fault. fault ≡ Memory };
 
@@ -43,7 +43,7 @@ impl From<Memory> for ReadFault {
 
 impl From<Refusal> for ReadFault {
     ghost use Rattle.std.specs.Prelude.{◌≡◌};
-    ghost use Rattle.office_json.specs.declared.read_fault.ReadFault.TheVariants.{Refused};
+    ghost use Rattle.office_rules.specs.declared.read_fault.ReadFault.TheVariants.{Refused};
 
     ghost from_gives = { λ refusal fault. fault ≡ Refused refusal };
 

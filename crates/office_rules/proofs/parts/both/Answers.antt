@@ -1,8 +1,8 @@
 use Rattle.std.proofs.Common.{◌≡◌, ◌∙◌, Result, Err, ap, sym}
-use Rattle.office_json.specs.declared.read_fault.ReadFault.{ReadFault}
-use Rattle.office_json.proofs.Pairs.{both_read, both_reads}
-use Rattle.office_json.proofs.parts.both.Goals.{in-Ok-second-2, in-Err-second-2}
-use Rattle.office_json.proofs.parts.both.Goals as goal
+use Rattle.office_rules.specs.declared.read_fault.ReadFault.{ReadFault}
+use Rattle.office_rules.proofs.Pairs.{both_read, both_reads}
+use Rattle.office_rules.proofs.parts.both.Goals.{in-Ok-second-2, in-Err-second-2}
+use Rattle.office_rules.proofs.parts.both.Goals as goal
 
 pub returns-after-second-2 : goal.returns-after-second-2
 returns-after-second-2 g c = λ a b h k.
