@@ -21,8 +21,8 @@ use Rattle.office_rules.proofs.SoundMaps.{entry_cmp-IsAntisymmetric, entry_total
 use Rattle.office_rules.specs.Runs.{entries_of}
 use Rattle.office_rules.specs.Sound.{IsSoundOffice}
 use Rattle.office_rules.specs.State.{Office, entry_cmp}
-use Rattle.office_loading.proofs.RunEntries.{of_run_ordered}
-use Rattle.office_loading.proofs.Stored.{get_is}
+use Rattle.office_machine.proofs.RunEntries.{of_run_ordered}
+use Rattle.office_machine.proofs.Stored.{get_is}
 
 -- an entry with its key
 abbrev Kept : Type 0

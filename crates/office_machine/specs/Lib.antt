@@ -1,8 +1,11 @@
+pub mod Collected
 pub mod DayWrites
 pub mod DuePairs
 pub mod EntryPlaces
 pub mod Filings
-pub mod MinRefusal
+pub mod Keys
 pub mod Marks
+pub mod MinRefusal
 pub mod RunWrites
 pub mod Selections
+pub mod TreeRows

@@ -6,10 +6,10 @@ ghost use Rattle.office_rules.specs.Sound.{IsSound};
 ghost use Rattle.office_rules.specs.State.{ByteMap, with_contents};
 ghost use Rattle.office_rules.specs.Tables.{RepresentNone, no_rows};
 
+use crate::loader::Loader;
 use crate::parts::Parts;
 use crate::{Intake, Machine, Row};
 use office_base::Rebuild;
-use office_loading::Loader;
 use std::alloc::Global;
 use std::marker::Model;
 

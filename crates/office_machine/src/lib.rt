@@ -7,6 +7,7 @@
 
 mod applying;
 mod builder;
+mod certificate;
 mod closing;
 mod decide;
 mod deciding;
@@ -17,8 +18,12 @@ mod disposing;
 mod due_list;
 mod due_rows;
 mod entry_rows;
+mod examination;
 mod filing;
-mod loading;
+mod from_tables;
+mod keys;
+mod loaded;
+mod loader;
 mod machine;
 mod marking;
 mod min_refusal;

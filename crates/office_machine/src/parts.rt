@@ -4,9 +4,9 @@ ghost use Rattle.std.specs.Prelude.{◌≡◌};
 ghost use Rattle.office_rules.specs.State.{empty_office};
 
 use crate::Run;
+use crate::certificate::Certificate;
 use office_days::Day;
 use office_holds::Holds;
-use office_loading::Certificate;
 use office_records::RecordNo;
 use office_rules::{Entry, RunNo};
 use office_tree::Tree;

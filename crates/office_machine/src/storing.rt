@@ -5,8 +5,8 @@ ghost use Rattle.std.specs.Ordering.{nat_cmp};
 ghost use Rattle.std.specs.String.{string_bytes};
 ghost use Rattle.office_rules.specs.State.{entry_cmp};
 
+use crate::certificate::Certificate;
 use office_base::Memory;
-use office_loading::Certificate;
 use office_records::RecordNo;
 use office_rules::{Entry, RunNo};
 use std::collections::BTreeMap;

@@ -61,6 +61,8 @@ mod acts;
 #[cfg(test)]
 mod archive_stories;
 #[cfg(test)]
+mod calls;
+#[cfg(test)]
 mod clients;
 #[cfg(test)]
 mod content_stories;

@@ -1,5 +1,6 @@
 //! Every story is carried out.
 use crate::archive_stories::ARCHIVE;
+use crate::calls::call;
 use crate::content_stories::CONTENTS;
 use crate::damage_stories::{BASE_DAMAGE, BUSY_DAMAGE};
 use crate::endings::report_endings;
@@ -31,6 +32,11 @@ fn an_office_is_as_its_stories_report(rt: HostRuntime) -> Result<(), Fail> {
         report(rt.alloc(), stories)?;
     }
     Ok(())
+}
+
+#[test]
+fn calls_take_what_other_programs_give(rt: HostRuntime) -> Result<(), Fail> {
+    call(rt.alloc())
 }
 
 #[test]

@@ -5,13 +5,13 @@ ghost use Rattle.office_json.specs.Acts.{IsReadFault, add_record_asked, added, h
 ghost use Rattle.office_rules.specs.Parts.{IsReadAs};
 
 use crate::ReadFault;
-use crate::content::{as_part, content_at};
+use crate::content::content_at;
 use crate::members::has_only;
 use crate::parts::{day_at, number_at, optional_code_at, words_at};
 use office_base::Refusal;
 use office_days::Day;
 use office_records::{AggNo, Code, Text};
-use office_rules::{Act, Content, both};
+use office_rules::{Act, Content, as_part, both};
 use serde_json::Value;
 use std::alloc::Global;
 

@@ -1,5 +1,5 @@
 use Rattle.std.proofs.Common.{◌≡◌, ◌++◌, [], sym, ap, ◌∙◌, append-nil}
-use Rattle.office_loading.proofs.RunEntries.{values_ordered}
+use Rattle.office_machine.proofs.RunEntries.{values_ordered}
 use Rattle.office_machine.proofs.reading.copy_entries.Goals as goal
 
 pub returns : goal.returns

@@ -1,7 +1,7 @@
 use Rattle.std.proofs.Common.{◌∙◌, ap}
 use Rattle.std.specs.Cmp.{nat_cmp_total}
 use Rattle.std.specs.FinMap.{from_entries, insert, nat_cmp-IsAntisymmetric}
-use Rattle.office_loading.proofs.Stored.{inserted}
+use Rattle.office_machine.proofs.Stored.{inserted}
 use Rattle.office_machine.proofs.storing.put_certificate.Goals as goal
 
 pub returns-clause-ok : goal.returns-clause-ok

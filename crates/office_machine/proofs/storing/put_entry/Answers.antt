@@ -1,5 +1,5 @@
 use Rattle.office_rules.proofs.SoundMaps.{entry_cmp-IsAntisymmetric, entry_total}
-use Rattle.office_loading.proofs.Stored.{inserted}
+use Rattle.office_machine.proofs.Stored.{inserted}
 use Rattle.office_machine.proofs.storing.put_entry.Goals as goal
 
 pub returns-clause-ok : goal.returns-clause-ok

@@ -1,7 +1,7 @@
 use Rattle.std.proofs.Common.{◌≡◌, ap, sym, ◌∙◌, Some, None}
 use Rattle.std.specs.Cmp.{nat_cmp_total}
 use Rattle.std.specs.FinMap.{get, nat_cmp-IsAntisymmetric}
-use Rattle.office_loading.proofs.Stored.{get_is}
+use Rattle.office_machine.proofs.Stored.{get_is}
 use Rattle.office_machine.proofs.parts.Parts.certificate.Goals as goal
 
 -- a certificate that was found is there

@@ -1,7 +1,7 @@
 use Rattle.std.proofs.Common.{ap, sym, subst, ◌∙◌}
 use Rattle.office_rules.specs.Readings.{all_entries_of}
 use Rattle.office_rules.specs.Registers.{entry_rows, entry_rows_of}
-use Rattle.office_loading.proofs.RunEntries.{values_ordered}
+use Rattle.office_machine.proofs.RunEntries.{values_ordered}
 use Rattle.office_machine.specs.EntryPlaces.{AreOfRecords}
 use Rattle.office_machine.proofs.parts.Parts.entry_rows.Goals as goal
 

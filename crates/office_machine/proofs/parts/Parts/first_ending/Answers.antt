@@ -3,7 +3,7 @@ use Rattle.std.specs.FinMap.{get}
 use Rattle.std.specs.Option.{option_copied}
 use Rattle.office_rules.proofs.SoundMaps.{entry_cmp-IsAntisymmetric, entry_total}
 use Rattle.office_rules.specs.State.{Office}
-use Rattle.office_loading.proofs.Stored.{get_is}
+use Rattle.office_machine.proofs.Stored.{get_is}
 use Rattle.office_machine.proofs.EndingEntries.{NoneEnded, ending_is, no_ending, none_by_entry, none_by_next}
 use Rattle.office_machine.proofs.parts.Parts.first_ending.Goals as goal
 use Rattle.office_machine.proofs.parts.Parts.first_ending.Goals.{After-get, in-Some+else-is_ending, in_default}

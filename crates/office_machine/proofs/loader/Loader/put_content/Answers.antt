@@ -1,0 +1,20 @@
+use Rattle.std.proofs.Common.{sym, ap, subst, ◌∙◌}
+use Rattle.std.proofs.lemmas.Result.{IfOk-weaker}
+use Rattle.office_base.proofs.Exits.{damaged_so}
+use Rattle.office_rules.specs.Tables.{Begins, TableLists, with_row}
+use Rattle.office_rules.specs.declared.table_row.Row.TheVariants as row
+use Rattle.office_machine.specs.contracts.loader.Loader.{the_view}
+use Rattle.office_machine.proofs.NextRows.{next_content}
+use Rattle.office_machine.proofs.loader.Loader.put_content.Goals as goal
+
+pub returns-clause-ok : goal.returns-clause-ok
+returns-clause-ok c =
+    IfOk-weaker c.push.result _ _ (λ _ came.
+    ap (λ keys. record (the_view c.self.inside) { contents = keys }) came
+    ∙ ap (λ (u : TableLists). with_row u (row.Content c.args.number)) c.self.view_is) c.push.ensures.ok
+
+pub returns-clause-damaged : goal.returns-clause-damaged
+returns-clause-damaged c =
+    damaged_so c.push.result c.push.ensures.damaged (λ fails t begins s represent sound.
+    let prefix = subst (λ (u : TableLists). Begins (with_row u (row.Content c.args.number)) t) (sym c.self.view_is) begins in
+    fails (next_content t s represent c.self.inside.contents c.args.number prefix.contents))

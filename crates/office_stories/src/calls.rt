@@ -1,0 +1,317 @@
+//! The public calls of the store, the desk, the wire and the program, each with the arguments that
+//! other programs give it: a change of one is seen here.
+use crate::peer::Pieces;
+use office_base::Refusal;
+use office_days::{ConfirmDays, Day};
+use office_desk::Desk;
+use office_machine::{Act, Answer, Builder, Decision, Machine, RecordView, Tables};
+use office_program::{Io, Order, PlanStop, due_to, plan_to, run_on};
+use office_proof::Entry;
+use office_records::{RecordNo, Text};
+use office_store::Store;
+use office_wire::{
+    answer_value, export_due, export_entries, export_overdue, import_records, read_act, serve_one,
+};
+use serde_json::Value;
+use sqlite::{Connection, MemStore};
+use std::alloc::Global;
+use std::test::Fail;
+
+/// A connection on which no transaction is under way.
+fn idle(conn: Connection<MemStore>) -> Result<Connection<MemStore>, Fail> {
+    if conn.is_autocommit() {
+        return Ok(conn);
+    }
+    Err(Fail::new("a transaction is under way"))
+}
+
+/// A reader of these bytes.
+fn pieces(text: &str) -> Pieces<'_> {
+    Pieces {
+        bytes: text.as_bytes(),
+        most: 7,
+        fails: false,
+    }
+}
+
+/// `office_store`: an office is made.
+fn created(mut conn: Connection<MemStore>) -> Result<Store<MemStore>, Fail> {
+    let is_there: bool = Store::found(&mut conn)?;
+    if is_there || !conn.is_autocommit() {
+        return Err(Fail::new("an office is there"));
+    }
+    match Store::create(conn) {
+        Ok(store) => Ok(store),
+        Err(_) => Err(Fail::new("not made")),
+    }
+}
+
+/// `office_store`: a change is saved.
+fn saved(alloc: Global, store: &mut Store<MemStore>, act: &Act) -> Result<(), Fail> {
+    if let Decision::Go(change) = Machine::new(alloc).decide(act)? {
+        store.save(alloc, &change)?;
+    }
+    Ok(())
+}
+
+/// `office_store`: tables of the version before are migrated, and a content is read.
+fn read(store: &mut Store<MemStore>) -> Result<(), Fail> {
+    store.migrate()?;
+    let content: Option<Vec<u8>> = store.content(1)?;
+    if store.version() == 2 && content.is_none() {
+        return Ok(());
+    }
+    Err(Fail::new("not saved"))
+}
+
+/// `office_store`: an office is taken over, its rows at once.
+fn adopted(alloc: Global, conn: Connection<MemStore>) -> Result<Connection<MemStore>, Fail> {
+    if !conn.is_autocommit() {
+        return Err(Fail::new("a transaction is under way"));
+    }
+    match Store::adopt(alloc, conn) {
+        Ok((store, tables)) => {
+            let tables: Tables = tables;
+            if tables.runs.len() == 1 {
+                return Ok(store.release());
+            }
+            Err(Fail::new("another office"))
+        }
+        Err(_) => Err(Fail::new("not taken over")),
+    }
+}
+
+/// `office_store`: the same, its rows one after another.
+fn adopted_into(alloc: Global, conn: Connection<MemStore>) -> Result<Connection<MemStore>, Fail> {
+    if !conn.is_autocommit() {
+        return Err(Fail::new("a transaction is under way"));
+    }
+    let mut builder = Builder::new(alloc);
+    match Store::adopt_into(alloc, conn, &mut builder) {
+        Ok(store) => Ok(store.release()),
+        Err(_) => Err(Fail::new("not taken over row by row")),
+    }
+}
+
+/// `office_desk`: a list of acts, of which there is one.
+fn performed(alloc: Global, desk: &mut Desk<MemStore>) -> Result<Vec<Answer>, Fail> {
+    let value: Value = Value::from_slice(alloc, "{\"act\":\"run-step\"}".as_bytes())?;
+    let act: Act = read_act(alloc, &value)?;
+    let mut answers: Vec<Answer> = Vec::new(alloc);
+    desk.perform_all(&[act], &mut answers)?;
+    Ok(answers)
+}
+
+/// `office_wire`: answers as JSON.
+fn answered(alloc: Global, answers: &[Answer]) -> Result<(), Fail> {
+    for answer in answers {
+        let _value: Value = answer_value(alloc, answer)?;
+    }
+    Ok(())
+}
+
+/// `office_desk`: a run is resumed, of which there is none.
+fn resumed(desk: &mut Desk<MemStore>) -> Result<(), Fail> {
+    match desk.resume()? {
+        Answer::Refused(Refusal::NoRun) => Ok(()),
+        _ => Err(Fail::new("a run is open")),
+    }
+}
+
+/// `office_desk`: what is read of a record.
+fn record(desk: &mut Desk<MemStore>) -> Result<(), Fail> {
+    let view: Option<RecordView> = desk.record(1)?;
+    match view {
+        Some(_) => Err(Fail::new("another office is read")),
+        None => Ok(()),
+    }
+}
+
+/// `office_desk`: how a record ended.
+fn ending(desk: &mut Desk<MemStore>) -> Result<(), Fail> {
+    let entry: Option<Entry> = desk.entry_of(1)?;
+    match entry {
+        Some(_) => Err(Fail::new("an entry is read")),
+        None => Ok(()),
+    }
+}
+
+/// `office_desk`: a record's content.
+fn content(desk: &mut Desk<MemStore>) -> Result<(), Fail> {
+    let bytes: Option<Vec<u8>> = desk.content(1)?;
+    match bytes {
+        Some(_) => Err(Fail::new("a content is read")),
+        None => Ok(()),
+    }
+}
+
+/// `office_desk`: the certificate of the run.
+fn certificate(desk: &mut Desk<MemStore>) -> Result<(), Fail> {
+    let body: Option<String> = desk.certificate(1)?;
+    match body {
+        Some(_) => Ok(()),
+        None => Err(Fail::new("no certificate is read")),
+    }
+}
+
+/// `office_desk`: the due list of a day.
+fn due(desk: &mut Desk<MemStore>, day: Day) -> Result<(), Fail> {
+    let list: Vec<RecordNo> = desk.due_list(day)?;
+    if list.is_empty() {
+        return Ok(());
+    }
+    Err(Fail::new("a due day is read"))
+}
+
+/// `office_desk`: the overdue list of a day.
+fn overdue(desk: &mut Desk<MemStore>, day: Day, days: ConfirmDays) -> Result<(), Fail> {
+    let list: Vec<RecordNo> = desk.overdue_list(day, days)?;
+    if list.is_empty() {
+        return Ok(());
+    }
+    Err(Fail::new("a deadline is read"))
+}
+
+/// `office_desk`: the entries of all runs.
+fn entries(desk: &mut Desk<MemStore>) -> Result<(), Fail> {
+    let list: Vec<Entry> = desk.entries()?;
+    if list.is_empty() {
+        return Ok(());
+    }
+    Err(Fail::new("an entry is read"))
+}
+
+/// `office_wire`: a request is answered.
+fn served(alloc: Global, desk: &mut Desk<MemStore>) -> Result<(), Fail> {
+    let mut out = Vec::new(alloc);
+    let mut reader = pieces("GET /records/1 HTTP/1.1\r\nHost: h\r\n\r\n");
+    let status: u16 = serve_one(alloc, desk, &mut reader, &mut out)?;
+    if status == 404 {
+        return Ok(());
+    }
+    Err(Fail::new("answered otherwise"))
+}
+
+/// `office_wire`: rows are imported, of which there are none.
+fn imported(alloc: Global, desk: &mut Desk<MemStore>, day: Day) -> Result<(), Fail> {
+    let mut out = Vec::new(alloc);
+    let mut reader = pieces("ref,title,originated,aggregation,class,schedule,content\n");
+    let refused: u64 = import_records(alloc, desk, day, &mut reader, &mut out)?;
+    if refused == 0 {
+        return Ok(());
+    }
+    Err(Fail::new("refused"))
+}
+
+/// `office_wire`: the due register is exported.
+fn due_exported(alloc: Global, desk: &mut Desk<MemStore>, day: Day) -> Result<(), Fail> {
+    let mut out = Vec::new(alloc);
+    Ok(export_due(alloc, desk, day, &mut out)?)
+}
+
+/// `office_wire`: the overdue register is exported.
+fn overdue_exported(
+    alloc: Global,
+    desk: &mut Desk<MemStore>,
+    day: Day,
+    days: ConfirmDays,
+) -> Result<(), Fail> {
+    let mut out = Vec::new(alloc);
+    Ok(export_overdue(alloc, desk, day, days, &mut out)?)
+}
+
+/// `office_wire`: the register of entries is exported.
+fn entries_exported(alloc: Global, desk: &mut Desk<MemStore>) -> Result<(), Fail> {
+    let mut out = Vec::new(alloc);
+    Ok(export_entries(alloc, desk, &mut out)?)
+}
+
+/// The program: a due day and a plan, without an office. Its words are read in the cases.
+fn computed(alloc: Global) -> Result<(), Fail> {
+    let mut out = Vec::new(alloc);
+    let refusal: Result<Option<Refusal>, Io> = due_to(
+        "years",
+        "7",
+        "from-month-4",
+        "2017-06-30",
+        &mut out,
+    );
+    let mut plan = pieces("schedule D1 added years 1 none destroy\n");
+    let refused: Result<Option<(u64, Refusal)>, PlanStop> = plan_to(alloc, &mut plan, &mut out);
+    if refusal == Ok(None) && refused.is_ok() && out.as_slice() == "2025-04-01\n".as_bytes() {
+        return Ok(());
+    }
+    Err(Fail::new("written otherwise"))
+}
+
+/// The program: a command over a connection.
+fn program(alloc: Global, conn: Connection<MemStore>) -> Result<(), Fail> {
+    if !conn.is_autocommit() {
+        return Err(Fail::new("a transaction is under way"));
+    }
+    let order = Order::Init { file: "office.db" };
+    let (mut out, mut err) = (Vec::new(alloc), Vec::new(alloc));
+    let mut input = pieces("");
+    let (status, _): (u8, Connection<MemStore>) = run_on(
+        alloc, conn, &order, &mut input, &mut out, &mut err,
+    );
+    if status == 0 && out.as_slice() == "version 2\n".as_bytes() {
+        return Ok(());
+    }
+    Err(Fail::new("another status"))
+}
+
+/// The calls of the desk that act.
+fn acts(alloc: Global, desk: &mut Desk<MemStore>) -> Result<(), Fail> {
+    let answers = performed(alloc, desk)?;
+    answered(alloc, answers.as_slice())?;
+    resumed(desk)
+}
+
+/// The calls of the desk that read.
+fn readings(desk: &mut Desk<MemStore>, day: Day, days: ConfirmDays) -> Result<(), Fail> {
+    record(desk)?;
+    ending(desk)?;
+    content(desk)?;
+    certificate(desk)?;
+    due(desk, day)?;
+    overdue(desk, day, days)?;
+    entries(desk)
+}
+
+/// The calls of the wire.
+fn wire(alloc: Global, desk: &mut Desk<MemStore>, day: Day, days: ConfirmDays) -> Result<(), Fail> {
+    served(alloc, desk)?;
+    imported(alloc, desk, day)?;
+    due_exported(alloc, desk, day)?;
+    overdue_exported(alloc, desk, day, days)?;
+    entries_exported(alloc, desk)
+}
+
+/// A connection to an office with a run that is open, taken over twice.
+fn office(alloc: Global, day: Day) -> Result<Connection<MemStore>, Fail> {
+    let by = Text::read(alloc, "registrar")?.ok_or("no name")?;
+    let mut store = created(idle(Connection::open_in_memory(alloc)?)?)?;
+    saved(alloc, &mut store, &Act::OpenRun { day, by })?;
+    read(&mut store)?;
+    adopted_into(alloc, adopted(alloc, store.release())?)
+}
+
+/// The calls, one after another.
+pub(crate) fn call(alloc: Global) -> Result<(), Fail> {
+    let (Some(day), Some(days)) = (Day::read("2024-01-02"), ConfirmDays::new(30)) else {
+        return Err(Fail::new("no day"));
+    };
+    computed(alloc)?;
+    let conn = office(alloc, day)?;
+    if !conn.is_autocommit() {
+        return Err(Fail::new("a transaction is under way"));
+    }
+    let Ok(mut desk) = Desk::open(alloc, conn) else {
+        return Err(Fail::new("not opened"));
+    };
+    acts(alloc, &mut desk)?;
+    readings(&mut desk, day, days)?;
+    wire(alloc, &mut desk, day, days)?;
+    program(alloc, desk.close())
+}
