@@ -7,7 +7,6 @@ ghost use Rattle.office_rules.specs.State.{ByteMap, with_contents};
 ghost use Rattle.office_rules.specs.Tables.{RepresentNone, no_rows};
 
 use crate::loader::Loader;
-use crate::parts::Parts;
 use crate::{Intake, Machine, Row};
 use office_base::Rebuild;
 use std::alloc::Global;
@@ -55,16 +54,7 @@ impl Builder {
         ensures damaged { OnDamaged result (RepresentNone self) }
     {
         let office = self.loader.finish()?;
-        Ok(Machine {
-            parts: Parts {
-                tree: office.tree,
-                holds: office.holds,
-                runs: office.runs,
-                entries: office.entries,
-                certificates: office.certificates,
-                day: office.day,
-            },
-        })
+        Ok(Machine { parts: office })
     }
 }
 

@@ -16,8 +16,8 @@ pub(crate) mod records;
 mod runs;
 
 use crate::keys::ContentKeys;
-use crate::loaded::Loaded;
 use crate::loader::Loader;
+use crate::parts::Parts;
 use office_base::{Rebuild, ordered};
 use office_records::{Aggregation, Class, Code, Event, Record, RecordNo, Schedule, Status};
 use office_tree::Tree;
@@ -64,7 +64,7 @@ fn tree_of(
 impl Loader {
     /// The parts of which the rows are, and the keys of contents; damaged only where there is no
     /// sound office of such rows.
-    fn parts(self) -> Result<(Loaded, ContentKeys), Rebuild>
+    fn parts(self) -> Result<(Parts, ContentKeys), Rebuild>
         ensures parts { IfOk result (λ p. AreTablesOf self p.0) }
         ensures keys { IfOk result (λ p. (contents : ByteMap) × HaveKeys contents self.contents) }
         ensures same_keys { IfOk result (λ p. p.1 ≡ self.contents) }
@@ -85,7 +85,7 @@ impl Loader {
             self.statuses,
             self.events,
         )?;
-        let parts = Loaded {
+        let parts = Parts {
             tree,
             holds: self.holds,
             runs: self.runs,
@@ -99,7 +99,7 @@ impl Loader {
     /// The office that the rows taken in so far represent; Damaged only where there is none, Memory
     /// where there is none for what is derived or examined. Whatever the contents of the keys that
     /// have come are, it is sound with them. Contents themselves are not asked for.
-    pub fn finish(self) -> Result<Loaded, Rebuild>
+    pub fn finish(self) -> Result<Parts, Rebuild>
         ensures ok { IfOk result (λ office. AreTablesOf self office) }
         ensures sound { IfOk result
             (λ office. (contents : ByteMap) → HaveKeys contents self.contents

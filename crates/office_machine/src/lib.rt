@@ -22,7 +22,6 @@ mod examination;
 mod filing;
 mod from_tables;
 mod keys;
-mod loaded;
 mod loader;
 mod machine;
 mod marking;

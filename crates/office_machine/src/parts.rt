@@ -19,8 +19,11 @@ use std::marker::Model;
 pub(crate) struct Parts {
     pub(crate) tree: Tree,
     pub(crate) holds: Holds,
+    /// By number, from 1.
     pub(crate) runs: Vec<Run>,
+    /// By run, then record.
     pub(crate) entries: BTreeMap<(RunNo, RecordNo), Entry>,
+    /// By run.
     pub(crate) certificates: BTreeMap<RunNo, Certificate>,
     pub(crate) day: Day,
 }

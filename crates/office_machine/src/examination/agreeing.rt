@@ -8,12 +8,12 @@ ghost use Rattle.office_rules.specs.Sound.{IsSound};
 ghost use Rattle.office_rules.specs.State.{ByteMap, with_contents};
 ghost use Rattle.office_machine.specs.Keys.{bare_contents};
 
-use crate::loaded::Loaded;
+use crate::parts::Parts;
 use office_base::Memory;
 use office_records::RecordNo;
 use std::alloc::Global;
 
-impl Loaded {
+impl Parts {
     /// Whether they agree with each other, and with the keys of contents.
     pub(crate) fn do_agree(&self, keys: &[RecordNo]) -> bool
         requires { IsStrictlySortedBy nat_cmp keys.now }

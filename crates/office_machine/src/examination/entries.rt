@@ -13,7 +13,7 @@ ghost use Rattle.office_rules.specs.Outcomes.{is_ending, is_skipping, is_transfe
 ghost use Rattle.office_rules.specs.Loading.{AreEndings, EachHasOneEnding, TwoRunsEndOne, is_entry_right};
 ghost use Rattle.office_rules.specs.State.{entry_cmp};
 
-use crate::loaded::Loaded;
+use crate::parts::Parts;
 use office_base::Memory;
 use office_records::{RecordNo, Status};
 use office_rules::{Entry, Outcome, RunNo};
@@ -86,7 +86,7 @@ fn is_hold_reported(entry: &Entry) -> bool
     }
 }
 
-impl Loaded {
+impl Parts {
     /// Whether there is a hold of the code, if the entry names one.
     fn is_hold_there(&self, entry: &Entry) -> bool
         ensures { result ≡ is_there self.now.holds entry.now.hold }

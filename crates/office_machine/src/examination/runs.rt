@@ -17,7 +17,7 @@ ghost use Rattle.office_rules.specs.declared.entry.Entry.{Entry};
 ghost use Rattle.office_machine.specs.Keys.{bare_contents};
 
 use crate::certificate::Certificate;
-use crate::loaded::Loaded;
+use crate::parts::Parts;
 use office_days::Day;
 use office_records::{RecordNo, Status};
 use office_rules::{Entry, Run, RunNo};
@@ -238,7 +238,7 @@ fn well_formed_entries(entries: &BTreeMap<(RunNo, RecordNo), Entry>)
     }
 }
 
-impl Loaded {
+impl Parts {
     /// Whether only the last run is open, and certificates are there for exactly the closed runs.
     pub(crate) fn do_runs_agree(&self) -> bool
         ensures yes { IsTrue result → RunsAgree self.now.runs self.now.certificates }

@@ -9,7 +9,7 @@ use Rattle.office_rules.specs.Tables.{Represents, TableLists}
 use Rattle.office_rules.proofs.Accepted.{tree_sound}
 use Rattle.office_rules.proofs.SoundMaps.{entry_total}
 use Rattle.office_machine.specs.Collected.{days_of}
-use Rattle.office_machine.specs.contracts.loaded.Loaded as loaded
+use Rattle.office_machine.specs.contracts.parts.Parts as loaded
 use Rattle.office_machine.specs.contracts.loader.Loader.{the_view}
 use Rattle.office_machine.proofs.FoundTables.{some_contents, tables_of, tree_rows}
 use Rattle.office_machine.proofs.Collected.{own_rows}

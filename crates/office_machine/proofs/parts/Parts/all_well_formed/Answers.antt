@@ -3,7 +3,7 @@ use Rattle.office_records.specs.Forms.{IsWellFormedTree}
 use Rattle.office_records.specs.Sound as tree
 use Rattle.office_rules.specs.HoldForms.{AreWellFormedHolds, FitsHoldLimits}
 use Rattle.office_rules.specs.State.{Office}
-use Rattle.office_machine.proofs.loaded.Loaded.all_well_formed.Goals as goal
+use Rattle.office_machine.proofs.parts.Parts.all_well_formed.Goals as goal
 
 pub returns : goal.returns
 returns c = record {

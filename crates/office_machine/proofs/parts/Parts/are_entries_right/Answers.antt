@@ -6,7 +6,7 @@ use Rattle.office_rules.specs.Loading.{is_entry_right}
 use Rattle.office_rules.specs.State.{Office}
 use Rattle.office_records.proofs.Passing.{all_passed, next_passes, none_passed, passed_next}
 use Rattle.office_machine.proofs.RunEntries.{values_ordered}
-use Rattle.office_machine.proofs.loaded.Loaded.are_entries_right.Goals as goal
+use Rattle.office_machine.proofs.parts.Parts.are_entries_right.Goals as goal
 
 -- the entry fits the office
 abbrev Fits : Office → Entry → Type 0

@@ -1,7 +1,7 @@
 use Rattle.std.proofs.Common.{length, subst, sym}
 use Rattle.office_rules.specs.SoundHolds.{TargetsExist}
 use Rattle.office_rules.specs.State.{Office}
-use Rattle.office_machine.proofs.loaded.Loaded.are_parts_sound.Goals as goal
+use Rattle.office_machine.proofs.parts.Parts.are_parts_sound.Goals as goal
 
 pub returns-then-not-do_targets_exist-clause-no : goal.returns-then-not-do_targets_exist-clause-no
 returns-then-not-do_targets_exist-clause-no c = λ reported represent.

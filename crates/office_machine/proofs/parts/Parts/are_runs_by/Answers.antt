@@ -3,7 +3,7 @@ use Rattle.office_records.specs.Lists.{numbered}
 use Rattle.office_records.proofs.Bridge.{from_numbers}
 use Rattle.office_rules.specs.Loading.{AreRunsBy}
 use Rattle.office_rules.specs.State.{Office}
-use Rattle.office_machine.proofs.loaded.Loaded.are_runs_by.Goals as goal
+use Rattle.office_machine.proofs.parts.Parts.are_runs_by.Goals as goal
 
 pub returns-clause-no : goal.returns-clause-no
 returns-clause-no c reported by =

@@ -7,7 +7,7 @@ use Rattle.office_rules.specs.Sound.{IsWellFormedRun}
 use Rattle.office_rules.specs.State.{Office}
 use Rattle.office_rules.specs.declared.run.Run.{Run}
 use Rattle.office_machine.proofs.RunTests.{at_entries}
-use Rattle.office_machine.proofs.loaded.Loaded.formed.Goals as goal
+use Rattle.office_machine.proofs.parts.Parts.formed.Goals as goal
 
 pub returns-clause-runs : goal.returns-clause-runs
 returns-clause-runs c =

@@ -2,7 +2,7 @@ use Rattle.std.proofs.Common.{◌≤◌, ◌+◌, ◌∙◌, length, arith, sym,
 use Rattle.std.specs.FinMap.{from_entries}
 use Rattle.office_records.specs.Sound.{IsSound}
 use Rattle.office_machine.proofs.Endings.{all_have, has_no_ending, next_has, none_has}
-use Rattle.office_machine.proofs.loaded.Loaded.has_each_ended.Goals as goal
+use Rattle.office_machine.proofs.parts.Parts.has_each_ended.Goals as goal
 
 pub loop-before-init : goal.loop-before-init
 loop-before-init c = none_has c.args.self.now.tree.statuses (from_entries c.args.ends.now.entries)

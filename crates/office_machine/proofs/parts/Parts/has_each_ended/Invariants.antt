@@ -1,7 +1,7 @@
 use Rattle.std.specs.FinMap.{from_entries}
 use Rattle.std.specs.Ordering.{nat_cmp}
 use Rattle.office_machine.proofs.Endings.{HaveEndings}
-use Rattle.office_machine.proofs.loaded.Loaded.has_each_ended.Given as goal
+use Rattle.office_machine.proofs.parts.Parts.has_each_ended.Given as goal
 
 -- each ended record so far has a run under it
 abbrev pub invariant-loop-before : goal.invariant-loop-before

@@ -4,8 +4,8 @@ use Rattle.std.specs.Ordering.{nat_cmp}
 use Rattle.office_rules.specs.Loading.{AreEndings}
 use Rattle.office_rules.specs.State.{Office}
 use Rattle.office_machine.proofs.Endings.{no_ending, one_ending}
-use Rattle.office_machine.proofs.loaded.Loaded.have_all_one_ending.Goals.{After-drop-ends}
-use Rattle.office_machine.proofs.loaded.Loaded.have_all_one_ending.Goals as goal
+use Rattle.office_machine.proofs.parts.Parts.have_all_one_ending.Goals.{After-drop-ends}
+use Rattle.office_machine.proofs.parts.Parts.have_all_one_ending.Goals as goal
 
 -- the runs that are noted are those of the office's entries
 noted : (c : After-drop-ends) → AreEndings (from_entries {R = nat_cmp} c.in-Some.ends.entries) (values c.args.self.now.entries)

@@ -3,7 +3,7 @@ use Rattle.office_records.specs.Examined.{IsTreeBy}
 use Rattle.office_records.specs.Sound.{AreEventsSound}
 use Rattle.office_rules.specs.SoundHolds.{NoHoldIsAfter}
 use Rattle.office_rules.specs.State.{Office}
-use Rattle.office_machine.proofs.loaded.Loaded.is_by.Goals as goal
+use Rattle.office_machine.proofs.parts.Parts.is_by.Goals as goal
 
 pub returns-then-not-are_events_sound-clause-no : goal.returns-then-not-are_events_sound-clause-no
 returns-then-not-are_events_sound-clause-no c = λ reported by. c.are_events_sound.ensures.no c.if-not-are_events_sound.true (subst (λ (o : Office). AreEventsSound o.tree.events (length o.tree.records) o.day) (sym c.self.view_is) by.events_by)

@@ -4,7 +4,7 @@ use Rattle.office_rules.specs.State.{Office}
 use Rattle.office_machine.specs.Keys.{bare_contents}
 use Rattle.office_machine.proofs.LiveKeys.{keys_of_bare}
 use Rattle.office_machine.proofs.FoundSound.{found_sound, sound_endings, sound_parts}
-use Rattle.office_machine.proofs.loaded.Loaded.is_sound.Goals as goal
+use Rattle.office_machine.proofs.parts.Parts.is_sound.Goals as goal
 
 pub returns-then-not-do_agree-clause-no : goal.returns-then-not-do_agree-clause-no
 returns-then-not-do_agree-clause-no c = λ reported contents have sound.
