@@ -2,7 +2,7 @@
 ghost use Rattle.std.specs.Prelude.{◌≡◌, ◌||◌, IfOk, OnErr};
 ghost use Rattle.office_wire.specs.Connections.{Ends, ServesAll, Turn, has_failed};
 
-use crate::serving::serve_with;
+use crate::exchange::serve_with;
 use office_base::{Io, Memory, is_interrupted};
 use office_desk::Desk;
 use office_http::{Routes, Timed};
