@@ -8,7 +8,6 @@
 mod builder;
 mod certificate;
 mod decide;
-mod decisions;
 mod disposal;
 mod due_list;
 mod due_rows;
@@ -32,6 +31,7 @@ mod run_certificate;
 mod run_decisions;
 mod run_step;
 mod selection;
+mod tree_decisions;
 mod writes;
 
 pub use builder::Builder;

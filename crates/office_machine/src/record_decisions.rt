@@ -11,9 +11,9 @@ ghost use Rattle.office_rules.specs.State.{with_contents};
 ghost use Rattle.office_rules.specs.Steps.{step_add_record, step_confirm, step_event, step_receipt, step_review, step_set_record_schedule};
 ghost use Rattle.office_machine.specs.Filings.{filed};
 
-use crate::decisions::two;
 use crate::new_record::Filing;
 use crate::parts::Parts;
+use crate::tree_decisions::two;
 use crate::{Answer, Change, Decision, RowWrite};
 use office_base::Memory;
 use office_days::{Day, DueDay};

@@ -8,8 +8,8 @@ ghost use Rattle.office_rules.specs.Sound.{IsSoundOffice};
 ghost use Rattle.office_rules.specs.State.{with_contents};
 ghost use Rattle.office_rules.specs.Steps.{step_open_run, step_run_step};
 
-use crate::decisions::two;
 use crate::parts::Parts;
+use crate::tree_decisions::two;
 use crate::{Answer, Change, Decision, RowWrite, Run};
 use office_base::{Memory, Refusal};
 use office_days::Day;

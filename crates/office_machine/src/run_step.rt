@@ -11,9 +11,9 @@ ghost use Rattle.office_rules.specs.declared.rows.RowWrite.TheVariants as row_wr
 ghost use Rattle.office_rules.specs.declared.run.Run.{Run};
 
 use crate::RowWrite;
-use crate::decisions::then;
 use crate::disposal::outcome_by;
 use crate::parts::Parts;
+use crate::tree_decisions::then;
 use office_base::Memory;
 use office_records::{Code, RecordNo, Status};
 use office_rules::{Entry, Outcome, RunNo, copy_code, copy_codes};
