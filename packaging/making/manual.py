@@ -47,9 +47,9 @@ def rows(words: list[Word]) -> list[str]:
 
 
 def sentences(words: str) -> tuple[str, str]:
-    """The notes without their last sentence, which names a story, cut at the exit status."""
+    """The notes, cut at the exit status."""
     operands, status = words.replace("`./office ", "`office ").split(" The exit status ", 1)
-    return operands, "The exit status " + status.split(" A worked story ")[0]
+    return operands, "The exit status " + status
 
 
 def office(version: str, day: str, scripts: list[str]) -> str:
