@@ -1,5 +1,5 @@
 use Rattle.std.proofs.Common.{ap, Err}
-use Rattle.office_http.specs.declared.receiving.ReceiveStop.{ReceiveStop}
+use Rattle.office_http.specs.declared.request.ReceiveStop.{ReceiveStop}
 use Rattle.office_wire.proofs.Replied.{asked_next, failed_next, headless_next, silent_next, out_of_memory_next, unread_next}
 use Rattle.office_wire.proofs.exchange.answer_next.Goals as goal
 

@@ -1,5 +1,5 @@
 use Rattle.std.proofs.Common.{ap, Err}
-use Rattle.office_csv.specs.declared.reading.RowStop.{RowStop}
+use Rattle.office_csv.specs.declared.import_text.RowStop.{RowStop}
 use Rattle.office_wire.proofs.Imported.{prefix_end, prefix_io, prefix_more, prefix_start, prefix_stopped, prefix_unread}
 use Rattle.office_wire.proofs.record_import.import_rows.Goals as goal
 
