@@ -24,7 +24,7 @@ const restOf = () => formOf(kind).names.filter((name) => !APART.includes(name));
 /** What became of the act of a row, in words. */
 const fateOf = (fate) => {
   if (kind === RECORDS) return fateWords(fate);
-  return fateWords(fate, false, fate.kind === "added" && fate.number ? `${PART}.numbered` : PART);
+  return fateWords(fate, "", fate.kind === "added" && fate.number ? `${PART}.numbered` : PART);
 };
 
 /** A cell in a message: its beginning. */
