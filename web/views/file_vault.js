@@ -9,9 +9,10 @@ import { digestOfFile, limits, putFile } from "../vault.js";
 /** What the vault takes, as it said last; nothing was asked yet. */
 let vault = { state: "none", most: 0, room: 0 };
 
-/** Asks what the vault takes now. */
+/** Asks what the vault takes now. One that was there and is silent for a moment is still there: a file says if it fails. */
 export async function ask() {
-  vault = await limits();
+  const said = await limits();
+  if (said.state !== "silent" || vault.state === "none") vault = said;
 }
 
 /** Whether there is a vault (`there`), none (`none`), or one that does not answer (`silent`). */

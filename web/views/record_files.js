@@ -13,6 +13,8 @@ import * as content from "./record_content.js";
 /** A longer file the browser saves by itself, and a longer one is not looked at. */
 const MOST_SAVED = 1 << 30;
 const MOST_LOOKED = 64 << 20;
+/** A longer content is not read for the files that it may name, if there is no vault to say so. */
+const MOST_MANIFEST = 4096;
 
 let subject = null;
 /** Whether the office said that it has no vault: then it is not asked again. */
@@ -132,7 +134,7 @@ function listOf(files) {
 function tell(files) {
   const sum = files.reduce((all, { length }) => all + length, 0);
   const heading = made("h3", {}, plural("files.heading", files.length));
-  const about = paragraph(t("files.about"), "hint");
+  const about = paragraph(plural("files.about", files.length), "hint");
   const list = made("ul", { class: "vaulted" }, ...files.map(itemOf));
   byId("record-files").replaceChildren(heading, about, list, comparing(files), listOf(files));
   byId("record-files").hidden = false;
@@ -150,9 +152,6 @@ async function untold({ number, length }) {
   const digests = files.map(({ digest }) => made("p", {}, made("code", {}, digest)));
   return [made("div", { class: "outcome unknown" }, paragraph(words), ...digests)];
 }
-
-/** A longer content is not read for the files that it may name, if there is no vault to say so. */
-const MOST_MANIFEST = 4096;
 
 /**
  * Shows the files of a record in place of its content, where it has some.
