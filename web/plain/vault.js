@@ -1,8 +1,9 @@
 // The files of a record in the vault: the text that names them, which is the record's content (docs/VAULT.md), and words.
 
-/** The most bytes of a name of a file, and the fewest of a text that names one. */
+/** The most bytes of a name of a file, and the fewest and the most of a text that names files. */
 const MOST_PLACE = 1024;
 export const LEAST_BYTES = 64;
+const MOST_BYTES = 262144;
 const GROUP = /SHA256 ([0-9a-f]{64})\nLENGTH (0|[1-9][0-9]{0,17})\nPLACE ([^\u0000-\u001f\u007f-\u009f]+)\n/y;
 
 const encoder = new TextEncoder();
@@ -17,6 +18,7 @@ export const manifestOf = (digest, size, place) => `SHA256 ${digest}\nLENGTH ${s
  */
 export function filesIn(text) {
   const files = [];
+  if (encoder.encode(text).length > MOST_BYTES) return null;
   GROUP.lastIndex = 0;
   while (GROUP.lastIndex < text.length) {
     const found = GROUP.exec(text);
