@@ -11,6 +11,7 @@ import signal
 import subprocess
 from collections.abc import Iterator
 
+import importing
 import layout
 import looks
 from browser import Browser
@@ -291,6 +292,47 @@ def without(view: View, vault: Vault, numbers: dict[str, int]) -> None:
     vault.named(True)
 
 
+SHEET = """ref;title;originated;aggregation;Datei
+I/1;A letter;2021-06-05;1;letter.txt
+I/2;A plan;2021-06-05;1;sub\\plan.tif
+I/3;Nothing;2021-06-05;1;
+I/4;A slip;2021-06-05;1;lettre.txt
+"""
+
+
+def imported(story: Story, vault: Vault) -> None:
+    """A sheet with a column of file names: the documents are chosen beside it, and a large one goes into the vault."""
+    view, it, place = importing.View(story), story.browser, vault.proxy.folder / "papers"
+    (place / "sub").mkdir(parents=True)
+    plan = os.urandom(700_000)
+    (place / "letter.txt").write_bytes(b"A letter on paper.")
+    (place / "sub/plan.tif").write_bytes(plan)
+    view.open()
+    view.choose("papers.csv", SHEET.encode())
+    same("import: without documents there is no content", [row[7] for row in view.rows()], [""] * 4)
+    it.one("#import-folder").send_keys(str(place))
+    it.wait(lambda: it.seen("#import-documents-taken") != "", "no document is taken")
+    it.settled()
+    same("import: two are chosen", it.seen("#import-documents-taken"), TEXTS["import"]["documents"]["taken"]["many"].format(count=2))
+    same("import: the column that names them is found", view.found("column-content"), "E: Datei")
+    large = TEXTS["import"]["documents"]["vault"].format(size="700,000 bytes")
+    same("import: each row shows its document", [row[7] for row in view.rows()], ["18 bytes", large, "", "lettre.txt"])
+    says("import: a name that is none of them is wrong", view.rows()[3][8], "E5", TEXTS["import"]["wrong"]["document"])
+    before = vault.count()
+    view.press()
+    same("import: three are filed", view.counts(), {"added": "3"})
+    same("import: the vault has one more", vault.count(), before + 1)
+    judge("import: its bytes are there", vault.path(digest(plan)).read_bytes() == plan)
+    judge("import: its row says so", view.rows()[1][8].startswith(TEXTS["filing"]["vaultAdded"].split("{")[0]), view.rows()[1][8])
+    contents = {}
+    for number in range(1, 20):
+        status, _, body = vault.office.ask("GET", f"/records/{number}")
+        if status == 200 and json.loads(body)["ref"].startswith("I/"):
+            contents[json.loads(body)["ref"]] = vault.office.ask("GET", f"/records/{number}/content")[2]
+    named = f"SHA256 {digest(plan)}\nLENGTH 700000\nPLACE papers/sub/plan.tif\n".encode()
+    same("import: the contents", contents, {"I/1": b"A letter on paper.", "I/2": named, "I/3": b""})
+
+
 @contextlib.contextmanager
 def vault_of(office: Office, proxy: Proxy) -> Iterator[Vault]:
     it = Vault(office, proxy)
@@ -326,4 +368,5 @@ def tell(office: Office, proxy: Proxy, it: Browser, folder: pathlib.Path) -> Non
         compared(it, vault, files, numbers)
         wrong(it, vault, files, numbers)
         refused(view, vault)
+        imported(view.story, vault)
         without(view, vault, numbers)

@@ -1,6 +1,6 @@
 // Filing: files are dropped or chosen, each becomes a record, and their acts go to the office in few requests.
 import { mark, onSubmit, untick } from "../fields.js";
-import { byId, grouped, made, paragraph, plural, quiet, say } from "../page.js";
+import { asking, byId, grouped, made, paragraph, plural, quiet, say } from "../page.js";
 import { addRecord, bytesOf } from "../plain/acts.js";
 import { digestOf } from "../plain/certificates.js";
 import {
@@ -138,7 +138,10 @@ function remove(these) {
 
 /** Lists more files, each with its place in a folder or its name, and says which could not be taken. */
 async function take(files) {
-  if (files.some(({ file }) => vault.isLarge(file))) await vault.ask();
+  if (files.some(({ file }) => vault.isLarge(file))) {
+    asking(byId("file-taken"));
+    await vault.ask();
+  }
   const room = Math.max(0, MOST_FILES - entries.length);
   const listed = files.slice(0, room);
   const said = await Promise.all(listed.map(({ file }) => saidBy(file)));
