@@ -19,43 +19,11 @@ asked_any Reported g t (Err not_json) desk it = (tt, it.1)
 asked_any Reported g t (Err (bad_act place why)) desk it = (tt, it.1)
 
 resumed_any : {S : Type 0} (Reported : Response → Type 0) (g : Ghosts S) (t : State) (desk : DeskState S) → Resumes Reported g t desk → Resumes AnyAnswer g t desk
-resumed_any Reported g t desk (inl it) = inl (
-  it.0,
-  record {
-    was_open = it.1.was_open;
-    reported = tt;
-    closed = it.1.closed;
-    never_stopped = it.1.never_stopped;
-    fates = it.1.fates;
-  },
-)
-resumed_any Reported g t desk (inr (inl it)) = inr (inl (record { none_open = it.none_open; reported = tt; represents = it.represents }))
-resumed_any Reported g t desk (inr (inr it)) = inr (inr (
-  it.0,
-  record {
-    reported = tt;
-    stopped = it.1.stopped;
-    midway = it.1.midway;
-    none_open = it.1.none_open;
-    fates = it.1.fates;
-  },
-))
+resumed_any Reported g t desk it = (it.0, tt, it.2)
 
 content_any : {S : Type 0} (Reported : Response → Type 0) (g : Ghosts S) (t : State) (r : Option ℕ) (desk : DeskState S) → ReportsContent Reported g t r desk → ReportsContent AnyAnswer g t r desk
 content_any Reported g t None desk it = (tt, it.1)
-content_any Reported g t (Some r) desk (inl it) = inl (it.0, it.1, tt, it.3)
-content_any Reported g t (Some r) desk (inr it) = inr (
-  it.0,
-  record {
-    reported = tt;
-    damaged = it.1.damaged;
-    kept = it.1.kept;
-    poisoned = it.1.poisoned;
-    leaves = it.1.leaves;
-    offices = it.1.offices;
-    no_other = it.1.no_other;
-  },
-)
+content_any Reported g t (Some r) desk it = (it.0, tt, it.2)
 
 record_any : {S : Type 0} (Reported : Response → Type 0) (g : Ghosts S) (t : State) (r : Option ℕ) (desk : DeskState S) → ReportsRecord Reported g t r desk → ReportsRecord AnyAnswer g t r desk
 record_any Reported g t None desk it = (tt, it.1)
@@ -94,7 +62,7 @@ out_of_memory_leaves g t (acts body) desk (inr served) = (acts body, served)
 out_of_memory_leaves g t resumption desk served = (resumption, served)
 out_of_memory_leaves g t (record_reported r) desk out = (cut, (tt, out.1))
 out_of_memory_leaves g t (content_reported None) desk out = absurd out
-out_of_memory_leaves g t (content_reported (Some r)) desk out = (content_reported (Some r), inr out)
+out_of_memory_leaves g t (content_reported (Some r)) desk out = (content_reported (Some r), (Err out.0, tt, out.1))
 out_of_memory_leaves g t (due_reported day) desk out = (cut, (tt, out.1))
 out_of_memory_leaves g t (overdue_reported day count) desk out = (cut, (tt, out.2))
 out_of_memory_leaves g t (certificate_reported run) desk out = (cut, (tt, out.1))

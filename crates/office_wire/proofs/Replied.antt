@@ -15,9 +15,8 @@ use Rattle.office_http.specs.declared.status.Status.{Status}
 use Rattle.office_http.proofs.PostedActs.{acts_are_no_head}
 use Rattle.office_base.specs.declared.output.Io.{Io}
 use Rattle.office_wire.specs.Calling.{AnsweredAt, CalledAt}
-use Rattle.office_wire.specs.Connections.{IsVisited}
 use Rattle.office_http.specs.Receiving.{HasActs, IsAskedBy, IsReceived, IsOutOfMemory, Wanted, asked_for, cut}
-use Rattle.office_wire.specs.Serving.{AnswersNext, Breaks, GoneReplies, HasReply, InHalves, IsFailed, IsGoneReply, IsGoneServed, IsGoneToSend, IsNextReady, IsOneServed, IsReply, IsSent, IsServed, IsSomeSent, IsToSend, Replies, Sends, ServesOne, ReportsUnavailable}
+use Rattle.office_wire.specs.Serving.{AnswersNext, Breaks, GoneReplies, HasReply, InHalves, IsFailed, IsGoneAnswered, IsGoneReply, IsGoneServed, IsGoneToSend, IsNextReady, IsOneServed, IsReply, IsSent, IsServed, IsSomeSent, IsToSend, Replies, Sends, ReportsUnavailable}
 use Rattle.office_http.specs.declared.receiving.Asked.{Asked}
 use Rattle.office_http.specs.declared.receiving.Received.TheVariants as received
 use Rattle.office_http.specs.declared.receiving.ReceiveStop.TheVariants as stop
@@ -153,12 +152,18 @@ module _ {S : Type 0} (g : Ghosts S) (all : Option (List ℕ)) (unread : Type 0)
 -- ---- both halves
 
 module _ {R W S : Type 0} (g : Ghosts S) (all : R → Option (List ℕ)) (reader left : R) (contents : W → Option (List ℕ)) (writer after : W) (old new : DeskState S) where
-  pub one_failed : (e : Io) → AnswersNext g all reader left (Err e) old new → ServesOne g all reader left contents writer after (Err e) old new
+  -- one request was served; at 503 alone the desk may be poisoned by it
+  abbrev pub OneServed : Result ℕ Io → Type 0
+  OneServed status =
+      AnsweredAt g old new (λ t. IsOneServed g t (all reader) (left ≡ reader) status (contents writer) (contents after) new)
+      (IsGoneAnswered (all reader) (left ≡ reader) status (contents writer) (contents after)) (IfOk status (λ code. code ≡ 503))
+
+  pub one_failed : (e : Io) → AnswersNext g all reader left (Err e) old new → OneServed (Err e)
   one_failed e it =
       answered g old new (λ t. IsNextReady g t (all reader) (left ≡ reader) (Err e) new) (λ t. IsOneServed g t (all reader) (left ≡ reader) (Err e) (contents writer) (contents after) new) _ _ _ _ it
       (λ t next. record { ok = tt; leaves = next.leaves }) (λ gone. gone) (λ reported. reported)
 
-  pub one_sent : (it : Option OutgoingReply) (status : Result ℕ Io) → AnswersNext g all reader left (Ok it) old new → Sends it status (contents writer) (contents after) → ServesOne g all reader left contents writer after status old new
+  pub one_sent : (it : Option OutgoingReply) (status : Result ℕ Io) → AnswersNext g all reader left (Ok it) old new → Sends it status (contents writer) (contents after) → OneServed status
   one_sent it status next sent =
       let unread : Type 0 = left ≡ reader in
       answered g old new (λ t. IsNextReady g t (all reader) unread (Ok it) new) (λ t. IsOneServed g t (all reader) unread status (contents writer) (contents after) new) _ _ _ _ next
@@ -199,11 +204,3 @@ module _ {R W S : Type 0} (g : Ghosts S) (all : R → Option (List ℕ)) (reader
       → InHalves g all reader left contents writer after status old new
   halves_sent it (Ok code) next sent = record { next = Ok it; first = next; unserved = tt; second = sent; err = tt }
   halves_sent it (Err e) next sent = record { next = Ok it; first = next; unserved = tt; second = sent; err = broken (all reader) it sent.err next.call }
-
-  -- a request was served
-  pub visited : (status : Result ℕ Io) → ServesOne g all reader left contents writer after status old new → IsVisited g status old new
-  visited status it = answered g old new _ _ _ _ _ _ it (λ t one. one.leaves) (λ gone. tt) (λ reported. reported)
-
-  -- and its answer was not flushed
-  pub unflushed : (status : Result ℕ Io) (e : Io) → ServesOne g all reader left contents writer after status old new → IsVisited g (Err e) old new
-  unflushed status e it = answered g old new _ _ _ _ _ _ it (λ t one. one.leaves) (λ gone. tt) (λ reported. tt)

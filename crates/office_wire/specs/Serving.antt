@@ -164,18 +164,12 @@ pub record IsOneServed {S : Type 0} (g : Ghosts S) (t : State) (all : Option (Li
   pub ok : IfOk status (λ code. IfSome all (λ bytes. Replies g t bytes unread code written after desk))
   pub leaves : LeavesServed g t desk
 
--- one request was served; at 503 alone the desk may be poisoned by it
-abbrev pub ServesOne : {R W S : Type 0} → Ghosts S → (R → Option (List ℕ)) → (reader left : R) → (W → Option (List ℕ))
-    → (writer after : W) → Result ℕ Io → (old new : DeskState S) → Type 0
-ServesOne g all reader left contents writer after status old new =
-    AnsweredAt g old new
-    (λ t. IsOneServed g t (all reader) (left ≡ reader) status (contents writer) (contents after) new)
-    (IfOk status
-    (λ code. IfSome (all reader)
-    (λ bytes. GoneReplies bytes (left ≡ reader) code (contents writer) (contents after))))
-    (IfOk status (λ code. code ≡ 503))
+-- where the reader reports its bytes, the answer of a poisoned desk to all of them was written
+abbrev pub IsGoneAnswered : Option (List ℕ) → Type 0 → Result ℕ Io → Option (List ℕ) → Option (List ℕ) → Type 0
+IsGoneAnswered all unread status written after =
+    IfOk status (λ code. IfSome all (λ bytes. GoneReplies bytes unread code written after))
 
--- and it was served in two halves
+-- one request was served in two halves
 pub record InHalves {R W S : Type 0} (g : Ghosts S) (all : R → Option (List ℕ)) (reader left : R)
     (contents : W → Option (List ℕ)) (writer after : W) (status : Result ℕ Io) (old new : DeskState S) : Type 0 where
   -- the first gives what is to be written, for which the desk is already

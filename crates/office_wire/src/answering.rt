@@ -15,7 +15,6 @@ use office_desk::Desk;
 use office_http::{Failure, Operation, Reply, check_reply, failure_reply};
 use office_json::{ListFault, read_acts};
 use office_records::RecordNo;
-use office_rules::laws::resuming::law_of_resumption;
 use office_rules::{Act, Entry, RecordView};
 use office_store::Fault;
 use sqlite::Alter;
@@ -48,7 +47,6 @@ fn perform_body<S: Alter>(alloc: Global, desk: &mut Desk<S>, body: &[u8]) -> Res
 fn resume<S: Alter>(alloc: Global, desk: &mut Desk<S>) -> Result<Reply, Memory>
     ensures { IsPerformed S.Store resumption result desk.old desk.new }
 {
-    law_of_resumption();
     match desk.resume() {
         Ok(answer) => answer_reply(alloc, &answer),
         Err(fault) => fault_reply(alloc, fault),
