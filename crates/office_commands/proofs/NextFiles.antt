@@ -17,7 +17,7 @@ use Rattle.sqlite.specs.declared.file.Leftover.TheVariants as leftover
 use Rattle.office_rules.specs.Rows.{rows_of}
 use Rattle.office_rules.specs.State.{State}
 use Rattle.office_store.specs.RepresentsRows.{RepresentsRowsIn}
-use Rattle.office_command_line.specs.Orders.{Ordered}
+use Rattle.office_command_line.specs.Orders.{Command}
 use Rattle.office_commands.specs.Files.{HeldOffice, IsClosedCopy, IsLeftOf, IsUnclosed, IsUnopenedLeft, RunsInFiles, ServesInFiles}
 use Rattle.office_commands.specs.NextWord.{HoldsOfficeAt, HoldsWholeOffice, IsLeftBy, IsOfficeAt, IsServedTo, LeavesAt, LeavesFilesAt, StaysOffice}
 use Rattle.office_commands.specs.Tables.{HoldsTables, SparesTables}
@@ -85,7 +85,7 @@ module _ {D : Type 0} {g : Ghosts D} (old : Image) (s : State) (Is : State → T
     files_at (files.Unclosed store) closed = unclosed_at store closed
 
 -- each word leaves its files so
-pub word_leaves : IsOneDatabase → StaySound → IsEnded → {D : Type 0} {g : Ghosts D} (image : Image) (s : State) (order : Ordered) (text : List ℕ) (written after : Option (List ℕ)) (ending : Ending) (left : FilesLeft D g)
+pub word_leaves : IsOneDatabase → StaySound → IsEnded → {D : Type 0} {g : Ghosts D} (image : Image) (s : State) (order : Command) (text : List ℕ) (written after : Option (List ℕ)) (ending : Ending) (left : FilesLeft D g)
     → HoldsOfficeAt image s → RunsInFiles left image order (Some text) written after ending → LeavesFilesAt image s (IsLeftBy order text written after ending s) left
 word_leaves one stay ends image s order text written after ending left holds (inl none) = unopened_at image s (IsLeftBy order text written after ending s) left none.1
 word_leaves one stay ends image s order text written after ending left holds (inr (last, over, is_left)) =

@@ -36,7 +36,8 @@ use Rattle.office_json.specs.Answers.{answer_lines}
 use Rattle.office_json.specs.Lists.{acts_in}
 use Rattle.office_csv.specs.ImportRows.{Fields, act_asked}
 use Rattle.office_wire.specs.Importing.{AreLinesOut, ArePrefixRows, AreRowsDone, AreSomeRows, IsAnsweredBy, lines_from}
-use Rattle.office_command_line.specs.Orders.{Ordered, application_ordered, certificate_ordered, due_day_ordered, exportation_ordered, importation_ordered, init_file_ordered, nothing_ordered, overdue_ordered, plan_file_ordered, resumption_ordered, service_ordered}
+use Rattle.office_command_line.specs.Orders as command
+use Rattle.office_command_line.specs.Orders.{Command}
 use Rattle.office_command_line.specs.declared.register.Register.{Register}
 use Rattle.office_command_line.specs.declared.register.Register.TheVariants as register
 use Rattle.office_commands.specs.Applying.{Applies, Performs}
@@ -329,18 +330,18 @@ module _ (one : IsOneDatabase) (stay : StaySound) (ends : IsEnded) {S : Type 0} 
   same_held : new ≡ old → LeavesAt (λ u. u ≡ s) (state g new)
   same_held same = subst (λ (h : Held S). LeavesAt (λ u. u ≡ s) (state g h)) (sym same) (λ db may. (s, refl, at_before one stay ends (state g old) (state g new) s clean sound ed rest rows db may))
 
-  pub word_left : (order : Ordered) (text : List ℕ) (written after : Option (List ℕ)) (ending : Ending) → RunEnds g order (Some text) old new written after ending → LeavesAt (IsLeftBy order text written after ending s) (state g new)
-  word_left nothing_ordered text written after ending it = same_held it.1
-  word_left (due_day_ordered unit count offset day) text written after ending it = same_held it.1
-  word_left (plan_file_ordered file) text written after ending it = same_held it.1
-  word_left (service_ordered file port count) text written after ending it = same_held it.1
-  word_left (init_file_ordered file) text written after ending it = init_left one stay ends (state g old) (state g new) s clean sound ed rest rows written after ending it
-  word_left (application_ordered file acts) text written after ending (inl none) = λ db may.
+  pub word_left : (order : Command) (text : List ℕ) (written after : Option (List ℕ)) (ending : Ending) → RunEnds g order (Some text) old new written after ending → LeavesAt (IsLeftBy order text written after ending s) (state g new)
+  word_left command.nothing text written after ending it = same_held it.1
+  word_left (command.due unit count offset day) text written after ending it = same_held it.1
+  word_left (command.plan file) text written after ending it = same_held it.1
+  word_left (command.serve file port count) text written after ending it = same_held it.1
+  word_left (command.init file) text written after ending it = init_left one stay ends (state g old) (state g new) s clean sound ed rest rows written after ending it
+  word_left (command.apply file acts) text written after ending (inl none) = λ db may.
       let here = same_held none.1 db may in
       (s, inl (refl, none.2), subst (IsOfficeAt db) here.1 here.2)
-  word_left (application_ordered file acts) text written after ending (inr it) = applies_left one stay ends (state g old) (state g new) s clean sound ed rest rows text written after ending it
-  word_left (importation_ordered file day csv) text written after ending it = import_left one stay ends (state g old) (state g new) s clean sound ed rest rows day (option_map strip_bom (Some text)) written after ending it
-  word_left (overdue_ordered file day n) text written after ending it = export_left one stay ends (state g old) (state g new) s clean sound ed rest rows (register.Overdue day n) written after ending it
-  word_left (exportation_ordered file register) text written after ending it = export_left one stay ends (state g old) (state g new) s clean sound ed rest rows register written after ending it
-  word_left (resumption_ordered file) text written after ending it = resume_left one stay ends (state g old) (state g new) s clean sound ed rest rows written after ending it
-  word_left (certificate_ordered file run) text written after ending it = certificate_left one stay ends (state g old) (state g new) s clean sound ed rest rows run written after ending it
+  word_left (command.apply file acts) text written after ending (inr it) = applies_left one stay ends (state g old) (state g new) s clean sound ed rest rows text written after ending it
+  word_left (command.import file day csv) text written after ending it = import_left one stay ends (state g old) (state g new) s clean sound ed rest rows day (option_map strip_bom (Some text)) written after ending it
+  word_left (command.overdue file day n) text written after ending it = export_left one stay ends (state g old) (state g new) s clean sound ed rest rows (register.Overdue day n) written after ending it
+  word_left (command.export file register) text written after ending it = export_left one stay ends (state g old) (state g new) s clean sound ed rest rows register written after ending it
+  word_left (command.resume file) text written after ending it = resume_left one stay ends (state g old) (state g new) s clean sound ed rest rows written after ending it
+  word_left (command.certificate file run) text written after ending it = certificate_left one stay ends (state g old) (state g new) s clean sound ed rest rows run written after ending it

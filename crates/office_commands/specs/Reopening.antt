@@ -13,7 +13,7 @@ use Rattle.sqlite.specs.Held.{Held}
 use Rattle.office_sql.specs.declared.editions.Edition.{Edition}
 use Rattle.office_sql.specs.Office.{IsOfficeIn}
 use Rattle.office_rules.specs.State.{State}
-use Rattle.office_command_line.specs.Orders.{Ordered}
+use Rattle.office_command_line.specs.Orders.{Command}
 use Rattle.office_commands.specs.Files.{HeldOffice, IsLeftOf, LeavesAnOffice, RunsInFiles, ServesInFiles}
 use Rattle.office_commands.specs.NextWord.{HoldsOfficeAt, HoldsWholeOffice, IsLeftBy, IsServedTo, LeavesFilesAt}
 use Rattle.office_commands.specs.declared.ending.Ending.{Ending}
@@ -42,7 +42,7 @@ CrashHoldsOffice last =
 -- over files that hold an office at a state a word was run: they hold one at a state at which the word leaves it
 abbrev pub WordLeavesOffice : {D : Type 0} → Ghosts D → Type 0
 WordLeavesOffice {D} g =
-    (image : Image) (s : State) (order : Ordered) (text : List ℕ) (written after : Option (List ℕ)) (ending : Ending)
+    (image : Image) (s : State) (order : Command) (text : List ℕ) (written after : Option (List ℕ)) (ending : Ending)
     (left : FilesLeft D g)
     → HoldsOfficeAt image s → RunsInFiles left image order (Some text) written after ending
     → LeavesFilesAt image s (IsLeftBy order text written after ending s) left

@@ -3,7 +3,7 @@ ghost use Rattle.std.specs.Prelude.{◌≡◌, false, OnOk};
 ghost use Rattle.std.specs.Io.KnownBytes.{Appends};
 ghost use Rattle.sqlite.specs.Held.{state};
 ghost use Rattle.sqlite.specs.State.{HasCleanDisk};
-ghost use Rattle.office_command_line.specs.Orders.{ordered};
+ghost use Rattle.office_command_line.specs.Orders.{command};
 ghost use Rattle.office_commands.specs.Calling.{Exits};
 ghost use Rattle.office_commands.specs.Running.{RunEnds, listening_line};
 
@@ -40,7 +40,7 @@ fn carry_out<R: Read, W: Write, S: Alter>(
     out: &mut W,
 ) -> (Ending, Connection<S>)
     requires { conn.in_transaction ≡ false }
-    ensures ends { RunEnds S.Store (ordered order.now) (R.remaining input.old) conn result.1
+    ensures ends { RunEnds S.Store (command order.now) (R.remaining input.old) conn result.1
         (W.contents out.old) (W.contents out.new) result.0 }
     ensures clean { HasCleanDisk (state S.Store result.1) → HasCleanDisk (state S.Store conn) }
 {
@@ -74,7 +74,7 @@ pub fn run_on<R: Read, W: Write, E: Write, S: Alter>(
 ) -> (u8, Connection<S>)
     requires { conn.in_transaction ≡ false }
     // The command is carried out, and the status is that of its ending.
-    ensures runs { Exits result.0 (RunEnds S.Store (ordered order.now) (R.remaining input.old) conn
+    ensures runs { Exits result.0 (RunEnds S.Store (command order.now) (R.remaining input.old) conn
         result.1 (W.contents out.old) (W.contents out.new)) }
 
     // A disk that is clean afterwards was clean before.

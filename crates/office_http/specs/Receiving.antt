@@ -9,7 +9,7 @@ use Rattle.office_http.specs.declared.request_plan.RequestPlan.{RequestPlan}
 use Rattle.office_http.specs.declared.request_plan.RequestPlan.TheVariants.{Refuse, Serve}
 use Rattle.office_http.specs.declared.want.Want.{Want}
 use Rattle.office_http.specs.declared.want.Want.TheVariants as wants
-use Rattle.office_http.specs.declared.receiving.Asked.{Asked}
+use Rattle.office_http.specs.declared.receiving.ParsedRequest.{ParsedRequest}
 use Rattle.office_http.specs.declared.receiving.Operation.{Operation}
 use Rattle.office_http.specs.declared.receiving.Operation.TheVariants as operation
 use Rattle.office_http.specs.declared.receiving.Received.{Received}
@@ -69,7 +69,7 @@ abbrev pub AsksFor : {E : Type 0} → (List ℕ → Wanted) → List ℕ → Opt
 AsksFor wanted_of read left result = IfOk result (λ it. IfSome left (λ rest. asked_for it ≡ wanted_of (read ++ rest)))
 
 -- of a head and the bytes after it: what they ask for, and whether the head of the answer alone is written
-pub record IsAskedBy (h : RequestHead) (rest : List ℕ) (it : Asked) : Type 0 where
+pub record IsAskedBy (h : RequestHead) (rest : List ℕ) (it : ParsedRequest) : Type 0 where
   pub wanted : asked_for it.operation ≡ wanted h rest
   pub is_head : it.is_head ≡ is_head_method h.method
 

@@ -40,7 +40,7 @@ pub use failure::Failure;
 pub use fixed::{check_reply, failure_reply};
 pub use paths::Routes;
 pub use reading::{Head, LONGEST_HEAD, MOST_FIELDS, law_of_requests, read_head};
-pub use receiving::{Asked, Operation, ReceiveStop, Received, receive};
+pub use receiving::{Operation, ParsedRequest, ReceiveStop, Received, receive};
 pub use reply::{Allow, Body, Kind, Reply};
 pub use request_plan::{RequestPlan, is_head_in, plan_in};
 pub use status::Status;

@@ -44,7 +44,7 @@ pub enum Operation {
 
 /// A request whose head was read.
 #[derive(Drop)]
-pub struct Asked {
+pub struct ParsedRequest {
     /// What it asks for.
     pub operation: Operation,
     /// Whether its method is HEAD, so that the head of the answer alone is written.
@@ -59,7 +59,7 @@ pub enum Received {
     /// Bytes that do not begin with a head within the limits.
     Headless,
     /// A request.
-    Request(Asked),
+    Request(ParsedRequest),
 }
 
 /// Why nothing was received.
@@ -146,7 +146,7 @@ fn receive_rest<R: Read>(
     buf: Vec<u8>,
     head: &RequestSpans,
     headers: &[HeaderSpan],
-) -> Result<Asked, ReceiveStop>
+) -> Result<ParsedRequest, ReceiveStop>
     requires at { IsHeadAt head.now buf.items headers.now }
     ensures ok { IfOk result
         (λ it. IfSome (R.remaining reader.old)
@@ -159,7 +159,7 @@ fn receive_rest<R: Read>(
     let is_head = is_head_in(buf.as_slice(), head);
     let plan = plan_in(routes, buf.as_slice(), head, headers);
     match receive_planned(reader, buf, head.len, plan) {
-        Ok(operation) => Ok(Asked { operation, is_head }),
+        Ok(operation) => Ok(ParsedRequest { operation, is_head }),
         Err(Stop::Memory) => Err(ReceiveStop::MemoryForBody),
         Err(Stop::Io) => Err(ReceiveStop::Io),
     }

@@ -17,7 +17,7 @@ use Rattle.office_base.specs.declared.output.Io.{Io}
 use Rattle.office_wire.specs.Calling.{AnsweredAt, CalledAt}
 use Rattle.office_http.specs.Receiving.{HasActs, IsAskedBy, IsReceived, IsOutOfMemory, Wanted, asked_for, cut}
 use Rattle.office_wire.specs.Serving.{AnswersNext, Breaks, GoneReplies, HasReply, InHalves, IsFailed, IsGoneAnswered, IsGoneReply, IsGoneServed, IsGoneToSend, IsNextReady, IsOneServed, IsReply, IsSent, IsServed, IsSomeSent, IsToSend, Replies, Sends, ReportsUnavailable}
-use Rattle.office_http.specs.declared.receiving.Asked.{Asked}
+use Rattle.office_http.specs.declared.receiving.ParsedRequest.{ParsedRequest}
 use Rattle.office_http.specs.declared.receiving.Received.TheVariants as received
 use Rattle.office_http.specs.declared.receiving.ReceiveStop.TheVariants as stop
 use Rattle.office_wire.specs.declared.serving.OutgoingReply.{OutgoingReply}
@@ -32,7 +32,7 @@ some_trivial : {A : Type 0} (o : Option A) → IfSome o (λ a. Unit {0})
 some_trivial None = tt
 some_trivial (Some a) = tt
 
-pub asked_reply : {S : Type 0} (g : Ghosts S) (t : State) (bytes : List ℕ) (unread : Type 0) (h : RequestHead) (rest : List ℕ) (it : Asked) (is_head : Bool) (r : Response) (desk : DeskState S)
+pub asked_reply : {S : Type 0} (g : Ghosts S) (t : State) (bytes : List ℕ) (unread : Type 0) (h : RequestHead) (rest : List ℕ) (it : ParsedRequest) (is_head : Bool) (r : Response) (desk : DeskState S)
     → IsRequest (asks h rest) bytes → IsAskedBy h rest it → is_head ≡ it.is_head → IsServed g t (asked_for it.operation) r desk → IsReply g t bytes unread is_head r desk
 asked_reply g t bytes unread h rest it is_head r desk request by same served =
     inl (asks h rest, request, (same ∙ by.is_head, inl (subst (λ (w : Wanted). IsServed g t w r desk) by.wanted served)))
@@ -48,7 +48,7 @@ out_of_memory_reply g t bytes unread h rest (Some it) desk request has failed re
     inl (asks h rest, request, (no_head h it.is_head has failed.1, inr ((has, failed.0), represents)))
 
 -- from a poisoned desk
-pub asked_gone : (bytes : List ℕ) (unread : Type 0) (h : RequestHead) (rest : List ℕ) (it : Asked) (is_head : Bool) (r : Response)
+pub asked_gone : (bytes : List ℕ) (unread : Type 0) (h : RequestHead) (rest : List ℕ) (it : ParsedRequest) (is_head : Bool) (r : Response)
     → IsRequest (asks h rest) bytes → IsAskedBy h rest it → is_head ≡ it.is_head → IsGoneServed (asked_for it.operation) r → IsGoneReply bytes unread is_head r
 asked_gone bytes unread h rest it is_head r request by same served =
     inl (asks h rest, request, (same ∙ by.is_head, inl (subst (λ (w : Wanted). IsGoneServed w r) by.wanted served)))
@@ -130,7 +130,7 @@ module _ {S : Type 0} (g : Ghosts S) (all : Option (List ℕ)) (unread : Type 0)
       (λ t bytes at it. out_of_memory_reply g t bytes unread it.0 it.1 next desk it.2 it.3 failed at) (λ bytes it. out_of_memory_gone bytes unread it.0 it.1 next it.2 it.3 failed)
 
   -- a request was answered
-  pub asked_next : (old new : DeskState S) (asked : Asked) (sent : OutgoingReply) → IfSome all (λ bytes. IsReceived (received.Request asked) bytes) → sent.is_head ≡ asked.is_head → HasReply g (asked_for asked.operation) (response sent.reply) old new
+  pub asked_next : (old new : DeskState S) (asked : ParsedRequest) (sent : OutgoingReply) → IfSome all (λ bytes. IsReceived (received.Request asked) bytes) → sent.is_head ≡ asked.is_head → HasReply g (asked_for asked.operation) (response sent.reply) old new
       → AnsweredAt g old new (λ t. IsNextReady g t all unread (Ok (Some sent)) new) (IfSome all (λ bytes. IsGoneToSend bytes unread (Some sent))) (ReportsUnavailable (Some sent))
   asked_next old new asked sent came same it =
       let r = response sent.reply in

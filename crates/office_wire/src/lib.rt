@@ -22,7 +22,7 @@ pub use connections::{Service, serve_all, serve_each};
 pub use importing::{ImportStop, import_records};
 pub use office_base::Io;
 pub use office_http::{
-    ActsBody, Asked, LONGEST, Operation, ReceiveStop, Received, Routes, receive,
+    ActsBody, ParsedRequest, LONGEST, Operation, ReceiveStop, Received, Routes, receive,
 };
 pub use office_json::{ReadFault, answer_value, read_act};
 pub use registers::{ExportStop, export_due, export_entries, export_overdue};

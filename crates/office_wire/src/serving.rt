@@ -10,7 +10,7 @@ use crate::answering::answer;
 use office_base::Io;
 use office_desk::Desk;
 use office_http::{
-    Asked, Failure, Operation, ReceiveStop, Received, Reply, Routes, failure_reply, receive,
+    ParsedRequest, Failure, Operation, ReceiveStop, Received, Reply, Routes, failure_reply, receive,
     write_reply,
 };
 use sqlite::Alter;
@@ -46,7 +46,7 @@ fn failed(failure: Failure, is_head: bool) -> Option<OutgoingReply>
 }
 
 /// Does what a request asks for, and gives its answer.
-fn answered<S: Alter>(alloc: Global, desk: &mut Desk<S>, asked: Asked) -> OutgoingReply
+fn answered<S: Alter>(alloc: Global, desk: &mut Desk<S>, asked: ParsedRequest) -> OutgoingReply
     ensures is_head { result.is_head ≡ asked.is_head }
     ensures has { HasReply S.Store (asked_for asked.operation) (response result.reply) desk.old
         desk.new }
