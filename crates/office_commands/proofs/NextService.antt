@@ -28,7 +28,8 @@ use Rattle.office_json.specs.Lists.{NoActs, acts_in, bad_act, not_json}
 use Rattle.office_wire.specs.Answering.{AnyAnswer, PerformsAsked, Resumes, Serves}
 use Rattle.office_wire.specs.Connections.{Turn, Turns}
 use Rattle.office_wire.specs.Serving.{LeavesServed}
-use Rattle.office_http.specs.Receiving.{Wanted, acts, certificate_reported, content_reported, cut, due_reported, overdue_reported, record_reported, refused, resumption}
+use Rattle.office_http.specs.Receiving.{Wanted, acts, cut, refused, requested}
+use Rattle.office_http.specs.declared.path_request.PathRequest.TheVariants as path
 use Rattle.office_commands.specs.NextWord.{IsServedTo, LeavesAt}
 use Rattle.office_commands.specs.Serving.{IsDeskOf, ServiceEnds}
 use Rattle.office_commands.specs.declared.ending.Ending.{Ending}
@@ -110,19 +111,19 @@ module _ (stay : StaySound) (ends : IsEnded) {S : Type 0} (g : Ghosts S) where
     wanted_served (refused check) served = as_it_was t d served.1
     wanted_served cut served = as_it_was t d served.1
     wanted_served (acts body) served = acts_served (acts_in body) served
-    wanted_served resumption served = run_served served
-    wanted_served (record_reported None) served = as_it_was t d served.1
-    wanted_served (record_reported (Some r)) served = as_it_was t d served.1
-    wanted_served (content_reported None) served = as_it_was t d served.1
-    wanted_served (content_reported (Some r)) (Ok content, told, it) = as_it_was t d it.ends.represents
-    wanted_served (content_reported (Some r)) (Err f, told, it) = unread_served r f it
-    wanted_served (due_reported None) served = as_it_was t d served.1
-    wanted_served (due_reported (Some day)) served = as_it_was t d served.1
-    wanted_served (overdue_reported None count) served = as_it_was t d served.1
-    wanted_served (overdue_reported (Some day) None) served = as_it_was t d served.1
-    wanted_served (overdue_reported (Some day) (Some n)) served = as_it_was t d served.1
-    wanted_served (certificate_reported None) served = as_it_was t d served.1
-    wanted_served (certificate_reported (Some run)) served = as_it_was t d served.1
+    wanted_served (requested path.Resume) served = run_served served
+    wanted_served (requested (path.Record None)) served = as_it_was t d served.1
+    wanted_served (requested (path.Record (Some r))) served = as_it_was t d served.1
+    wanted_served (requested (path.Content None)) served = as_it_was t d served.1
+    wanted_served (requested (path.Content (Some r))) (Ok content, told, it) = as_it_was t d it.ends.represents
+    wanted_served (requested (path.Content (Some r))) (Err f, told, it) = unread_served r f it
+    wanted_served (requested (path.Due None)) served = as_it_was t d served.1
+    wanted_served (requested (path.Due (Some day))) served = as_it_was t d served.1
+    wanted_served (requested (path.Overdue None count)) served = as_it_was t d served.1
+    wanted_served (requested (path.Overdue (Some day) None)) served = as_it_was t d served.1
+    wanted_served (requested (path.Overdue (Some day) (Some n))) served = as_it_was t d served.1
+    wanted_served (requested (path.Certificate None)) served = as_it_was t d served.1
+    wanted_served (requested (path.Certificate (Some run))) served = as_it_was t d served.1
 
     left_served : LeavesServed g t d → ServedAt t d
     left_served (it, served) = wanted_served it served

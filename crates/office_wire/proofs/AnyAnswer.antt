@@ -7,7 +7,8 @@ use Rattle.office_desk.specs.Desk.{DeskState}
 use Rattle.office_json.specs.Lists.{NoActs, not_json, bad_act}
 use Rattle.office_http.specs.Replies.{Response}
 use Rattle.office_wire.specs.Answering.{AnyAnswer, ArePerformed, PerformsAsked, Resumes, Serves, RunsOutOfMemory, ReportsCertificate, ReportsContent, ReportsDue, ReportsOverdue, ReportsRecord}
-use Rattle.office_http.specs.Receiving.{Wanted, refused, cut, acts, resumption, record_reported, content_reported, due_reported, overdue_reported, certificate_reported}
+use Rattle.office_http.specs.Receiving.{Wanted, acts, cut, refused, requested}
+use Rattle.office_http.specs.declared.path_request.PathRequest.TheVariants as path
 use Rattle.office_wire.specs.Serving.{IsServed, LeavesServed}
 
 performed_any : {S : Type 0} (Reported : Response → Type 0) (g : Ghosts S) (t : State) (done : List Act) (desk : DeskState S) → ArePerformed Reported g t done desk → ArePerformed AnyAnswer g t done desk
@@ -46,12 +47,12 @@ serves_any : {S : Type 0} (Reported : Response → Type 0) (g : Ghosts S) (t : S
 serves_any Reported g t (refused check) desk served = (tt, served.1)
 serves_any Reported g t cut desk served = (tt, served.1)
 serves_any Reported g t (acts body) desk served = asked_any Reported g t _ desk served
-serves_any Reported g t resumption desk served = resumed_any Reported g t desk served
-serves_any Reported g t (record_reported r) desk served = record_any Reported g t r desk served
-serves_any Reported g t (content_reported r) desk served = content_any Reported g t r desk served
-serves_any Reported g t (due_reported day) desk served = due_any Reported g t day desk served
-serves_any Reported g t (overdue_reported day count) desk served = overdue_any Reported g t day count desk served
-serves_any Reported g t (certificate_reported run) desk served = certificate_any Reported g t run desk served
+serves_any Reported g t (requested path.Resume) desk served = resumed_any Reported g t desk served
+serves_any Reported g t (requested (path.Record r)) desk served = record_any Reported g t r desk served
+serves_any Reported g t (requested (path.Content r)) desk served = content_any Reported g t r desk served
+serves_any Reported g t (requested (path.Due day)) desk served = due_any Reported g t day desk served
+serves_any Reported g t (requested (path.Overdue day count)) desk served = overdue_any Reported g t day count desk served
+serves_any Reported g t (requested (path.Certificate run)) desk served = certificate_any Reported g t run desk served
 
 -- where memory ran out for it, the desk is where serving it leaves it, or where it was
 out_of_memory_leaves : {S : Type 0} (g : Ghosts S) (t : State) (it : Wanted) (desk : DeskState S) → RunsOutOfMemory g t it desk → LeavesServed g t desk
@@ -59,13 +60,13 @@ out_of_memory_leaves g t (refused check) desk out = absurd out
 out_of_memory_leaves g t cut desk out = absurd out
 out_of_memory_leaves g t (acts body) desk (inl at) = (cut, (tt, at))
 out_of_memory_leaves g t (acts body) desk (inr served) = (acts body, served)
-out_of_memory_leaves g t resumption desk served = (resumption, served)
-out_of_memory_leaves g t (record_reported r) desk out = (cut, (tt, out.1))
-out_of_memory_leaves g t (content_reported None) desk out = absurd out
-out_of_memory_leaves g t (content_reported (Some r)) desk out = (content_reported (Some r), (Err out.0, tt, out.1))
-out_of_memory_leaves g t (due_reported day) desk out = (cut, (tt, out.1))
-out_of_memory_leaves g t (overdue_reported day count) desk out = (cut, (tt, out.2))
-out_of_memory_leaves g t (certificate_reported run) desk out = (cut, (tt, out.1))
+out_of_memory_leaves g t (requested path.Resume) desk served = (requested path.Resume, served)
+out_of_memory_leaves g t (requested (path.Record r)) desk out = (cut, (tt, out.1))
+out_of_memory_leaves g t (requested (path.Content None)) desk out = absurd out
+out_of_memory_leaves g t (requested (path.Content (Some r))) desk out = (requested (path.Content (Some r), (Err out.0, tt, out.1)))
+out_of_memory_leaves g t (requested (path.Due day)) desk out = (cut, (tt, out.1))
+out_of_memory_leaves g t (requested (path.Overdue day count)) desk out = (cut, (tt, out.2))
+out_of_memory_leaves g t (requested (path.Certificate run)) desk out = (cut, (tt, out.1))
 
 -- what is served leaves the desk as serving it may
 pub served_leaves : {S : Type 0} (g : Ghosts S) (t : State) (it : Wanted) (r : Response) (desk : DeskState S) → IsServed g t it r desk → LeavesServed g t desk

@@ -25,7 +25,8 @@ use Rattle.office_http.specs.declared.reply.Reply.{Reply}
 use Rattle.office_http.specs.declared.status.Status.TheVariants as status
 use Rattle.office_wire.specs.Calling.{AnsweredAt}
 use Rattle.office_wire.specs.declared.answering.Reported.{Reported}
-use Rattle.office_http.specs.Receiving.{Wanted, refused, cut, acts, resumption, record_reported, content_reported, due_reported, overdue_reported, certificate_reported}
+use Rattle.office_http.specs.Receiving.{Wanted, acts, cut, refused, requested}
+use Rattle.office_http.specs.declared.path_request.PathRequest.TheVariants as path
 use Rattle.office_wire.specs.Replies.{acts_response, answer_response, bad_act_response, certificate_response, content_response, due_response, fault_response, overdue_response, record_response, stopped_response}
 
 -- ---- acts; Reported says which answer is given
@@ -122,12 +123,12 @@ abbrev pub Serves : {S : Type 0} → (Response → Type 0) → Ghosts S → Stat
 Serves Reported g t (refused check) desk = ReportsNone Reported g t (check_response check) desk
 Serves Reported g t cut desk = ReportsNone Reported g t (failure_response failure.Body) desk
 Serves Reported g t (acts body) desk = PerformsAsked Reported g t (acts_in body) desk
-Serves Reported g t resumption desk = Resumes Reported g t desk
-Serves Reported g t (record_reported r) desk = ReportsRecord Reported g t r desk
-Serves Reported g t (content_reported r) desk = ReportsContent Reported g t r desk
-Serves Reported g t (due_reported day) desk = ReportsDue Reported g t day desk
-Serves Reported g t (overdue_reported day n) desk = ReportsOverdue Reported g t day n desk
-Serves Reported g t (certificate_reported run) desk = ReportsCertificate Reported g t run desk
+Serves Reported g t (requested path.Resume) desk = Resumes Reported g t desk
+Serves Reported g t (requested (path.Record r)) desk = ReportsRecord Reported g t r desk
+Serves Reported g t (requested (path.Content r)) desk = ReportsContent Reported g t r desk
+Serves Reported g t (requested (path.Due day)) desk = ReportsDue Reported g t day desk
+Serves Reported g t (requested (path.Overdue day n)) desk = ReportsOverdue Reported g t day n desk
+Serves Reported g t (requested (path.Certificate run)) desk = ReportsCertificate Reported g t run desk
 
 -- it was served with this answer
 abbrev pub Answers : {S : Type 0} → Ghosts S → State → Wanted → Response → DeskState S → Type 0
@@ -155,12 +156,12 @@ abbrev pub gone_response : Wanted → Response
 gone_response (refused check) = check_response check
 gone_response cut = failure_response failure.Body
 gone_response (acts body) = gone_acts (acts_in body)
-gone_response resumption = fault_response fault.Reopen
-gone_response (record_reported r) = gone_reading failure.Record r
-gone_response (content_reported r) = gone_reading failure.Content r
-gone_response (due_reported day) = gone_reading failure.Day day
-gone_response (overdue_reported day count) = gone_overdue day count
-gone_response (certificate_reported run) = gone_reading failure.Certificate run
+gone_response (requested path.Resume) = fault_response fault.Reopen
+gone_response (requested (path.Record r)) = gone_reading failure.Record r
+gone_response (requested (path.Content r)) = gone_reading failure.Content r
+gone_response (requested (path.Due day)) = gone_reading failure.Day day
+gone_response (requested (path.Overdue day count)) = gone_overdue day count
+gone_response (requested (path.Certificate run)) = gone_reading failure.Certificate run
 
 -- an answer that reports a fault, or lack of memory
 abbrev pub IsUnavailable : Response → Type 0
@@ -177,12 +178,12 @@ abbrev pub TakesMemory : Wanted → Type 0
 TakesMemory (refused check) = ⊥
 TakesMemory cut = ⊥
 TakesMemory (acts body) = Unit {0}
-TakesMemory resumption = Unit {0}
-TakesMemory (record_reported r) = IsSome r
-TakesMemory (content_reported r) = IsSome r
-TakesMemory (due_reported day) = IsSome day
-TakesMemory (overdue_reported day n) = IsSome day × IsSome n
-TakesMemory (certificate_reported run) = IsSome run
+TakesMemory (requested path.Resume) = Unit {0}
+TakesMemory (requested (path.Record r)) = IsSome r
+TakesMemory (requested (path.Content r)) = IsSome r
+TakesMemory (requested (path.Due day)) = IsSome day
+TakesMemory (requested (path.Overdue day n)) = IsSome day × IsSome n
+TakesMemory (requested (path.Certificate run)) = IsSome run
 
 -- memory ran out for its answer: what it asks for was done, but for acts that could not be read; of a content only the
 -- answer to a fault takes memory
@@ -190,13 +191,13 @@ abbrev pub RunsOutOfMemory : {S : Type 0} → Ghosts S → State → Wanted → 
 RunsOutOfMemory g t (refused check) desk = ⊥
 RunsOutOfMemory g t cut desk = ⊥
 RunsOutOfMemory g t (acts body) desk = IsAt g t desk ⊎ PerformsAsked AnyAnswer g t (acts_in body) desk
-RunsOutOfMemory g t resumption desk = Resumes AnyAnswer g t desk
-RunsOutOfMemory g t (record_reported r) desk = IsSome r × IsAt g t desk
-RunsOutOfMemory g t (content_reported None) desk = ⊥
-RunsOutOfMemory g t (content_reported (Some r)) desk = (f : Fault) × IsContentRead g t r (Err f) desk
-RunsOutOfMemory g t (due_reported day) desk = IsSome day × IsAt g t desk
-RunsOutOfMemory g t (overdue_reported day n) desk = IsSome day × IsSome n × IsAt g t desk
-RunsOutOfMemory g t (certificate_reported run) desk = IsSome run × IsAt g t desk
+RunsOutOfMemory g t (requested path.Resume) desk = Resumes AnyAnswer g t desk
+RunsOutOfMemory g t (requested (path.Record r)) desk = IsSome r × IsAt g t desk
+RunsOutOfMemory g t (requested (path.Content None)) desk = ⊥
+RunsOutOfMemory g t (requested (path.Content (Some r))) desk = (f : Fault) × IsContentRead g t r (Err f) desk
+RunsOutOfMemory g t (requested (path.Due day)) desk = IsSome day × IsAt g t desk
+RunsOutOfMemory g t (requested (path.Overdue day n)) desk = IsSome day × IsSome n × IsAt g t desk
+RunsOutOfMemory g t (requested (path.Certificate run)) desk = IsSome run × IsAt g t desk
 
 -- ---- calls at a desk
 

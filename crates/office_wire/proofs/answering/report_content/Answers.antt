@@ -1,7 +1,8 @@
 use Rattle.std.proofs.Common.{refl, rules, Ok, Some}
 use Rattle.office_desk.specs.Contents.{content_found}
 use Rattle.office_http.specs.Replies.{response}
-use Rattle.office_http.specs.Receiving.{content_reported}
+use Rattle.office_http.specs.Receiving.{requested}
+use Rattle.office_http.specs.declared.path_request.PathRequest.TheVariants as path
 use Rattle.office_wire.proofs.Reported.{gone_given}
 use Rattle.office_wire.proofs.Unreported.{unreported_at}
 use Rattle.office_wire.proofs.Unavailable.{fault_unavailable}
@@ -30,6 +31,6 @@ returns-in-Err g c =
         did = λ t clean at. rw c.in-Some.is (unreported_at g.S.Store t c.in-Some.record_no c.in-Err.fault c.content.new.self (it.leaves t clean at) c.fault_reply.result c.fault_reply.ensures);
       };
       kept = λ was. (it.gone was).1;
-      gone = λ was. rw c.in-Some.is (gone_given (content_reported (Some c.in-Some.record_no)) c.fault_reply.result refl (search rules));
+      gone = λ was. rw c.in-Some.is (gone_given (requested (path.Content (Some c.in-Some.record_no))) c.fault_reply.result refl (search rules));
       reported = λ is_open gone. fault_unavailable response c.fault_reply.result _ c.fault_reply.ensures;
     }
