@@ -8,13 +8,13 @@ use Rattle.office_http.specs.declared.check.Check.{Check}
 use Rattle.office_http.specs.declared.request_plan.RequestPlan.{RequestPlan}
 use Rattle.office_http.specs.declared.request_plan.RequestPlan.TheVariants.{Acts, Refuse, Serve}
 use Rattle.office_http.specs.declared.path_request.PathRequest.{PathRequest}
-use Rattle.office_http.specs.declared.receiving.ParsedRequest.{ParsedRequest}
-use Rattle.office_http.specs.declared.receiving.Operation.{Operation}
-use Rattle.office_http.specs.declared.receiving.Operation.TheVariants as operation
-use Rattle.office_http.specs.declared.receiving.Received.{Received}
-use Rattle.office_http.specs.declared.receiving.Received.TheVariants as received
-use Rattle.office_http.specs.declared.receiving.ReceiveStop.{ReceiveStop}
-use Rattle.office_http.specs.declared.receiving.ReceiveStop.TheVariants as stop
+use Rattle.office_http.specs.declared.request.ParsedRequest.{ParsedRequest}
+use Rattle.office_http.specs.declared.request.Operation.{Operation}
+use Rattle.office_http.specs.declared.request.Operation.TheVariants as operation
+use Rattle.office_http.specs.declared.request.Received.{Received}
+use Rattle.office_http.specs.declared.request.Received.TheVariants as received
+use Rattle.office_http.specs.declared.request.ReceiveStop.{ReceiveStop}
+use Rattle.office_http.specs.declared.request.ReceiveStop.TheVariants as stop
 
 -- what is asked of the office: nothing, since a check of the head fails or the body is cut; the acts of a body; or what
 -- the path says
