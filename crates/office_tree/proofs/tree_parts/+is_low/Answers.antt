@@ -3,7 +3,7 @@ use Rattle.std.specs.Prelude.{nat_le}
 use Rattle.office_records.proofs.Places.{numbered_read}
 use Rattle.office_records.proofs.Placed.{are_well_placed, low_none, low_step, not_low}
 use Rattle.office_records.proofs.Walk.{up_from, parent_fits}
-use Rattle.office_tree.proofs.loading.+is_low.Goals as goal
+use Rattle.office_tree.proofs.tree_parts.+is_low.Goals as goal
 
 smaller : (k t : ℕ) → k ≡ t → k ≢ 0 → k - 1 < t
 smaller zero t e some = absurd (some refl)
