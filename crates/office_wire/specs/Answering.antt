@@ -1,6 +1,6 @@
 -- What is answered to what is asked of the office, and where the desk is then. Source: own.
 use Rattle.std.specs.FinMap.{get}
-use Rattle.std.specs.Prelude.{◌≡◌, ◌⊎◌, ℕ, ℤ, IfOk, IsSome, IsTrue, List, MatchResult, [], Option, Some, None, Result, Ok, Err}
+use Rattle.std.specs.Prelude.{◌≡◌, ◌⊎◌, ℕ, ℤ, IfOk, IsSome, IsSomeAnd, IsTrue, List, MatchResult, [], Option, Some, None, Result, Ok, Err}
 use Rattle.sqlite.specs.Held.{state}
 use Rattle.sqlite_trees.specs.declared.store.Store.{Ghosts}
 use Rattle.office_base.specs.declared.refusal.Refusal.TheVariants as refusal
@@ -193,8 +193,8 @@ RunsOutOfMemory g t cut desk = ⊥
 RunsOutOfMemory g t (acts body) desk = IsAt g t desk ⊎ PerformsAsked AnyAnswer g t (acts_in body) desk
 RunsOutOfMemory g t (requested path.Resume) desk = Resumes AnyAnswer g t desk
 RunsOutOfMemory g t (requested (path.Record r)) desk = IsSome r × IsAt g t desk
-RunsOutOfMemory g t (requested (path.Content None)) desk = ⊥
-RunsOutOfMemory g t (requested (path.Content (Some r))) desk = (f : Fault) × IsContentRead g t r (Err f) desk
+RunsOutOfMemory g t (requested (path.Content number)) desk =
+    IsSomeAnd number (λ r. (f : Fault) × IsContentRead g t r (Err f) desk)
 RunsOutOfMemory g t (requested (path.Due day)) desk = IsSome day × IsAt g t desk
 RunsOutOfMemory g t (requested (path.Overdue day n)) desk = IsSome day × IsSome n × IsAt g t desk
 RunsOutOfMemory g t (requested (path.Certificate run)) desk = IsSome run × IsAt g t desk
