@@ -30,7 +30,7 @@ use Rattle.office_wire.specs.Connections.{Turn, Turns}
 use Rattle.office_wire.specs.Serving.{LeavesServed}
 use Rattle.office_http.specs.Receiving.{Wanted, acts, cut, refused, requested}
 use Rattle.office_http.specs.declared.path_request.PathRequest.TheVariants as path
-use Rattle.office_commands.specs.NextWord.{IsServedTo, LeavesAt}
+use Rattle.office_commands.specs.NextCommand.{IsServedTo, LeavesAt}
 use Rattle.office_commands.specs.Serving.{IsDeskOf, ServiceEnds}
 use Rattle.office_commands.specs.declared.ending.Ending.{Ending}
 use Rattle.office_commands.proofs.NextStates.{IsEnded, IsOneDatabase, StaySound, at_rows, at_stop, at_unopened, well_formed_prefix, found_same, sound_acts, sound_steps}

@@ -1,4 +1,4 @@
--- At which state a word leaves an office, whatever a crash leaves of it.
+-- At which state a command leaves an office, whatever a crash leaves of it.
 use Rattle.std.proofs.Common.{◌≡◌, ◌⊎◌, inl, inr, ℕ, ℤ, zero, suc, ◌+◌, List, [], ◌∷◌, ◌++◌, length, take, Option, Some, None, Result, Ok, Err, refl, sym, ap, subst, ◌∙◌, append-nil, arith}
 use Rattle.std.proofs.Math.Seq.{take-length}
 use Rattle.std.specs.Prelude.{option_map}
@@ -46,7 +46,7 @@ use Rattle.office_commands.specs.Exporting.{ExportEnds}
 use Rattle.office_wire.specs.declared.record_import.ImportStop.{ImportStop}
 use Rattle.office_wire.specs.declared.record_import.ImportStop.TheVariants as import
 use Rattle.office_commands.specs.Importing.{AreImported, ImportsAt, IsRowCut, ending_of_import}
-use Rattle.office_commands.specs.NextWord.{AreActsDone, AreRowsAdded, AreStepsTaken, AreWritten, IsLeftBy, IsOfficeAt, IsUntouched, LeavesAt}
+use Rattle.office_commands.specs.NextCommand.{AreActsDone, AreRowsAdded, AreStepsTaken, AreWritten, IsLeftBy, IsOfficeAt, IsUntouched, LeavesAt}
 use Rattle.office_commands.specs.Opening.{FromOpened, IsNotOpened, IsOpened, IsRestKept, IsUnopened}
 use Rattle.office_commands.specs.Resuming.{ResumeEnds, Resumes}
 use Rattle.office_commands.specs.Making.{InitEnds}
@@ -323,25 +323,25 @@ module _ (one : IsOneDatabase) (stay : StaySound) (ends : IsEnded) (old new : Fi
     resume_left written after ending (inl none) = none_taken ending (λ done. let other : how.Fault none.0 ≡ how.Done = sym none.1 ∙ done in cc) (not_opened written after ending none).0
     resume_left written after ending (inr it) = resumes_left written after ending it.1
 
--- ---- each word
+-- ---- each command
 
 module _ (one : IsOneDatabase) (stay : StaySound) (ends : IsEnded) {S : Type 0} (g : Ghosts S) (old new : Held S) (s : State) (clean : HasCleanDisk (state g new)) (sound : IsSound s) (ed : Edition) (rest : IsAtRestOver ed (state g old)) (rows : RepresentsRowsIn ed (rows_of s) (state g old).now.trees) where
   -- where the connection is as it was
   same_held : new ≡ old → LeavesAt (λ u. u ≡ s) (state g new)
   same_held same = subst (λ (h : Held S). LeavesAt (λ u. u ≡ s) (state g h)) (sym same) (λ db may. (s, refl, at_before one stay ends (state g old) (state g new) s clean sound ed rest rows db may))
 
-  pub word_left : (order : Command) (text : List ℕ) (written after : Option (List ℕ)) (ending : Ending) → RunEnds g order (Some text) old new written after ending → LeavesAt (IsLeftBy order text written after ending s) (state g new)
-  word_left command.nothing text written after ending it = same_held it.1
-  word_left (command.due unit count offset day) text written after ending it = same_held it.1
-  word_left (command.plan file) text written after ending it = same_held it.1
-  word_left (command.serve file port count) text written after ending it = same_held it.1
-  word_left (command.init file) text written after ending it = init_left one stay ends (state g old) (state g new) s clean sound ed rest rows written after ending it
-  word_left (command.apply file acts) text written after ending (inl none) = λ db may.
+  pub command_left : (order : Command) (text : List ℕ) (written after : Option (List ℕ)) (ending : Ending) → RunEnds g order (Some text) old new written after ending → LeavesAt (IsLeftBy order text written after ending s) (state g new)
+  command_left command.nothing text written after ending it = same_held it.1
+  command_left (command.due unit count offset day) text written after ending it = same_held it.1
+  command_left (command.plan file) text written after ending it = same_held it.1
+  command_left (command.serve file port count) text written after ending it = same_held it.1
+  command_left (command.init file) text written after ending it = init_left one stay ends (state g old) (state g new) s clean sound ed rest rows written after ending it
+  command_left (command.apply file acts) text written after ending (inl none) = λ db may.
       let here = same_held none.1 db may in
       (s, inl (refl, none.2), subst (IsOfficeAt db) here.1 here.2)
-  word_left (command.apply file acts) text written after ending (inr it) = applies_left one stay ends (state g old) (state g new) s clean sound ed rest rows text written after ending it
-  word_left (command.import file day csv) text written after ending it = import_left one stay ends (state g old) (state g new) s clean sound ed rest rows day (option_map strip_bom (Some text)) written after ending it
-  word_left (command.overdue file day n) text written after ending it = export_left one stay ends (state g old) (state g new) s clean sound ed rest rows (register.Overdue day n) written after ending it
-  word_left (command.export file register) text written after ending it = export_left one stay ends (state g old) (state g new) s clean sound ed rest rows register written after ending it
-  word_left (command.resume file) text written after ending it = resume_left one stay ends (state g old) (state g new) s clean sound ed rest rows written after ending it
-  word_left (command.certificate file run) text written after ending it = certificate_left one stay ends (state g old) (state g new) s clean sound ed rest rows run written after ending it
+  command_left (command.apply file acts) text written after ending (inr it) = applies_left one stay ends (state g old) (state g new) s clean sound ed rest rows text written after ending it
+  command_left (command.import file day csv) text written after ending it = import_left one stay ends (state g old) (state g new) s clean sound ed rest rows day (option_map strip_bom (Some text)) written after ending it
+  command_left (command.overdue file day n) text written after ending it = export_left one stay ends (state g old) (state g new) s clean sound ed rest rows (register.Overdue day n) written after ending it
+  command_left (command.export file register) text written after ending it = export_left one stay ends (state g old) (state g new) s clean sound ed rest rows register written after ending it
+  command_left (command.resume file) text written after ending it = resume_left one stay ends (state g old) (state g new) s clean sound ed rest rows written after ending it
+  command_left (command.certificate file run) text written after ending it = certificate_left one stay ends (state g old) (state g new) s clean sound ed rest rows run written after ending it

@@ -17,7 +17,7 @@ use sqlite_disk::Disk;
 use sqlite_trees::store::Store;
 use std::io::{Read, Write};
 
-/// What is left of an office's two files, the database file and its log, once a word is done.
+/// What is left of an office's two files, the database file and its log, once a command is done.
 pub enum FilesLeft<D: Disk> {
     /// What the database gave back, since they were not opened; nothing where the system refused
     /// them.

@@ -1,4 +1,4 @@
--- From one word of the program to the next: at which state a word leaves an office, and what its two files hold then.
+-- From one command of the program to the next: at which state a command leaves an office, and what its two files hold then.
 -- Source: own.
 use Rattle.std.specs.Prelude.{◌≡◌, ◌⊎◌, ◌+◌, ◌≤◌, ℕ, ℤ, IfSome, IsTrue, List, ◌++◌, length, take, Option, Ok, Some, option_map}
 use Rattle.std.specs.Io.KnownBytes.{Appends}
@@ -62,7 +62,7 @@ pub record HoldsWholeOffice (image : Image) (u : State) : Type 0 where
 abbrev pub LeavesAt : (State → Type 0) → FileState → Type 0
 LeavesAt Is s = (db : Trees) → s.may_leave db → (u : State) × Is u × IsOfficeAt db u
 
--- ---- at which state a word leaves an office
+-- ---- at which state a command leaves an office
 
 -- nothing was done, and nothing was written
 abbrev pub IsUntouched : Option (List ℕ) → Option (List ℕ) → State → State → Type 0
@@ -95,7 +95,7 @@ pub record AreRowsAdded (day : ℤ) (text : Option (List ℕ)) (written after : 
   pub answered : Appends written after (lines_from 0 answers) ⊎ (ending ≡ how.File) × AreLinesOut answers written after
   pub state : (u ≡ reached) ⊎ ((row : Fields) × (answer : Answer) × IsRowDone day reached row answer u)
 
--- steps of the open run were taken; where the word is done, to the end of the run
+-- steps of the open run were taken; where the command is done, to the end of the run
 pub record AreStepsTaken (ending : Ending) (s u : State) : Type 0 where
   pub count : ℕ
   pub state : u ≡ after_steps s count
