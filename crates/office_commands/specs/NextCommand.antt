@@ -1,5 +1,5 @@
--- From one command of the program to the next: at which state a command leaves an office, and what its two files hold then.
--- Source: own.
+-- From one command of the program to the next: at which state a command leaves an office, and what its two files hold
+-- then. Source: own.
 use Rattle.std.specs.Prelude.{◌≡◌, ◌⊎◌, ◌+◌, ◌≤◌, ℕ, ℤ, IfSome, IsTrue, List, ◌++◌, length, take, Option, Ok, Some, option_map}
 use Rattle.std.specs.Io.KnownBytes.{Appends}
 use Rattle.csv.specs.Reading.{strip_bom}

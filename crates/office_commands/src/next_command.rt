@@ -26,8 +26,8 @@ pub fn law_of_a_killed_command<D: Disk + Drop>(conn: Connection<FileStore<D>>) -
     conn.into_store()
 }
 
-/// The headline from one command of the program to the next. Files that hold an office at a state, and
-/// over which a command was run ([`crate::open_and_run`] promises `RunsInFiles`), hold an office
+/// The headline from one command of the program to the next. Files that hold an office at a state,
+/// and over which a command was run ([`crate::open_and_run`] promises `RunsInFiles`), hold an office
 /// again, at the state at which the command leaves it (`IsLeftBy`): of `apply`, after the acts whose
 /// answers were written and at most one more; of `import`, after the rows whose lines were written
 /// and at most one more; where either ended by `File`, as when standard output could not be
