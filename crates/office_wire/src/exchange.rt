@@ -10,8 +10,8 @@ use crate::answers::answer;
 use office_base::Io;
 use office_desk::Desk;
 use office_http::{
-    ParsedRequest, Failure, Operation, ReceiveStop, Received, Reply, Routes, failure_reply, receive,
-    write_reply,
+    Failure, Operation, ParsedRequest, ReceiveStop, Received, Reply, Routes, failure_reply,
+    receive, write_reply,
 };
 use sqlite::Alter;
 use std::alloc::Global;
