@@ -1,14 +1,15 @@
-"""An office of 200,000 records with its catalogue: how long until each view shows, in light of what the office itself took.
+"""An office of 200,000 records with its catalogue: how long the page works until each view shows.
 
-The time of a view is that of the page alone: what it waits for answers is measured too, and taken off, since it is the
-program's, the proxy's and the machine's. Each is opened anew, and gone to within the page; the best of three counts,
-since others may use the machine.
+That is the processor's time of the page's thread, since others may use the machine: the best of three rounds. The time
+by the clock, and how much of it was waiting for answers, is printed beside it. Each view is opened anew, so that nothing
+of the catalogue is read, and then gone to within the page.
 """
 from __future__ import annotations
 
 import os
 import pathlib
 import shutil
+from collections.abc import Callable
 
 import big_office
 import catalogue
@@ -70,23 +71,39 @@ requestAnimationFrame(() => window.watched(`section:not([hidden]) ${css}`, begun
 """
 
 
-def own(spans: list[list[float]]) -> float:
-    """The least time of the page itself in several rounds."""
-    return min(whole - waited for whole, waited in spans)
+def worked(it: Browser) -> float:
+    """How long the page's thread has worked since the document was opened, in milliseconds of the processor."""
+    metrics = it.driver.execute_cdp_cmd("Performance.getMetrics", {})["metrics"]
+    return next(metric["value"] for metric in metrics if metric["name"] == "TaskDuration") * 1000
 
 
-def timed(it: Browser, proxy: Proxy, view: str, css: str) -> tuple[list, list]:
-    """Whole times and those of waiting, of the view that is opened anew and of one that is gone to."""
-    opened, gone = [], []
+def timed(it: Browser, show: Callable[[], list[float]], before: float) -> list[float]:
+    """What a view takes of the processor until it shows, by the clock, and of that waiting."""
+    spans = show()
+    work = worked(it) - before
+    it.settled()
+    return [work, *spans]
+
+
+def view(it: Browser, proxy: Proxy, name: str, css: str) -> None:
+    """A view several times: opened anew, and gone to from another one."""
+    it.open(f"{proxy.page}#{name}")
+
+    def opened() -> list[float]:
+        it.driver.refresh()
+        return it.driver.execute_async_script(OPENED, css)
+
+    rounds = {"opened": [], "gone to": []}
     for _ in range(ROUNDS):
-        it.driver.get("about:blank")
-        it.driver.get(f"{proxy.page}#{view}")
-        opened.append(it.driver.execute_async_script(OPENED, css))
-        it.settled()
+        rounds["opened"].append(timed(it, opened, 0))
         it.go("#fault")
-        gone.append(it.driver.execute_async_script(GONE, f"#{view}", css))
-        it.settled()
-    return opened, gone
+        gone = lambda: it.driver.execute_async_script(GONE, f"#{name}", css)
+        rounds["gone to"].append(timed(it, gone, worked(it)))
+    for way, times in rounds.items():
+        work, whole, waited = min(times)
+        load = os.getloadavg()[0]
+        told = f"{work:.0f} ms of the processor, at most {MOST}; by the clock {whole:.0f}, {waited:.0f} of them waiting, at a load of {load:.0f}"
+        judge(f"large: {name}, {way}: {told}", work <= MOST)
 
 
 def tell(office: Office, proxy: Proxy, browser: Browser, folder: pathlib.Path) -> None:
@@ -96,11 +113,7 @@ def tell(office: Office, proxy: Proxy, browser: Browser, folder: pathlib.Path) -
     catalogue.make(proxy, copy)
     status, body = proxy.ask("GET", "/catalogue/about.json", fields={"Accept-Encoding": "identity"})
     same("large: the catalogue has all records", (status, f'"records":{big_office.RECORDS}'.encode() in body), (200, True))
+    browser.driver.execute_cdp_cmd("Performance.enable", {"timeDomain": "threadTicks"})
     with browser.before_each_page("performance.setResourceTimingBufferSize(5000);" + WATCH):
-        for view, css in VIEWS.items():
-            opened, gone = timed(browser, proxy, view, css)
-            for way, spans in (("opened", opened), ("gone to", gone)):
-                whole, waited = min(spans)
-                load = os.getloadavg()[0]
-                print(f"{view}, {way}: {whole:.0f} ms, of which the page waited {waited:.0f}, at a load of {load:.0f}")
-                judge(f"large: {view}, {way}: the page itself takes {own(spans):.0f} ms, at most {MOST}", own(spans) <= MOST)
+        for name, css in VIEWS.items():
+            view(browser, proxy, name, css)
