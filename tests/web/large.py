@@ -42,8 +42,19 @@ VIEWS = {
     "catalogue?part=aggregations&state=open": "#catalogue-part tbody tr",
     "catalogue?part=holds": "#catalogue-part tbody tr",
 }
-# Notes when what is looked for is in sight, was drawn, and how long an answer was waited for until then.
+# Notes when what is looked for is in sight and was drawn, and how long an answer was waited for until then. From that
+# moment on the page does nothing more until it is let go, so that the processor's time is that of showing alone.
 WATCH = """
+const held = [];
+let isHeld = false;
+const wait = async (it) => { if (isHeld) await new Promise((go) => held.push(go)); return it; };
+const later = window.setTimeout;
+window.setTimeout = (work, ...more) => later(() => (isHeld ? held.push(work) : work()), ...more);
+const ask = window.fetch;
+window.fetch = async (...words) => wait(await ask(...words));
+const whole = Response.prototype.arrayBuffer;
+Response.prototype.arrayBuffer = async function () { return wait(await whole.call(this)); };
+window.letGo = () => { isHeld = false; for (const go of held.splice(0)) go(); };
 window.watched = (css, begun) => new Promise((done) => {
   const isSeen = () => [...document.querySelectorAll(css)].some((it) => it.checkVisibility());
   const waited = (until) => {
@@ -53,10 +64,11 @@ window.watched = (css, begun) => new Promise((done) => {
     for (const [from, to] of spans) if (to > end) { sum += to - Math.max(from, end); end = to; }
     return sum;
   };
-  const look = () => isSeen() ? requestAnimationFrame(() => setTimeout(() => {
+  const look = () => isSeen() ? requestAnimationFrame(() => later(() => {
+    isHeld = true;
     const now = performance.now();
     done([now - begun, waited(now)]);
-  })) : setTimeout(look, 4);
+  })) : later(look, 4);
   look();
 });
 """
@@ -81,6 +93,7 @@ def timed(it: Browser, show: Callable[[], list[float]], before: float) -> list[f
     """What a view takes of the processor until it shows, by the clock, and of that waiting."""
     spans = show()
     work = worked(it) - before
+    it.driver.execute_script("window.letGo()")
     it.settled()
     return [work, *spans]
 
