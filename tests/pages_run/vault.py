@@ -9,8 +9,8 @@ from pages_run.shell import Shell
 PAGE = "docs/VAULT.md"
 VAULT, SECOND, ADDRESS = "/var/lib/office-vaults/city", "/var/lib/office-vault-backups/city", "http://127.0.0.1:8081"
 # what the unit office-vault@city runs, at a socket that this trial asks in nginx's place
-SERVE = f"runuser -u office -g www-data -- office-vault serve {VAULT} /tmp/vault.socket --office 127.0.0.1:8081"
-ASK = "curl -s --unix-socket /tmp/vault.socket http://vault"
+SERVE = f"runuser -u office -g www-data -- office-vault serve {VAULT} /var/lib/vault-trial/socket --office 127.0.0.1:8081"
+ASK = "curl -s --unix-socket /var/lib/vault-trial/socket http://vault"
 
 
 def said(shell: Shell, name: str, command: str, wanted: str, status: int = 0) -> str:
@@ -92,7 +92,7 @@ ROWS = [
 
 
 def run(shell: Shell) -> None:
-    shell.run("mkdir -p /usr/local/lib/office; id office || adduser --system --group --no-create-home office")
+    shell.run("mkdir -p /usr/local/lib/office; id office || adduser --system --group --no-create-home office; install -d -o office /var/lib/vault-trial")
     shell.run("head -c 300032 /dev/urandom > scan.pdf; head -c 800000 /dev/urandom > plan.tif")
     shell.serve("./office serve city.db 8081 1000")
     run_page(shell, PAGE, ROWS)
