@@ -20,11 +20,10 @@ import json
 import pathlib
 import socket
 import threading
-import time
 from typing import NamedTuple, Sequence
 
 from replica.errors import Halt, NotTaken, Unclear, say
-from replica.etcd import CALL_SECONDS, Etcd, Part, Row, absent, drop, get, has, put
+from replica.etcd import Etcd, Part, Row, absent, drop, get, has, put
 from replica.settings import Settings
 
 READ_AT_ONCE = 32
@@ -44,12 +43,19 @@ class Entry(NamedTuple):
     body: bytes
 
 
+class Request(NamedTuple):
+    """What goes into the log: the key, the entry's value, and a digest of what is asked for."""
+
+    key: str
+    value: bytes
+    digest: str
+
+
 class Appended(NamedTuple):
     """What became of a request: its position, or the error that its client gets."""
 
     position: int | None
     error: str | None = None
-    is_new: bool = False
 
 
 class End(NamedTuple):
@@ -84,7 +90,7 @@ class Log:
         self.etcd, self.member, self.program = etcd, settings.name, program
         self.top = f"/office/{settings.log}/"
         self.quota = settings.etcd_quota
-        self.appending, self.last, self.is_full = threading.Lock(), 0, False
+        self.last, self.is_full = 0, False
         self.machine, self.dropped = machine_of(settings.folder), 0
 
     def entry_key(self, position: int) -> str:
@@ -95,60 +101,32 @@ class Log:
 
     # ---- what a request needs
 
-    def append(self, key: str, kind: str, body: bytes) -> Appended:
-        """Puts a request at the end, once for its key, however often it is called.
+    def try_append(self, requests: Sequence[Request]) -> tuple[int | None, dict[str, tuple[int, str]]]:
+        """One transaction: the requests have the next positions, and this gives the first of them.
 
-        An error of the name `unknown` says that it may be in the log, each other that this call
-        put nothing there. One thread of a member appends at a time.
+        Otherwise none of them is there now by this call, and it gives the positions and digests of those whose keys
+        are in the log. One thread of a member appends at a time, and no key is there twice.
         """
-        head = {"key": key, "kind": kind, "member": self.member, "program": self.program}
-        value = json.dumps(head).encode() + b"\n" + body
-        digest = hashlib.sha256(kind.encode() + b"\n" + body).hexdigest()
-        is_clear, until = True, time.monotonic() + 2 * CALL_SECONDS
-        while True:
-            if self.is_full and is_clear:
-                return Appended(None, "full")
-            try:
-                done, found = self.try_append(key, value, digest)
-            except (NotTaken, Unclear) as error:
-                is_clear = is_clear and isinstance(error, NotTaken)
-                if is_clear or time.monotonic() > until:
-                    say(f"{'not' if is_clear else 'perhaps'} appended: {error}")
-                    name = getattr(error, "name", "quorum") if is_clear else "unknown"
-                    return Appended(None, name)
-                time.sleep(0.1)
-                continue
-            if done:
-                return Appended(self.last, is_new=True)
-            if found:
-                position, first_digest = found.split()
-                if first_digest != digest:
-                    return Appended(None, "key")
-                return Appended(int(position))
-
-    def try_append(self, key: str, value: bytes, digest: str) -> tuple[bool, str]:
-        """One transaction: whether the request has the next position, else what its key has."""
-        position, tail, mine = self.last + 1, self.top + "tail", self.top + "keys/" + key
-        done, rows = self.etcd.transact(
-            [has(tail, str(position - 1)), absent(mine)],
-            [put(tail, str(position)), put(self.entry_key(position), value),
-             put(mine, f"{position} {digest}")],
-            [get(tail), get(mine)])
+        first, tail = self.last + 1, self.top + "tail"
+        keys = [self.top + "keys/" + it.key for it in requests]
+        last = self.last + len(requests)
+        puts = [put(tail, str(last))]
+        for position, (it, key) in enumerate(zip(requests, keys), first):
+            puts += [put(self.entry_key(position), it.value), put(key, f"{position} {it.digest}")]
+        done, rows = self.etcd.transact([has(tail, str(self.last)), *map(absent, keys)], puts,
+                                        [get(tail), *map(get, keys)])
         if done:
-            self.last = position
-            return True, ""
+            self.last = last
+            return first, {}
         if not rows[0]:
             raise NotTaken(f"there is no log {self.top} in etcd")
         self.last = int(rows[0][0][1])
-        return False, rows[1][0][1].decode() if rows[1] else ""
-
-    def go_on(self, position: int) -> None:
-        """Puts an entry of no acts after a position, once; nothing where somebody appends just now."""
-        if self.appending.acquire(blocking=False):
-            try:
-                self.append(f"snapshot-{self.member}-{position}", "acts", NO_ACTS)
-            finally:
-                self.appending.release()
+        found = {}
+        for it, row in zip(requests, rows[1:]):
+            if row:
+                position_text, digest = row[0][1].decode().split()
+                found[it.key] = int(position_text), digest
+        return None, found
 
     def tail(self) -> int:
         """The last position at this moment, through the quorum."""

@@ -15,6 +15,7 @@ import sys
 import threading
 from typing import Callable
 
+from replica.appending import Appender
 from replica.clients import Server
 from replica.errors import Halt, say
 from replica.etcd import Etcd
@@ -36,7 +37,7 @@ def made(settings: Settings) -> tuple[Log, Follower]:
     program = Program(settings.office, settings.disk)
     log = Log(settings, Etcd(settings.etcd, settings.tls()), program.digest)
     office = Office(program, work_file(settings.folder), settings.office_port)
-    return log, Follower(settings, log, office, Snapshots(settings.folder, program))
+    return log, Follower(settings, log, office, Snapshots(settings.folder, program), Appender(log))
 
 
 def locked(settings: Settings) -> object:
@@ -65,7 +66,7 @@ def start(settings: Settings) -> int:
         say(f"the folder {settings.folder} or the port {settings.listen} is taken: {error}")
         return 3
     guard = Guard(service, settings.reading_limit)
-    threads: list[Callable[[], None]] = [server.serve_forever, freshness.run, guard.run,
+    threads: list[Callable[[], None]] = [server.serve_forever, freshness.run, guard.run, follower.appender.run,
                                          lambda: log.watch(follower.changed)]
     for thread in threads:
         threading.Thread(target=thread, daemon=True).start()

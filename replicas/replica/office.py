@@ -4,6 +4,7 @@
 """
 from __future__ import annotations
 
+import os
 import pathlib
 import re
 import socket
@@ -43,6 +44,15 @@ def follows_from_log(answer: bytes) -> bool:
 def has_content(file: pathlib.Path) -> bool:
     """Whether the file is there with a byte in it. Of any other the office would make a new one."""
     return file.is_file() and file.stat().st_size > 0
+
+
+def synced(file: pathlib.Path) -> None:
+    """Afterwards the disk has the file, or the folder, as it is now."""
+    descriptor = os.open(file, os.O_RDONLY)
+    try:
+        os.fsync(descriptor)
+    finally:
+        os.close(descriptor)
 
 
 def parts_of(link: socket.socket, until: float) -> Iterator[bytes]:
@@ -99,10 +109,9 @@ class Office:
         if process is not None:
             process.kill()
 
-    def restart_if_ended(self) -> None:
-        """An office that ended while nothing was asked of it has all that it answered."""
-        if self.process is None or self.process.poll() is not None:
-            self.start()
+    def has_ended(self) -> bool:
+        """Whether no process serves. One that ended while nothing was asked of it has left all that it answered."""
+        return self.process is None or self.process.poll() is not None
 
     def ask(self, method: str, path: str, body: bytes | None = None, seconds: float = float("inf")) -> bytes:
         """All bytes that the office answers. TimeoutError: not within these seconds."""
@@ -116,6 +125,13 @@ class Office:
                 return b"".join(parts_of(link, until))
         finally:
             self.owes = None
+
+    def sync(self) -> None:
+        """Afterwards the disk has FILE and its log. The office itself syncs nothing (opened.py)."""
+        log = pathlib.Path(f"{self.file}-wal")
+        for it in (log, self.file, self.file.parent):
+            if it is not log or log.exists():
+                synced(it)
 
     def trouble(self, limit: float) -> str:
         """Why it may not answer a reading now, or nothing: somebody has waited longer than the limit."""

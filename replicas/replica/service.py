@@ -8,7 +8,7 @@ from typing import NamedTuple
 from replica.errors import NotTaken, Unclear, say
 from replica.follower import Follower
 from replica.freshness import Freshness, whole
-from replica.log import Appended, Log
+from replica.log import Log
 from replica.office import status_of
 
 WAIT_SECONDS = 30
@@ -42,29 +42,13 @@ class Service:
         """
         if not self.follower.is_answering:
             return Answer(None, "recovering")
-        if not self.log.appending.acquire(timeout=WAIT_SECONDS):
-            return Answer(None, "busy")
-        try:
-            before = self.follower.position
-            appended = self.log.append(key, kind, body)
-            self.look_at(appended, before)
-        finally:
-            self.log.appending.release()
+        appended = self.follower.appender.append(key, kind, body)
         if appended.position is None:
             return Answer(None, appended.error or "unknown")
         if not self.follower.reaches(appended.position, WAIT_SECONDS):
             return Answer(appended.position, "unknown")
         answer = self.follower.answer(appended.position, key)
         return Answer(appended.position, "unknown" if answer is None else answer)
-
-    def look_at(self, appended: Appended, before: int) -> None:
-        """A new entry at a position that was done before: etcd has an older log than this member.
-
-        Then the member halts, and nobody is answered of it.
-        """
-        if appended.is_new and appended.position is not None and appended.position <= before:
-            self.follower.ask_to_halt(f"entry {appended.position} is new in etcd, and another was "
-                                      "done here: an older log was put back")
 
     def read(self, method: str, path: str, wanted: str | None, after: int) -> Answer:
         """The answer to a request that changes nothing, from the own office.

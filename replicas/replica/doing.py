@@ -1,0 +1,75 @@
+"""Doing entries: the office gets them, joined where they can be, and each has its answer.
+
+Fault: an answer is not the one that each office at this state gives, so FILE may have half of an entry.
+"""
+from __future__ import annotations
+
+from typing import Iterator
+
+from replica.errors import Fault, Halt
+from replica.joining import join
+from replica.log import Entry
+from replica.office import Office, follows_from_log, status_of
+
+KINDS = {"acts": "/acts", "resume": "/run/resume"}
+
+
+class Doing:
+    """How entries reach one office; for one thread, which has the office's lock."""
+
+    def __init__(self, office: Office, program: str) -> None:
+        self.office, self.program = office, program
+        self.alone = 0
+        """entries up to here go alone, since a joined list failed"""
+
+    def look_at(self, group: list[Entry]) -> None:
+        """Halt where this member does not know what an entry asks for, or not by which program."""
+        for entry in group:
+            if entry.program != self.program:
+                raise Halt(f"entry {entry.position} is for another program: {entry.program}")
+            if entry.kind not in KINDS:
+                raise Halt(f"entry {entry.position} is of an unknown kind: {entry.kind}")
+
+    def answers(self, group: list[Entry]) -> Iterator[tuple[list[Entry], list[bytes]]]:
+        """Some entries at a time, in their order, with the answers to them, once they are done."""
+        joined = self.joined(group)
+        if joined is not None:
+            yield group, joined
+            return
+        for entry in group:
+            answer = self.asked(KINDS[entry.kind], entry.body if entry.kind == "acts" else None)
+            if not follows_from_log(answer):
+                raise Fault(f"entry {entry.position}: {answer[-100:]!r}")
+            yield [entry], [answer]
+
+    def was_alone(self, group: list[Entry]) -> bool:
+        """Whether a failure was that of one entry. Otherwise these entries go alone from now on."""
+        if len(group) == 1 or group[0].position <= self.alone:
+            return True
+        self.alone = group[-1].position
+        return False
+
+    def joined(self, group: list[Entry]) -> list[bytes] | None:
+        """The answer to each entry of a group that goes as one list; None where the entries have to go alone.
+
+        Of a list that the office cannot read it has done nothing (400).
+        """
+        joined = None if group[0].position <= self.alone else join(group)
+        if joined is None:
+            return None
+        answer = self.asked("/acts", joined.body)
+        if status_of(answer) == 400 and follows_from_log(answer):
+            return None
+        answers = joined.cut(answer)
+        if answers is None or not all(map(follows_from_log, answers)):
+            raise Fault(f"entries {group[0].position} to {group[-1].position} together: {answer[-100:]!r}")
+        return answers
+
+    def asked(self, path: str, body: bytes | None) -> bytes:
+        """What the office answers. An office that ended before is started first."""
+        try:
+            return self.office.ask("POST", path, body)
+        except ConnectionRefusedError:
+            # nothing was sent, and FILE has all entries to the position
+            self.office.start()
+            return self.office.ask("POST", path, body)
