@@ -21,7 +21,8 @@ DRAINED = 262_144
 STATUSES = {"length": "411 Length Required", "digits": "400 Bad Request",
             "size": "413 Payload Too Large", "coding": "501 Not Implemented",
             "body": "400 Bad Request", "header": "400 Bad Request", "head": "400 Bad Request",
-            "host": "400 Bad Request", "key": "422 Unprocessable Content"}
+            "host": "400 Bad Request", "key": "422 Unprocessable Content",
+            "after": "412 Precondition Failed"}
 # the office's own names, where this module needs two for two statuses
 NAMES = {"digits": "length"}
 
@@ -65,8 +66,7 @@ class Handler(http.server.BaseHTTPRequestHandler):
         more = b""
         if answer.position is not None:
             more += b"Office-Position: %d\r\n" % answer.position
-        if answer.age is not None:
-            more += b"Office-Age: %s\r\n" % answer.age.encode()
+        more += b"Office-Age: %s\r\n" % (answer.age or self.server.service.age()).encode()
         if key is not None:
             more += b"Idempotency-Key: %s\r\n" % key.encode()
         self.close_connection = True

@@ -19,7 +19,7 @@ NEWEST, ANY = "newest", "any"
 
 class Answer(NamedTuple):
     """The bytes of the office, or the name of an error; the position that they belong to; and the
-    age of a reading, in seconds or `unknown`."""
+    age of a reading, in seconds or `unknown`. Any other answer has the age as it is written."""
 
     position: int | None
     content: bytes | str
@@ -55,6 +55,7 @@ class Service:
 
         It is at least at the position `after`; with NEWEST at least where the log ended as the
         request came. `behind`: it would not be there in time, or would be older than the limit.
+        `after`: the log ends before that position, so it is another log than the client has seen.
         """
         if wanted == NEWEST:
             try:
@@ -63,6 +64,8 @@ class Service:
                 return Answer(None, "quorum")
         if not self.follower.is_reading:
             return Answer(None, "recovering")
+        if after > self.follower.position and self.ends_before(after):
+            return Answer(None, "after")
         if after > 0 and not self.follower.reaches(after, WAIT_SECONDS, reading=True):
             return Answer(None, "behind" if self.follower.is_reading else "recovering")
         if not self.follower.office.lock.acquire(timeout=self.limit):
@@ -71,6 +74,18 @@ class Service:
             return self.asked(method, path, wanted != ANY)
         finally:
             self.follower.office.lock.release()
+
+    def ends_before(self, position: int) -> bool:
+        """Whether a majority says that the log ends before a position. What any member answered is in the log."""
+        try:
+            return self.freshness.confirm() < position
+        except (NotTaken, Unclear):
+            return False
+
+    def age(self) -> str:
+        """How long ago this machine surely had all that was answered, in whole seconds, or `unknown`."""
+        age = whole(self.freshness.age(self.follower.position))
+        return "unknown" if age is None else str(age)
 
     def asked(self, method: str, path: str, is_limited: bool) -> Answer:
         """What the office answers now, to one who has its lock."""
@@ -90,8 +105,7 @@ class Service:
             return Answer(None, "recovering")
         if status_of(content, method == "HEAD") is None:
             return Answer(None, "recovering")
-        age = whole(self.freshness.age(position))
-        return Answer(position, content, "unknown" if age is None else str(age))
+        return Answer(position, content, self.age())
 
     def ask_if_free(self) -> None:
         """Asks the office something, unless somebody else does just now: so a hanging one is found."""
