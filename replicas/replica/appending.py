@@ -67,6 +67,7 @@ class Appender:
         self.queue: list[Waiting] = []
         self.own: dict[int, Entry] = {}
         self.own_bytes = 0
+        self.appended = self.transactions = 0
 
     # ---- for clients
 
@@ -133,6 +134,7 @@ class Appender:
             return self.failed(group, error)
         if first is None:
             return self.end_found(group, found)
+        self.appended, self.transactions = self.appended + len(group), self.transactions + 1
         self.keep(first, group)
         self.tell(first, before)
         for number, it in enumerate(group):

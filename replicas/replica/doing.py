@@ -21,6 +21,7 @@ class Doing:
         self.office, self.program = office, program
         self.alone = 0
         """entries up to here go alone, since a joined list failed"""
+        self.joined_entries = 0
 
     def look_at(self, group: list[Entry]) -> None:
         """Halt where this member does not know what an entry asks for, or not by which program."""
@@ -63,6 +64,7 @@ class Doing:
         answers = joined.cut(answer)
         if answers is None or not all(map(follows_from_log, answers)):
             raise Fault(f"entries {group[0].position} to {group[-1].position} together: {answer[-100:]!r}")
+        self.joined_entries += len(group)
         return answers
 
     def asked(self, path: str, body: bytes | None) -> bytes:

@@ -66,7 +66,7 @@ class Follower:
         self.halting: str | None = None
         self.blocked, self.regular = Blocked(), Regular(settings.snapshot_seconds, settings.name)
         self.is_claimed = False
-        self.restores = 0
+        self.restores = self.done = 0
         self.doing = Doing(office, log.program)
         self.pause = 0.2
         self.looked = 0.0
@@ -257,6 +257,7 @@ class Follower:
             chain = hashlib.sha256(chain.encode() + answer).hexdigest()
             comparison.note(entry.position, chain)
         memo.advance([(it.position, it.key, answer) for it, answer in zip(group, answers)], chain)
+        self.done += len(group)
         for entry in group:
             self.blocked.done(entry.position)
             self.regular.note(entry)

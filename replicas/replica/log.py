@@ -88,6 +88,7 @@ class Log:
 
     def __init__(self, settings: Settings, etcd: Etcd, program: str) -> None:
         self.etcd, self.member, self.program = etcd, settings.name, program
+        self.name = settings.log
         self.top = f"/office/{settings.log}/"
         self.quota = settings.etcd_quota
         self.last, self.is_full = 0, False

@@ -78,6 +78,7 @@ class Office:
         self.owes: float | None = None
         """since when an answer is awaited, or the line that says that it serves"""
         self.is_starting = False
+        self.starts = 0
 
     def start(self) -> None:
         """Opens FILE, by a new process that ends with this thread. Fault where it does not, or there is no FILE."""
@@ -91,6 +92,7 @@ class Office:
             assert self.process.stdout is not None
             if not self.process.stdout.readline().startswith(b"listening"):
                 raise Fault(f"the office did not start: status {self.process.wait()}")
+            self.starts += 1
         finally:
             self.owes, self.is_starting = None, False
 

@@ -71,7 +71,7 @@ class Service:
         if not self.follower.office.lock.acquire(timeout=self.limit):
             return Answer(None, "busy")
         try:
-            return self.asked(method, path, wanted != ANY)
+            return self.asked(method, path, wanted != ANY, self.limit)
         finally:
             self.follower.office.lock.release()
 
@@ -87,7 +87,7 @@ class Service:
         age = whole(self.freshness.age(self.follower.position))
         return "unknown" if age is None else str(age)
 
-    def asked(self, method: str, path: str, is_limited: bool) -> Answer:
+    def asked(self, method: str, path: str, is_limited: bool, seconds: float) -> Answer:
         """What the office answers now, to one who has its lock."""
         position, office = self.follower.position, self.follower.office
         if not self.follower.is_reading:
@@ -95,9 +95,9 @@ class Service:
         if is_limited and self.freshness.is_behind(position):
             return Answer(None, "behind")
         try:
-            content = office.ask(method, path, seconds=self.limit)
+            content = office.ask(method, path, seconds=seconds)
         except TimeoutError:
-            say(f"the office gave no answer to {method} {path} in {self.limit:.0f} seconds: it is started again")
+            say(f"the office gave no answer to {method} {path} in {seconds:.0f} seconds: it is started again")
             office.kill()
             self.follower.changed.set()
             return Answer(None, "recovering")
@@ -107,12 +107,12 @@ class Service:
             return Answer(None, "recovering")
         return Answer(position, content, self.age())
 
-    def ask_if_free(self) -> None:
+    def ask_if_free(self, seconds: float) -> None:
         """Asks the office something, unless somebody else does just now: so a hanging one is found."""
         follower = self.follower
         if follower.is_reading and follower.office.lock.acquire(blocking=False):
             try:
-                self.asked("GET", "/nothing", False)
+                self.asked("GET", "/nothing", False, seconds)
             finally:
                 follower.office.lock.release()
 

@@ -273,7 +273,7 @@ TRIALS = {"no_quorum": no_quorum, "same_answers": same_answers, "full_disk": fau
           "damaged_file": faults.damaged_file,
           "flipped_byte": faults.flipped_byte, "away": away, "upgrade": upgrade,
           "wrong_file": wrong_file, "secured": secured, "units": units,
-          "isolated": age.isolated, "hanging": age.hanging, "replaced": programs.replaced,
+          "isolated": age.isolated, "seen": age.seen, "hanging": age.hanging, "replaced": programs.replaced,
           "assumed_disk": programs.assumed_disk, "slow_snapshot": programs.slow_snapshot,
           "undoable": programs.undoable, "moved": moving.moved, "one_name": moving.one_name,
           "gone": moving.gone, "history": history.history, "at_rest": history.at_rest}

@@ -34,7 +34,6 @@ class View:
         self.browser, self.proxy = browser, proxy
 
     def open(self, position: int, end: int = 10**9) -> None:
-        self.browser.open("about:blank")
         self.browser.open(f"{self.proxy.page}#record")
         self.browser.driver.execute_script(WATCHED, position, end)
 
