@@ -4,7 +4,7 @@ Fault: an answer is not the one that each office at this state gives, so FILE ma
 """
 from __future__ import annotations
 
-from typing import Iterator
+from typing import Callable, Iterator
 
 from replica.errors import Fault, Halt
 from replica.joining import join
@@ -12,13 +12,25 @@ from replica.log import Entry
 from replica.office import Office, follows_from_log, status_of
 
 KINDS = {"acts": "/acts", "resume": "/run/resume"}
+REFUSE, REFUSED = "refuse", "refused"
+"""an entry by which another one was refused, and what that one is taken for then"""
+HEAD = "HTTP/1.1 %s\r\nContent-Type: application/json\r\nContent-Length: %d\r\nConnection: close\r\n\r\n%s"
+
+
+def own_answer(status: str, body: str) -> bytes:
+    return (HEAD % (status, len(body), body)).encode()
+
+
+NOT_DONE = own_answer("422 Unprocessable Content", '{"error":"refused"}')
+"""to an entry that was refused"""
 
 
 class Doing:
     """How entries reach one office; for one thread, which has the office's lock."""
 
-    def __init__(self, office: Office, program: str) -> None:
-        self.office, self.program = office, program
+    def __init__(self, office: Office, program: str, answered: Callable[[int], bytes | None]) -> None:
+        """`answered` gives what an earlier entry was answered here, if that is remembered."""
+        self.office, self.program, self.answered = office, program, answered
         self.alone = 0
         """entries up to here go alone, since a joined list failed"""
         self.joined_entries = 0
@@ -28,7 +40,7 @@ class Doing:
         for entry in group:
             if entry.program != self.program:
                 raise Halt(f"entry {entry.position} is for another program: {entry.program}")
-            if entry.kind not in KINDS:
+            if entry.kind not in (*KINDS, REFUSE, REFUSED):
                 raise Halt(f"entry {entry.position} is of an unknown kind: {entry.kind}")
 
     def answers(self, group: list[Entry]) -> Iterator[tuple[list[Entry], list[bytes]]]:
@@ -38,10 +50,20 @@ class Doing:
             yield group, joined
             return
         for entry in group:
-            answer = self.asked(KINDS[entry.kind], entry.body if entry.kind == "acts" else None)
-            if not follows_from_log(answer):
-                raise Fault(f"entry {entry.position}: {answer[-100:]!r}")
-            yield [entry], [answer]
+            yield [entry], [self.answer(entry)]
+
+    def answer(self, entry: Entry) -> bytes:
+        """The answer to one entry, by the office, or by the log alone where it refuses something."""
+        if entry.kind == REFUSED:
+            return NOT_DONE
+        if entry.kind == REFUSE:
+            if self.answered(int(entry.body)) not in (None, NOT_DONE):
+                raise Halt(f"entry {int(entry.body)} was refused, and was done here")
+            return own_answer("200 OK", f'{{"refused":{int(entry.body)}}}')
+        answer = self.asked(KINDS[entry.kind], entry.body if entry.kind == "acts" else None)
+        if not follows_from_log(answer):
+            raise Fault(f"entry {entry.position}: {answer[-100:]!r}")
+        return answer
 
     def was_alone(self, group: list[Entry]) -> bool:
         """Whether a failure was that of one entry. Otherwise these entries go alone from now on."""

@@ -11,7 +11,6 @@ from __future__ import annotations
 
 import contextlib
 import hashlib
-import pathlib
 import sqlite3
 import subprocess
 import threading
@@ -21,12 +20,12 @@ from typing import Iterator
 from replica.appending import Appender
 from replica.blocked import Blocked
 from replica.comparison import Comparison
-from replica.doing import Doing
+from replica.doing import REFUSED, Doing
 from replica.errors import Fault, Halt, NotTaken, Unclear, say
 from replica.joining import groups
 from replica.log import NO_ACTS, Entry, Log
 from replica.memo import Memo
-from replica.office import Office, has_content
+from replica.office import Office, has_content, work_file
 from replica.regular import Regular
 from replica.settings import Settings
 from replica.snapshots import Snapshots
@@ -64,10 +63,10 @@ class Follower:
         self.changed, self.stopping = threading.Event(), threading.Event()
         self.wants_snapshot = False
         self.halting: str | None = None
-        self.blocked, self.regular = Blocked(), Regular(settings.snapshot_seconds, settings.name)
-        self.is_claimed = False
+        self.blocked, self.regular = Blocked(settings.folder), Regular(settings.snapshot_seconds, settings.name)
+        self.is_claimed = self.is_untold = False
         self.restores = self.done = 0
-        self.doing = Doing(office, log.program)
+        self.doing = Doing(office, log.program, lambda it: None if self.memo is None else self.memo.answer_at(it))
         self.pause = 0.2
         self.looked = 0.0
 
@@ -175,7 +174,7 @@ class Follower:
                     self.start_office(memo)
             if goal is None:
                 goal = self.end_of_log(memo)
-            entries = self.blocked.before(self.next_entries())
+            entries = self.entries_to_do()
             for group in groups(entries):
                 self.do(memo, group, comparison)
                 last, size = time.monotonic(), size + sum(len(it.body) for it in group)
@@ -212,6 +211,27 @@ class Follower:
         if end.epoch != memo.epoch or end.is_sure and end.tail < self.position:
             raise Halt("the log in etcd is not the one that is followed here")
         return end.tail
+
+    def entries_to_do(self) -> list[Entry]:
+        """The next entries, up to one that may not be done now. One that was refused is of the kind `refused`."""
+        held = self.blocked.held()
+        if held == self.position + 1 and self.may_do(held):
+            self.blocked.release()
+            held = None
+        return [it._replace(kind=REFUSED) if it.position in self.log.refused else it for it in self.next_entries()
+                if held is None or it.position < held]
+
+    def may_do(self, position: int) -> bool:
+        """Whether an entry that failed may be tried, or is refused. A promise is taken back before."""
+        try:
+            if position in self.log.refused:
+                return True
+            if self.blocked.is_waiting():
+                return self.blocked.is_time_to_look() and self.log.look_for_refusal(position)
+            self.log.withdraw(position)
+            return True
+        except (NotTaken, Unclear):
+            return False
 
     def next_entries(self) -> list[Entry]:
         """The entries after the position; none where etcd does not answer.
@@ -304,6 +324,11 @@ class Follower:
                 self.log.claim()
                 self.is_claimed = True
             comparison.look()
+            promised = self.blocked.promise()
+            if promised is not None or self.is_untold:
+                self.is_untold = True
+                self.log.report_blocked(self.blocked.promised or 0)
+                self.is_untold = False
             oldest = self.snapshots.positions()[-1]
             if oldest != self.reported:
                 self.forget(memo, self.log.report_snapshot(oldest) - self.settings.keys_kept)
@@ -331,7 +356,7 @@ class Follower:
         """A member answers where it has done all that was in the log as it opened FILE, and all
         that it ever answered, and its answers are not in question."""
         is_there = goal is not None and self.position >= max(goal, self.highest)
-        is_before = self.blocked.is_next(self.position) and self.position >= self.highest
+        is_before = self.blocked.held() == self.position + 1 and self.position >= self.highest
         if is_split:
             self.why = "the members' answers differ"
         elif is_before:
@@ -371,8 +396,3 @@ class Follower:
             return None if memo is None else memo.answer(position, key)
         except sqlite3.Error:
             return None
-
-
-def work_file(folder: pathlib.Path) -> pathlib.Path:
-    """FILE of the member in a folder."""
-    return folder / "work" / "office.db"

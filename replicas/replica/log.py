@@ -9,6 +9,8 @@ Below /office/LOG/ etcd has
     keys/KEY            the position of the entry with this key, and what it asked for
     members/NAME        the older snapshot of each member
     machines/NAME       the machine and folder that have this name
+    blocked/NAME        the entry that a member cannot do, and has promised not to do
+    refused/POSITION    the entry by which this one was refused: nobody does it
     chain/POSITION/NAME a hash over all answers of a member up to there
 
 What is dropped is compacted too, so that etcd gives no earlier revision of it either.
@@ -37,7 +39,7 @@ class Entry(NamedTuple):
     position: int
     key: str
     kind: str
-    """`acts` or `resume`"""
+    """`acts` or `resume`; `refuse` has the position of an entry that nobody does, as its body"""
     program: str
     """the digest of the office's program at the member that appended it"""
     body: bytes
@@ -92,6 +94,8 @@ class Log:
         self.top = f"/office/{settings.log}/"
         self.quota = settings.etcd_quota
         self.last, self.is_full = 0, False
+        self.refused: set[int] = set()
+        """positions of entries that are known to be refused"""
         self.machine, self.dropped = machine_of(settings.folder), 0
 
     def entry_key(self, position: int) -> str:
@@ -99,6 +103,9 @@ class Log:
 
     def chain_key(self, position: int) -> str:
         return f"{self.top}chain/{position:016d}"
+
+    def refused_key(self, position: int) -> str:
+        return f"{self.top}refused/{position:016d}"
 
     # ---- what a request needs
 
@@ -155,10 +162,33 @@ class Log:
 
     def after(self, position: int) -> tuple[list[Entry], int]:
         """The next entries that this machine's etcd has, and where the log ends there."""
-        _, (rows, tail) = self.etcd.transact(
+        _, (rows, tail, refused) = self.etcd.transact(
             [], [get(self.entry_key(position + 1), self.top + "log0", True, READ_AT_ONCE),
-                 get(self.top + "tail", local=True)], local=True)
+                 get(self.top + "tail", local=True),
+                 get(self.refused_key(position + 1), self.top + "refused0", True)], local=True)
+        self.refused.update(int(key[-16:]) for key, _ in refused)
         return [entry_at(*row) for row in rows], int(tail[0][1]) if tail else 0
+
+    # ---- entries that no member can do
+
+    def report_blocked(self, position: int) -> None:
+        """Reports that this member cannot do an entry, and does not do it before it has taken that back."""
+        self.reported([put(self.top + "blocked/" + self.member, str(position))])
+
+    def withdraw(self, position: int) -> bool:
+        """Takes that report back, so that the entry may be tried. False where it was refused meanwhile."""
+        is_free, _ = self.etcd.transact([absent(self.refused_key(position))],
+                                        [drop(self.top + "blocked/" + self.member)])
+        if not is_free:
+            self.refused.add(position)
+        return is_free
+
+    def look_for_refusal(self, position: int) -> bool:
+        """Whether this machine's etcd knows that an entry was refused."""
+        _, rows = self.etcd.transact([], [get(self.refused_key(position), local=True)], local=True)
+        if rows[0]:
+            self.refused.add(position)
+        return bool(rows[0])
 
     def watch(self, changed: threading.Event) -> None:
         """Sets the event whenever there may be a new entry. Never returns."""
@@ -223,7 +253,8 @@ class Log:
                 [has(top + "first", str(first))],
                 [put(top + "first", str(least + 1)),
                  drop(self.entry_key(0), self.entry_key(least + 1)),
-                 drop(top + "chain/", self.chain_key(least))])
+                 drop(top + "chain/", self.chain_key(least)),
+                 drop(top + "refused/", self.refused_key(least + 1))])
         if self.dropped:
             self.etcd.compact(self.dropped)
             self.dropped = 0

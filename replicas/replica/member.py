@@ -19,11 +19,11 @@ from replica.appending import Appender
 from replica.clients import Server
 from replica.errors import Halt, say
 from replica.etcd import Etcd
-from replica.follower import Follower, work_file
+from replica.follower import Follower
 from replica.freshness import Freshness
 from replica.guard import Guard
 from replica.log import Log
-from replica.office import Office
+from replica.office import Office, work_file
 from replica.program import Program
 from replica.service import Service
 from replica.settings import Settings, read_settings

@@ -80,6 +80,12 @@ class Memo:
                                     (position, key)).fetchone()
         return None if row is None else bytes(row[0])
 
+    def answer_at(self, position: int) -> bytes | None:
+        """What the entry at a position was answered, if that is remembered."""
+        with self.lock:
+            row = self.rows.execute("SELECT answer FROM answers WHERE position=?", (position,)).fetchone()
+        return None if row is None else bytes(row[0])
+
     def oldest(self, until: int, limit: int) -> list[tuple[int, str]]:
         """Positions and keys of the oldest answers up to a position."""
         with self.lock:

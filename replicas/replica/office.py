@@ -46,6 +46,11 @@ def has_content(file: pathlib.Path) -> bool:
     return file.is_file() and file.stat().st_size > 0
 
 
+def work_file(folder: pathlib.Path) -> pathlib.Path:
+    """FILE of the member in a folder."""
+    return folder / "work" / "office.db"
+
+
 def synced(file: pathlib.Path) -> None:
     """Afterwards the disk has the file, or the folder, as it is now."""
     descriptor = os.open(file, os.O_RDONLY)

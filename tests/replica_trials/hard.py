@@ -275,7 +275,7 @@ TRIALS = {"no_quorum": no_quorum, "same_answers": same_answers, "full_disk": fau
           "wrong_file": wrong_file, "secured": secured, "units": units,
           "isolated": age.isolated, "seen": age.seen, "hanging": age.hanging, "replaced": programs.replaced,
           "assumed_disk": programs.assumed_disk, "slow_snapshot": programs.slow_snapshot,
-          "undoable": programs.undoable, "moved": moving.moved, "one_name": moving.one_name,
+          "undoable": programs.undoable, "refused": programs.refused, "moved": moving.moved, "one_name": moving.one_name,
           "gone": moving.gone, "history": history.history, "at_rest": history.at_rest}
 
 

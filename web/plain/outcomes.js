@@ -74,7 +74,7 @@ const NOTHING_IN_LOG = ["quorum", "recovering", "busy", "full"];
 /** Whether this answer says that no act was done. */
 function nothingDone(answer, body) {
   if (answer.status === 503) return NOTHING_IN_LOG.includes(body?.error);
-  if (answer.status === 422) return body?.error === "key";
+  if (answer.status === 422) return ["key", "refused"].includes(body?.error);
   if ([400, 404, 405, 411, 501].includes(answer.status)) return typeof body?.error === "string";
   return [401, 403, 413, 429].includes(answer.status);
 }
