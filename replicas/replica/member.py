@@ -41,9 +41,11 @@ def made(settings: Settings) -> tuple[Log, Follower]:
 
 
 def locked(settings: Settings) -> object:
-    """The lock of the folder, held as long as this value lives."""
-    file = open(settings.folder / "lock", "w", encoding="utf-8")
+    """The lock of the folder, with this process's number in it, held as long as this value lives."""
+    file = open(settings.folder / "lock", "a", encoding="utf-8")
     fcntl.flock(file, fcntl.LOCK_EX | fcntl.LOCK_NB)
+    file.truncate(0)
+    print(os.getpid(), file=file, flush=True)
     return file
 
 
