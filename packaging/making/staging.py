@@ -21,7 +21,8 @@ DOC = "usr/share/doc/office"
 PLACES = [("/usr/local/bin/", "/usr/bin/"), ("/usr/local/share/office", "/usr/share/office"),
           ("/usr/local/lib/office-replicas", "/usr/lib/office-replicas")]
 # files in which that is said for the machine; pages tell of both
-MACHINE = (".service", ".timer", ".conf", ".nft", "office-acts", "city.json", "office-replicas-setup")
+MACHINE = (".service", ".timer", ".conf", ".nft", "office-acts", "city.json", "office-replicas-setup",
+           "office-replicas-renew")
 
 
 class Listed(NamedTuple):
