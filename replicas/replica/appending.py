@@ -16,8 +16,8 @@ from replica.log import Appended, Entry, Log, Request
 
 MOST, LONGEST = 60, 1_048_576
 """requests of one transaction, and bytes of their bodies: etcd takes 128 operations, and 1.5 MB"""
-MOST_WAITING, WAIT_SECONDS = 2000, 30
-"""requests, and seconds, until one that was not tried is `busy`"""
+MOST_WAITING, MOST_BYTES, WAIT_SECONDS = 2000, 134_217_728, 30
+"""requests, bytes of their bodies, and seconds, until one that was not tried is `busy`"""
 AGAIN_SECONDS = 0.1
 OWN_ENTRIES, OWN_BYTES = 500, 16_777_216
 """that are kept for the follower, so that it need not read them"""
@@ -81,7 +81,7 @@ class Appender:
         request = Request(key, json.dumps(head).encode() + b"\n" + body, digest)
         waiting = Waiting(request, Entry(0, key, kind, self.log.program, body))
         with self.changed:
-            if len(self.queue) >= MOST_WAITING:
+            if len(self.queue) >= MOST_WAITING or sum(len(it.entry.body) for it in self.queue) > MOST_BYTES:
                 return Appended(None, "busy")
             self.queue.append(waiting)
             self.changed.notify_all()

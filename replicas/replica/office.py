@@ -134,7 +134,9 @@ class Office:
             self.owes = None
 
     def sync(self) -> None:
-        """Afterwards the disk has FILE and its log. The office itself syncs nothing (opened.py)."""
+        """Afterwards the disk has FILE and its log. The office itself syncs nothing (opened.py). Fault without FILE."""
+        if not has_content(self.file):
+            raise Fault(f"{self.file} is gone, or empty")
         log = pathlib.Path(f"{self.file}-wal")
         for it in (log, self.file, self.file.parent):
             if it is not log or log.exists():
