@@ -11,7 +11,7 @@ import threading
 import time
 import uuid
 
-from replica_trials import age, faults, history, moving, programs, requests
+from replica_trials import age, faults, history, moving, programs, requests, together
 from replica_trials.checks import Archivist
 from replica_trials.cluster import TOP, Cluster, ask
 from replica_trials.judging import judge
@@ -276,7 +276,7 @@ TRIALS = {"no_quorum": no_quorum, "same_answers": same_answers, "full_disk": fau
           "isolated": age.isolated, "seen": age.seen, "hanging": age.hanging, "replaced": programs.replaced,
           "assumed_disk": programs.assumed_disk, "slow_snapshot": programs.slow_snapshot,
           "undoable": programs.undoable, "refused": programs.refused, "moved": moving.moved, "one_name": moving.one_name,
-          "gone": moving.gone, "history": history.history, "at_rest": history.at_rest}
+          "gone": moving.gone, "together": together.together, "history": history.history, "at_rest": history.at_rest}
 
 
 def run(folder: pathlib.Path, kills: int) -> None:
