@@ -11,6 +11,9 @@ import os
 import pathlib
 import time
 
+from replica.errors import say
+from replica.office import synced
+
 FAILURES = 3
 """in a row at one position, until the entry is left alone for a while"""
 FIRST_PAUSE, LONGEST_PAUSE = 30, 600
@@ -72,17 +75,27 @@ class Blocked:
             return None
 
     def promise(self) -> int | None:
-        """Promises not to do the entry that waits, and gives its position; None where none waits, or it was told."""
+        """Promises not to do the entry that waits, and gives its position; None where none waits, the promise is there,
+        or the disk does not take it."""
         if self.promised is not None or not self.is_waiting():
             return None
+        try:
+            self.write()
+        except OSError as error:
+            if self.is_time_to_look():
+                say(f"entry {self.position} is not promised: {error}")
+            return None
+        self.promised = self.position
+        return self.promised
+
+    def write(self) -> None:
         new = self.file.with_name("promised.new")
         with open(new, "w", encoding="ascii") as file:
             file.write(str(self.position))
             file.flush()
             os.fsync(file.fileno())
         new.rename(self.file)
-        self.promised = self.position
-        return self.promised
+        synced(self.file.parent)
 
     def release(self) -> None:
         """Takes the promise back here, once the others have it no more, or the entry was refused."""
