@@ -22,7 +22,7 @@ returns-in-Ok-clause-ends g c =
     ))
 
 pub returns-in-Ok-clause-clean : goal.returns-in-Ok-clause-clean
-returns-in-Ok-clause-clean g c = clean_closed g.S.Store _ _ _ c.close.ensures.same c.in-Ok.ensures.ok.clean
+returns-in-Ok-clause-clean g c = clean_closed g.S.Store c.args.conn c.in-Ok.desk.held c.close.result c.close.ensures.same c.in-Ok.ensures.ok.clean
 
 pub returns-in-Err-clause-ends : goal.returns-in-Err-clause-ends
 returns-in-Err-clause-ends g c = inl (c.in-Err.fault, refl, unopened g.S.Store c.args.conn c.in-Err.fault c.in-Err.conn c.in-Err.ensures.err, refl)

@@ -21,7 +21,7 @@ returns-in-Ok-clause-ends g c =
     c.args.day (option_map strip_bom text) _ _ _ _ c.import_at-ending.ensures.done))
 
 pub returns-in-Ok-clause-clean : goal.returns-in-Ok-clause-clean
-returns-in-Ok-clause-clean g c = clean_closed g.S.Store _ _ _ c.close.ensures.same (λ clean. c.in-Ok.ensures.ok.clean (c.import_at-ending.ensures.clean clean))
+returns-in-Ok-clause-clean g c = clean_closed g.S.Store c.args.conn c.import_at-ending.new.desk.held c.close.result c.close.ensures.same (λ clean. c.in-Ok.ensures.ok.clean (c.import_at-ending.ensures.clean clean))
 
 pub returns-in-Err-clause-ends : goal.returns-in-Err-clause-ends
 returns-in-Err-clause-ends g c = inl (c.in-Err.fault, refl, unopened g.S.Store c.args.conn c.in-Err.fault c.in-Err.conn c.in-Err.ensures.err, refl)

@@ -24,7 +24,7 @@ returns-in-Ok-clause-ends g c =
     ))
 
 pub returns-in-Ok-clause-clean : goal.returns-in-Ok-clause-clean
-returns-in-Ok-clause-clean g c = clean_closed g.S.Store _ _ _ c.close.ensures.same (λ clean. c.in-Ok.ensures.ok.clean (c.resume_at-ending.ensures.rest.clean clean))
+returns-in-Ok-clause-clean g c = clean_closed g.S.Store c.args.conn c.resume_at-ending.new.desk.held c.close.result c.close.ensures.same (λ clean. c.in-Ok.ensures.ok.clean (c.resume_at-ending.ensures.rest.clean clean))
 
 pub returns-in-Err-clause-ends : goal.returns-in-Err-clause-ends
 returns-in-Err-clause-ends g c = inl (c.in-Err.fault, refl, unopened g.S.Store c.args.conn c.in-Err.fault c.in-Err.conn c.in-Err.ensures.err, refl)
