@@ -114,7 +114,8 @@ class Proxy:
 
     def configured(self, text, office_port):
         self.web = self.folder / "web"
-        shutil.copy(NGINX / "acts.js", self.folder)
+        for name in ("acts.js", "vault.conf", "vaults.conf"):
+            shutil.copy(NGINX / name, self.folder)
         for name in ("http.conf", "server.conf", "actors.conf"):
             text = replaced(text, f"include /etc/nginx/office/{name};", (NGINX / name).read_text())
         for old, new in [

@@ -23,8 +23,8 @@ use Rattle.office_commands.specs.NextWord.{HoldsOfficeAt, HoldsWholeOffice, IsLe
 use Rattle.office_commands.specs.Tables.{HoldsTables, SparesTables}
 use Rattle.office_commands.proofs.LeftTables.{database_of, leaves_tables}
 use Rattle.office_commands.specs.declared.ending.Ending.{Ending}
-use Rattle.office_commands.specs.declared.opening.FilesLeft.{FilesLeft}
-use Rattle.office_commands.specs.declared.opening.FilesLeft.TheVariants as files
+use Rattle.office_commands.specs.declared.office_files.FilesLeft.{FilesLeft}
+use Rattle.office_commands.specs.declared.office_files.FilesLeft.TheVariants as files
 use Rattle.office_commands.proofs.NextService.{service_left}
 use Rattle.office_commands.proofs.NextStates.{IsEnded, IsOneDatabase, StaySound, word_left}
 

@@ -41,8 +41,8 @@ use Rattle.office_command_line.specs.declared.register.Register.TheVariants as r
 use Rattle.office_commands.specs.Applying.{Applies, Performs}
 use Rattle.office_commands.specs.Certifying.{CertificateEnds}
 use Rattle.office_commands.specs.Exporting.{ExportEnds}
-use Rattle.office_wire.specs.declared.importing.ImportStop.{ImportStop}
-use Rattle.office_wire.specs.declared.importing.ImportStop.TheVariants as import
+use Rattle.office_wire.specs.declared.record_import.ImportStop.{ImportStop}
+use Rattle.office_wire.specs.declared.record_import.ImportStop.TheVariants as import
 use Rattle.office_commands.specs.Importing.{AreImported, ImportsAt, IsRowCut, ending_of_import}
 use Rattle.office_commands.specs.NextWord.{AreActsDone, AreRowsAdded, AreStepsTaken, AreWritten, IsLeftBy, IsOfficeAt, IsUntouched, LeavesAt}
 use Rattle.office_commands.specs.Opening.{IsNotOpened, IsOfOpened, IsOpened, IsRestKept, IsUnopened}

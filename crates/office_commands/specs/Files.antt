@@ -22,8 +22,8 @@ use Rattle.office_commands.specs.Serving.{ServiceEnds}
 use Rattle.office_commands.specs.Tables.{HoldsTables, SparesTables}
 use Rattle.office_commands.specs.declared.ending.Ending.{Ending}
 use Rattle.office_commands.specs.declared.ending.Ending.TheVariants as how
-use Rattle.office_commands.specs.declared.opening.FilesLeft.{FilesLeft}
-use Rattle.office_commands.specs.declared.opening.FilesLeft.TheVariants as files
+use Rattle.office_commands.specs.declared.office_files.FilesLeft.{FilesLeft}
+use Rattle.office_commands.specs.declared.office_files.FilesLeft.TheVariants as files
 
 -- the two files held this database, which has the office's tables of that version, beside whatever else
 pub record HeldOffice (ed : Edition) (image : Image) (trees : Trees) : Type 0 where

@@ -16,8 +16,8 @@ use Rattle.office_store.specs.declared.fault.Fault.TheVariants as fault
 use Rattle.office_desk.specs.Leaving.{StopsLeaving}
 use Rattle.office_csv.specs.ImportRows.{Fields, act_asked}
 use Rattle.office_csv.specs.ImportText.{LacksHeader}
-use Rattle.office_wire.specs.declared.importing.ImportStop.{ImportStop}
-use Rattle.office_wire.specs.declared.importing.ImportStop.TheVariants as import
+use Rattle.office_wire.specs.declared.record_import.ImportStop.{ImportStop}
+use Rattle.office_wire.specs.declared.record_import.ImportStop.TheVariants as import
 use Rattle.office_wire.specs.Importing.{AreAllRows, AreLinesOut, ArePrefixRows, AreRowsBeforeBad, AreRowsDone, AreSomeRows, lines_from, refused_count}
 use Rattle.office_commands.specs.Opening.{IsNotOpened, IsOfOpened}
 use Rattle.office_commands.specs.declared.ending.Ending.{Ending}

@@ -35,8 +35,8 @@ use Rattle.office_wire.specs.Importing.{AreLinesOut, ArePrefixRows, AreRowsDone,
 use Rattle.office_commands.specs.declared.ending.Ending.{Ending}
 use Rattle.office_commands.specs.declared.ending.Ending.TheVariants as how
 use Rattle.office_commands.specs.Tables.{HoldsTables}
-use Rattle.office_commands.specs.declared.opening.FilesLeft.{FilesLeft}
-use Rattle.office_commands.specs.declared.opening.FilesLeft.TheVariants as files
+use Rattle.office_commands.specs.declared.office_files.FilesLeft.{FilesLeft}
+use Rattle.office_commands.specs.declared.office_files.FilesLeft.TheVariants as files
 
 -- tables of an office, of either version, at this state
 pub record IsOfficeAt (tables : Trees) (u : State) : Type 0 where

@@ -9,13 +9,13 @@ use Rattle.office_http.specs.declared.request_plan.RequestPlan.{RequestPlan}
 use Rattle.office_http.specs.declared.request_plan.RequestPlan.TheVariants.{Refuse, Serve}
 use Rattle.office_http.specs.declared.want.Want.{Want}
 use Rattle.office_http.specs.declared.want.Want.TheVariants as wants
-use Rattle.office_http.specs.declared.receiving.Asked.{Asked}
-use Rattle.office_http.specs.declared.receiving.Operation.{Operation}
-use Rattle.office_http.specs.declared.receiving.Operation.TheVariants as operation
-use Rattle.office_http.specs.declared.receiving.Received.{Received}
-use Rattle.office_http.specs.declared.receiving.Received.TheVariants as received
-use Rattle.office_http.specs.declared.receiving.ReceiveStop.{ReceiveStop}
-use Rattle.office_http.specs.declared.receiving.ReceiveStop.TheVariants as stop
+use Rattle.office_http.specs.declared.request.Asked.{Asked}
+use Rattle.office_http.specs.declared.request.Operation.{Operation}
+use Rattle.office_http.specs.declared.request.Operation.TheVariants as operation
+use Rattle.office_http.specs.declared.request.Received.{Received}
+use Rattle.office_http.specs.declared.request.Received.TheVariants as received
+use Rattle.office_http.specs.declared.request.ReceiveStop.{ReceiveStop}
+use Rattle.office_http.specs.declared.request.ReceiveStop.TheVariants as stop
 
 -- what is asked of the office: nothing, since a check of the head fails or the body is cut; or one of seven things
 pub data Wanted : Type 0 where

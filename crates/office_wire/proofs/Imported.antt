@@ -24,13 +24,13 @@ use Rattle.office_rules.specs.declared.read_fault.ReadFault.TheVariants.{Refused
 use Rattle.office_json.proofs.Appending.{appends_both}
 use Rattle.office_csv.specs.ImportRows.{Fields, act_asked, fields_in}
 use Rattle.office_csv.specs.ImportText.{AreAtPrefix, HeadsText, TakesNoText}
-use Rattle.office_csv.specs.declared.reading.RowStop.{RowStop}
-use Rattle.office_csv.specs.declared.reading.RowStop.TheVariants as row_stop
+use Rattle.office_csv.specs.declared.import_text.RowStop.{RowStop}
+use Rattle.office_csv.specs.declared.import_text.RowStop.TheVariants as row_stop
 use Rattle.office_csv.proofs.Prefix.{bad_next, bad_text, no_more, none_yet, one_more}
 use Rattle.office_wire.specs.Calling.{CalledAt}
 use Rattle.office_wire.specs.Importing.{ArePrefixRows, AreImported, AreRowsBehind, AreRowsDone, AreSomeRows, EndsImport, EndsLine, EndsRow, EndsRows, EndsTaking, Imports, IsRowDone, IsRowStopped, RowsStop, Stops, StopsAtFault, StopsAtIo, TakeStops, line_of, lines_from, one_if, refused_count, stop_at}
-use Rattle.office_wire.specs.declared.importing.ImportStop.{ImportStop}
-use Rattle.office_wire.specs.declared.importing.ImportStop.TheVariants as stop
+use Rattle.office_wire.specs.declared.record_import.ImportStop.{ImportStop}
+use Rattle.office_wire.specs.declared.record_import.ImportStop.TheVariants as stop
 use Rattle.office_wire.proofs.Calls.{called, called_on, not_called}
 
 -- ---- one row

@@ -18,10 +18,10 @@ use Rattle.office_wire.specs.Calling.{AnsweredAt, CalledAt}
 use Rattle.office_wire.specs.Connections.{IsVisited}
 use Rattle.office_http.specs.Receiving.{HasActs, IsAskedBy, IsReceived, IsOutOfMemory, Wanted, asked_for, cut}
 use Rattle.office_wire.specs.Serving.{AnswersNext, Breaks, GoneReplies, HasReply, InHalves, IsFailed, IsGoneReply, IsGoneServed, IsGoneToSend, IsNextReady, IsOneServed, IsReply, IsSent, IsServed, IsSomeSent, IsToSend, Replies, Sends, ServesOne, ReportsUnavailable}
-use Rattle.office_http.specs.declared.receiving.Asked.{Asked}
-use Rattle.office_http.specs.declared.receiving.Received.TheVariants as received
-use Rattle.office_http.specs.declared.receiving.ReceiveStop.TheVariants as stop
-use Rattle.office_wire.specs.declared.serving.OutgoingReply.{OutgoingReply}
+use Rattle.office_http.specs.declared.request.Asked.{Asked}
+use Rattle.office_http.specs.declared.request.Received.TheVariants as received
+use Rattle.office_http.specs.declared.request.ReceiveStop.TheVariants as stop
+use Rattle.office_wire.specs.declared.exchange.OutgoingReply.{OutgoingReply}
 use Rattle.office_wire.proofs.AnyAnswer.{served_leaves}
 use Rattle.office_wire.proofs.Calls.{answered, called, not_answered}
 

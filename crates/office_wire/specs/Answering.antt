@@ -26,7 +26,7 @@ use Rattle.office_http.specs.declared.failure.Failure.TheVariants as failure
 use Rattle.office_http.specs.declared.reply.Reply.{Reply}
 use Rattle.office_http.specs.declared.status.Status.TheVariants as status
 use Rattle.office_wire.specs.Calling.{AnsweredAt}
-use Rattle.office_wire.specs.declared.answering.Reported.{Reported}
+use Rattle.office_wire.specs.declared.answers.Reported.{Reported}
 use Rattle.office_http.specs.Receiving.{Wanted, refused, cut, acts, resumption, record_reported, content_reported, due_reported, overdue_reported, certificate_reported}
 use Rattle.office_wire.specs.Replies.{acts_response, answer_response, bad_act_response, certificate_response, content_response, due_response, fault_response, overdue_response, record_response, stopped_response}
 

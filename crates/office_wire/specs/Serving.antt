@@ -10,7 +10,7 @@ use Rattle.office_desk.specs.Desk.{DeskState}
 use Rattle.office_desk.specs.Leaving.{IsAt}
 use Rattle.office_http.specs.RequestPlans.{is_head_method}
 use Rattle.office_http.specs.declared.failure.Failure.{Failure}
-use Rattle.office_wire.specs.declared.serving.OutgoingReply.{OutgoingReply}
+use Rattle.office_wire.specs.declared.exchange.OutgoingReply.{OutgoingReply}
 use Rattle.office_http.specs.Replies.{Response, response, failure_response, response_text, status_number}
 use Rattle.office_http.specs.Requests.{Request, IsRequest, nothing, headless, asks}
 use Rattle.office_http.specs.declared.failure.Failure.TheVariants as failure
