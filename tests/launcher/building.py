@@ -111,9 +111,8 @@ def judge_stopped(clone: Clone) -> None:
 
 def lacks(clone: Clone, name: str, says: str, command: str = "clone/office build", **env: str) -> None:
     done = clone.run(command, **env)
-    line = done.err.splitlines()[0] if done.err else ""
-    judge(f"{name}: a line says what to do", done.status == 2 and line.startswith("office: ") and says in line,
-          f"{done}")
+    judge(f"{name}: one line says what to do", done.status == 2 and done.err.startswith("office: ") and says in done.err
+          and done.err.count("\n") == 1, f"{done}")
 
 
 def with_mount(words: list[object], place: pathlib.Path, trial: Callable[[], None]) -> None:
