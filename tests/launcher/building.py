@@ -53,7 +53,7 @@ def judge_help(clone: Clone) -> None:
 def judge_build(clone: Clone) -> None:
     clone.run("clone/office init archive.db")
     judge("a preview is there", (clone.out / "preview/office").exists())
-    done = clone.run("clone/office build", SLOW="0.4")
+    done = clone.run("clone/office build", SLOW="0.4", BUILD_MINUTE="0.5")
     judge("a build takes its place", not (clone.out / "preview").exists())
     lines = done.err.splitlines()
     judge("a build says its minutes first", done.status == 0 and lines[0].startswith("office: proving and building")
@@ -86,7 +86,7 @@ def judge_build(clone: Clone) -> None:
 
 def stopped(clone: Clone, number: int) -> str:
     """What a build says that gets a signal while the last library is under way."""
-    env = {**os.environ, **clone.env(SLOW="1", BUILD_MINUTE="60")}
+    env = {**os.environ, **clone.env(SLOW="1")}
     build = subprocess.Popen([clone.top / ".ci/build"], env=env, stderr=subprocess.PIPE, text=True)
     deadline = time.time() + 60
     while len(clone.made()) < 3 and time.time() < deadline:
