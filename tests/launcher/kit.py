@@ -1,4 +1,4 @@
-"""A fresh clone, with the kit itself: how long it is to the first due day and to the page, and what both previews print."""
+"""A fresh clone, with the kit itself: the seconds to its first due day, page and certificate; what both previews print."""
 import shutil
 import subprocess
 import time
@@ -8,6 +8,9 @@ from pages_run.judging import judge
 from pages_run.shell import Shell
 from previews import COMPILED, MORE, SMALL, judge_alike, plain
 
+CERTIFICATE = ("./office apply clock.db examples/first/acts.json && ./office resume clock.db && "
+               "./office certificate clock.db 1 | tail -n 1")
+DIGEST = "SHA256 a38df462576deec0e07f2be45da54f3ebae062bbd4d225045ff7ea80502914e6\n"
 PAGE = "until curl --silent --fail --output /dev/null http://127.0.0.1:8080/records/1; do sleep 0.2; done"
 DEMO = f"./office demo 2>said & {PAGE}; kill -INT $!; wait $!; cat said"
 
@@ -32,4 +35,7 @@ def judge_fresh_clone(shell: Shell) -> None:
     done = shell.run(f"cd fresh && {DEMO}")
     judge(f"the page, after {time.time() - began:.0f} s more", done.status == 0 and COMPILED in done.out
           and done.out.endswith("office: the demo has ended, and its office is removed\n"), f"{done}")
+    began = time.time()
+    done = shell.run(f"cd fresh && {CERTIFICATE}")
+    judge(f"the first certificate, after {time.time() - began:.0f} s more", done.out.endswith(DIGEST), f"{done}")
     judge_alike(shell, lambda line: shell.run(f"cd fresh && {line}"))
