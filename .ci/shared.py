@@ -16,7 +16,9 @@ class Stopped(Exception):
 
 
 def say(text: str) -> None:
-    print(f"office: {text}", file=sys.stderr, flush=True)
+    """Reports a line, which stays whole beside those of other threads."""
+    sys.stderr.write(f"office: {text}\n")
+    sys.stderr.flush()
 
 
 def minutes(seconds: float) -> str:

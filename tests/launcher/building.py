@@ -70,7 +70,7 @@ def judge_build(clone: Clone) -> None:
     done = clone.run("clone/office help")
     judge("its help is the program's own, and the launcher's words", done.out == "built: help\n"
           and done.err.startswith("\nCommands of ./office itself:\n  demo "), f"{done}")
-    (clone.top / "crates/office_tree/src/lib.rt").write_text("// changed\n")
+    (clone.top / "crates/office_tree/src/lib.rt").write_text("// changed for a second build\n")
     done = clone.run("clone/office build")
     judge("after a change it guesses by the last build", done.status == 0 and "by the last build" in done.err, done.err)
     clone.unbuilt()

@@ -112,8 +112,8 @@ def judge_stopped(clone: Clone) -> None:
 
 
 def until(holds: Callable[[], bool]) -> None:
-    """Waits until something holds, for a minute."""
-    deadline = time.time() + 60
+    """Waits until something holds, for five minutes."""
+    deadline = time.time() + 300
     while not holds() and time.time() < deadline:
         time.sleep(0.05)
 
