@@ -11,8 +11,8 @@ FILES = [
     ("/usr/share/doc/office/", "the pages, and examples of configurations for nginx, logrotate and nftables"),
 ]
 ENVIRONMENT = [
-    ("OFFICE_DISK", "what is supposed of the disk: `any`, also where it is not set, or `powersafe`, where the device "
-                    "finishes each sector that it begins; docs/SERVICE.md says more"),
+    ("OFFICE_DISK", "what the program may assume about the disk: `any`, also if it is not set, or `powersafe`, if the "
+                    "device finishes each sector that it begins; docs/SERVICE.md says more"),
 ]
 EXAMPLE = """office init archive.db
 office apply archive.db acts.json
