@@ -111,6 +111,15 @@ def judge_stopped(clone: Clone) -> None:
     clone.tried()
 
 
+def judge_beside(clone: Clone) -> None:
+    """A due day is there while the whole preview is still being compiled."""
+    clone.unbuilt()
+    done = clone.run(f"(SLOW=9 {INIT} & sleep 1; {DUE}; wait) 2>&1")
+    judge("due does not wait for the whole preview", done.status == 0 and "at work in this folder" not in done.out
+          and -1 < done.out.find("2025-04-01\n") < done.out.find("version 2\n"), f"{done}")
+    clone.tried()
+
+
 def until(holds: Callable[[], bool]) -> None:
     """Waits until something holds, for five minutes."""
     deadline = time.time() + 300
@@ -123,6 +132,7 @@ def judge_previews(clone: Clone) -> None:
     judge_wrong(clone)
     judge_whole(clone)
     judge_stopped(clone)
+    judge_beside(clone)
     clone.unbuilt()
 
 
