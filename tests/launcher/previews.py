@@ -106,7 +106,7 @@ def judge_stopped(clone: Clone) -> None:
     os.killpg(run.pid, signal.SIGINT)
     said = run.communicate()[1].decode()
     judge("a preview that is stopped ends", run.returncode in (130, -signal.SIGINT) and said == WHOLE, f"{run.returncode} {said}")
-    left = [*map(str, room.iterdir()), *map(str, clone.out.glob("preview/office*"))]
+    left = [*map(str, room.iterdir()), *(it.name for it in clone.out.glob("preview/*") if it.suffix != ".lock")]
     judge("and leaves nothing behind", not left, f"{left}")
     clone.tried()
 
