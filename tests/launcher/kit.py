@@ -32,7 +32,7 @@ def judge_fresh_clone(shell: Shell) -> None:
         judge(f"by examples/days as by the built program: {line}", built == small, f"{built}\n{small}")
     began = time.time()
     shell.seconds = 3600
-    done = shell.run(f"cd fresh && {DEMO}")
+    done = shell.run(f"cd fresh; {DEMO}")
     judge(f"the page, after {time.time() - began:.0f} s more", done.status == 0 and COMPILED in done.out
           and done.out.endswith("office: the demo has ended, and its office is removed\n"), f"{done}")
     began = time.time()
