@@ -175,11 +175,11 @@ def served(folder: pathlib.Path, name: str, fill=lambda file: None):
     file = place / "office.db"
     fill(file)
     office = Office(file, free_port())
-    office.start()
     proxy = Proxy(place, office.port)
     shutil.copytree(TOP / "web", proxy.web)
-    proxy.start()
     try:
+        office.start()
+        proxy.start()
         yield office, proxy
     finally:
         proxy.stop()

@@ -20,7 +20,8 @@ from place import Office, Proxy
 from story import TEXTS, WHO, says
 
 BEGUN, SENT = after(-500), after(-100)
-LETTERS, PERMITS, CONTRACTS, SITES, LEASES, MAPS, FILES = 383, 28, 29, 40, 8, 320, 59
+# more than a hundred acts make more than one request; that is no further step
+LETTERS, PERMITS, CONTRACTS, SITES, LEASES, MAPS, FILES, ROWS = 120, 28, 29, 40, 8, 120, 59, 120
 # class: trigger, count of years, action
 RULES = {
     "LETTERS": ("added", 1, "destroy"),
@@ -57,6 +58,10 @@ class Town:
     def open(self, view: str) -> None:
         self.it.browser.open(f"{self.proxy.page}#{view}")
         self.it.begin()
+
+    def shown(self, css: str) -> None:
+        """Waits until this is in sight."""
+        self.it.browser.wait(lambda: any(it.is_displayed() for it in self.it.browser.all(css)), f"{css} is not shown")
 
     def fill(self) -> None:
         """A plan, records of each class, the invoices of a year, and the maps that a run has sent."""
@@ -106,18 +111,19 @@ def department(town: Town) -> None:
 def decided(town: Town) -> None:
     """It comes back with a yes in some rows."""
     rows = list(csv.reader((town.folder / f"due-{after(0)}.csv").read_text("utf-8-sig").splitlines()))
-    words = ["decision", *(["yes"] * 10 + ["no"] * 5 + [""] * LETTERS)]
+    words = ["decision", *(["yes"] * 10 + ["no"] * 5 + [""] * (LETTERS - 15))]
     file = town.folder / "came-back.csv"
     with file.open("w", newline="") as sheet:
-        csv.writer(sheet).writerows([*row, word] for row, word in zip(rows, words, strict=False))
+        csv.writer(sheet).writerows([*row, word] for row, word in zip(rows, words, strict=True))
     town.open("import")
     town.it.files("#import-choose", [file])
+    town.shown("#import-kind")
     town.it.choose("#import-kind", "confirm")
-    town.it.browser.wait(lambda: town.it.browser.one("#import-column-by").is_displayed(), "nobody asks who decides")
+    town.shown("#import-column-by")
     town.it.choose("#import-column-by", "same")
     town.it.write("import_same_by", WHO)
     town.it.browser.driver.execute_script("document.activeElement.blur()")
-    town.it.browser.wait(lambda: town.it.browser.one("#import-submit").is_displayed(), "the rows are not shown")
+    town.shown("#import-submit")
     town.it.press("#import-submit")
     confirmed = [row for row in town.told(f"/due/{after(0)}") if row["confirmed"]]
     same("department: what says yes is confirmed, and nothing else", len(confirmed), 10)
@@ -258,12 +264,12 @@ def files(town: Town) -> None:
 
 def sheet(town: Town) -> None:
     file = town.folder / "records.csv"
-    file.write_text("Ref;Title;Date;Folder no\n" + "".join(f"S/{at};Row {at};2020-01-02;LETTERS\n" for at in range(300)))
+    file.write_text("Ref;Title;Date;Folder no\n" + "".join(f"S/{at};Row {at};2020-01-02;LETTERS\n" for at in range(ROWS)))
     town.open("import")
     town.it.files("#import-choose", [file])
-    town.it.browser.wait(lambda: town.it.browser.one("#import-submit").is_displayed(), "the rows are not shown")
+    town.shown("#import-submit")
     town.it.press("#import-submit")
-    says("sheet: all rows are records", town.it.browser.seen("#import-send-outcome"), "300")
+    says("sheet: all rows are records", town.it.browser.seen("#import-send-outcome"), str(ROWS))
 
 
 def new_law(town: Town) -> None:
@@ -309,7 +315,7 @@ TASKS: list[tuple[str, Callable[[Town], None], int]] = [
     (f"receipts for {MAPS}", receipts, 6),
     (f"close the year's {FILES} files", year_end, 6),
     ("file 12 documents", files, 4),
-    ("a sheet of 300 records", sheet, 4),
+    (f"a sheet of {ROWS} records", sheet, 4),
     ("another period for a class", new_law, 8),
     ("a schedule of its own for a record", own_rule, 6),
 ]
@@ -319,5 +325,9 @@ def tell(office: Office, proxy: Proxy, browser: Browser, folder: pathlib.Path) -
     town = Town(office, proxy, Counted(browser), folder)
     town.fill()
     for name, task, most in TASKS:
-        task(town)
+        try:
+            task(town)
+        except Exception as error:  # noqa: BLE001 -- one task that cannot be done keeps no other one from being counted
+            judge(f"{name}: {str(error).splitlines()[0]}", False)
+            continue
         judge(f"{name}: {town.it.count} steps, at most {most}", town.it.count <= most)

@@ -292,6 +292,32 @@ def without(view: View, vault: Vault, numbers: dict[str, int]) -> None:
     vault.named(True)
 
 
+def together(view: View, vault: Vault) -> None:
+    """Several files become one record, small ones too; Record shows all of them."""
+    it, place = view.browser, vault.proxy.folder / "bundle"
+    place.mkdir()
+    data = {"1 letter.txt": b"A letter.", "2 plan.bin": os.urandom(400_000), "3 list.txt": b"A list."}
+    for name, content in data.items():
+        (place / name).write_bytes(content)
+    view.open()
+    view.drop([place / name for name in data])
+    it.press("#file-one-tick")
+    it.write(file_all_aggregation="1", file_all_prefix="B/")
+    same("one record: the button says so", it.seen("#file-submit"), WORDS["one"]["submit"].format(count=3))
+    same("one record: in one request", view.file(), 1)
+    same("one record: is filed", view.counts(), {"added": "1"})
+    same("one record: each row says so, with one number", len(set(view.answers())), 1)
+    judge("one record: which is that of the vault", view.answers()[0].startswith(TEXTS["filing"]["vaultAdded"].split("{")[0]), view.answers()[0])
+    number = view.answers()[0].split(" ")[-1]
+    told = json.loads(vault.office.ask("GET", f"/records/{number}")[2])
+    same("one record: by the first row", (told["ref"], told["title"]), ("B/1 letter.txt", "1 letter"))
+    wanted = "".join(f"SHA256 {digest(content)}\nLENGTH {len(content)}\nPLACE {name}\n" for name, content in data.items())
+    same("one record: its content names all", vault.office.ask("GET", f"/records/{number}/content")[2].decode(), wanted)
+    it.open(f"{vault.proxy.page}#record?number={number}")
+    says("one record: Record shows all", it.seen("#record-files"), FILES["heading"]["many"].format(count=3), *data)
+    judge("one record: the bytes are there", all(vault.path(digest(content)).read_bytes() == content for content in data.values()))
+
+
 SHEET = """ref;title;originated;aggregation;Datei
 I/1;A letter;2021-06-05;1;letter.txt
 I/2;A plan;2021-06-05;1;sub\\plan.tif
@@ -369,4 +395,5 @@ def tell(office: Office, proxy: Proxy, it: Browser, folder: pathlib.Path) -> Non
         wrong(it, vault, files, numbers)
         refused(view, vault)
         imported(view.story, vault)
+        together(view, vault)
         without(view, vault, numbers)

@@ -13,6 +13,7 @@ import { manifestOf } from "../plain/vault.js";
 import { t } from "../texts.js";
 import { filesIn, placed, saidBy } from "./file_folders.js";
 import { isLeftOut, isVaulted, rowOf, showAnswer, showHead, showValues } from "./file_rows.js";
+import * as one from "./file_one.js";
 import * as vault from "./file_vault.js";
 import { addPanel, guardPage, onDrop, sayFates, send, showSums, whereAggregation } from "./filing.js";
 
@@ -58,7 +59,9 @@ function showTotals() {
   byId("file-caption").textContent = t("file.caption", { count: grouped(count) });
   const tried = ready.some(({ fate }) => fate);
   const key = tried ? "file.again" : "file.submit";
-  if (!isSending) byId("file-submit").textContent = t(key, { count: grouped(ready.length) });
+  one.offer(ready);
+  const submit = one.isOne() ? one.submitWords(ready) : t(key, { count: grouped(ready.length) });
+  if (!isSending) byId("file-submit").textContent = submit;
   byId("file-off-filed").hidden = filed === 0;
   byId("file-place").hidden = !entries.some((entry) => entry.hasManifest);
   showLarge(entries.filter(isLeftOut).length);
@@ -223,8 +226,10 @@ function markRows(ready) {
 async function fileAll(values, ready) {
   const place = byId("file-send-outcome");
   if (!ready.length) return say(place, "wrong", paragraph(t("file.nothing")));
-  const inRows = markRows(ready);
-  const wrong = markCommon(ready) ?? inRows;
+  // of one record of all files the first row says what it is
+  const records = one.isOne() ? ready.slice(0, 1) : ready;
+  const inRows = markRows(records);
+  const wrong = markCommon(records) ?? inRows;
   if (wrong) {
     const lacksOne = ready.some((entry) => valuesOf(entry).aggregation === "");
     const needed = [made("p", {}, `${t(NO_AGGREGATION)} `, ...whereAggregation())];
@@ -232,19 +237,21 @@ async function fileAll(values, ready) {
     place.dataset.unsent = "yes";
     return wrong.focus();
   }
+  if (one.isOne() && !one.fits(ready)) return say(place, "wrong", paragraph(t("vault.one.tooMany")));
   delete place.dataset.unsent;
   quiet(place);
   untick(byId("file-send"));
   day = values["file-send-day"];
   measure(ready, day);
   stop = new AbortController();
+  const items = one.isOne() ? [one.itemOf(ready, valuesOf(ready[0]), day, stop.signal)] : ready;
   isSending = true;
-  const answer = await send("file", ready, refresh);
+  const answer = await send("file", items, refresh);
   // there is less room by now
-  if (ready.some(isVaulted)) await vault.ask();
+  if (items[0].isAlone || ready.some(isVaulted)) await vault.ask();
   isSending = false;
   refresh();
-  sayFates(place, ready, answer);
+  sayFates(place, items, answer);
   place.focus();
 }
 
@@ -277,6 +284,7 @@ export function start() {
     remove(entries.filter(isSettled));
     byId("file-choose").focus();
   });
+  byId("file-one-tick").addEventListener("change", refresh);
   byId("file-stop").addEventListener("click", () => stop.abort());
   onSubmit(byId("file-send"), fileAll, () => entries.filter(isToBeFiled));
 }

@@ -68,7 +68,7 @@ export const isLeftOut = (entry) => vault.isLarge(entry.file) && !entry.hasManif
 const mayBeReplaced = (entry) => vault.isLarge(entry.file) && vault.state() === "none";
 
 /** What is filed of it, if that is not its bytes as a content. */
-const kindOf = (entry) => (entry.hasManifest ? "manifest" : isVaulted(entry) ? "vault" : "");
+const kindOf = (entry) => (entry.hasManifest ? "manifest" : entry.isInVault || isVaulted(entry) ? "vault" : "");
 
 function words(entry) {
   if (entry.fate) return fateWords(entry.fate, kindOf(entry));

@@ -136,7 +136,8 @@ function tell(files) {
   const heading = made("h3", {}, plural("files.heading", files.length));
   const about = paragraph(plural("files.about", files.length), "hint");
   const list = made("ul", { class: "vaulted" }, ...files.map(itemOf));
-  byId("record-files").replaceChildren(heading, about, list, comparing(files), listOf(files));
+  const sent = subject.status === "sent" ? [paragraph(t("files.sent"))] : [];
+  byId("record-files").replaceChildren(heading, about, ...sent, list, comparing(files), listOf(files));
   byId("record-files").hidden = false;
   return { words: [], facts: { length: t("files.length", { size: inBytes(sum), list: inBytes(subject.length) }) } };
 }

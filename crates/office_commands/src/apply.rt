@@ -1,8 +1,8 @@
 //! The acts of a JSON array, at the office in a file.
 ghost use Rattle.std.specs.Prelude.{◌≡◌, false};
 ghost use Rattle.sqlite.specs.Held.{state};
+ghost use Rattle.sqlite.specs.State.{HasCleanDisk};
 ghost use Rattle.office_desk.specs.Outcomes.{FromEach, SparesTheRest};
-ghost use Rattle.office_commands.specs.Calling.{CarriedOut, EndsShown};
 ghost use Rattle.office_commands.specs.Applying.{Applies, ApplyEnds, Performs, TextEnds};
 
 use crate::ending::Ending;
@@ -63,7 +63,9 @@ fn apply_text<W: Write, S: Alter>(
     out: &mut W,
 ) -> (Ending, Connection<S>)
     requires { conn.in_transaction ≡ false }
-    ensures { EndsShown S.Store conn result W.contents out.old out.new (TextEnds text.now) }
+    ensures ends { TextEnds text.now (state S.Store conn) (state S.Store result.1)
+        (W.contents out.old) (W.contents out.new) result.0 }
+    ensures clean { HasCleanDisk (state S.Store result.1) → HasCleanDisk (state S.Store conn) }
 {
     match Desk::open(alloc, conn) {
         Ok(mut desk) => {
@@ -83,8 +85,12 @@ pub fn apply_on<R: Read, W: Write, S: Alter>(
     out: &mut W,
 ) -> (Ending, Connection<S>)
     requires { conn.in_transaction ≡ false }
-    ensures { CarriedOut S.Store conn result W.contents out.old out.new
-        (ApplyEnds S.Store (R.remaining input.old)) }
+    // The acts of the text are done in order and their answers written; or none is done.
+    ensures ends { ApplyEnds S.Store (R.remaining input.old) conn result.1 (W.contents out.old)
+        (W.contents out.new) result.0 }
+
+    // A disk that is clean afterwards was clean before.
+    ensures clean { HasCleanDisk (state S.Store result.1) → HasCleanDisk (state S.Store conn) }
 {
     match read_whole(alloc, input) {
         Ok(text) => apply_text(alloc, conn, text.as_slice(), out),

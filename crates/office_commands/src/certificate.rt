@@ -1,7 +1,9 @@
 //! The certificate of a run of the office in a file.
 ghost use Rattle.std.specs.Prelude.{◌≡◌, false};
+ghost use Rattle.sqlite.specs.Held.{state};
+ghost use Rattle.sqlite.specs.State.{HasCleanDisk};
 ghost use Rattle.office_rules.specs.State.{State};
-ghost use Rattle.office_commands.specs.Calling.{EndsShown, Reports};
+ghost use Rattle.office_commands.specs.Calling.{Reports};
 ghost use Rattle.office_commands.specs.Certifying.{CertificateEnds, Certifies};
 
 use crate::ending::Ending;
@@ -43,7 +45,12 @@ pub fn certificate_on<W: Write, S: Alter>(
     out: &mut W,
 ) -> (Ending, Connection<S>)
     requires { conn.in_transaction ≡ false }
-    ensures { EndsShown S.Store conn result W.contents out.old out.new (CertificateEnds run) }
+    // The certificate of the run is written as it is; or the ending says why it is not.
+    ensures ends { CertificateEnds run (state S.Store conn) (state S.Store result.1)
+        (W.contents out.old) (W.contents out.new) result.0 }
+
+    // A disk that is clean afterwards was clean before.
+    ensures clean { HasCleanDisk (state S.Store result.1) → HasCleanDisk (state S.Store conn) }
 {
     match Desk::open(alloc, conn) {
         Ok(desk) => {

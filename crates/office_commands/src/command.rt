@@ -1,9 +1,11 @@
 //! The commands that run on the office in a file, over a connection to it.
 ghost use Rattle.std.specs.Prelude.{◌≡◌, false, OnOk};
 ghost use Rattle.std.specs.Io.KnownBytes.{Appends};
-ghost use Rattle.office_command_line.specs.Orders.{ordered};
-ghost use Rattle.office_commands.specs.Calling.{CarriedOut};
-ghost use Rattle.office_commands.specs.Running.{RunEnds, Runs, listening_line};
+ghost use Rattle.sqlite.specs.Held.{state};
+ghost use Rattle.sqlite.specs.State.{HasCleanDisk};
+ghost use Rattle.office_command_line.specs.Orders.{command};
+ghost use Rattle.office_commands.specs.Calling.{Exits};
+ghost use Rattle.office_commands.specs.Running.{RunEnds, listening_line};
 
 use crate::apply::apply_on;
 use crate::certificate::certificate_on;
@@ -38,8 +40,9 @@ fn carry_out<R: Read, W: Write, S: Alter>(
     out: &mut W,
 ) -> (Ending, Connection<S>)
     requires { conn.in_transaction ≡ false }
-    ensures { CarriedOut S.Store conn result W.contents out.old out.new
-        (RunEnds S.Store (ordered order.now) (R.remaining input.old)) }
+    ensures ends { RunEnds S.Store (command order.now) (R.remaining input.old) conn result.1
+        (W.contents out.old) (W.contents out.new) result.0 }
+    ensures clean { HasCleanDisk (state S.Store result.1) → HasCleanDisk (state S.Store conn) }
 {
     match order {
         Order::Init { .. } => init_on(alloc, conn, out),
@@ -70,8 +73,12 @@ pub fn run_on<R: Read, W: Write, E: Write, S: Alter>(
     err: &mut E,
 ) -> (u8, Connection<S>)
     requires { conn.in_transaction ≡ false }
-    ensures runs { Runs S.Store (ordered order.now) (R.remaining input.old) conn result W.contents
-        out.old out.new }
+    // The command is carried out, and the status is that of its ending.
+    ensures runs { Exits result.0 (RunEnds S.Store (command order.now) (R.remaining input.old) conn
+        result.1 (W.contents out.old) (W.contents out.new)) }
+
+    // A disk that is clean afterwards was clean before.
+    ensures clean { HasCleanDisk (state S.Store result.1) → HasCleanDisk (state S.Store conn) }
 {
     let (ending, conn) = carry_out(alloc, conn, order, input, out);
     let _ = report(ending, err);

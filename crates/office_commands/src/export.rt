@@ -1,7 +1,8 @@
 //! The registers of the office in a file.
 ghost use Rattle.std.specs.Prelude.{◌≡◌, false};
+ghost use Rattle.sqlite.specs.Held.{state};
+ghost use Rattle.sqlite.specs.State.{HasCleanDisk};
 ghost use Rattle.office_rules.specs.State.{State};
-ghost use Rattle.office_commands.specs.Calling.{EndsShown};
 ghost use Rattle.office_wire.specs.Exporting.{Exports as WritesText};
 ghost use Rattle.office_commands.specs.Exporting.{ExportEnds, Exports, IsRegisterText, ending_of_export};
 
@@ -66,7 +67,12 @@ pub fn export_on<W: Write, S: Alter>(
     out: &mut W,
 ) -> (Ending, Connection<S>)
     requires { conn.in_transaction ≡ false }
-    ensures { EndsShown S.Store conn result W.contents out.old out.new (ExportEnds register) }
+    // The register is written whole; or the ending says why it is not.
+    ensures ends { ExportEnds register (state S.Store conn) (state S.Store result.1)
+        (W.contents out.old) (W.contents out.new) result.0 }
+
+    // A disk that is clean afterwards was clean before.
+    ensures clean { HasCleanDisk (state S.Store result.1) → HasCleanDisk (state S.Store conn) }
 {
     match Desk::open(alloc, conn) {
         Ok(mut desk) => {

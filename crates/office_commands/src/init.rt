@@ -1,7 +1,9 @@
 //! The office in a file, made where there is none.
 ghost use Rattle.std.specs.Prelude.{◌≡◌, false};
+ghost use Rattle.sqlite.specs.Held.{state};
+ghost use Rattle.sqlite.specs.State.{HasCleanDisk};
 ghost use Rattle.office_store.specs.declared.fault.Fault.{Fault as AnyFault};
-ghost use Rattle.office_commands.specs.Calling.{EndsShown, Reports};
+ghost use Rattle.office_commands.specs.Calling.{Reports};
 ghost use Rattle.office_commands.specs.Making.{InitEnds, version_line};
 
 use crate::ending::Ending;
@@ -29,8 +31,15 @@ pub fn init_on<W: Write, S: Alter>(
     out: &mut W,
 ) -> (Ending, Connection<S>)
     requires { conn.in_transaction ≡ false }
-    ensures ends { EndsShown S.Store conn result W.contents out.old out.new InitEnds }
+    // The office is opened and its version written; or a fault says why it is not opened.
+    ensures ends { InitEnds (state S.Store conn) (state S.Store result.1) (W.contents out.old)
+        (W.contents out.new) result.0 }
+
+    // At a fault nothing is written.
     ensures untouched { (fault : AnyFault) → result.0 ≡ Ending.Fault fault → out.new ≡ out.old }
+
+    // A disk that is clean afterwards was clean before.
+    ensures clean { HasCleanDisk (state S.Store result.1) → HasCleanDisk (state S.Store conn) }
 {
     match Desk::open(alloc, conn) {
         Ok(desk) => (report_version(out), desk.close()),

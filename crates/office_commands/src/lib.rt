@@ -28,7 +28,7 @@ pub use command::{report_listening, run_on};
 pub use ending::Ending;
 pub use ending_line::report;
 pub use init::init_on;
-pub use next_command::{law_of_a_killed_word, law_of_each_word, law_of_the_next_word};
+pub use next_command::{law_of_a_killed_command, law_of_each_command, law_of_the_next_command};
 pub use office_files::{FilesLeft, open_and_run};
 pub use office_wire::Routes;
 pub use resume::resume_on;

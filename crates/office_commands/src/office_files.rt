@@ -3,7 +3,7 @@ ghost use Rattle.std.specs.Prelude.{◌≡◌, IsTrue};
 ghost use Rattle.sqlite_trees.specs.Tree.{Trees};
 ghost use Rattle.sqlite_wal.specs.Files.{image_at};
 ghost use Rattle.sqlite.specs.Held.{state};
-ghost use Rattle.office_command_line.specs.Orders.{ordered};
+ghost use Rattle.office_command_line.specs.Orders.{command};
 ghost use Rattle.office_commands.specs.Calling.{Exits};
 ghost use Rattle.office_commands.specs.Files.{IsLeftOf, RunsInFiles};
 
@@ -17,7 +17,7 @@ use sqlite_disk::Disk;
 use sqlite_trees::store::Store;
 use std::io::{Read, Write};
 
-/// What is left of an office's two files, the database file and its log, once a word is done.
+/// What is left of an office's two files, the database file and its log, once a command is done.
 pub enum FilesLeft<D: Disk> {
     /// What the database gave back, since they were not opened; nothing where the system refused
     /// them.
@@ -81,7 +81,7 @@ pub fn open_and_run<S: Start, R: Read, W: Write, E: Write>(
     err: &mut E,
 ) -> (u8, FilesLeft<FileFrom<S>>)
     ensures runs { Exits result.0
-        (RunsInFiles result.1 (image_at S.Start) (ordered order.now) (R.remaining input.old)
+        (RunsInFiles result.1 (image_at S.Start) (command order.now) (R.remaining input.old)
         (W.contents out.old) (W.contents out.new)) }
 {
     match Connection::open_from(rt, file, false, start) {

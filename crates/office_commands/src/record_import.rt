@@ -1,7 +1,9 @@
 //! The records of a CSV file, at the office in a file.
 ghost use Rattle.std.specs.Prelude.{◌≡◌, false, option_map};
 ghost use Rattle.csv.specs.Reading.{strip_bom};
-ghost use Rattle.office_commands.specs.Calling.{DoneAt, EndsShown};
+ghost use Rattle.sqlite.specs.Held.{state};
+ghost use Rattle.sqlite.specs.State.{HasCleanDisk};
+ghost use Rattle.office_desk.specs.Outcomes.{FromEach};
 ghost use Rattle.office_commands.specs.Importing.{ImportEnds, ImportsAt, ending_of_import};
 
 use crate::ending::Ending;
@@ -34,8 +36,11 @@ fn import_at<R: Read, W: Write, S: Alter>(
     input: &mut R,
     out: &mut W,
 ) -> Ending
-    ensures { DoneAt S.Store desk.old desk.new W.contents out.old out.new result
-        (λ Of. ImportsAt Of day (option_map strip_bom (R.remaining input.old))) }
+    ensures done { ImportsAt (FromEach S.Store desk.old desk.new) day
+        (option_map strip_bom (R.remaining input.old)) (state S.Store desk.new.held)
+        (W.contents out.old) (W.contents out.new) result }
+    ensures clean { HasCleanDisk (state S.Store desk.new.held)
+        → HasCleanDisk (state S.Store desk.old.held) }
 {
     ending_of_import(import_records(alloc, desk, day, input, out))
 }
@@ -49,8 +54,12 @@ pub fn import_on<R: Read, W: Write, S: Alter>(
     out: &mut W,
 ) -> (Ending, Connection<S>)
     requires { conn.in_transaction ≡ false }
-    ensures { EndsShown S.Store conn result W.contents out.old out.new
-        (ImportEnds day (R.remaining input.old)) }
+    // The records of the rows are added in order; or the ending says why not all of them.
+    ensures ends { ImportEnds day (R.remaining input.old) (state S.Store conn)
+        (state S.Store result.1) (W.contents out.old) (W.contents out.new) result.0 }
+
+    // A disk that is clean afterwards was clean before.
+    ensures clean { HasCleanDisk (state S.Store result.1) → HasCleanDisk (state S.Store conn) }
 {
     match Desk::open(alloc, conn) {
         Ok(mut desk) => {

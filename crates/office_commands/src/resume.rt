@@ -1,17 +1,20 @@
 //! The open run of the office in a file, resumed to its end.
-ghost use Rattle.std.specs.Prelude.{◌≡◌, ℕ, Option, Some, false, OnErr, OnOk};
+ghost use Rattle.std.specs.Prelude.{◌≡◌, ℕ, Ok, Option, false, OnErr, OnOk};
 ghost use Rattle.std.specs.Io.KnownBytes.{Appends};
+ghost use Rattle.sqlite.specs.Held.{state};
+ghost use Rattle.sqlite.specs.State.{HasCleanDisk};
 ghost use Rattle.office_base.specs.Output.{AppendsSome};
+ghost use Rattle.office_desk.specs.Outcomes.{FromEach, SparesTheRest};
 ghost use Rattle.office_desk.specs.Resuming.{resumed_answer};
-ghost use Rattle.office_commands.specs.Calling.{DoneAt, EndsShown, SparesRestAt};
-ghost use Rattle.office_commands.specs.Resuming.{IsAnswerReported, ResumeEnds, Resumes, certificate_line};
+ghost use Rattle.office_desk.specs.Resumptions.{run_outcome};
+ghost use Rattle.office_commands.specs.Calling.{Reports};
+ghost use Rattle.office_commands.specs.Resuming.{IsRunReported, ResumeEnds, Resumes, certificate_line};
 
 use crate::ending::Ending;
 use itoa::Buffer;
 use office_base::{Io, put_parts};
 use office_desk::Desk;
 use office_rules::Answer;
-use office_rules::laws::resumption::law_of_resumption;
 use sqlite::{Alter, Connection};
 use std::alloc::Global;
 use std::io::Write;
@@ -34,7 +37,8 @@ fn write_closed<W: Write>(run: u32, out: &mut W) -> Result<(), Io>
 
 /// Reports the run that was closed.
 fn report_closed<W: Write>(run: u32, out: &mut W) -> Ending
-    ensures { IsAnswerReported (Some run) (W.contents out.old) (W.contents out.new) result }
+    ensures { Reports (certificate_line run) Ending.Done (W.contents out.old) (W.contents out.new)
+        result }
 {
     match write_closed(run, out) {
         Ok(()) => Ending::Done,
@@ -46,7 +50,8 @@ fn report_closed<W: Write>(run: u32, out: &mut W) -> Ending
 fn report_answer<W: Write>(answer: Answer, out: &mut W) -> Ending
     requires { (was_open : Option ℕ) × (answer ≡ resumed_answer was_open) }
     ensures { (was_open : Option ℕ) → answer ≡ resumed_answer was_open
-        → IsAnswerReported was_open (W.contents out.old) (W.contents out.new) result }
+        → IsRunReported (run_outcome (Ok answer) was_open) (W.contents out.old)
+        (W.contents out.new) result }
 {
     match answer {
         Answer::RunClosed(run) => report_closed(run, out),
@@ -58,10 +63,10 @@ fn report_answer<W: Write>(answer: Answer, out: &mut W) -> Ending
 /// Resumes the open run at a desk that is open.
 fn resume_at<W: Write, S: Alter>(desk: &mut Desk<S>, out: &mut W) -> Ending
     requires { desk.old.is_poisoned ≡ false }
-    ensures done { DoneAt S.Store desk.old desk.new W.contents out.old out.new result Resumes }
-    ensures rest { SparesRestAt S.Store desk.old desk.new }
+    ensures done { Resumes (FromEach S.Store desk.old desk.new) (state S.Store desk.new.held)
+        (W.contents out.old) (W.contents out.new) result }
+    ensures rest { SparesTheRest S.Store desk.old desk.new }
 {
-    law_of_resumption();
     match desk.resume() {
         Ok(answer) => report_answer(answer, out),
         Err(fault) => Ending::Fault(fault),
@@ -76,7 +81,12 @@ pub fn resume_on<W: Write, S: Alter>(
     out: &mut W,
 ) -> (Ending, Connection<S>)
     requires { conn.in_transaction ≡ false }
-    ensures { EndsShown S.Store conn result W.contents out.old out.new ResumeEnds }
+    // The open run is closed and its number written; or the ending says why it is not.
+    ensures ends { ResumeEnds (state S.Store conn) (state S.Store result.1) (W.contents out.old)
+        (W.contents out.new) result.0 }
+
+    // A disk that is clean afterwards was clean before.
+    ensures clean { HasCleanDisk (state S.Store result.1) → HasCleanDisk (state S.Store conn) }
 {
     match Desk::open(alloc, conn) {
         Ok(mut desk) => {

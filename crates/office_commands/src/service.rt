@@ -1,7 +1,8 @@
 //! The office in a file, served over TCP.
 ghost use Rattle.std.specs.Prelude.{◌≡◌, false};
 ghost use Rattle.sqlite_wal.specs.Files.{image_at};
-ghost use Rattle.office_commands.specs.Calling.{CarriedOut};
+ghost use Rattle.sqlite.specs.Held.{state};
+ghost use Rattle.sqlite.specs.State.{HasCleanDisk};
 ghost use Rattle.office_commands.specs.Files.{ServesInFiles};
 ghost use Rattle.office_commands.specs.Serving.{ServesAt, ServiceEnds};
 
@@ -54,8 +55,9 @@ fn serve_on<L: OpenListener, W: Write, E: Write, S: Alter>(
 where
     L::Stream: Read + Write + OpenStream,
     requires { conn.in_transaction ≡ false }
-    ensures { CarriedOut S.Store conn result W.contents out.old out.new
-        (ServiceEnds S.Store port count) }
+    ensures ends { ServiceEnds S.Store port count conn result.1 (W.contents out.old)
+        (W.contents out.new) result.0 }
+    ensures clean { HasCleanDisk (state S.Store result.1) → HasCleanDisk (state S.Store conn) }
 {
     match Desk::open(rt.alloc(), conn) {
         Ok(mut desk) => {

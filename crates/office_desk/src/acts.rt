@@ -4,8 +4,8 @@ ghost use Rattle.sqlite.specs.Held.{state};
 ghost use Rattle.office_rules.specs.Acts.{CanBeMade};
 ghost use Rattle.office_rules.specs.State.{State};
 ghost use Rattle.office_desk.specs.Headline.{AreWellFormed};
-ghost use Rattle.office_desk.specs.Calling.{Called, EndAct, EndActs, EndChange, IsPoisoned, IsMade, PerformsOne};
-ghost use Rattle.office_desk.specs.Outcomes.{ActsCameTo, AreAnswered, FromEach, SparesTheRest, acts_outcome};
+ghost use Rattle.office_desk.specs.Calling.{Called, EndAct, EndActs, EndChange, IsPoisoned, IsMade};
+ghost use Rattle.office_desk.specs.Outcomes.{ActsCameTo, AreAnswered, FromEach, IsActAnswered, SparesTheRest, act_outcome, acts_outcome};
 
 use crate::Desk;
 use crate::fates::law_of_fates;
@@ -109,7 +109,20 @@ impl<S: Alter> Desk<S> {
     /// was refused after the commit, the act is done. After the last two the desk is poisoned. The
     /// answer takes no memory.
     pub fn perform(&mut self, act: &Act) -> Result<Answer, Fault>
-        ensures { PerformsOne S.Store act.now result self.old self.new }
+        // A poisoned desk stays as it is.
+        ensures gone { IsTrue self.old.is_poisoned → (result ≡ Err Fault.Reopen)
+            × (self.new ≡ self.old) }
+
+        // An open one does the act, and answers it.
+        ensures answered { (s : State) → self.old.is_poisoned ≡ false → s.office ≡ self.old.office
+            → IsActAnswered s act.now result self.old self.new }
+
+        // A crash leaves the tables before the act or after it.
+        ensures leaves { FromEach S.Store self.old self.new (λ s. ActsCameTo s (act.now ∷ [])
+            (act_outcome result) (state S.Store self.new.held)) }
+
+        // The rest of the file stays as it was.
+        ensures rest { SparesTheRest S.Store self.old self.new }
     {
         law_of_fates();
         law_of_resumption();
@@ -143,7 +156,7 @@ impl<S: Alter> Desk<S> {
         ensures leaves { FromEach S.Store self.old self.new (λ s. ActsCameTo s acts.now
             (acts_outcome result answers.old.items answers.new.items) (state S.Store self.new.held)) }
 
-        // And what else the file has as it was.
+        // The rest of the file stays as it was.
         ensures rest { SparesTheRest S.Store self.old self.new }
     {
         law_of_fates();

@@ -4,18 +4,17 @@ ghost use Rattle.httparse.specs.Grammar.{RequestHead};
 ghost use Rattle.httparse.specs.Spans.{IsRequestAt};
 ghost use Rattle.office_http.specs.RequestPlans.{IsSized};
 ghost use Rattle.office_http.specs.Requests.{IsHeadAt};
-ghost use Rattle.office_http.specs.Receiving.{AsksFor, IsAskedBy, IsOutOfMemoryFor, Receives, body_wanted, plan_wanted, want_wanted};
+ghost use Rattle.office_http.specs.Receiving.{AsksFor, IsAskedBy, IsOutOfMemoryFor, Receives, body_wanted, plan_wanted};
 
 use crate::acts_body::ActsBody;
 use crate::body::read_body;
 use crate::check::Check;
 use crate::head::{Head, LONGEST_HEAD, MOST_FIELDS, read_head};
+use crate::path_request::PathRequest;
 use crate::paths::Routes;
 use crate::request_plan::{RequestPlan, is_head_in, plan_in};
-use crate::want::Want;
 use httparse::spans::{HeaderSpan, RequestSpans};
 use office_base::{Io, Stop};
-use office_days::{ConfirmDays, Day};
 use std::alloc::Global;
 use std::io::Read;
 
@@ -28,23 +27,13 @@ pub enum Operation {
     Cut,
     /// The acts of a body, which may be none.
     Acts(ActsBody),
-    /// The rest of the open run.
-    Resumption,
-    /// What is reported of the record with that number.
-    Record(Option<u32>),
-    /// The content of the record with that number.
-    Content(Option<u32>),
-    /// The records that are due on that day.
-    Due(Option<Day>),
-    /// The records that are overdue on that day, so many days after their due days.
-    Overdue(Option<Day>, Option<ConfirmDays>),
-    /// The certificate of the run with that number.
-    Certificate(Option<u32>),
+    /// What its path says; it has no body.
+    Serve(PathRequest),
 }
 
 /// A request whose head was read.
 #[derive(Drop)]
-pub struct Asked {
+pub struct ParsedRequest {
     /// What it asks for.
     pub operation: Operation,
     /// Whether its method is HEAD, so that the head of the answer alone is written.
@@ -59,7 +48,7 @@ pub enum Received {
     /// Bytes that do not begin with a head within the limits.
     Headless,
     /// A request.
-    Request(Asked),
+    Request(ParsedRequest),
 }
 
 /// Why nothing was received.
@@ -93,31 +82,6 @@ fn receive_acts<R: Read>(
     }
 }
 
-/// Reads what is wanted besides the head.
-fn receive_wanted<R: Read>(
-    reader: &mut R,
-    buf: Vec<u8>,
-    start: usize,
-    want: Want,
-) -> Result<Operation, Stop>
-    requires start_in { start ≤ length buf.items }
-    requires small { start ≤ 16_384 }
-    requires sized { IsSized (RequestPlan.Serve want) }
-    ensures asked { AsksFor (want_wanted want) (drop start buf.items) (R.remaining reader.old)
-        result }
-    ensures memory { result ≡ Err Stop.Memory → (size : ℕ) × (want ≡ Want.Acts size) }
-{
-    match want {
-        Want::Acts(size) => receive_acts(reader, buf, start, size),
-        Want::Resume => Ok(Operation::Resumption),
-        Want::Record(number) => Ok(Operation::Record(number)),
-        Want::Content(number) => Ok(Operation::Content(number)),
-        Want::Due(day) => Ok(Operation::Due(day)),
-        Want::Overdue(day, days) => Ok(Operation::Overdue(day, days)),
-        Want::Certificate(number) => Ok(Operation::Certificate(number)),
-    }
-}
-
 /// Reads what a plan wants besides the head.
 fn receive_planned<R: Read>(
     reader: &mut R,
@@ -131,11 +95,12 @@ fn receive_planned<R: Read>(
     ensures asked { AsksFor (plan_wanted plan) (drop start buf.items) (R.remaining reader.old)
         result }
     ensures memory { result ≡ Err Stop.Memory
-        → (size : ℕ) × (plan ≡ RequestPlan.Serve (Want.Acts size)) }
+        → (size : ℕ) × (plan ≡ RequestPlan.Acts size) }
 {
     match plan {
         RequestPlan::Refuse(check) => Ok(Operation::Refused(check)),
-        RequestPlan::Serve(want) => receive_wanted(reader, buf, start, want),
+        RequestPlan::Acts(size) => receive_acts(reader, buf, start, size),
+        RequestPlan::Serve(request) => Ok(Operation::Serve(request)),
     }
 }
 
@@ -146,7 +111,7 @@ fn receive_rest<R: Read>(
     buf: Vec<u8>,
     head: &RequestSpans,
     headers: &[HeaderSpan],
-) -> Result<Asked, ReceiveStop>
+) -> Result<ParsedRequest, ReceiveStop>
     requires at { IsHeadAt head.now buf.items headers.now }
     ensures ok { IfOk result
         (λ it. IfSome (R.remaining reader.old)
@@ -159,7 +124,7 @@ fn receive_rest<R: Read>(
     let is_head = is_head_in(buf.as_slice(), head);
     let plan = plan_in(routes, buf.as_slice(), head, headers);
     match receive_planned(reader, buf, head.len, plan) {
-        Ok(operation) => Ok(Asked { operation, is_head }),
+        Ok(operation) => Ok(ParsedRequest { operation, is_head }),
         Err(Stop::Memory) => Err(ReceiveStop::MemoryForBody),
         Err(Stop::Io) => Err(ReceiveStop::Io),
     }

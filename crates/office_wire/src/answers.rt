@@ -3,7 +3,7 @@ ghost use Rattle.std.specs.FinMap.{get};
 ghost use Rattle.std.specs.Prelude.{◌≡◌, ◌⊎◌, IfErr, IfOk, IsTrue, false, option_map, string_bytes};
 ghost use Rattle.office_rules.specs.Readings.{ending_entry, record_view};
 ghost use Rattle.office_wire.specs.Answering.{ArePerformedBy, IsAnswered, IsPerformed, IsRead, IsReportedOf};
-ghost use Rattle.office_http.specs.Receiving.{acts, asked_for, certificate_reported, content_reported, due_reported, overdue_reported, record_reported, resumption};
+ghost use Rattle.office_http.specs.Receiving.{acts, asked_for, requested};
 
 use crate::replies::{
     acts_reply, answer_reply, bad_act_reply, certificate_reply, content_reply, due_reply,
@@ -12,10 +12,9 @@ use crate::replies::{
 use office_base::Memory;
 use office_days::{ConfirmDays, Day};
 use office_desk::Desk;
-use office_http::{Failure, Operation, Reply, check_reply, failure_reply};
+use office_http::{Failure, Operation, PathRequest, Reply, check_reply, failure_reply};
 use office_json::{ListFault, read_acts};
 use office_records::RecordNo;
-use office_rules::laws::resumption::law_of_resumption;
 use office_rules::{Act, Entry, RecordView};
 use office_store::Fault;
 use sqlite::Alter;
@@ -46,9 +45,8 @@ fn perform_body<S: Alter>(alloc: Global, desk: &mut Desk<S>, body: &[u8]) -> Res
 
 /// Takes up the open run, and answers.
 fn resume<S: Alter>(alloc: Global, desk: &mut Desk<S>) -> Result<Reply, Memory>
-    ensures { IsPerformed S.Store resumption result desk.old desk.new }
+    ensures { IsPerformed S.Store (requested PathRequest.Resume) result desk.old desk.new }
 {
-    law_of_resumption();
     match desk.resume() {
         Ok(answer) => answer_reply(alloc, &answer),
         Err(fault) => fault_reply(alloc, fault),
@@ -83,7 +81,7 @@ fn report_record<S: Alter>(
     desk: &Desk<S>,
     number: Option<u32>,
 ) -> Result<Reply, Memory>
-    ensures { IsRead S.Store (record_reported number) result desk.now }
+    ensures { IsRead S.Store (requested (PathRequest.Record number)) result desk.now }
 {
     let Some(record_no) = number else {
         return Ok(failure_reply(Failure::Record));
@@ -101,7 +99,7 @@ fn report_content<S: Alter>(
     desk: &mut Desk<S>,
     number: Option<u32>,
 ) -> Result<Reply, Memory>
-    ensures { IsAnswered S.Store (content_reported number) result desk.old desk.new }
+    ensures { IsAnswered S.Store (requested (PathRequest.Content number)) result desk.old desk.new }
 {
     let Some(record_no) = number else {
         return Ok(failure_reply(Failure::Content));
@@ -114,7 +112,7 @@ fn report_content<S: Alter>(
 
 /// Reports what is due on a day.
 fn report_due<S: Alter>(alloc: Global, desk: &Desk<S>, day: Option<Day>) -> Result<Reply, Memory>
-    ensures { IsRead S.Store (due_reported day) result desk.now }
+    ensures { IsRead S.Store (requested (PathRequest.Due day)) result desk.now }
 {
     let Some(day) = day else {
         return Ok(failure_reply(Failure::Day));
@@ -133,7 +131,7 @@ fn report_overdue<S: Alter>(
     day: Option<Day>,
     days: Option<ConfirmDays>,
 ) -> Result<Reply, Memory>
-    ensures { IsRead S.Store (overdue_reported day days) result desk.now }
+    ensures { IsRead S.Store (requested (PathRequest.Overdue day days)) result desk.now }
 {
     let Some(day) = day else {
         return Ok(failure_reply(Failure::Day));
@@ -153,7 +151,7 @@ fn report_certificate<S: Alter>(
     desk: &Desk<S>,
     number: Option<u32>,
 ) -> Result<Reply, Memory>
-    ensures { IsRead S.Store (certificate_reported number) result desk.now }
+    ensures { IsRead S.Store (requested (PathRequest.Certificate number)) result desk.now }
 {
     let Some(run) = number else {
         return Ok(failure_reply(Failure::Certificate));
@@ -161,6 +159,24 @@ fn report_certificate<S: Alter>(
     match desk.certificate(run) {
         Ok(text) => Ok(certificate_reply(text)),
         Err(fault) => fault_reply(alloc, fault),
+    }
+}
+
+/// Does at the desk what a path asks for, and gives the answer.
+fn answer_path<S: Alter>(
+    alloc: Global,
+    desk: &mut Desk<S>,
+    request: PathRequest,
+) -> Result<Reply, Memory>
+    ensures { IsAnswered S.Store (requested request) result desk.old desk.new }
+{
+    match request {
+        PathRequest::Resume => resume(alloc, desk),
+        PathRequest::Record(number) => report_record(alloc, desk, number),
+        PathRequest::Content(number) => report_content(alloc, desk, number),
+        PathRequest::Due(day) => report_due(alloc, desk, day),
+        PathRequest::Overdue(day, days) => report_overdue(alloc, desk, day, days),
+        PathRequest::Certificate(number) => report_certificate(alloc, desk, number),
     }
 }
 
@@ -178,11 +194,6 @@ pub fn answer<S: Alter>(
         Operation::Refused(check) => Ok(check_reply(*check)),
         Operation::Cut => Ok(failure_reply(Failure::Body)),
         Operation::Acts(body) => perform_body(alloc, desk, body.as_bytes()),
-        Operation::Resumption => resume(alloc, desk),
-        Operation::Record(number) => report_record(alloc, desk, *number),
-        Operation::Content(number) => report_content(alloc, desk, *number),
-        Operation::Due(day) => report_due(alloc, desk, *day),
-        Operation::Overdue(day, days) => report_overdue(alloc, desk, *day, *days),
-        Operation::Certificate(number) => report_certificate(alloc, desk, *number),
+        Operation::Serve(request) => answer_path(alloc, desk, *request),
     }
 }

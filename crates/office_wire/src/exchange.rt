@@ -1,16 +1,17 @@
 //! One request is received, answered at the desk, and its answer written: in two halves, of which
 //! one has no writer and the other no desk.
-ghost use Rattle.std.specs.Prelude.{◌≡◌, OnErr};
+ghost use Rattle.std.specs.Prelude.{◌≡◌, IfOk, IsTrue, OnErr, false};
 ghost use Rattle.office_http.specs.Replies.{response};
 ghost use Rattle.office_http.specs.Receiving.{asked_for};
-ghost use Rattle.office_wire.specs.Serving.{AnswersNext, HasReply, InHalves, IsFailed, Sends, ServesOne};
+ghost use Rattle.office_wire.specs.Calling.{CalledAt};
+ghost use Rattle.office_wire.specs.Serving.{AnswersNext, HasReply, InHalves, IsFailed, IsGoneAnswered, IsOneServed, Sends};
 
 use crate::answers::answer;
 use office_base::Io;
 use office_desk::Desk;
 use office_http::{
-    Asked, Failure, Operation, ReceiveStop, Received, Reply, Routes, failure_reply, receive,
-    write_reply,
+    Failure, Operation, ParsedRequest, ReceiveStop, Received, Reply, Routes, failure_reply,
+    receive, write_reply,
 };
 use sqlite::Alter;
 use std::alloc::Global;
@@ -45,7 +46,7 @@ fn failed(failure: Failure, is_head: bool) -> Option<OutgoingReply>
 }
 
 /// Does what a request asks for, and gives its answer.
-fn answered<S: Alter>(alloc: Global, desk: &mut Desk<S>, asked: Asked) -> OutgoingReply
+fn answered<S: Alter>(alloc: Global, desk: &mut Desk<S>, asked: ParsedRequest) -> OutgoingReply
     ensures is_head { result.is_head ≡ asked.is_head }
     ensures has { HasReply S.Store (asked_for asked.operation) (response result.reply) desk.old
         desk.new }
@@ -97,8 +98,8 @@ pub fn send<W: Write>(sending: Option<OutgoingReply>, writer: &mut W) -> Result<
 ///
 /// It is [`answer_next`] and then [`send`]. `Io` comes where the reader answered an error, and then
 /// nothing was done and nothing written; or where the writer did, and then the first bytes of the
-/// answer, or none, went out, and the desk is as if all had been written. Where the reader does not report its bytes, as a socket's does not, the
-/// desk still is where serving something leaves it.
+/// answer, or none, went out, and the desk is as if all had been written. Where the reader does not
+/// report its bytes, as a socket's does not, the desk still is where serving something leaves it.
 ///
 /// A poisoned desk stays as it is, and fault 32 is reported in place of all that it would do or
 /// report. Where it is poisoned here, the status is 503.
@@ -109,8 +110,21 @@ pub fn serve_with<R: Read, W: Write, S: Alter>(
     reader: &mut R,
     writer: &mut W,
 ) -> Result<u16, Io>
-    ensures one { ServesOne S.Store R.remaining reader.old reader.new W.contents writer.old
-        writer.new result desk.old desk.new }
+    // From each state over a clean disk, all bytes of the connection are answered.
+    ensures served { CalledAt S.Store desk.old desk.new (λ t. IsOneServed S.Store t
+        (R.remaining reader.old) (reader.new ≡ reader.old) result (W.contents writer.old)
+        (W.contents writer.new) desk.new) }
+
+    // A poisoned desk stays as it is, and fault 32 stands for all that it would do or report.
+    ensures gone { IsTrue desk.old.is_poisoned → (desk.new ≡ desk.old)
+        × IsGoneAnswered (R.remaining reader.old) (reader.new ≡ reader.old) result
+        (W.contents writer.old) (W.contents writer.new) }
+
+    // Where serving poisons the desk, the status is 503.
+    ensures unavailable { desk.old.is_poisoned ≡ false → IsTrue desk.new.is_poisoned
+        → IfOk result (λ status. status ≡ 503) }
+
+    // At an error nothing was done, or the desk is as if the whole answer had been written.
     ensures halves { InHalves S.Store R.remaining reader.old reader.new W.contents writer.old
         writer.new result desk.old desk.new }
 {
@@ -126,8 +140,21 @@ pub fn serve_one<R: Read, W: Write, S: Alter>(
     reader: &mut R,
     writer: &mut W,
 ) -> Result<u16, Io>
-    ensures one { ServesOne S.Store R.remaining reader.old reader.new W.contents writer.old
-        writer.new result desk.old desk.new }
+    // From each state over a clean disk, all bytes of the connection are answered.
+    ensures served { CalledAt S.Store desk.old desk.new (λ t. IsOneServed S.Store t
+        (R.remaining reader.old) (reader.new ≡ reader.old) result (W.contents writer.old)
+        (W.contents writer.new) desk.new) }
+
+    // A poisoned desk stays as it is, and fault 32 stands for all that it would do or report.
+    ensures gone { IsTrue desk.old.is_poisoned → (desk.new ≡ desk.old)
+        × IsGoneAnswered (R.remaining reader.old) (reader.new ≡ reader.old) result
+        (W.contents writer.old) (W.contents writer.new) }
+
+    // Where serving poisons the desk, the status is 503.
+    ensures unavailable { desk.old.is_poisoned ≡ false → IsTrue desk.new.is_poisoned
+        → IfOk result (λ status. status ≡ 503) }
+
+    // At an error nothing was done, or the desk is as if the whole answer had been written.
     ensures halves { InHalves S.Store R.remaining reader.old reader.new W.contents writer.old
         writer.new result desk.old desk.new }
 {

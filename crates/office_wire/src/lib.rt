@@ -22,7 +22,7 @@ pub use connections::{Service, serve_all, serve_each};
 pub use exchange::{OutgoingReply, answer_next, send, serve_one, serve_with};
 pub use office_base::Io;
 pub use office_http::{
-    ActsBody, Asked, LONGEST, Operation, ReceiveStop, Received, Routes, receive,
+    ActsBody, LONGEST, Operation, ParsedRequest, ReceiveStop, Received, Routes, receive,
 };
 pub use office_json::{ReadFault, answer_value, read_act};
 pub use record_import::{ImportStop, import_records};

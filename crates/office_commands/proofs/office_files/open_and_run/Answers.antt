@@ -10,10 +10,10 @@ pub returns-in-Ok : goal.returns-in-Ok
 returns-in-Ok g c =
     let was = c.in-Ok.conn in
     let last = c.run_on-status.result.1 in
-    let ran = c.run_on-status.ensures.runs in
+    let ran = c.run_on-status.ensures in
     let law = c.law_of_the_last_commit.ensures in
-    let opened = opened_from (image_at g.S.Start) was last ran.ends.clean c.in-Ok.ensures.opened c.in-Ok.ensures.found law.only law.stays in
-    record { runs = record { ending = ran.ending; is = ran.is; ends = inr (last, record { was = was; opened = opened; ends = ran.ends.ends; stays = c.law_of_the_last_commit-in-Ok.ensures.stays }, c.close.ensures) } }
+    let opened = opened_from (image_at g.S.Start) was last ran.clean c.in-Ok.ensures.opened c.in-Ok.ensures.found law.only law.stays in
+    record { runs = record { ending = ran.runs.ending; is = ran.runs.is; ends = inr (last, record { was = was; opened = opened; ends = ran.runs.ends; stays = c.law_of_the_last_commit-in-Ok.ensures.stays }, c.close.ensures) } }
 
 pub returns-in-Err : goal.returns-in-Err
 returns-in-Err g c =

@@ -1,10 +1,11 @@
-use Rattle.std.proofs.Common.{◌≡◌, ◌∙◌, ℕ, List, Option, Some, None, refl, sym, ap, subst}
+use Rattle.std.proofs.Common.{◌≡◌, ◌∙◌, ℕ, List, Option, Some, None, Ok, refl, sym, ap, subst}
 use Rattle.office_base.specs.declared.refusal.Refusal.{Refusal}
 use Rattle.office_base.specs.declared.refusal.Refusal.TheVariants.{NoRun}
 use Rattle.office_rules.specs.declared.answer.Answer.{Answer}
 use Rattle.office_rules.specs.declared.answer.Answer.TheVariants as answer
 use Rattle.office_desk.specs.Resuming.{resumed_answer}
-use Rattle.office_commands.specs.Resuming.{IsAnswerReported}
+use Rattle.office_desk.specs.Resumptions.{run_closed, run_outcome}
+use Rattle.office_commands.specs.Resuming.{IsRunReported}
 use Rattle.office_commands.specs.declared.ending.Ending.{Ending}
 use Rattle.office_commands.specs.declared.ending.Ending.TheVariants as how
 use Rattle.office_commands.proofs.resume.report_answer.Goals as goal
@@ -28,16 +29,16 @@ pub unreachable-requires : goal.unreachable-requires
 unreachable-requires g c = no_other c.args.answer c.requires.0 c.requires.1 c.in_default.not-RunClosed c.in_default.not-Refused
 
 -- what is reported of the run that was closed is reported of the run that was open
-closed_reported : (o : Option ℕ) (run : ℕ) (written after : Option (List ℕ)) (e : Ending) → o ≡ Some run → IsAnswerReported (Some run) written after e → IsAnswerReported o written after e
-closed_reported o run written after e is reported = subst (λ (x : Option ℕ). IsAnswerReported x written after e) (sym is) reported
+closed_reported : (a : Answer) (o : Option ℕ) (run : ℕ) (written after : Option (List ℕ)) (e : Ending) → o ≡ Some run → IsRunReported (run_closed run) written after e → IsRunReported (run_outcome (Ok a) o) written after e
+closed_reported a o run written after e is reported = subst (λ (x : Option ℕ). IsRunReported (run_outcome (Ok a) x) written after e) (sym is) reported
 
 -- where no run was open the refusal is reported
-refused_reported : (o : Option ℕ) (refusal : Refusal) (written after : Option (List ℕ)) → (o ≡ None) × (refusal ≡ NoRun) → after ≡ written → IsAnswerReported o written after (how.Refused refusal)
-refused_reported o refusal written after is same = subst (λ (x : Option ℕ). IsAnswerReported x written after (how.Refused refusal)) (sym is.0) (ap how.Refused is.1, same)
+refused_reported : (a : Answer) (o : Option ℕ) (refusal : Refusal) (written after : Option (List ℕ)) → (o ≡ None) × (refusal ≡ NoRun) → after ≡ written → IsRunReported (run_outcome (Ok a) o) written after (how.Refused refusal)
+refused_reported a o refusal written after is same = subst (λ (x : Option ℕ). IsRunReported (run_outcome (Ok a) x) written after (how.Refused refusal)) (sym is.0) (ap how.Refused is.1, same)
 
 pub returns-in-RunClosed : goal.returns-in-RunClosed
 returns-in-RunClosed g c o is =
-    closed_reported o c.in-RunClosed.run' _ _ _ (closes o c.in-RunClosed.run' (sym c.in-RunClosed.is ∙ is)) c.report_closed.ensures
+    closed_reported c.args.answer o c.in-RunClosed.run' _ _ _ (closes o c.in-RunClosed.run' (sym c.in-RunClosed.is ∙ is)) c.report_closed.ensures
 
 pub returns-in-Refused : goal.returns-in-Refused
-returns-in-Refused g c o is = refused_reported o c.in-Refused.refusal _ _ (refuses o c.in-Refused.refusal (sym c.in-Refused.is ∙ is)) refl
+returns-in-Refused g c o is = refused_reported c.args.answer o c.in-Refused.refusal _ _ (refuses o c.in-Refused.refusal (sym c.in-Refused.is ∙ is)) refl

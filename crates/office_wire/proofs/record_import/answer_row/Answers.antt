@@ -8,11 +8,11 @@ use Rattle.office_wire.proofs.record_import.answer_row.Goals as goal
 
 pub returns-in-Ok : goal.returns-in-Ok
 returns-in-Ok g c =
-    let it = c.perform.ensures.called in
+    let it = c.perform.ensures in
     record {
-      clean = it.clean;
-      did = λ s clean at. row_ended g.S.Store c.args.day s (named c.args.row.now) c.in-Ok.act c.perform.result c.args.desk.now c.perform.new.self _ c.in-Ok.ensures at.office
-          (it.did s at.is_open (sym at.office)) (clean, at);
+      clean = it.rest.clean;
+      did = λ s clean at. row_ended g.S.Store c.args.day s (named c.args.row.now) c.in-Ok.act c.perform.result c.args.desk.now c.perform.new.self c.in-Ok.ensures
+          (it.answered s at.is_open (sym at.office)) (it.leaves s clean at);
     }
 
 pub returns-in-Err-Refused : goal.returns-in-Err-Refused

@@ -1,12 +1,10 @@
-//! What a request can ask for, with the numbers and days of its path.
+//! What a request without a body asks for, with the numbers and days of its path.
 use office_days::{ConfirmDays, Day};
 
-/// What the head of a request asks for. What its path does not write is `None`: a number is 1 to
+/// What a request without a body asks for. What its path does not write is `None`: a number is 1 to
 /// 4,294,967,295, without leading zeros; a count of days is 3,650 at most, leading zeros allowed.
 #[derive(Clone, Copy, PartialEq, Eq, Debug)]
-pub enum Want {
-    /// Perform the acts in a body of that many bytes.
-    Acts(u64),
+pub enum PathRequest {
     /// Go on with the open run, to its end.
     Resume,
     /// The record with that number.

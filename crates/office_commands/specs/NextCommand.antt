@@ -1,5 +1,5 @@
--- From one word of the program to the next: at which state a word leaves an office, and what its two files hold then.
--- Source: own.
+-- From one command of the program to the next: at which state a command leaves an office, and what its two files hold
+-- then. Source: own.
 use Rattle.std.specs.Prelude.{◌≡◌, ◌⊎◌, ◌+◌, ◌≤◌, ℕ, ℤ, IfSome, IsTrue, List, ◌++◌, length, take, Option, Ok, Some, option_map}
 use Rattle.std.specs.Io.KnownBytes.{Appends}
 use Rattle.csv.specs.Reading.{strip_bom}
@@ -27,7 +27,8 @@ use Rattle.office_sql.specs.declared.editions.Edition.{Edition}
 use Rattle.office_sql.specs.Office.{IsOfficeIn}
 use Rattle.office_store.specs.RepresentsRows.{RepresentsRowsIn}
 use Rattle.office_desk.specs.Headline.{AreWellFormed}
-use Rattle.office_command_line.specs.Orders.{Ordered, application_ordered, certificate_ordered, due_day_ordered, exportation_ordered, importation_ordered, init_file_ordered, nothing_ordered, overdue_ordered, plan_file_ordered, resumption_ordered, service_ordered}
+use Rattle.office_command_line.specs.Orders as command
+use Rattle.office_command_line.specs.Orders.{Command}
 use Rattle.office_json.specs.Answers.{answer_lines}
 use Rattle.office_json.specs.Lists.{acts_in}
 use Rattle.office_csv.specs.ImportRows.{Fields}
@@ -61,7 +62,7 @@ pub record HoldsWholeOffice (image : Image) (u : State) : Type 0 where
 abbrev pub LeavesAt : (State → Type 0) → FileState → Type 0
 LeavesAt Is s = (db : Trees) → s.may_leave db → (u : State) × Is u × IsOfficeAt db u
 
--- ---- at which state a word leaves an office
+-- ---- at which state a command leaves an office
 
 -- nothing was done, and nothing was written
 abbrev pub IsUntouched : Option (List ℕ) → Option (List ℕ) → State → State → Type 0
@@ -94,27 +95,27 @@ pub record AreRowsAdded (day : ℤ) (text : Option (List ℕ)) (written after : 
   pub answered : Appends written after (lines_from 0 answers) ⊎ (ending ≡ how.File) × AreLinesOut answers written after
   pub state : (u ≡ reached) ⊎ ((row : Fields) × (answer : Answer) × IsRowDone day reached row answer u)
 
--- steps of the open run were taken; where the word is done, to the end of the run
+-- steps of the open run were taken; where the command is done, to the end of the run
 pub record AreStepsTaken (ending : Ending) (s u : State) : Type 0 where
   pub count : ℕ
   pub state : u ≡ after_steps s count
   pub closed : ending ≡ how.Done → (run : ℕ) × (open_run s.office ≡ Some run) × (u ≡ whole s run)
 
 -- at which state an order leaves an office that was at one, by what it read and wrote and how it ended
-abbrev pub IsLeftBy : Ordered → List ℕ → Option (List ℕ) → Option (List ℕ) → Ending → State → State → Type 0
-IsLeftBy (application_ordered file acts) text written after ending s u =
+abbrev pub IsLeftBy : Command → List ℕ → Option (List ℕ) → Option (List ℕ) → Ending → State → State → Type 0
+IsLeftBy (command.apply file acts) text written after ending s u =
     IsUntouched written after s u ⊎ AreActsDone text written after ending s u
-IsLeftBy (importation_ordered file day csv) text written after ending s u =
+IsLeftBy (command.import file day csv) text written after ending s u =
     IsUntouched written after s u ⊎ AreRowsAdded day (option_map strip_bom (Some text)) written after ending s u
-IsLeftBy (resumption_ordered file) text written after ending s u = AreStepsTaken ending s u
-IsLeftBy (init_file_ordered file) text written after ending s u = u ≡ s
-IsLeftBy (exportation_ordered file register) text written after ending s u = u ≡ s
-IsLeftBy (overdue_ordered file day n) text written after ending s u = u ≡ s
-IsLeftBy (certificate_ordered file run) text written after ending s u = u ≡ s
-IsLeftBy (service_ordered file port count) text written after ending s u = u ≡ s
-IsLeftBy (plan_file_ordered file) text written after ending s u = u ≡ s
-IsLeftBy (due_day_ordered unit count offset day) text written after ending s u = u ≡ s
-IsLeftBy nothing_ordered text written after ending s u = u ≡ s
+IsLeftBy (command.resume file) text written after ending s u = AreStepsTaken ending s u
+IsLeftBy (command.init file) text written after ending s u = u ≡ s
+IsLeftBy (command.export file register) text written after ending s u = u ≡ s
+IsLeftBy (command.overdue file day n) text written after ending s u = u ≡ s
+IsLeftBy (command.certificate file run) text written after ending s u = u ≡ s
+IsLeftBy (command.serve file port count) text written after ending s u = u ≡ s
+IsLeftBy (command.plan file) text written after ending s u = u ≡ s
+IsLeftBy (command.due unit count offset day) text written after ending s u = u ≡ s
+IsLeftBy command.nothing text written after ending s u = u ≡ s
 
 -- a service leaves an office after some acts
 abbrev pub IsServedTo : State → State → Type 0
