@@ -67,6 +67,7 @@ def prepare_nginx(shell: Shell) -> None:
     for command in (
             "mkdir -p /etc/nginx/office /var/log/office /etc/nginx/sites-available",
             "cp service/nginx/http.conf service/nginx/server.conf service/nginx/actors.conf /etc/nginx/office/",
+            "cp service/nginx/vault.conf service/nginx/vaults.conf /etc/nginx/office/",
             "cp service/nginx/acts.js /etc/nginx/office/",
             "sed 's/8080/8181/' service/nginx/office.conf > /etc/nginx/sites-available/office",
             "ln -sf ../sites-available/office /etc/nginx/sites-enabled/office",
