@@ -169,6 +169,8 @@ def plain(done: Done) -> Done:
 def judge_alike(shell: Shell, preview: Callable[[str], Done]) -> None:
     """Each command of README.md, by the built program and by a preview, each in a folder of its own."""
     lines = [it.line for it in commands("README.md") if it.shown is not None and "office demo" not in it.line]
+    for run in (shell.run, preview):
+        run("rm -f first.db* letters.db*")
     for line in [*lines, *MORE]:
         built, kept = shell.run(line), plain(preview(line))
         judge(f"by a preview as by the built program: {line}", built == kept, f"{built}\n{kept}")
