@@ -1,0 +1,142 @@
+"""The journal while the gate runs: lines are linked in the order in which they are asked for, and written by one thread.
+
+Who waits for a line has it on the disk. Lines that come while the disk works are written together.
+"""
+import asyncio
+import concurrent.futures
+import datetime
+import errno
+import fcntl
+import os
+import sys
+from pathlib import Path
+
+from office_gate import chain
+from office_gate.chain import Head, Line
+from office_gate.contents import Contents
+from office_gate.errors import Answered, Refused
+
+TOLD_EACH = 1000
+"""after so many lines the head is printed, for the journal of systemd"""
+
+
+def now() -> str:
+    return datetime.datetime.now(datetime.UTC).isoformat(timespec="microseconds")
+
+
+class Journal:
+    """A file that only grows. `open` first; then `append` from one event loop."""
+
+    def __init__(self, path: Path, contents: Contents) -> None:
+        self.path, self.contents = path, contents
+        self.head = chain.START
+        self.written = chain.START
+        self.rest: bytes | None = None
+        self.is_well = True
+        self.file = -1
+        self.waiting: list[tuple[bytes, Head, bool, asyncio.Future[None]]] = []
+        self.worker: asyncio.Task[None] | None = None
+        self.thread = concurrent.futures.ThreadPoolExecutor(1, "journal")
+
+    # ---- the file
+
+    def open(self) -> None:
+        """Opens the file, and finds the line that the next one follows, in an older file if this one is new."""
+        self.file = os.open(self.path, os.O_RDWR | os.O_CREAT | os.O_APPEND | os.O_CLOEXEC, 0o640)
+        try:
+            fcntl.flock(self.file, fcntl.LOCK_EX | fcntl.LOCK_NB)
+        except BlockingIOError:
+            raise Refused(3, f"another process writes {self.path}") from None
+        for path in reversed(chain.files_of(self.path)):
+            line, rest = chain.last_line(path)
+            if line:
+                self.head = Line(path, 0, line, True).head()
+                self.rest = rest or None
+                break
+            self.rest = rest or None
+        self.written = self.head
+
+    def reopen(self) -> None:
+        """Goes on in the file that now has the name, as after a rotation."""
+        new = os.open(self.path, os.O_RDWR | os.O_CREAT | os.O_APPEND | os.O_CLOEXEC, 0o640)
+        if os.path.sameopenfile(new, self.file):
+            os.close(new)
+            return
+        fcntl.flock(new, fcntl.LOCK_EX | fcntl.LOCK_NB)
+        os.fsync(self.file)
+        os.close(self.file)
+        self.file = new
+
+    def close(self) -> None:
+        self.thread.shutdown()
+        os.close(self.file)
+
+    # ---- lines
+
+    async def append(self, entry: dict[str, object], is_durable: bool = True) -> Head:
+        """Writes a line. It is on the disk when this returns, or at least with the system if it need not be durable.
+
+        Answered 503 `journal` says that the disk did not take it: then nothing may be done.
+        """
+        entry = {"at": now(), **entry}
+        if self.rest is not None:
+            entry["torn"] = chain.torn(self.rest)
+        data, head = chain.linked(entry, self.head)
+        if self.rest is not None:
+            data, self.rest = b"\n" + data, None
+        self.head = head
+        done: asyncio.Future[None] = asyncio.get_running_loop().create_future()
+        self.waiting.append((data, head, is_durable, done))
+        if self.worker is None:
+            self.worker = asyncio.create_task(self.work())
+        await done
+        return head
+
+    async def work(self) -> None:
+        """Writes what waits, all of it at once, until nothing does."""
+        while self.waiting:
+            batch, self.waiting = self.waiting, []
+            data, is_durable = b"".join(it[0] for it in batch), any(it[2] for it in batch)
+            try:
+                await asyncio.get_running_loop().run_in_executor(self.thread, self.write, data, is_durable)
+            except OSError as error:
+                self.fail(batch, error)
+                continue
+            self.is_well = True
+            if batch[-1][1].line // TOLD_EACH > self.written.line // TOLD_EACH:
+                print(f"head {batch[-1][1]}", file=sys.stderr, flush=True)
+            self.written = batch[-1][1]
+            for _, _, _, done in batch:
+                if not done.done():
+                    done.set_result(None)
+        self.worker = None
+
+    def write(self, data: bytes, is_durable: bool) -> None:
+        view = memoryview(data)
+        while view:
+            view = view[os.write(self.file, view):]
+        if is_durable:
+            os.fdatasync(self.file)
+
+    def fail(self, batch: list, error: OSError) -> None:
+        """Gives up lines that the disk did not take, and those that were to follow them."""
+        print(f"office-gate: {self.path} is not written: {error.strerror}", file=sys.stderr, flush=True)
+        self.is_well = False
+        for _, _, _, done in [*batch, *self.waiting]:
+            if not done.done():
+                done.set_exception(Answered(503, "journal"))
+        self.waiting = []
+        # what of it is in the file: whole lines count, since they are linked; of the others the next line tells
+        line, rest = chain.last_line(self.path)
+        self.head = Line(self.path, 0, line, True).head() if line else self.written
+        self.written = self.head
+        self.rest = rest or None
+
+    async def in_thread(self, what, *words: object) -> object:
+        """Does something between two writings."""
+        try:
+            return await asyncio.get_running_loop().run_in_executor(self.thread, what, *words)
+        except OSError as error:
+            full = error.errno in (errno.ENOSPC, errno.EDQUOT)
+            print(f"office-gate: {self.path.parent}: {error.strerror}", file=sys.stderr, flush=True)
+            raise Answered(503, "journal") from (None if full else error)
