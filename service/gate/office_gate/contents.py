@@ -85,10 +85,14 @@ def noted(acts: list[dict]) -> tuple[list[dict], list[bytes]]:
             if name == "content" and (data := decoded(value)) is not None:
                 it[name] = {"bytes": len(data), "sha256": digest(data)}
                 parts.append(data)
-            elif name == "content" or not isinstance(value, (str, bool, type(None))) or len(value or "") > LONGEST:
+            elif name == "content" or not is_short(value):
                 it[name] = shortened(value)
         found.append(it)
     return found, parts
+
+
+def is_short(value: object) -> bool:
+    return value is None or isinstance(value, bool) or isinstance(value, str) and len(value) <= LONGEST
 
 
 def shortened(value: object) -> dict[str, object]:

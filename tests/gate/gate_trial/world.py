@@ -15,7 +15,7 @@ JOURNAL = TOP / "service/gate/office-journal"
 PYTHON = "/usr/bin/python3"
 TOKEN = "0123456789abcdef" * 4
 HERE = {"Host": "localhost", "Origin": "https://localhost"}
-SITE = "site https://localhost\nzone UTC\n"
+SITE = "site https://localhost\nzone {zone}\n"
 
 
 def today(days: int = 0) -> str:
@@ -38,7 +38,7 @@ class World:
         self.catalogue = folder / "catalogue"
         self.state.mkdir()
         (folder / "token").write_text(TOKEN)
-        self.settings.write_text(SITE + settings)
+        self.settings.write_text(SITE.format(zone="UTC") + settings)
         self.port = free_port()
         self.office: subprocess.Popen | None = None
         self.gate: subprocess.Popen | None = None
@@ -74,9 +74,9 @@ class World:
         self.gate = None
         return status
 
-    def reload(self, settings: str) -> None:
+    def reload(self, settings: str, zone: str = "UTC") -> None:
         """Gives the gate other settings, and waits until they count."""
-        self.settings.write_text(SITE + settings)
+        self.settings.write_text(SITE.format(zone=zone) + settings)
         count = len(self.lines())
         self.gate.send_signal(signal.SIGHUP)
         for _ in range(200):
