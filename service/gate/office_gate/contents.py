@@ -8,11 +8,11 @@ import binascii
 import datetime
 import os
 import subprocess
-import sys
 from pathlib import Path
 
 from office_gate.body import text_of
 from office_gate.chain import digest
+from office_gate.errors import say
 
 LONGEST = 4096
 """of a longer text in another member the journal has the length and the digest"""
@@ -61,7 +61,7 @@ class Contents:
             if it.name < last:
                 done = subprocess.run(["shred", "--iterations=1", "--remove", "--", str(it)], check=False)
                 if done.returncode:
-                    print(f"office-gate: {it} is not removed", file=sys.stderr, flush=True)
+                    say(f"{it} is not removed")
 
 
 def decoded(text: object) -> bytes | None:

@@ -1,4 +1,12 @@
-"""How a request is answered by the gate itself, and how a command ends that cannot go on."""
+"""How a request is answered by the gate itself, how a command ends that cannot go on, and what the service prints."""
+import contextlib
+import sys
+
+
+def say(text: str) -> None:
+    """Prints a line for the journal of systemd. A disk that does not take it stops nothing."""
+    with contextlib.suppress(OSError):
+        print(f"office-gate: {text}", file=sys.stderr, flush=True)
 
 
 class Refused(Exception):

@@ -59,6 +59,10 @@ class Facts:
         self.db.execute("INSERT OR REPLACE INTO folded VALUES (1, ?, ?)", (head.line, head.sha256))
         self.db.execute("COMMIT")
 
+    def undo(self) -> None:
+        if self.db.in_transaction:
+            self.db.execute("ROLLBACK")
+
     # ---- folding
 
     def fold(self, asked: dict, answered: dict, line: int, at: float) -> None:

@@ -1,16 +1,17 @@
 """What one gate has open: its settings, the journal, what it knows, the office; and how it acts for a name."""
 import asyncio
-import sys
+import sqlite3
 import time
 from dataclasses import dataclass, field
 
 from office_gate import body, deciding, settings
 from office_gate.access import Access
 from office_gate.catalogue import Aggregations, Catalogue
+from office_gate.catching import catch_up
 from office_gate.chain import Head, digest
 from office_gate.contents import noted
 from office_gate.deciding import Asked
-from office_gate.errors import Answered, Refused
+from office_gate.errors import Answered, Refused, say
 from office_gate.eyes import Eyes
 from office_gate.facts import Facts
 from office_gate.journal import Journal
@@ -57,6 +58,7 @@ class Gate:
     requests: AtOnce = field(default_factory=AtOnce)
     lists: AtOnce = field(default_factory=AtOnce)
     acting: asyncio.Lock = field(default_factory=asyncio.Lock)
+    is_behind: bool = False
 
     # ---- settings
 
@@ -65,12 +67,12 @@ class Gate:
         try:
             access = settings.read(self.access.path)
         except Refused as refused:
-            print(f"office-gate: the settings stay as they were: {refused}", file=sys.stderr, flush=True)
+            say(f"the settings stay as they were: {refused}")
         else:
             is_new, self.access = access.digest != self.access.digest, access
             if is_new:
                 await self.journal.append({"what": "settings", "sha256": access.digest})
-                print(f"office-gate: new settings, SHA-256 {access.digest}", file=sys.stderr, flush=True)
+                say(f"new settings, SHA-256 {access.digest}")
         await self.journal.in_thread(self.journal.reopen)
 
     def aggregations(self) -> Aggregations:
@@ -107,6 +109,7 @@ class Gate:
 
     async def judge(self, asked: Asked, acts: list[dict]) -> None:
         """Looks at classes and at the rules of four eyes, while nobody else acts."""
+        self.recover()
         known = self.aggregations()
         await deciding.classes(asked.person, acts, Scopes(known, self.asking(asked)))
         await Eyes(self.access, self.facts, known, self.office).acts(asked.person, acts)
@@ -125,6 +128,7 @@ class Gate:
         try:
             deciding.resume(self.access, asked)
             async with self.acting:
+                self.recover()
                 Eyes(self.access, self.facts, self.aggregations(), self.office).carry_out(asked.person)
                 answer, written = await self.send(asked, entry, "/run/resume", None)
         except Answered as refused:
@@ -156,11 +160,28 @@ class Gate:
             return UNKNOWN, self.journal.written
 
     def learn(self, entry: dict, said: dict, head: Head) -> None:
-        """Takes what was done into what the gate knows."""
-        self.facts.begin()
-        self.facts.fold(entry, said, head.line, time.time())
-        self.facts.commit(self.journal.head)
-        self.facts.extend(self.catalogue.found)
+        """Takes what was done into what the gate knows. If the disk does not take it, no act follows before it does."""
+        try:
+            self.facts.begin()
+            self.facts.fold(entry, said, head.line, time.time())
+            self.facts.commit(self.journal.head)
+            self.facts.extend(self.catalogue.found)
+        except sqlite3.Error as error:
+            say(f"what was done is not noted: {error}")
+            self.facts.undo()
+            self.is_behind = True
+
+    def recover(self) -> None:
+        """Takes from the journal what was not noted, or refuses to act."""
+        if not self.is_behind:
+            return
+        try:
+            self.facts.forget()
+            catch_up(self.journal.path, self.facts, self.journal.written)
+        except (sqlite3.Error, OSError) as error:
+            self.facts.undo()
+            raise Answered(503, "journal") from error
+        self.is_behind = False
 
     async def refuse(self, entry: dict, refused: Answered) -> None:
         self.metrics.note("refused", refused.status, 0.0)

@@ -5,16 +5,14 @@ Who waits for a line has it on the disk. Lines that come while the disk works ar
 import asyncio
 import concurrent.futures
 import datetime
-import errno
 import fcntl
 import os
-import sys
 from pathlib import Path
 
 from office_gate import chain
-from office_gate.chain import Head, Line
+from office_gate.chain import Head, Line, entry_of
 from office_gate.contents import Contents
-from office_gate.errors import Answered, Refused
+from office_gate.errors import Answered, Refused, say
 
 TOLD_EACH = 1000
 """after so many lines the head is printed, for the journal of systemd"""
@@ -31,6 +29,9 @@ class Journal:
         self.path, self.contents = path, contents
         self.head = chain.START
         self.written = chain.START
+        # what goes before the next line: the end of a line that lacks it
+        self.lead = b""
+        # bytes that are no line, of which the next one tells
         self.rest: bytes | None = None
         self.is_well = True
         self.file = -1
@@ -48,13 +49,21 @@ class Journal:
         except BlockingIOError:
             raise Refused(3, f"another process writes {self.path}") from None
         for path in reversed(chain.files_of(self.path)):
-            line, rest = chain.last_line(path)
-            if line:
-                self.head = Line(path, 0, line, True).head()
-                self.rest = rest or None
+            if self.follow(path):
                 break
-            self.rest = rest or None
         self.written = self.head
+
+    def follow(self, path: Path) -> bool:
+        """Finds the last line of a file, and what a stop left after it. Returns whether there is a line."""
+        whole, rest = chain.last_line(path)
+        if rest and (entry := entry_of(Line(path, 0, rest, True))):
+            # a line that lacks its end alone
+            self.head, self.rest = Head(int(entry["line"]), chain.digest(rest)), None
+        else:
+            self.head = Line(path, 0, whole, True).head() if whole else chain.START
+            self.rest = rest or None
+        self.lead = b"\n" if rest and path == self.path else b""
+        return bool(whole or rest)
 
     def reopen(self) -> None:
         """Goes on in the file that now has the name, as after a rotation."""
@@ -63,7 +72,8 @@ class Journal:
             os.close(new)
             return
         fcntl.flock(new, fcntl.LOCK_EX | fcntl.LOCK_NB)
-        os.fsync(self.file)
+        self.write(self.lead, True)
+        self.lead = b""
         os.close(self.file)
         self.file = new
 
@@ -82,9 +92,7 @@ class Journal:
         if self.rest is not None:
             entry["torn"] = chain.torn(self.rest)
         data, head = chain.linked(entry, self.head)
-        if self.rest is not None:
-            data, self.rest = b"\n" + data, None
-        self.head = head
+        data, self.lead, self.rest, self.head = self.lead + data, b"", None, head
         done: asyncio.Future[None] = asyncio.get_running_loop().create_future()
         self.waiting.append((data, head, is_durable, done))
         if self.worker is None:
@@ -99,12 +107,12 @@ class Journal:
             data, is_durable = b"".join(it[0] for it in batch), any(it[2] for it in batch)
             try:
                 await asyncio.get_running_loop().run_in_executor(self.thread, self.write, data, is_durable)
-            except OSError as error:
+            except Exception as error:
                 self.fail(batch, error)
                 continue
             self.is_well = True
             if batch[-1][1].line // TOLD_EACH > self.written.line // TOLD_EACH:
-                print(f"head {batch[-1][1]}", file=sys.stderr, flush=True)
+                say(f"head {batch[-1][1]}")
             self.written = batch[-1][1]
             for _, _, _, done in batch:
                 if not done.done():
@@ -118,25 +126,25 @@ class Journal:
         if is_durable:
             os.fdatasync(self.file)
 
-    def fail(self, batch: list, error: OSError) -> None:
+    def fail(self, batch: list, error: Exception) -> None:
         """Gives up lines that the disk did not take, and those that were to follow them."""
-        print(f"office-gate: {self.path} is not written: {error.strerror}", file=sys.stderr, flush=True)
+        say(f"{self.path} is not written: {error}")
         self.is_well = False
         for _, _, _, done in [*batch, *self.waiting]:
             if not done.done():
                 done.set_exception(Answered(503, "journal"))
         self.waiting = []
-        # what of it is in the file: whole lines count, since they are linked; of the others the next line tells
-        line, rest = chain.last_line(self.path)
-        self.head = Line(self.path, 0, line, True).head() if line else self.written
+        # What of it is in the file stays: whole lines count, since they are linked; of the others the next line tells.
+        self.follow(self.path)
+        if self.head.line < self.written.line:
+            # the file is new, and nothing is in it yet
+            self.head = self.written
         self.written = self.head
-        self.rest = rest or None
 
     async def in_thread(self, what, *words: object) -> object:
         """Does something between two writings."""
         try:
             return await asyncio.get_running_loop().run_in_executor(self.thread, what, *words)
         except OSError as error:
-            full = error.errno in (errno.ENOSPC, errno.EDQUOT)
-            print(f"office-gate: {self.path.parent}: {error.strerror}", file=sys.stderr, flush=True)
-            raise Answered(503, "journal") from (None if full else error)
+            say(f"{self.path.parent}: {error.strerror}")
+            raise Answered(503, "journal") from error

@@ -3,14 +3,13 @@ import asyncio
 import os
 import signal
 import socket
-import sys
 import time
 from pathlib import Path
 
 from office_serve.listening import FIRST, tell
 
 from office_gate import starting
-from office_gate.errors import Refused
+from office_gate.errors import Refused, say
 from office_gate.gate import Gate
 from office_gate.serving import Front
 
@@ -63,7 +62,7 @@ async def serve(gate: Gate, at: socket.socket) -> None:
         tasks.append(asyncio.ensure_future(gate.reload()))
     loop.add_signal_handler(signal.SIGHUP, reload)
     tell("READY=1")
-    print(f"head {gate.journal.head}", file=sys.stderr)
+    say(f"head {gate.journal.head}")
     print("listening", flush=True)
     await stop.wait()
     tell("STOPPING=1")
@@ -73,7 +72,7 @@ async def serve(gate: Gate, at: socket.socket) -> None:
         it.cancel()
     await front.shutdown(1)
     await gate.journal.append({"what": "closed"})
-    print(f"head {gate.journal.head}", file=sys.stderr, flush=True)
+    say(f"head {gate.journal.head}")
     await gate.office.stop()
     gate.journal.close()
 

@@ -40,6 +40,8 @@ class World:
         (folder / "token").write_text(TOKEN)
         self.settings.write_text(SITE.format(zone="UTC") + settings)
         self.port = free_port()
+        self.listener: socket.socket | None = None
+        self.more: dict[str, str] = {}
         self.office: subprocess.Popen | None = None
         self.gate: subprocess.Popen | None = None
         self.log = (folder / "log").open("wb")
@@ -59,12 +61,28 @@ class World:
             self.office.stdout.close()
             self.office = None
 
-    def start_gate(self) -> None:
-        words = ["serve", "--settings", self.settings, "--office", f"127.0.0.1:{self.port}", "--journal", self.journal,
+    def words(self) -> list[str]:
+        words = [PYTHON, "-I", GATE, "serve", "--settings", self.settings, "--office", f"127.0.0.1:{self.port}", "--journal", self.journal,
                  "--state", self.state, "--token", self.folder / "token", "--socket", self.place,
                  "--catalogue", self.catalogue]
-        self.gate = subprocess.Popen([PYTHON, "-I", GATE, *map(str, words)], stdout=subprocess.PIPE, stderr=self.log)
+        return list(map(str, words))
+
+    def start_gate(self) -> None:
+        self.gate = subprocess.Popen(self.words(), stdout=subprocess.PIPE, stderr=self.log,
+                                     env=os.environ | self.more, close_fds=self.listener is None,
+                                     preexec_fn=self.as_systemd if self.listener else None)
         assert self.gate.stdout.readline().startswith(b"listening"), (self.folder / "log").read_text()
+
+    def listen(self) -> None:
+        """Listens in the place of systemd: a gate gets the socket at its start, and leaves it at its end."""
+        self.listener = socket.socket(socket.AF_UNIX, socket.SOCK_STREAM)
+        self.listener.bind(str(self.place))
+        self.listener.listen(4096)
+
+    def as_systemd(self) -> None:
+        """Passes the socket on, in the process that becomes the gate."""
+        os.dup2(self.listener.fileno(), 3)
+        os.execve(PYTHON, self.words(), os.environ | self.more | {"LISTEN_PID": str(os.getpid()), "LISTEN_FDS": "1"})
 
     def stop_gate(self, number: signal.Signals = signal.SIGTERM) -> int:
         assert self.gate is not None
