@@ -38,7 +38,7 @@ async def watch(gate: Gate) -> None:
     seconds = int(os.environ.get("WATCHDOG_USEC", "0")) / 2_000_000
     while seconds:
         await gate.journal.in_thread(time.monotonic)
-        tell("WATCHDOG=1")
+        await asyncio.to_thread(tell, "WATCHDOG=1")
         await asyncio.sleep(seconds)
 
 

@@ -16,46 +16,42 @@ ROUNDS = 5
 
 def tried(folder: pathlib.Path) -> None:
     world = World(folder, SETTINGS)
-    notes = notified(world)
+    notes = Notes(world)
     world.listen()
     world.start_office()
     world.start_gate()
-    same("systemd is told that it is ready", b"READY=1" in notes.recv(4096), True)
+    judge("systemd is told that it is ready", notes.has(b"READY=1"))
     same("the plan", world.act("records-manager", *plan())[0], 200)
-    watched(notes)
+    judge("the watchdog hears from it", notes.has(b"WATCHDOG=1", 10))
     of_the_office(world)
     cut(world)
     of_the_gate(world)
-    same("systemd is told of the end", (world.stop_gate(), told(notes, b"STOPPING=1")), (0, True))
+    same("systemd is told of the end", (world.stop_gate(), notes.has(b"STOPPING=1", ROUNDS + 2)), (0, True))
     judge("the chain holds", world.check().returncode == 0, world.check().stderr)
     world.end()
 
 
-def notified(world: World) -> socket.socket:
-    it = socket.socket(socket.AF_UNIX, socket.SOCK_DGRAM)
-    it.bind(str(world.folder / "notify"))
-    it.settimeout(20)
-    world.more = {"NOTIFY_SOCKET": str(world.folder / "notify"), "WATCHDOG_USEC": "400000"}
-    return it
+class Notes:
+    """What systemd would be told."""
 
+    def __init__(self, world: World) -> None:
+        self.link = socket.socket(socket.AF_UNIX, socket.SOCK_DGRAM)
+        self.link.bind(str(world.folder / "notify"))
+        world.more = {"NOTIFY_SOCKET": str(world.folder / "notify"), "WATCHDOG_USEC": "400000"}
+        self.seen: list[bytes] = []
+        threading.Thread(target=self.read, daemon=True).start()
 
-def told(notes: socket.socket, word: bytes) -> bool:
-    notes.settimeout(1)
-    try:
+    def read(self) -> None:
         while True:
-            if word in notes.recv(4096):
+            self.seen.append(self.link.recv(4096))
+
+    def has(self, word: bytes, count: int = 1) -> bool:
+        """Whether something is told so often within some seconds."""
+        for _ in range(1000):
+            if sum(word in it for it in self.seen) >= count:
                 return True
-    except TimeoutError:
+            time.sleep(0.02)
         return False
-
-
-def watched(notes: socket.socket) -> None:
-    """The watchdog hears from it as often as it asks."""
-    notes.settimeout(20)
-    began = time.monotonic()
-    count = sum(b"WATCHDOG=1" in notes.recv(4096) for _ in range(10))
-    judge("the watchdog hears from it", count == 10 and time.monotonic() - began < 10, count)
-    notes.setblocking(False)
 
 
 class Clients:
