@@ -24,7 +24,7 @@ class Acts:
         """Returns a path and a body."""
         if self.chance.random() < 0.03:
             return "/run/resume", b""
-        count = 1 if self.chance.random() < 0.7 else self.chance.randint(2, 6)
+        count = 1 if self.chance.random() < 0.9 else self.chance.randint(2, 5)
         return "/acts", json.dumps([self.act() for _ in range(count)]).encode()
 
     def learn(self, body: bytes, said: bytes) -> None:
