@@ -114,7 +114,7 @@ class World:
     def raw(self, data: bytes, half: bool = False) -> bytes:
         """Sends bytes to the gate, and returns all that come back."""
         with socket.socket(socket.AF_UNIX, socket.SOCK_STREAM) as link:
-            link.settimeout(60)
+            link.settimeout(300)
             link.connect(str(self.place))
             link.sendall(data)
             if half:
