@@ -3,6 +3,7 @@ import json
 
 from office_gate.access import Access, Person
 from office_gate.catalogue import Aggregations
+from office_gate.deciding import DAY
 from office_gate.errors import Answered
 from office_gate.facts import Facts
 from office_gate.office import Office
@@ -53,9 +54,15 @@ class Eyes:
     async def opened(self, person: Person, day: str, place: int) -> None:
         """Looks at each record that a run of that day may take."""
         touched = self.facts.touched(person.name, self.rules.changer_days) if self.rules.changer_days else set()
-        answer = await self.office.get(person.name, f"/due/{day}")
-        if answer.status != 200:
+        if not DAY.fullmatch(day):
+            # the office refuses it
             return
+        answer = await self.office.get(person.name, f"/due/{day}", {"Office-Read": "newest"})
+        if answer.status == 400:
+            # the office refuses the act too
+            return
+        if answer.status != 200:
+            raise Answered(503, "office")
         for row in json.loads(answer.body):
             if row["confirmed"]:
                 await self.taken(person, row, touched, place)
@@ -72,9 +79,9 @@ class Eyes:
                 raise refused(CHANGES, place=place, record=number)
 
     async def is_confirmer(self, person: Person, number: int) -> bool:
-        name = self.facts.confirmer(number)
-        if name is not None:
-            return name == person.name
+        names = self.facts.confirmers(number)
+        if names:
+            return person.name in names
         answer = await self.office.get(person.name, f"/records/{number}")
         confirmed = json.loads(answer.body).get("confirmed") if answer.status == 200 else None
         return bool(confirmed) and confirmed["by"] == person.signs

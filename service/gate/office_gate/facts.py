@@ -6,7 +6,7 @@ import sqlite3
 import time
 from pathlib import Path
 
-from office_gate.body import Number, number_in
+from office_gate.body import number_in
 from office_gate.catalogue import Aggregations
 from office_gate.chain import Head
 from office_gate.words import OF_RECORD
@@ -22,6 +22,14 @@ CREATE TABLE IF NOT EXISTS runs (line INTEGER, place INTEGER, name TEXT, number 
 """
 MARGIN = 120.0
 """so many seconds before its moment the journal is read on from a catalogue: what is done twice makes no difference"""
+
+
+NONE_OPEN = "18"
+"""the refusal that says that no run is open"""
+
+
+def is_none_open(answer: object) -> bool:
+    return isinstance(answer, dict) and str(answer.get("refused")) == NONE_OPEN
 
 
 def thing_of(act: dict) -> str | None:
@@ -69,27 +77,33 @@ class Facts:
         """Takes what a request did, or may have done, of its two lines."""
         name, answers = str(asked["name"]), answered.get("answers")
         if asked["request"] == "POST /run/resume":
-            if answered.get("status") == Number("200") or answered.get("status") == 200:
+            if str(answered.get("status")) == "200" or is_none_open(answered.get("answer")):
                 self.closed()
             return
         for place, act in enumerate(asked.get("acts") or []):
             answer = answers[place] if isinstance(answers, list) and place < len(answers) else None
             if answer is None and answered.get("known", True):
                 continue
-            if answer is None or "refused" not in answer:
+            if is_none_open(answer):
+                self.closed()
+            elif answer is None or "refused" not in answer:
                 self.done(act, answer, name, (line, place, at))
 
     def done(self, act: dict, answer: dict | None, name: str, where: tuple[int, int, float]) -> None:
         kind, (line, place, at) = act["act"], where
         thing = thing_of(act)
         if thing is not None:
-            self.db.execute("INSERT INTO touches VALUES (?, ?, ?, ?, ?)", (line, at, name, kind, thing))
+            # of what nobody knows the kind has a mark
+            self.db.execute("INSERT INTO touches VALUES (?, ?, ?, ?, ?)",
+                            (line, at, name, kind if answer else f"{kind}?", thing))
         number = answer.get("number") if answer else None
         if kind == "add-aggregation" and number is not None:
             self.note(where, kind, int(number), act)
         elif kind == "reclassify" and str(act.get("target")).startswith("aggregation:"):
             self.note(where, kind if answer else "unknown", int(act["target"].split(":")[1]), act)
         elif kind == "open-run":
+            if answer:
+                self.closed()
             self.db.execute("INSERT OR REPLACE INTO runs VALUES (?, ?, ?, ?)",
                             (line, place, name, None if number is None else int(number)))
         elif kind == "run-step" and answer and "certificate" in answer:
@@ -121,15 +135,19 @@ class Facts:
         """Returns who opened the run that is open, as far as the journal says."""
         return {name for (name,) in self.db.execute("SELECT name FROM runs")}
 
-    def confirmer(self, record: int) -> str | None:
-        """Returns who confirmed a record last."""
-        found = self.db.execute("SELECT name FROM touches WHERE thing = ? AND kind = 'confirm' ORDER BY line DESC LIMIT 1",
-                                (f"record:{record}",)).fetchone()
-        return found[0] if found else None
+    def confirmers(self, record: int) -> set[str]:
+        """Returns who confirmed a record last; more than one name if nobody knows whose was the last."""
+        found: set[str] = set()
+        for name, kind in self.db.execute("SELECT name, kind FROM touches WHERE thing = ? AND kind IN ('confirm', "
+                                          "'confirm?') ORDER BY line DESC", (f"record:{record}",)):
+            found.add(name)
+            if kind == "confirm":
+                break
+        return found
 
     def touched(self, name: str, days: int) -> set[str]:
         """Lists what a name gave a schedule or a class within so many days."""
-        found = self.db.execute("SELECT DISTINCT thing FROM touches WHERE name = ? AND at > ? AND kind IN "
+        found = self.db.execute("SELECT DISTINCT thing FROM touches WHERE name = ? AND at > ? AND rtrim(kind, '?') IN "
                                 "('set-record-schedule', 'reclassify', 'set-class-schedule', 'review')",
                                 (name, time.time() - days * 86400))
         return {thing for (thing,) in found}

@@ -39,7 +39,7 @@ def answered(asked: Head, answer: Answer) -> dict[str, object]:
         found["answer"] = said
     if "Office-Position" in answer.lines:
         found["position"] = answer.lines["Office-Position"]
-    if not answer.is_known or "fault" in found:
+    if not answer.is_known or isinstance(said, dict) and "fault" in said:
         found["known"] = False
     return found
 
@@ -144,6 +144,9 @@ class Gate:
             answer = await self.office.post(asked.person.name, path, data, asked.lines)
         except Answered as closed:
             answer = Answer(closed.status, body.text_of(closed.body()).encode())
+        except Exception as error:
+            say(f"the office is not asked as it should be: {error!r}")
+            answer = UNKNOWN
         said = answered(head, answer)
         # the next act is decided while the disk takes this line
         written = asyncio.ensure_future(self.journal.append(said))
@@ -185,7 +188,8 @@ class Gate:
 
     async def refuse(self, entry: dict, refused: Answered) -> None:
         self.metrics.note("refused", refused.status, 0.0)
-        await self.journal.append({"what": "refused", **entry, "status": refused.status, "answer": refused.body()})
+        line = {"what": "refused", **entry, "status": refused.status, "answer": refused.body()}
+        await self.journal.append(line, is_durable=False)
 
     def head(self, asked: Asked, request: str) -> dict[str, object]:
         """What each line says of a request."""

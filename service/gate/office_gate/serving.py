@@ -84,9 +84,16 @@ class Front(web.Server):
                 return passed_back(answer)
         except Answered as refused:
             if not journaled:
-                entry = {"name": name, "from": request.headers.get("Office-From", "")[:64], "request": what}
-                await self.gate.refuse(entry, refused)
+                await self.gate.refuse(self.entry(name, request), refused)
             raise
+        except Exception:
+            await self.gate.refuse(self.entry(name, request), Answered(500, "gate"))
+            raise
+
+    def entry(self, name: str, request: web.BaseRequest) -> dict[str, object]:
+        """What the journal says of a request that came to no decision."""
+        what = f"{request.method} {request.raw_path}"[:400]
+        return {"name": name, "from": request.headers.get("Office-From", "")[:64], "request": what}
 
     async def act(self, path: str, asked: Asked, data: bytes) -> web.StreamResponse:
         if path == "/acts":
