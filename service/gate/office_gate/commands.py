@@ -11,7 +11,10 @@ from office_gate.words import MAY, READS
 
 def serve(it: argparse.Namespace) -> int:
     """stand between nginx and an office"""
-    from office_gate import running
+    try:
+        from office_gate import running
+    except ModuleNotFoundError as error:
+        raise Refused(2, f"there is no {error.name}: apt-get install python3-aiohttp") from error
     names = ("settings", "journal", "state", "token", "catalogue", "socket")
     running.run({name: getattr(it, name) for name in names}, it.office)
     return 0

@@ -14,6 +14,7 @@ from gate_trial.world import JOURNAL, PYTHON, World
 sys.path.insert(0, str(JOURNAL.parent))
 
 from office_gate import chain  # noqa: E402
+from office_gate.errors import Refused  # noqa: E402
 
 
 def tried(folder: pathlib.Path) -> None:
@@ -31,7 +32,17 @@ def tried(folder: pathlib.Path) -> None:
     world.end()
 
 
+def quick(place: pathlib.Path, *heads: str) -> tuple[int, str]:
+    """Checks as the command does, without starting it."""
+    try:
+        found = chain.check(chain.files_of(place), chain.told(" ".join(heads)))
+    except Refused as refused:
+        return refused.status, str(refused)
+    return 0, f"head {found.head}"
+
+
 def check(place: pathlib.Path, *more: str) -> tuple[int, str]:
+    """Checks by the command."""
     done = subprocess.run([PYTHON, "-I", JOURNAL, "check", place, *more], capture_output=True, text=True, check=False)
     return done.returncode, done.stdout + done.stderr
 
@@ -45,7 +56,7 @@ def forged(world: World) -> None:
 
     def with_lines(what: str, other: list[bytes], word: str, *more: str) -> None:
         place.write_bytes(b"".join(other))
-        status, said = check(place, *more)
+        status, said = quick(place, *more)
         judge(f"{what}: status 1", status == 1 and word in said, (status, said))
 
     place.write_bytes(b"".join(lines))
@@ -66,8 +77,9 @@ def forged(world: World) -> None:
         anew.append(line)
     place.write_bytes(b"".join(anew))
     same("all written anew, without heads", check(place)[0], 0)
-    with_lines("all written anew", anew, "somebody wrote the journal anew", "--head", heads[9])
-    with_lines("the end cut", lines[:-3], "its end was cut", "--head", heads[-1])
+    with_lines("all written anew", anew, "somebody wrote the journal anew", heads[9])
+    with_lines("the end cut", lines[:-3], "its end was cut", heads[-1])
+    same("the command says so too", check(place, "--head", heads[-1])[0], 1)
     place.write_bytes(b"".join(lines))
     told = world.folder / "heads"
     told.write_text((world.folder / "log").read_text() + "\n" + "\n".join(heads))
