@@ -9,9 +9,10 @@ from pathlib import Path
 
 @dataclass
 class Aggregations:
-    """Of each aggregation the one that it is in, and its own class; and up to when that was so."""
+    """Of each aggregation the one that it is in, and its own class; and up to which line of the journal that is so."""
 
     moment: float = 0.0
+    line: int = 0
     parents: dict[int, int | None] = field(default_factory=dict)
     classes: dict[int, str | None] = field(default_factory=dict)
     open_runs: dict[int, str] = field(default_factory=dict)

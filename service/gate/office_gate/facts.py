@@ -121,9 +121,10 @@ class Facts:
 
     def extend(self, base: Aggregations) -> None:
         """Brings the aggregations of a catalogue up to now."""
-        rows = self.db.execute("SELECT kind, number, parent, class FROM aggregations WHERE at > ? ORDER BY line, place",
-                               (base.moment - MARGIN,))
-        for kind, number, parent, code in rows:
+        rows = self.db.execute("SELECT line, kind, number, parent, class FROM aggregations WHERE line > ? AND at > ? "
+                               "ORDER BY line, place", (base.line, base.moment - MARGIN))
+        for line, kind, number, parent, code in rows:
+            base.line = line
             if kind == "add-aggregation":
                 base.add(number, parent, code)
             elif kind == "unknown":

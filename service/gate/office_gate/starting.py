@@ -45,6 +45,6 @@ async def begin(gate: Gate) -> None:
         said = {"what": "answered", "of": line, "status": 0, "known": False}
         await gate.journal.append(said)
         gate.learn(asked, said, Head(line, ""))
-    gate.aggregations()
+    gate.facts.extend(gate.aggregations())
     await gate.office.start()
     await asyncio.to_thread(gate.journal.contents.prune, gate.access.content_days)

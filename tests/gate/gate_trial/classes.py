@@ -172,3 +172,4 @@ def unknown(world: World) -> None:
             it.unlink()
     world.start_gate()
     refused(world, "without a catalogue, what it alone had", filing(9, 20))
+    same("what the journal has is known without one", world.act("clerk", filing(9, 1))[0], 200)
