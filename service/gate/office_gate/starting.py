@@ -4,8 +4,7 @@ from pathlib import Path
 
 from office_gate import settings
 from office_gate.catalogue import Catalogue
-from office_gate.catching import catch_up
-from office_gate.chain import Head
+from office_gate.catching import catch_up, unanswered
 from office_gate.contents import Contents
 from office_gate.errors import Refused
 from office_gate.facts import Facts
@@ -39,12 +38,10 @@ def opened(paths: dict[str, Path | None], address: str) -> Gate:
 
 async def begin(gate: Gate) -> None:
     """Writes that the gate is open, and of each request that the gate before left without an answer that nobody knows."""
-    waiting = catch_up(gate.journal.path, gate.facts, gate.journal.head)
     await gate.journal.append({"what": "opened", "settings": gate.access.digest})
-    for line, asked in waiting:
-        said = {"what": "answered", "of": line, "status": 0, "known": False}
-        await gate.journal.append(said)
-        gate.learn(asked, said, Head(line, ""))
+    for line in unanswered(gate.journal.path, gate.facts):
+        await gate.journal.append({"what": "answered", "of": line, "status": 0, "known": False})
+    catch_up(gate.journal.path, gate.facts, gate.journal.head)
     gate.facts.extend(gate.aggregations())
     await gate.office.start()
     await asyncio.to_thread(gate.journal.contents.prune, gate.access.content_days)
