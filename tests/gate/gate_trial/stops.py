@@ -92,7 +92,8 @@ def of_the_office(world: World) -> None:
     found = clients.end()
     statuses = [status for status, _ in found]
     judge("each request has an answer", set(statuses) <= {200, 409, 502}, set(statuses))
-    judge("one at most was lost at each kill", statuses.count(502) <= ROUNDS, statuses.count(502))
+    # one that the office had, and one that it was about to take as it ended
+    judge("two at most were lost at each kill", statuses.count(502) <= 2 * ROUNDS, statuses.count(502))
     judge("its answer says so", all(said == {"error": "unknown"} for status, said in found if status == 502))
     unknown = [it for it in world.lines() if it["what"] == "answered" and it.get("known") is False]
     same("the journal says so too", len(unknown), statuses.count(502))
