@@ -1,4 +1,4 @@
-"""The journal while the gate runs: lines are linked in the order in which they are asked for, and written by one thread.
+"""The journal while the gate runs: lines are linked in the order in which they come, and written by one thread.
 
 Who waits for a line has it on the disk. Lines that come while the disk works are written together.
 """

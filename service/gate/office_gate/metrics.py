@@ -19,7 +19,8 @@ class Metrics:
         lines += [f'office_gate_answers_total{{kind="{kind}",status="{status}"}} {count}'
                   for (kind, status), count in sorted(self.answers.items())]
         lines.append("# TYPE office_gate_seconds_total counter")
-        lines += [f'office_gate_seconds_total{{kind="{kind}"}} {total:.6f}' for kind, total in sorted(self.seconds.items())]
+        lines += [f'office_gate_seconds_total{{kind="{kind}"}} {total:.6f}'
+                  for kind, total in sorted(self.seconds.items())]
         for name, value in gauges.items():
             lines += [f"# TYPE office_gate_{name} gauge", f"office_gate_{name} {value:g}"]
         return "\n".join(lines) + "\n"

@@ -30,6 +30,10 @@ class Difference:
     count: int = 0
 
 
+def differs(where: str, answer: object, seen: object) -> str:
+    return f"{where}: {text_of(answer)} was answered, and now {text_of(seen)}"
+
+
 @dataclass
 class Replay:
     """The requests after a copy, and what is tried of each."""
@@ -59,8 +63,8 @@ class Replay:
         if len(self.places) > MOST_PLACES:
             known = sorted(self.places)
             # the one whose neighbours are nearest to each other, as seen from the end
-            gone = min(known[1:-1], key=lambda it: (known[known.index(it) + 1] - known[known.index(it) - 1]) / (at - it + 1))
-            self.drop(gone)
+            near = {it: (after - before) / (at - it + 1) for before, it, after in zip(known, known[1:], known[2:])}
+            self.drop(min(near, key=near.__getitem__))
 
     def drop(self, at: int) -> None:
         place = self.places.pop(at)
@@ -92,8 +96,8 @@ class Replay:
         acts = self.kept.of(request)[begin:end]
         for place, (act, seen) in enumerate(zip(acts, self.player.acts(acts)), begin):
             if place < len(request.answers) and text_of(request.answers[place]) != text_of(seen):
-                return Difference(at, keys_of(act), f"line {request.line}, act {place}: {text_of(request.answers[place])} "
-                                                    f"was answered, and now {text_of(seen)}")
+                where = f"line {request.line}, act {place}"
+                return Difference(at, keys_of(act), differs(where, request.answers[place], seen))
         return None
 
     def run(self, at: int, request: Request, end: int) -> Difference | None:
@@ -101,8 +105,7 @@ class Replay:
         if request.is_known or end == 1:
             seen = self.player.resume()
             if request.answers and text_of(request.answers[0]) != text_of(seen):
-                return Difference(at, {"run"}, f"line {request.line}: {text_of(request.answers[0])} was answered, and now "
-                                               f"{text_of(seen)}")
+                return Difference(at, {"run"}, differs(f"line {request.line}", request.answers[0], seen))
         else:
             self.player.acts([{"act": "run-step"}] * max(0, end - 1))
         return None

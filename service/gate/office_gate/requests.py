@@ -103,8 +103,8 @@ class Kept:
         day = str((request.contents or {}).get("day"))
         data = self.contents.read(day, at, length, sha256)
         if data is None and self.beside:
-            row = self.beside.execute("SELECT bytes FROM contents JOIN records ON num = record WHERE digest = ? LIMIT 1",
-                                      (sha256,)).fetchone()
+            query = "SELECT bytes FROM contents JOIN records ON num = record WHERE digest = ? LIMIT 1"
+            row = self.beside.execute(query, (sha256,)).fetchone()
             data = row[0] if row else None
         if data is None:
             raise Refused(1, f"line {request.line}: a content of {length} bytes, SHA-256 {sha256}, is no longer there")
@@ -119,8 +119,9 @@ NAMED = {"add-schedule": ("schedule", "code"), "add-class": ("class", "code"), "
          "close-aggregation": ("aggregation", "aggregation")}
 TABLES = {"office": ("one", "day"), "schedules": ("code", "schedule"), "schedules2": ("code", "schedule"),
           "classes": ("code", "class"), "aggregations": ("num", "aggregation"), "records": ("num", "record"),
-          "contents": ("record", "record"), "holds": ("code", "hold"), "targets": ("hold", "hold"), "runs": ("num", "run"),
-          "entries": ("record", "record"), "certificates": ("run", "run"), "events": ("record", "record")}
+          "contents": ("record", "record"), "holds": ("code", "hold"), "targets": ("hold", "hold"),
+          "runs": ("num", "run"), "entries": ("record", "record"), "certificates": ("run", "run"),
+          "events": ("record", "record")}
 
 
 def keys_of(act: dict) -> set[str]:

@@ -1,4 +1,4 @@
-"""The gate as a service: the socket that systemd keeps, readiness, a watchdog, a reload, and an end that loses nothing."""
+"""The gate as a service: the socket that systemd keeps, readiness, a watchdog, a reload, an end that loses nothing."""
 import asyncio
 import os
 import signal

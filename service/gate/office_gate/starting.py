@@ -37,7 +37,7 @@ def opened(paths: dict[str, Path | None], address: str) -> Gate:
 
 
 async def begin(gate: Gate) -> None:
-    """Writes that the gate is open, and of each request that the gate before left without an answer that nobody knows."""
+    """Writes that the gate is open, and which requests an end of the gate left without an answer."""
     await gate.journal.append({"what": "opened", "settings": gate.access.digest})
     for line in unanswered(gate.journal.path, gate.facts):
         await gate.journal.append({"what": "answered", "of": line, "status": 0, "known": False})
