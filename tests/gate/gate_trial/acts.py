@@ -51,7 +51,8 @@ class Acts:
         return self.chance.randint(max(1, self.aggregations - 30), max(1, self.aggregations + 1))
 
     def target(self) -> str:
-        return self.chance.choice([f"record:{self.record()}", f"aggregation:{self.aggregation()}", f"class:{self.code()}"])
+        return self.chance.choice([f"record:{self.record()}", f"aggregation:{self.aggregation()}",
+                                   f"class:{self.code()}"])
 
     def maybe(self, code: str) -> str | None:
         return code if self.chance.random() < 0.5 else None
@@ -63,7 +64,8 @@ class Acts:
     # ---- the kinds
 
     def add_schedule(self) -> dict:
-        return {"code": self.code(), "trigger": self.chance.choice(["origin", "added", "closed", "event", "last-addition"]),
+        return {"code": self.code(), "trigger": self.chance.choice(["origin", "added", "closed", "event",
+                                                                    "last-addition"]),
                 "unit": "days", "count": self.chance.choice([0, 0, 0, 3]), "offset": "none",
                 "action": self.chance.choice(["destroy", "destroy", "transfer", "review", "keep"])}
 

@@ -6,7 +6,8 @@ from gate_trial.world import TOP, World, today
 
 CITY = (TOP / "service/gate/city.access").read_text()
 ROLES = "\n".join(it for it in CITY.splitlines() if it.startswith("role ")) + "\n"
-NAMES = "".join(f"name {it} is {it}\n" for it in ("registry", "records-manager", "legal", "auditor", "archive", "monitor"))
+NAMES = "".join(f"name {it} is {it}\n" for it in ("registry", "records-manager", "legal", "auditor", "archive",
+                                                  "monitor"))
 NAMES += "name department is department in BLDG*\nname nobody is monitor\nlimit requests 64\nlimit lists 8\n"
 SETTINGS = ROLES + NAMES
 

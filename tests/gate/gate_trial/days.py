@@ -26,10 +26,12 @@ def later(world: World) -> None:
     for body in (f'[{{"act":"lift-hold","d\\u0061y":"{today(1)}","hold":"NONE"}}]',
                  f'[{{"act":"lift-hold","day":"\\u0032{today(1)[1:]}","hold":"NONE"}}]'):
         same(body, world.text("legal", body)[1]["error"], "future")
-    status, said = world.act("legal", {"act": "lift-hold", "hold": "NONE"}, {"act": "lift-hold", "hold": "X", "day": today(1)})
+    status, said = world.act("legal", {"act": "lift-hold", "hold": "NONE"},
+                             {"act": "lift-hold", "hold": "X", "day": today(1)})
     same("the second of two", (status, said["place"]), (403, 1))
     same("it is in the journal", [it["day"] for it in world.last("refused")["acts"]], [today(), today(1)])
-    for day in ("2999-12-31 ", "29991231", "2999-1-1", "+2999-12-31", "12999-01-01", "2999-12-31\n", 2999, None, "\u0662999-12-31"):
+    for day in ("2999-12-31 ", "29991231", "2999-1-1", "+2999-12-31", "12999-01-01", "2999-12-31\n", 2999, None,
+                "\u0662999-12-31"):
         status, said = world.act("legal", {"act": "lift-hold", "hold": "NONE", "day": day})
         same(f"{day!r} is no day", (status, said), (400, {"error": "act", "place": 0, "refused": 2}))
     same("today", world.act("legal", {"act": "lift-hold", "hold": "NONE"})[0], 409)
@@ -55,6 +57,7 @@ def zones(world: World) -> None:
         # the office's own day may be later there, so that it refuses
         same(f"today passes in {zone}",
              world.act("legal", {"act": "lift-hold", "hold": "NONE", "day": here.isoformat()})[0], 409)
-    same("who has the right may write tomorrow", world.act("late", {"act": "lift-hold", "hold": "NONE", "day": "2999-12-31"})[0],
+    same("who has the right may write tomorrow", world.act("late", {"act": "lift-hold", "hold": "NONE",
+                                                                    "day": "2999-12-31"})[0],
          409)
 

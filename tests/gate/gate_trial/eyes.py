@@ -68,9 +68,11 @@ def confirmer(world: World) -> None:
     same("both records ended", [world.get("carl", f"/records/{it}")[1]["status"] for it in (1, 2)], ["ended", "ended"])
     # a confirmation that the journal does not have, since it was made past the gate
     world.act("registry", filing(3, 1))
-    world.direct("POST", "/acts", f'[{{"act":"confirm","day":"{today()}","record":3,"action":"destroy","by":"Anna A."}}]'.encode())
+    world.direct("POST", "/acts",
+                 f'[{{"act":"confirm","day":"{today()}","record":3,"action":"destroy","by":"Anna A."}}]'.encode())
     eyes(world, "the office has her name", "anna", rule, OPEN)
-    same("after another's confirmation she may", (world.act("berta", confirm(3))[0], world.act("anna", OPEN)[0]), (200, 200))
+    same("after another's confirmation she may", (world.act("berta", confirm(3))[0], world.act("anna", OPEN)[0]),
+         (200, 200))
     same("and berta carries it out", resume(world, "berta"), 200)
 
 
@@ -104,7 +106,8 @@ def reasons(world: World) -> None:
     status, said = world.act("legal", {"act": "lift-hold", "hold": "H"})
     same("without a reason", (status, said["error"], said["act"]), (400, "reason", "lift-hold"))
     same("an empty one is none", world.act("legal", {"act": "lift-hold", "hold": "H"}, Office_Reason="%20")[0], 400)
-    same("with one", world.act("legal", {"act": "lift-hold", "hold": "H"}, Office_Reason="Urteil%20vom%203.%20M%C3%A4rz")[0], 200)
+    same("with one", world.act("legal", {"act": "lift-hold", "hold": "H"},
+                               Office_Reason="Urteil%20vom%203.%20M%C3%A4rz")[0], 200)
     same("it is in the journal", world.last("asked")["reason"], "Urteil vom 3. März")
     same("one that cannot be read", world.act("legal", {"act": "lift-hold", "hold": "H"}, Office_Reason="%ff")[0], 400)
     same("a run without a reason", resume(world, "berta"), 400)

@@ -53,7 +53,8 @@ def limits(world: World) -> None:
     """One list more than a name may have at once, and one request more, is refused, and nobody else's."""
     world.office.send_signal(19)
     found: list = []
-    threads = [threading.Thread(target=lambda: found.append(world.ask("auditor", "GET", f"/due/{today()}")[0])) for _ in range(5)]
+    threads = [threading.Thread(target=lambda: found.append(world.ask("auditor", "GET",
+                                                                      f"/due/{today()}")[0])) for _ in range(5)]
     for it in threads:
         it.start()
     time.sleep(1)
@@ -67,7 +68,8 @@ def limits(world: World) -> None:
     judge("and of another", ("legal", 200) in found, found)
     world.office.send_signal(19)
     many: list = []
-    threads = [threading.Thread(target=lambda: many.append(world.ask("auditor", "GET", "/records/1")[0])) for _ in range(50)]
+    threads = [threading.Thread(target=lambda: many.append(world.ask("auditor", "GET",
+                                                                     "/records/1")[0])) for _ in range(50)]
     for it in threads:
         it.start()
     time.sleep(1.5)

@@ -1,4 +1,4 @@
-"""The chain of the journal: what was changed, cut or added is found; a stop, a rotation and a full disk break nothing."""
+"""The chain of the journal: what was changed, cut or added is found; stops, rotations and a full disk break nothing."""
 import json
 import pathlib
 import resource
@@ -67,7 +67,8 @@ def forged(world: World) -> None:
         if at:
             with_lines(f"line {at + 1} cut out", [*lines[:at], *lines[at + 1:]], "lines were cut out")
         with_lines(f"line {at + 1} twice", [*lines[:at], lines[at], *lines[at:]], "a line was added or moved")
-        with_lines(f"lines {at + 1} and {at + 2} changed over", [*lines[:at], lines[at + 1], lines[at], *lines[at + 2:]], "line")
+        with_lines(f"lines {at + 1} and {at + 2} changed over",
+                   [*lines[:at], lines[at + 1], lines[at], *lines[at + 2:]], "line")
         with_lines(f"something after line {at + 1}", [*lines[:at + 1], b"something\n", *lines[at + 1:]], "other bytes")
     # who writes all lines anew from some line on leaves a chain that holds: heads that were written down find it
     anew, head = lines[:6], chain.Head(6, chain.digest(lines[5][:-1]))
@@ -84,7 +85,8 @@ def forged(world: World) -> None:
     told = world.folder / "heads"
     told.write_text((world.folder / "log").read_text() + "\n" + "\n".join(heads))
     status, said = check(place, "--heads", str(told))
-    judge("with the heads of the service and of the answers", status == 0 and f"heads compared: {len(heads)}" in said, said)
+    judge("with the heads of the service and of the answers", status == 0 and f"heads compared: {len(heads)}" in said,
+          said)
 
 
 def torn(world: World) -> None:
@@ -142,9 +144,11 @@ def rotated(world: World) -> None:
 def alone(world: World) -> None:
     """One gate alone writes a journal."""
     world.start_gate()
-    other = subprocess.run([*world.words()[:-4], "--socket", str(world.folder / "other")], capture_output=True, text=True,
+    other = subprocess.run([*world.words()[:-4], "--socket", str(world.folder / "other")], capture_output=True,
+                           text=True,
                            check=False, timeout=60)
-    judge("a second gate does not start", other.returncode == 3 and "another process writes" in other.stderr, other.stderr)
+    judge("a second gate does not start", other.returncode == 3 and "another process writes" in other.stderr,
+          other.stderr)
     same("the first one goes on", world.ask("auditor", "GET", "/records/1")[0], 200)
 
 
@@ -162,7 +166,7 @@ def full(world: World) -> None:
     same("with room it goes on, and nothing was done before", (status, said), (200, [{"done": True}]))
     same("a monitor sees that", world.ask("monitor", "GET", "/alive")[0], 200)
     same("the chain holds", check(world.journal), (0, check(world.journal)[1]))
-    lines = [json.loads(it) for it in world.journal.read_bytes().split(b"\n") if it.startswith(b'{"before"') and it.endswith(b"}")]
+    lines = whole_lines(world)
     judge("only what was done was asked for", sum(it["what"] == "asked" for it in lines) == before + 1)
     judge("a line tells what the disk did not take", any("torn" in it for it in lines))
 
@@ -183,7 +187,8 @@ def readings(world: World) -> None:
 
 
 def whole_lines(world: World) -> list[dict]:
-    return [json.loads(it) for it in world.journal.read_bytes().split(b"\n") if it.startswith(b'{"before"') and it.endswith(b"}")]
+    lines = world.journal.read_bytes().split(b"\n")
+    return [json.loads(it) for it in lines if it.startswith(b'{"before"') and it.endswith(b"}")]
 
 
 def stop_and_read(world: World, back: int) -> dict:

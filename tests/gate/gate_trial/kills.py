@@ -97,8 +97,10 @@ def tried(folder: pathlib.Path, requests: int, kills: int, seed: int) -> None:
     world.stop_office()
     world.log.close()
     subprocess.run([OFFICE, "init", str(world.file)], check=True, stdout=subprocess.DEVNULL)
-    print(f"sent {clients.sent}, answered {len(clients.heads)}, lost {clients.lost}, {time.time() - began:.0f} s", flush=True)
-    judge("each answer names its line, or says that nothing was done", all(b'"error"' in it for it in clients.odd), clients.odd)
+    print(f"sent {clients.sent}, answered {len(clients.heads)}, lost {clients.lost}, {time.time() - began:.0f} s",
+          flush=True)
+    judge("each answer names its line, or says that nothing was done", all(b'"error"' in it for it in clients.odd),
+          clients.odd)
     found = world.check()
     judge("the chain holds", found.returncode == 0, found.stdout + found.stderr)
     answers(world, clients)

@@ -39,7 +39,8 @@ def names(proxy: Proxy, world: World) -> None:
     day = {"day": today()}
     status, found = proxy.act("records-manager", [{**it, **day} for it in plan()])
     same("the plan", status, 200)
-    status, found = proxy.act("legal", [{"act": "place-hold", "code": "H", "reason": "r", **day}], Office_Reason="court%20order")
+    status, found = proxy.act("legal", [{"act": "place-hold", "code": "H", "reason": "r", **day}],
+                              Office_Reason="court%20order")
     same("a hold", (status, found), (200, [{"done": True}]))
     line = world.last("asked")
     same("the journal", (line["name"], line["from"], line["reason"], line["acts"][0]["by"]),
@@ -48,10 +49,13 @@ def names(proxy: Proxy, world: World) -> None:
     same("a wrong password", proxy.ask("legal", "POST", "/city/acts", b"[]", password="wrong")[0], 401)
     same("a name of nobody", proxy.ask("nobody", "GET", "/city/records/1")[0], 401)
     same("a reading", json.loads(proxy.ask("department", "GET", "/city/records/1")[1])["class"], "BLDG1")
-    same("a foreign record", proxy.ask("department", "GET", "/city/records/2"), (403, b'{"error":"class","read":"records"}'))
+    same("a foreign record", proxy.ask("department", "GET", "/city/records/2"),
+         (403, b'{"error":"class","read":"records"}'))
     same("rights", json.loads(proxy.ask("department", "GET", "/city/rights")[1])["by"], "department")
-    same("elsewhere", proxy.ask("legal", "POST", "/city/acts", b"[]", origin="https://evil.example"), (403, b'{"error":"origin"}'))
-    same("a GET for a page from elsewhere", proxy.ask("legal", "GET", "/city/records/1", None, {"Sec-Fetch-Site": "cross-site"})[0], 403)
+    same("elsewhere", proxy.ask("legal", "POST", "/city/acts", b"[]", origin="https://evil.example"),
+         (403, b'{"error":"origin"}'))
+    same("a GET for a page from elsewhere", proxy.ask("legal", "GET", "/city/records/1", None,
+                                                      {"Sec-Fetch-Site": "cross-site"})[0], 403)
     same("what nginx's own journal has", (proxy.folder / "log/acts.log").read_text(), "")
 
 
@@ -61,7 +65,8 @@ def own(proxy: Proxy) -> None:
         found = proxy.ask(name, "GET", "/city/catalogue/records.json")
         same(f"the catalogue for {name}", found[0], status)
     same("what is in it", proxy.ask("auditor", "GET", "/city/catalogue/records.json")[1], b'{"records":[]}')
-    for path in ("/city/catalogue/../records/2", "/city/catalogue/records.json/../../records/2", "/city/catalogue/%2e%2e/may",
+    for path in ("/city/catalogue/../records/2", "/city/catalogue/records.json/../../records/2",
+                 "/city/catalogue/%2e%2e/may",
                  "/city/catalogue/", "/city/catalogue/other.txt", "/city/may", "/city/catalogue//records.json"):
         status, body = proxy.ask("department", "GET", path)
         judge(f"department: {path}", status in (403, 404, 400), (status, body))
@@ -69,7 +74,8 @@ def own(proxy: Proxy) -> None:
     judge("its counts", b"office_gate_answers_total" in proxy.ask("monitor", "GET", "/city/metrics")[1])
     same("nobody else's password", proxy.ask("auditor", "GET", "/city/metrics")[0], 401)
     same("a monitor reads nothing else", proxy.ask("monitor", "GET", "/city/records/1")[0], 401)
-    same("the page without a password", proxy.ask("nobody", "GET", "/city/web/office.js", None, {"Authorization": ""})[0], 200)
+    same("the page without a password", proxy.ask("nobody", "GET", "/city/web/office.js", None,
+                                                  {"Authorization": ""})[0], 200)
     same("opening it needs one", proxy.ask("nobody", "GET", "/city/web/")[0], 401)
     # there is no vault here, so what passes comes to nobody
     for name, verb, path, status in (("registry", "PUT", f"/city/vault/{'a' * 64}", 502),
@@ -82,10 +88,13 @@ def own(proxy: Proxy) -> None:
 
 def forged(proxy: Proxy, world: World) -> None:
     """No line that a client sends says who it is."""
-    for name, value in (("Office-Name", "legal"), ("office-name", "legal"), ("Office_Name", "legal"), ("Office-Token", TOKEN),
-                        ("Office-From", "10.0.0.1"), ("Office-Method", "PUT"), ("Office-Path", "/x"), ("X-Forwarded-User", "legal")):
+    for name, value in (("Office-Name", "legal"), ("office-name", "legal"), ("Office_Name", "legal"),
+                        ("Office-Token", TOKEN),
+                        ("Office-From", "10.0.0.1"), ("Office-Method", "PUT"), ("Office-Path", "/x"),
+                        ("X-Forwarded-User", "legal")):
         same(f"{name} of a client", proxy.act("registry", LIFT, **{name: value})[0], 403)
-        same(f"{name}: who it was", (world.last("refused")["name"], world.last("refused")["from"]), ("registry", "127.0.0.1"))
+        same(f"{name}: who it was", (world.last("refused")["name"], world.last("refused")["from"]),
+             ("registry", "127.0.0.1"))
     for reason in ("a%0d%0aOffice-Name:%20legal", "%00", "x" * 600):
         same(f"a reason {reason[:12]}", proxy.act("registry", LIFT, Office_Reason=reason)[0], 400)
 

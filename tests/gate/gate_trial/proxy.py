@@ -25,9 +25,11 @@ class Proxy:
         (folder / "temp").mkdir()
         self.folder, self.port = folder, free_port()
         self.here = f"https://localhost:{self.port}"
-        self.places = {"/etc/nginx/office": str(folder), "/var/log/nginx": f"{folder}/log", "/var/log/office": f"{folder}/log",
+        self.places = {"/etc/nginx/office": str(folder), "/var/log/nginx": f"{folder}/log",
+                       "/var/log/office": f"{folder}/log",
                        "/run/office-gate/city/socket": str(gate), "127.0.0.1:8081": f"127.0.0.1:{office}",
-                       "/var/lib/office-catalogues/city/now": str(catalogue), "listen 80;": f"listen 127.0.0.1:{free_port()};",
+                       "/var/lib/office-catalogues/city/now": str(catalogue),
+                       "listen 80;": f"listen 127.0.0.1:{free_port()};",
                        "listen 443": f"listen 127.0.0.1:{self.port}", "/usr/local/share/office/web": str(TOP / "web"),
                        "|https://$server_name": f"|https://$server_name:{self.port}"}
         for it in [*NGINX.glob("*.conf"), *NGINX.glob("*.js")]:
@@ -39,10 +41,12 @@ class Proxy:
         done = subprocess.run(["openssl", "passwd", "-1", PASSWORD], check=True, capture_output=True, text=True)
         self.put("office.htpasswd", "".join(f"{it}:{done.stdout}" for it in names))
         self.put("monitor.htpasswd", f"monitor:{done.stdout}")
-        subprocess.run(["openssl", "req", "-x509", "-newkey", "ec", "-pkeyopt", "ec_paramgen_curve:P-256", "-nodes", "-days",
+        subprocess.run(["openssl", "req", "-x509", "-newkey", "ec", "-pkeyopt", "ec_paramgen_curve:P-256", "-nodes",
+                        "-days",
                         "2", "-subj", "/CN=localhost", "-addext", "subjectAltName=DNS:localhost", "-keyout",
                         folder / "office.key", "-out", folder / "office.crt"], check=True, capture_output=True)
-        temp = "".join(f"{it}_temp_path {folder}/temp/{it};\n" for it in ("client_body", "proxy", "fastcgi", "uwsgi", "scgi"))
+        temp = "".join(f"{it}_temp_path {folder}/temp/{it};\n" for it in ("client_body", "proxy", "fastcgi", "uwsgi",
+                                                                          "scgi"))
         self.put("nginx.conf", f"daemon off; user root; pid {folder}/pid; load_module {MODULE};\nevents {{}}\n"
                                f"http {{\n{temp}include {folder}/{site};\n}}\n")
         self.process: subprocess.Popen | None = None
@@ -53,7 +57,8 @@ class Proxy:
         (self.folder / name).write_text(text)
 
     def start(self) -> None:
-        self.process = subprocess.Popen(["nginx", "-c", self.folder / "nginx.conf", "-e", self.folder / "log/start.log"])
+        self.process = subprocess.Popen(["nginx", "-c", self.folder / "nginx.conf", "-e",
+                                         self.folder / "log/start.log"])
         for _ in range(200):
             try:
                 socket.create_connection(("127.0.0.1", self.port), 1).close()

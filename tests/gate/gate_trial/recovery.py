@@ -54,7 +54,8 @@ def copied(world: World) -> pathlib.Path:
 def work(world: World) -> None:
     """A day's work: records with contents, decisions, a run."""
     world.act("registry", *(filing(it, 1 + it % 2, b"content %d" % it) for it in range(3, 30)))
-    world.act("legal", {"act": "place-hold", "code": "LAW", "reason": "r"}, {"act": "hold-on", "hold": "LAW", "target": "record:5"})
+    world.act("legal", {"act": "place-hold", "code": "LAW", "reason": "r"},
+              {"act": "hold-on", "hold": "LAW", "target": "record:5"})
     world.act("records-manager", *({"act": "confirm", "record": it, "action": "destroy"} for it in range(1, 12)))
     world.act("records-manager", {"act": "open-run"}, {"act": "run-step"})
     same("a run", world.ask("records-manager", "POST", "/run/resume", b"")[0], 200)
@@ -74,7 +75,8 @@ def closed(world: World) -> pathlib.Path:
 def replayed(world: World, copy: pathlib.Path, *more: object) -> tuple[int, str]:
     new = world.folder / "new.db"
     new.unlink(missing_ok=True)
-    done = subprocess.run([PYTHON, "-I", JOURNAL, "replay", world.journal, copy, new, "--state", world.state, *map(str, more)],
+    done = subprocess.run([PYTHON, "-I", JOURNAL, "replay", world.journal, copy, new, "--state", world.state,
+                           *map(str, more)],
                           capture_output=True, text=True, check=False)
     return done.returncode, done.stdout + done.stderr
 
@@ -95,7 +97,8 @@ def lost(world: World, copy: pathlib.Path, now: pathlib.Path) -> None:
     kept = world.state / "contents"
     kept.rename(world.state / "away")
     status, said = replayed(world, copy)
-    judge("without the contents it says which", status == 1 and "is no longer there" in said and "SHA-256" in said, said)
+    judge("without the contents it says which", status == 1 and "is no longer there" in said and "SHA-256" in said,
+          said)
     (kept).rmdir()
     (world.state / "away").rename(kept)
     status, said = replayed(world, now)

@@ -75,7 +75,8 @@ def forms(world: World) -> None:
 def cut(world: World) -> None:
     """A body that ends before its length does nothing."""
     for length in (len(BODY) + 1, len(BODY) + 5000, 1048576):
-        wanted(world, f"a body cut at {len(BODY)} of {length}", head(f"Content-Length: {length}") + BODY, 400, 0, half=True)
+        wanted(world, f"a body cut at {len(BODY)} of {length}", head(f"Content-Length: {length}") + BODY, 400, 0,
+               half=True)
         same("the word in the journal", world.last("refused")["answer"], {"error": "body"})
     same("a head that is cut gets no answer", world.raw(head("Content-Length: 51")[:40], half=True)[:12] in
          (b"", b"HTTP/1.1 400"), True)
@@ -95,7 +96,8 @@ def second(world: World) -> None:
 def elsewhere(world: World) -> None:
     """A page from elsewhere makes a browser that knows the password send nothing that counts."""
     length = f"Content-Length: {len(BODY)}"
-    for origin in ("https://evil.example", "null", "http://localhost", "https://localhost:8443", "https://localhost.evil",
+    for origin in ("https://evil.example", "null", "http://localhost", "https://localhost:8443",
+                   "https://localhost.evil",
                    "https://LOCALHOST", "https://localhost, https://evil.example"):
         data = head(length, f"Origin: {origin}", without="Origin") + BODY
         same(f"origin {origin}", wanted(world, f"origin {origin}", data, 403), {"error": "origin"})
@@ -115,7 +117,8 @@ def nginx_alone(world: World) -> None:
     """Who does not know the token is nobody."""
     length = f"Content-Length: {len(BODY)}"
     for token in ("", "0" * 64, TOKEN[:-1], TOKEN + "0", TOKEN.upper(), "\u00e9"):
-        wanted(world, f"token {token[:8]!r}", head(length, f"Office-Token: {token}", without="Office-Token") + BODY, 403)
+        wanted(world, f"token {token[:8]!r}", head(length, f"Office-Token: {token}", without="Office-Token") + BODY,
+               403)
     wanted(world, "no token", head(length, without="Office-Token") + BODY, 403)
     same("without a token the journal has no name", world.last("refused")["name"], "")
     wanted(world, "two tokens", head(length, f"Office-Token: {TOKEN}") + BODY, 400)
@@ -127,15 +130,18 @@ def nginx_alone(world: World) -> None:
 
 
 def paths(world: World) -> None:
-    for path in ("/", "/acts/", "//acts", "/ACTS", "/acts?x=1", "/acts#x", "/%61cts", "/./acts", "/x/../acts", "/records",
+    for path in ("/", "/acts/", "//acts", "/ACTS", "/acts?x=1", "/acts#x", "/%61cts", "/./acts", "/x/../acts",
+                 "/records",
                  "http://localhost/acts", "*", "/replica", "/vault/" + "a" * 64):
         wanted(world, f"POST {path}", head("Content-Length: 2", first=f"POST {path} HTTP/1.1") + b"[]", 404, 405, 400)
-    for path in ("/records/01", "/records/1/", "/records/1/content/", "/records/1%2fcontent", "/records/+1", "/due/2025",
+    for path in ("/records/01", "/records/1/", "/records/1/content/", "/records/1%2fcontent", "/records/+1",
+                 "/due/2025",
                  "/records/1?x", "/catalogue/records.json", "/records/1/files", "/records/\u0661"):
         wanted(world, f"GET {path}", head(first=f"GET {path} HTTP/1.1"), 404, 400)
     for method in ("PUT", "DELETE", "PATCH", "HEAD", "OPTIONS", "post", "LOCK"):
         wanted(world, f"{method} /acts", head("Content-Length: 2", first=f"{method} /acts HTTP/1.1") + b"[]", 405, 400)
-    for path, verb in (("/vault/x", "PUT"), ("/records/1/files", "PUT"), ("/catalogue/../acts", "GET"), ("/acts", "POST"),
+    for path, verb in (("/vault/x", "PUT"), ("/records/1/files", "PUT"), ("/catalogue/../acts", "GET"),
+                       ("/acts", "POST"),
                        ("/catalogue/records.json", "POST"), ("", "")):
         wanted(world, f"nginx asks for {verb} {path}",
                head(f"Office-Method: {verb}", f"Office-Path: {path}", first="GET /may HTTP/1.1"), 403)

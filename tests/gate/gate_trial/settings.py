@@ -10,14 +10,18 @@ from gate_trial.base import CITY, SETTINGS, made
 from gate_trial.judging import judge, same
 from gate_trial.world import GATE, PYTHON, World
 
-WRONG = ["role a may confrim", "role a may", "role A may confirm", "role a reads everything", "role a may confirm in B_1",
+WRONG = ["role a may confrim", "role a may", "role A may confirm", "role a reads everything",
+         "role a may confirm in B_1",
          "role a may confirm in", "role a reads records if here", "role a may confirm if sent", "role a can confirm",
          "role a may confirm in ABCDEFGHIJKLMNOPQ", "name x is nobody-said", "name x is", "name x y is registry",
-         "name x/y is registry", "name registry signs " + "t" * 201, "rule", "rule four-eyes", "rule changer-does-not-open",
+         "name x/y is registry", "name registry signs " + "t" * 201, "rule", "rule four-eyes",
+         "rule changer-does-not-open",
          "rule changer-does-not-open 0", "rule changer-does-not-open ten", "rule reason-for", "rule reason-for lifting",
          "rule confirmer-does-not-open 3", "limit requests 0", "limit requests", "limit lists 1000", "limit all 3",
-         "keep contents", "keep contents -1", "keep journals 3", "journal", "journal all", "zone Europe/Nowhere", "zone UTC",
-         "site https://localhost", "site localhost", "site https://localhost/city/", "grant x y", "name * signs everybody",
+         "keep contents", "keep contents -1", "keep journals 3", "journal", "journal all", "zone Europe/Nowhere",
+         "zone UTC",
+         "site https://localhost", "site localhost", "site https://localhost/city/", "grant x y",
+         "name * signs everybody",
          "zone ../../etc/passwd", "name registry signs \x1b[1m", "role a may confirm in *x"]
 MISSING = [("zone UTC\n", "site"), ("site https://localhost\n", "zone")]
 

@@ -32,10 +32,12 @@ def tried(folder: pathlib.Path) -> None:
         it.start()
     (folder / "acts").write_text(json.dumps([{"act": "lift-hold", "day": today(), "hold": "NONE"}]))
     (folder / "none").write_text("[]")
-    for what, path, words in (("a reading", "/city/records/1", []), ("a list of no acts", "/city/acts", ["-p", folder / "none"]),
+    for what, path, words in (("a reading", "/city/records/1", []),
+                              ("a list of no acts", "/city/acts", ["-p", folder / "none"]),
                               ("an act that is refused", "/city/acts", ["-p", folder / "acts"])):
         for clients in CLIENTS:
-            found = {name: measured(it, path, clients, words) for name, it in (("nginx alone", alone), ("with the gate", gated))}
+            found = {name: measured(it, path, clients, words) for name,
+                     it in (("nginx alone", alone), ("with the gate", gated))}
             told = ", ".join(f"{name} {rate:.0f} a second, {middle} ms" for name, (rate, middle) in found.items())
             print(f"{what}, {clients} at once: {told}", flush=True)
             judge(f"{what}, {clients} at once", all(rate > 0 for rate, _ in found.values()), found)
@@ -46,7 +48,8 @@ def tried(folder: pathlib.Path) -> None:
 
 def measured(it: Proxy, path: str, clients: int, words: list) -> tuple[float, int]:
     """Asks so many times, and returns requests a second and the median."""
-    call = ["ab", "-q", "-n", COUNT, "-c", clients, "-A", f"bench:{PASSWORD}", "-H", f"Origin: {it.here}", "-T", "application/json",
+    call = ["ab", "-q", "-n", COUNT, "-c", clients, "-A", f"bench:{PASSWORD}", "-H", f"Origin: {it.here}", "-T",
+            "application/json",
             *words, f"{it.here}{path}"]
     done = subprocess.run(list(map(str, call)), capture_output=True, text=True, check=False)
     rate, middle, wrong = (found.search(done.stdout) for found in (RATE, MEDIAN, WRONG))

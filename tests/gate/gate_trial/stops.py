@@ -104,7 +104,8 @@ def cut(world: World) -> None:
     """An office that is not there while an act comes: it is done once, as the office is there."""
     world.stop_office()
     found: list = []
-    one = threading.Thread(target=lambda: found.append(world.act("legal", {"act": "place-hold", "code": "ONCE", "reason": "r"})))
+    one = threading.Thread(target=lambda: found.append(world.act("legal",
+                                                                 {"act": "place-hold", "code": "ONCE", "reason": "r"})))
     one.start()
     time.sleep(1)
     same("it waits", found, [])
@@ -129,7 +130,8 @@ def of_the_gate(world: World) -> None:
     # an act that is under way as the end is asked for is done, and answered
     world.office.send_signal(signal.SIGSTOP)
     answers: list = []
-    one = threading.Thread(target=lambda: answers.append(world.act("legal", {"act": "place-hold", "code": "LAST", "reason": "r"})))
+    last = {"act": "place-hold", "code": "LAST", "reason": "r"}
+    one = threading.Thread(target=lambda: answers.append(world.act("legal", last)))
     one.start()
     time.sleep(0.5)
     world.gate.send_signal(signal.SIGTERM)

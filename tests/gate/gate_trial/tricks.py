@@ -15,11 +15,13 @@ LIFTS = [f'[{{"act":"lift-hold",{LIFT}}}]',
          f'[{{"act":"lift-hold"{" " * 1400},{LIFT}}}]',
          f'\n\t [ {{ "act"\r\n : "lift-hold" , {LIFT} }} ]\n',
          f'[{{"hold":"\\u0048","day":"{DAY}","act":"lift-hold"}}]']
-OTHER = {"json": ["", "{}", "null", '"lift-hold"', "[", "[{]", '[{"act":"lift-hold"}', "[1e400,]", "[NaN]", "[-Infinity]",
+OTHER = {"json": ["", "{}", "null", '"lift-hold"', "[", "[{]", '[{"act":"lift-hold"}', "[1e400,]", "[NaN]",
+                  "[-Infinity]",
                   '[{"act":"lift-hold","n":01}]', "[{'act':'lift-hold'}]", '[{"act":"lift-hold"}]x', "[[" * 60000,
                   '[{"act":"lift-hold","hold":"\\ud800"}]', '[{"act":"lift\nhold"}]', "[//\n]",
                   "\ufeff[]", "[{}".encode() + b"\xff}]", "[]".encode("utf-16"), "[]".encode("utf-32")],
-         "double": [f'[{{"act":"add-record","act":"lift-hold",{LIFT}}}]', f'[{{"act":"lift-hold","\\u0061ct":"event",{LIFT}}}]',
+         "double": [f'[{{"act":"add-record","act":"lift-hold",{LIFT}}}]',
+                    f'[{{"act":"lift-hold","\\u0061ct":"event",{LIFT}}}]',
                     f'[{{"act":"lift-hold",{LIFT},"hold":"H"}}]',
                     f'[{{"act":"confirm","day":"{DAY}","record":1,"action":"destroy","by":"legal","by":"manager"}}]',
                     f'[{{"act":"confirm","day":"{DAY}","record":1,"action":"destroy","by":"legal","b\\u0079":"x"}}]'],
@@ -44,7 +46,8 @@ def tried(folder: pathlib.Path) -> None:
 
 
 def state(world: World) -> list:
-    return [world.direct("GET", it) for it in ("/records/1", "/records/2", "/records/3", f"/due/{DAY}", "/certificates/1")]
+    return [world.direct("GET", it) for it in ("/records/1", "/records/2", "/records/3", f"/due/{DAY}",
+                                               "/certificates/1")]
 
 
 def hidden(world: World) -> None:
@@ -76,9 +79,11 @@ def unread(world: World) -> None:
 
 def signed(world: World) -> None:
     """Nobody signs as another."""
-    for by in ("records-manager", "Legal", "legal ", " legal", "l\u0435gal", "legal\u200b", 5, True, ["legal"], {"a": "legal"}):
-        for kind in ({"act": "confirm", "record": 1, "action": "destroy"}, {"act": "open-run"}, {"act": "review", "record": 1}):
-            name = "records-manager" if by == "legal" else "department" if kind["act"] != "open-run" else "records-manager"
+    for by in ("records-manager", "Legal", "legal ", " legal", "l\u0435gal", "legal\u200b", 5, True, ["legal"],
+               {"a": "legal"}):
+        for kind in ({"act": "confirm", "record": 1, "action": "destroy"}, {"act": "open-run"},
+                     {"act": "review", "record": 1}):
+            name = "records-manager" if by == "legal" or kind["act"] == "open-run" else "department"
             if by == name:
                 continue
             status, said = world.act(name, {**kind, "by": by})
@@ -94,7 +99,8 @@ def passed_on(world: World) -> None:
         plain = world.direct("POST", "/acts", body.replace('}]', ',"by":"records-manager"}]').encode())
         same(f"record {number[:20]}", through, (plain[0], json.loads(plain[1])))
     for act in ({"act": "lift-hold", "hold": "NONE", "strange": 1}, {"act": "lift-hold", "hold": None},
-                {"act": "place-hold", "code": "X", "reason": "r" * 201}, {"act": "place-hold", "code": "X", "reason": {}},
+                {"act": "place-hold", "code": "X", "reason": "r" * 201},
+                {"act": "place-hold", "code": "X", "reason": {}},
                 {"act": "lift-hold", "day": "2024-02-30", "hold": "H"}, {"act": "lift-hold", "day": None, "hold": "H"}):
         status, said = world.act("legal", act)
         same(f"{act} is the office's to refuse", (status, said), (400, {"error": "act", "place": 0, "refused": 2}))

@@ -62,7 +62,8 @@ class World:
             self.office = None
 
     def words(self) -> list[str]:
-        words = [PYTHON, "-I", GATE, "serve", "--settings", self.settings, "--office", f"127.0.0.1:{self.port}", "--journal", self.journal,
+        words = [PYTHON, "-I", GATE, "serve", "--settings", self.settings, "--office", f"127.0.0.1:{self.port}",
+                 "--journal", self.journal,
                  "--state", self.state, "--token", self.folder / "token", "--socket", self.place,
                  "--catalogue", self.catalogue]
         return list(map(str, words))
@@ -171,7 +172,8 @@ class World:
         return next(it for it in reversed(self.lines()) if it["what"] == what)
 
     def check(self) -> subprocess.CompletedProcess:
-        return subprocess.run([PYTHON, "-I", JOURNAL, "check", self.journal], capture_output=True, text=True, check=False)
+        return subprocess.run([PYTHON, "-I", JOURNAL, "check", self.journal], capture_output=True, text=True,
+                              check=False)
 
 
 def parted(found: bytes) -> tuple[int, bytes]:
