@@ -10,7 +10,7 @@ from pathlib import Path
 from office_gate.body import text_of
 from office_gate.errors import Refused
 from office_gate.playing import Player, copy
-from office_gate.requests import Kept, Request, Span, differences, keys_of
+from office_gate.requests import Kept, Request, Span, differences, keys_of, needs_of
 
 MOST_PLACES = 8
 """so many copies of the file are there at once"""
@@ -97,7 +97,8 @@ class Replay:
         for place, (act, seen) in enumerate(zip(acts, self.player.acts(acts)), begin):
             if place < len(request.answers) and text_of(request.answers[place]) != text_of(seen):
                 where = f"line {request.line}, act {place}"
-                return Difference(at, keys_of(act), differs(where, request.answers[place], seen))
+                given = request.answers[place]
+                return Difference(at, needs_of(act, given, seen), differs(where, given, seen))
         return None
 
     def run(self, at: int, request: Request, end: int) -> Difference | None:
@@ -122,12 +123,13 @@ class Replay:
     def open_before(self, difference: Difference) -> list[int]:
         """Lists the requests that may be played otherwise, the likeliest cause first."""
         those = [it for it in range(min(difference.at + 1, len(self.requests))) if len(self.spans[it]) > 1]
-        return sorted(those, key=lambda it: (not self.concerns(it, difference.keys), -it))[:MOST_TRIED]
+        return sorted(those, key=lambda it: (-self.concerns(it, difference.keys), -it))[:MOST_TRIED]
 
-    def concerns(self, at: int, keys: set[str]) -> bool:
+    def concerns(self, at: int, keys: set[str]) -> int:
+        """Counts what a request changes of these. A thing by its name counts more than a run, or numbers."""
         acts = self.requests[at].acts
         named = {"run"} if acts is None else set().union(*map(keys_of, acts))
-        return bool(named & keys)
+        return sum(2 if ":" in it else 1 for it in named & keys)
 
     def mended(self, difference: Difference) -> Difference | None:
         """Finds a way on which the answers are right up to here and further. Returns what differs then."""

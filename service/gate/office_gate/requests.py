@@ -117,6 +117,7 @@ NAMED = {"add-schedule": ("schedule", "code"), "add-class": ("class", "code"), "
          "place-hold": ("hold", "code"), "hold-on": ("hold", "hold"), "hold-off": ("hold", "hold"),
          "lift-hold": ("hold", "hold"), "add-aggregation": ("ref", "ref"), "add-record": ("ref", "ref"),
          "close-aggregation": ("aggregation", "aggregation")}
+REFERRED = {"schedule": "schedule", "class": "class", "aggregation": "aggregation", "parent": "aggregation"}
 TABLES = {"office": ("one", "day"), "schedules": ("code", "schedule"), "schedules2": ("code", "schedule"),
           "classes": ("code", "class"), "aggregations": ("num", "aggregation"), "records": ("num", "record"),
           "contents": ("record", "record"), "holds": ("code", "hold"), "targets": ("hold", "hold"),
@@ -125,19 +126,35 @@ TABLES = {"office": ("one", "day"), "schedules": ("code", "schedule"), "schedule
 
 
 def keys_of(act: dict) -> set[str]:
-    """Names what an act is about. Two acts without a name in common seldom concern each other."""
+    """Names what an act changes. Two acts without a name in common seldom concern each other."""
     kind, found = act.get("act"), set()
     if kind in OF_RECORD:
         found.add(f"record:{number_in(act, 'record')}")
-    elif kind == "reclassify":
-        found.add(str(act.get("target")))
     elif kind in NAMED:
         thing, name = NAMED[kind]
         found.add(f"{thing}:{act.get(name)}")
+    if kind in ("reclassify", "hold-on", "hold-off"):
+        found.add(str(act.get("target")))
     if kind in ("open-run", "run-step"):
         found.add("run")
     if kind in ("add-record", "add-aggregation", "open-run"):
         found.add(f"numbers of {kind}")
+    return found
+
+
+def needs_of(act: dict, *answers: object) -> set[str]:
+    """Names what the answer to an act depends on: what it changes, what it names, and what its answers name."""
+    found = keys_of(act)
+    if not all(isinstance(it, dict) and "number" in it for it in answers):
+        found.discard(f"numbers of {act.get('act')}")
+    found |= {f"{thing}:{act[name]}" for name, thing in REFERRED.items() if act.get(name) is not None}
+    if act.get("act") in OF_RECORD:
+        # a run may have ended it
+        found.add("run")
+    found |= {f"record:{it['record']}" for it in answers if isinstance(it, dict) and "record" in it}
+    # a thing with a number may not have been made at all
+    found |= {f"numbers of add-{thing}" for thing in ("record", "aggregation")
+              if any(it.startswith(f"{thing}:") for it in found)}
     return found
 
 
