@@ -18,7 +18,7 @@ PARTS = {
     "tables": "office_sql, office_store, office_desk",
     "wire": "office_json, office_csv, office_http, office_wire, tools",
     "words": "all other crates",
-    "service": "service, docs/OPERATING.md",
+    "service": "service, docs/SERVICE.md, docs/BACKUP.md, docs/WATCHING.md",
     "pages": "README.md and docs",
     "web": "web, docs/openapi.yaml, docs/ERRORS.md",
     "package": "packaging, service, tools, CHANGELOG.md",

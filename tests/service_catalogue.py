@@ -12,7 +12,7 @@ from service_place import (FIRST, LAST, NOBODY, OFFICE, RECORDS, SERVICE, Served
                            run_acts, script)
 
 # the columns of the details, in their order
-DETAILS = ("originated", "added", "class", "schedule", "length", "due")
+DETAILS = ("originated", "added", "class", "schedule", "length", "due", "held")
 # a title with all that JSON and a shell have a meaning for
 TITLE = "\"O'Brien\" \\ $(id) `id` %s, Straße \u202e \u2028 \U0001f5c2 {a}"
 
@@ -35,6 +35,10 @@ def details(copy: pathlib.Path, there: dict) -> None:
             for at, number in enumerate(columns["due"]) if number is not None}
     judge("class, schedule and due day are those that the program reports", told == wanted and len(told) > RECORDS,
           str([it for it in told.items() if wanted.get(it[0]) != it[1]][:3]))
+    held = {int(row["record"]): row["held"] for row in csv.DictReader(run(OFFICE, "export", copy, "2999-12-31")[1].splitlines())}
+    named = {at + 1: codes("holds")[number] for at, number in enumerate(columns["held"]) if number is not None}
+    judge("so is the hold", {number: hold for number, hold in held.items() if hold}.items() <= named.items() and named,
+          str(named))
     lengths = {len(column) for column in there["details"]}
     judge("each column has each record", lengths == {len(there["records"])} and None not in columns["class"], lengths)
 

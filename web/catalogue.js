@@ -94,12 +94,12 @@ export const records = () => ofPart("records", "records", recordIndex);
 export const aggregations = () => ofPart("aggregations", "aggregations", aggregationIndex);
 export const tree = () => ofPart("tree", "aggregations", treeOf);
 
-/** What the office reports of each record beside that: days, class, schedule, length and due day; null if it is not there. */
+/** What the office reports of each record beside that: days, class, schedule, length, due day and hold; null if it is not there. */
 export async function details() {
-  const [classes, schedules] = [await part("classes"), await part("schedules")];
-  if (!classes || !schedules) return null;
-  const codes = (rows) => rows.map(({ code }) => code);
-  return ofPart("details", "details", (columns) => new Details(columns, codes(classes), codes(schedules)));
+  const coded = await Promise.all(["classes", "schedules", "holds"].map((name) => part(name)));
+  if (coded.includes(null)) return null;
+  const codes = coded.map((rows) => rows.map(({ code }) => code));
+  return ofPart("details", "details", (columns) => new Details(columns, ...codes));
 }
 
 /** The years in which records originated. */

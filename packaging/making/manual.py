@@ -11,8 +11,8 @@ FILES = [
     ("/usr/share/doc/office/", "the pages, and examples of configurations for nginx, logrotate and nftables"),
 ]
 ENVIRONMENT = [
-    ("OFFICE_DISK", "what is supposed of the disk: `any`, also where it is not set, or `powersafe`, where the device "
-                    "finishes each sector that it begins; docs/OPERATING.md says more"),
+    ("OFFICE_DISK", "what the program may assume about the disk: `any`, also if it is not set, or `powersafe`, if the "
+                    "device finishes each sector that it begins; docs/SERVICE.md says more"),
 ]
 EXAMPLE = """office init archive.db
 office apply archive.db acts.json
@@ -47,9 +47,9 @@ def rows(words: list[Word]) -> list[str]:
 
 
 def sentences(words: str) -> tuple[str, str]:
-    """The notes without their last sentence, which names a story, cut at the exit status."""
+    """The notes, cut at the exit status."""
     operands, status = words.replace("`./office ", "`office ").split(" The exit status ", 1)
-    return operands, "The exit status " + status.split(" A worked story ")[0]
+    return operands, "The exit status " + status
 
 
 def office(version: str, day: str, scripts: list[str]) -> str:
@@ -72,7 +72,7 @@ def office(version: str, day: str, scripts: list[str]) -> str:
         ".SH EXAMPLES", ".EX", *map(plain, EXAMPLE.split("\n")), ".EE",
         ".SH SEE ALSO",
         *[f"\\fB{plain(it)}\\fP(1)," for it in scripts], "and the pages in",
-        "\\fI/usr/share/doc/office/\\fP: README.md, docs/MANAGER.md for a records manager, docs/OPERATING.md for",
+        "\\fI/usr/share/doc/office/\\fP: README.md, docs/MANAGER.md for a records manager, docs/SERVICE.md for",
         "whoever runs it, docs/ERRORS.md for what each message means.",
     ]
     return "\n".join(lines) + "\n"
@@ -93,6 +93,6 @@ def script(name: str, text: str, version: str, day: str) -> str:
         ".SH NAME", f"{plain(name)} \\- {plain(first[0].lower() + first[1:])}",
         ".SH SYNOPSIS", call(usage).removeprefix("\\fBoffice\\fP "),
         ".SH DESCRIPTION", *[line for it in about for line in (plain(it), ".PP")][:-1],
-        ".SH SEE ALSO", "\\fBoffice\\fP(1), \\fI/usr/share/doc/office/docs/OPERATING.md\\fP",
+        ".SH SEE ALSO", "\\fBoffice\\fP(1), \\fI/usr/share/doc/office/docs/\\fP",
     ]
     return "\n".join(lines) + "\n"

@@ -2,7 +2,7 @@
 import os
 import shutil
 
-from pages_run.commands import TOP, blocks
+from pages_run.commands import TOP
 from pages_run.expected import Row, run_page
 from pages_run.files import FIRST, alone
 from pages_run.judging import judge
@@ -62,11 +62,8 @@ ROWS = [
     Row("./office build"),
     Row("./office package", skip="tests/package/run makes it"),
     Row("./office install DIR", then=is_installed),
-    Row("rt ci", skip="it takes an hour"),
 ]
 
 
 def run(shell: Shell) -> None:
-    acts = (TOP / "examples/first/acts.json").read_text().splitlines()
-    judge(f"{PAGE} shows examples/first/acts.json", acts in blocks(PAGE))
     run_page(shell, PAGE, ROWS)

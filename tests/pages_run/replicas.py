@@ -63,7 +63,7 @@ def nginx_passes_keys(shell: Shell) -> None:
 
 
 def prepare_nginx(shell: Shell) -> None:
-    """What docs/OPERATING.md does for one office, at the port of the member."""
+    """What docs/SERVICE.md does for one office, at the port of the member."""
     for command in (
             "mkdir -p /etc/nginx/office /var/log/office /etc/nginx/sites-available",
             "cp service/nginx/http.conf service/nginx/server.conf service/nginx/actors.conf /etc/nginx/office/",
@@ -210,7 +210,7 @@ def is_copy(shell: Shell) -> None:
     done = shell.run("office init copies/city.db && office certificate copies/city.db 1 | head -1")
     judge(f"{PAGE}: the copy is an office, with its certificate", done.out == "version 2\nCERTIFICATE 1\n", f"{done}")
     snapshot_now(shell, HOLD)
-    # the scripts are where docs/OPERATING.md puts them
+    # the scripts are where docs/SERVICE.md puts them
     shell.run("install -m 755 $(ls -d service/office-* | grep -v @) /usr/local/bin/")
 
 

@@ -1,15 +1,17 @@
-"""docs/OPERATING.md, "Watch it": the health check, the probe of a monitor, and what to alert on."""
+"""docs/WATCHING.md: the health check, the probe of a monitor, what to alert on, and the lists of each morning."""
 import os
 import re
 import shutil
 import time
 
-from pages_run.expected import Row
+from pages_run import city, service
+from pages_run.expected import Row, run_page
 from pages_run.judging import judge
 from pages_run.shell import Shell
 
 EXPORTER = "prometheus-blackbox-exporter"
 MISSING = "" if shutil.which(EXPORTER) else f"without {EXPORTER}"
+PAGE = "docs/WATCHING.md"
 BACKUPS = "/var/lib/office-backups/city"
 PROBE = "curl --silent 'http://127.0.0.1:9115/probe?module=office&target=https://localhost/city/alive'"
 RUN = '[{"act":"open-run","day":"2025-11-20","by":"monitor"}]'
@@ -104,4 +106,18 @@ ROWS = [
     Row("find /var/lib/office-backups/city -name '*Z.db' -mmin", like=r"\S+/city/20250103T023000Z\.db\n"),
     Row("sqlite3 \"file:$(ls -t /var/lib/office-backups", prints="", then=run_is_seen),
     Row("df --output=avail", like=r" *\d+\n"),
+    Row("systemctl", skip="without systemd"),
+    Row("apt-get", skip="the packages are there"),
+    Row("mkdir -m 700 registers"),
+    Row(f"office-overdue {city.FILE} registers", like=r"registers/overdue-\d{4}-\d\d-\d\d\.csv\n"),
+    Row("office-awaiting city.db", like=r"sent,run,record,ref,class,schedule,length,sha256\n2022-05-02,1,19,BLD.*\n"),
+    Row("cp service/city.mail"),
+    Row(f"office-todo {city.FILE} registers", like=r"registers/todo-\d{4}-\d\d-\d\d\.txt\n"),
 ]
+
+
+def run(shell: Shell) -> None:
+    service.has_run(shell)
+    city.serve_by_nginx(shell)
+    run_page(shell, PAGE, ROWS)
+    city.end(shell)

@@ -10,6 +10,7 @@ import time
 
 import catalogue
 from browser import Browser
+from counted import Counted
 from judging import judge, same
 from late import TODAY, after
 from place import Office, Proxy
@@ -37,29 +38,6 @@ DEEDS = [
     *(f"catalogue-record-{deed}" for deed in ("hold", "event", "review", "schedule", "receipt")),
     *(f"catalogue-aggregation-{deed}" for deed in ("hold", "close")),
 ]
-
-
-class Counted:
-    """A browser whose presses and fields are counted, from `begin` on."""
-
-    def __init__(self, browser: Browser) -> None:
-        self.browser, self.count = browser, 0
-
-    def begin(self) -> None:
-        self.count = 0
-
-    def press(self, css: str) -> None:
-        self.count += 1
-        self.browser.press(css)
-
-    def write(self, name: str, value: str) -> None:
-        self.count += 1
-        self.browser.write(**{name: value})
-
-    def choose(self, css: str, value: str) -> None:
-        self.count += 1
-        self.browser.choose(css, value)
-        self.browser.settled()
 
 
 def record(ref: str, title: str, aggregation: int, content: bytes = b"abc") -> dict[str, object]:
@@ -208,9 +186,7 @@ def receipts(office: Office, it: Counted, proxy: Proxy) -> None:
     page.press("#catalogue-record-receipt-choose")
     digest = lambda n: hashlib.sha256(f"map {n}".encode()).hexdigest().upper()
     lines = f"{digest(1)}  data/MAP-1.txt\n{digest(2)} *record-{CASTLE + CONTRACTS + 2}.bin\nnothing here\n"
-    page.driver.execute_script(
-        "const it = document.getElementById(arguments[0]); it.value = arguments[1]; it.dispatchEvent(new Event('input', {bubbles: true}))",
-        "catalogue-record-receipt-list", lines)
+    it.paste("#catalogue-record-receipt-list", lines)
     page.write(catalogue_record_receipt_by=WHO)
     time.sleep(0.3)
     says("receipts: what is left out is said", page.seen("#catalogue-record-receipt-preview"), "The receipts of 2 records are filed:", "no SHA-256: 3", "1 is left out")

@@ -22,7 +22,7 @@ from story import TEXTS, says
 WORDS = TEXTS["content"]
 # milliseconds
 MOST = 1000
-NAMES = ("originated", "added", "class", "schedule", "length", "due")
+NAMES = ("originated", "added", "class", "schedule", "length", "due", "held")
 PIXELS = """
 const it = document.querySelector("#record-looked canvas");
 return [it.width, it.height, ...it.getContext("2d").getImageData(0, 0, 1, 1).data];
@@ -127,6 +127,37 @@ def files(it: Browser, proxy: Proxy, folder: pathlib.Path) -> None:
     same("CSV: and each row that is shown", len(rows) - 1, len(it.table("#due-table")))
 
 
+def by_aggregation(office: Office, it: Browser, proxy: Proxy, folder: pathlib.Path) -> None:
+    """The list by aggregations: each with its title, and its records below it; one press marks them."""
+    it.open(f"{proxy.page}#due?day=2999-12-31&sort=-record")
+    plain = [int(row[1]) for row in it.table("#due-table")]
+    it.press("#due-group")
+    rows = it.driver.execute_script(
+        "return Array.from(document.querySelectorAll('#due-table tbody tr'), (row) => row.matches('.group')"
+        " ? row.querySelector('a').textContent : Number(row.cells[1].textContent))")
+    heads = [row for row in rows if isinstance(row, str)]
+    there = {}
+    for row in rows:
+        if isinstance(row, str):
+            there[int(row.split(" ")[0])] = own = []
+        else:
+            own.append(row)
+    office_has = {number: at_once.told(office, number)["aggregation"] for number in plain}
+    wanted = {at: [number for number in plain if office_has[number] == at] for at in sorted(set(office_has.values()))}
+    same("groups: each record is below its aggregation, in the list's order", there, wanted)
+    judge("groups: which has its ref and title", heads[0] == "1 · SITES · All sites", str(heads))
+    it.press("#due-table tr.group:first-child button")
+    same("groups: one press marks what is in it", it.text("#due-submit"), f"Confirm {len(there[1])}")
+    it.press("#due-csv")
+    file = folder / "due-2999-12-31.csv"
+    it.wait(file.exists, "no file was saved")
+    rows = list(csv.reader(file.read_text("utf-8-sig").splitlines()))
+    same("groups: the file has the aggregation of each", (rows[0][3], {row[3] for row in rows[1:]}), ("Aggregation", set(heads)))
+    file.unlink()
+    it.press("#due-group")
+    same("groups: off again the list is as before", [int(row[1]) for row in it.table("#due-table")], plain)
+
+
 def approval(it: Browser, proxy: Proxy, folder: pathlib.Path) -> None:
     """The list for approval is on paper with the office, the day, counts and lines to sign."""
     it.open(f"{proxy.page}#due?day=2999-12-31&class=SITES")
@@ -198,6 +229,7 @@ def tell(office: Office, proxy: Proxy, it: Browser, folder: pathlib.Path) -> Non
     catalogue.renew(proxy, office)
     details(office, it, proxy)
     searched(office, it, proxy)
+    by_aggregation(office, it, proxy, folder)
     files(it, proxy, folder)
     approval(it, proxy, folder)
     looked(it, proxy, numbers, folder)

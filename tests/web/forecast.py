@@ -61,7 +61,7 @@ def lift(it: Browser, proxy: Proxy, office: Office) -> None:
     it.open(f"{proxy.page}#holds?code={town.HELD}")
     told = it.seen("#hold-lift-forecast")
     says("lift: how many the hold covers, and how many are confirmed, since when", told,
-         f"for 2 records that have a due day. Due by {after(0)}: 2", "Of these 2 are confirmed", f"is of {after(-400)}")
+         WORDS["lift"]["all"]["many"].format(count=2), f"for 2 records that have a due day. Due by {after(0)}: 2", "Of these 2 are confirmed", f"is of {after(-400)}")
     says("lift: the hold is shown before the forms", it.seen("#hold-told"), "A lawsuit", "2 records", "LET/1 · Title of LET/1")
     town.send(office, [{"act": "hold-off", "day": after(0), "hold": town.HELD, "target": "record:1"}])
     it.press("#hold-sure")
@@ -101,8 +101,9 @@ def rule(it: Browser, proxy: Proxy, story: Story) -> None:
     it.open(f"{proxy.page}#plan")
     it.write(plan_rule_class="LET", plan_rule_schedule="D-2")
     it.wait(lambda: it.all("#plan-rule-forecast table"), "no forecast of the schedule comes")
-    moves = it.table("#plan-rule-forecast table")
+    moves = it.table("#plan-rule-forecast .bydue")
     said = it.seen("#plan-rule-forecast")
+    shown = {int(row[0]) for row in it.table("#plan-rule-forecast .fallen")}
     it.press("#plan-rule button:not([type])")
     says("rule: it is set", it.seen("#plan-rule-outcome"), TEXTS["plan"]["rule"]["done"].format(**{"class": "LET", "schedule": "D-2"}))
     now = {row["record"]: row for row in story.told(LAST) if row["class"] == "LET"}
@@ -110,8 +111,10 @@ def rule(it: Browser, proxy: Proxy, story: Story) -> None:
     pairs = sorted({(before[it]["due"], now[it]["due"]) for it in moved})
     same("rule: the due days moved as the forecast said", [tuple(row[:2]) for row in moves], pairs)
     same("rule: so many of them", sum(int(row[2]) for row in moves), len(moved))
-    fallen = sum(before[it]["confirmed"] and not now[it]["confirmed"] for it in before)
+    there = {it for it in before if before[it]["confirmed"] and not now[it]["confirmed"]}
+    fallen = len(there)
     judge("rule: some confirmations fell", fallen > 0)
+    same("rule: those that the forecast listed", there, shown)
     says("rule: as many as the forecast said", said, WORDS["rule"]["fall"]["one" if fallen == 1 else "many"].format(count=fallen))
 
 

@@ -115,6 +115,9 @@ class Proxy:
     def configured(self, text, office_port):
         self.web = self.folder / "web"
         shutil.copy(NGINX / "acts.js", self.folder)
+        # no office has a vault, until a trial names one
+        (self.folder / "vaults.conf").write_text("")
+        (self.folder / "vault.conf").write_text(replaced((NGINX / "vault.conf").read_text(), "/run/office-vault/", f"{self.folder}/vaults/"))
         for name in ("http.conf", "server.conf", "actors.conf"):
             text = replaced(text, f"include /etc/nginx/office/{name};", (NGINX / name).read_text())
         for old, new in [
@@ -127,6 +130,7 @@ class Proxy:
             ("127.0.0.1:8080", f"127.0.0.1:{office_port}"),
             ("/usr/local/share/office/web/", f"{self.web}/"),
             ("/var/lib/office-catalogues/city/now/", f"{self.folder}/catalogue/now/"),
+            ("/var/lib/office-vaults/", f"{self.folder}/vaults/"),
             ("/etc/nginx/office/", f"{self.folder}/"),
             ("/var/log/nginx/office.error.log", f"{self.folder}/error.log"),
             ("/var/log/nginx/office.access.log", f"{self.folder}/access.log"),
@@ -171,11 +175,11 @@ def served(folder: pathlib.Path, name: str, fill=lambda file: None):
     file = place / "office.db"
     fill(file)
     office = Office(file, free_port())
-    office.start()
     proxy = Proxy(place, office.port)
     shutil.copytree(TOP / "web", proxy.web)
-    proxy.start()
     try:
+        office.start()
+        proxy.start()
         yield office, proxy
     finally:
         proxy.stop()

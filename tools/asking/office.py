@@ -11,7 +11,7 @@ import socket
 import ssl
 import subprocess
 import urllib.parse
-from typing import Protocol
+from typing import BinaryIO, Protocol
 
 Act = dict[str, object]
 Answer = dict[str, object]
@@ -60,6 +60,10 @@ class OverHttp:
 
     def request(self, method: str, path: str, body: bytes | None = None) -> tuple[int, bytes]:
         """One request: its status and its body."""
+        return self.sent(method, path, body, None)
+
+    def sent(self, method: str, path: str, body: bytes | BinaryIO | None, length: int | None) -> tuple[int, bytes]:
+        """One request whose body may be a file of this length, which is read as it goes."""
         if self.scheme == "https":
             link: http.client.HTTPConnection = http.client.HTTPSConnection(
                 self.host, self.port, timeout=SECONDS, context=self.tls)
@@ -67,6 +71,8 @@ class OverHttp:
             link = http.client.HTTPConnection(self.host, self.port, timeout=SECONDS)
         # nginx takes what acts from its own page alone, by this line
         fields = {"Origin": self.origin, "Content-Type": "application/json"}
+        if length is not None:
+            fields |= {"Content-Length": str(length), "Content-Type": "application/octet-stream"}
         if self.login:
             fields["Authorization"] = "Basic " + base64.b64encode(self.login.encode()).decode()
         try:

@@ -4,13 +4,16 @@ from __future__ import annotations
 import base64
 import datetime
 import functools
+import io
 import mailbox
 import os
 import pathlib
 import re
 from collections.abc import Iterator
 from dataclasses import dataclass
+from typing import BinaryIO
 
+from asking.vault import Vault
 from intaking.dated import HEAD, mail_of, named_day, picture_day
 from intaking.folders import Aggregation, Unusable, home_of
 from spreadsheet.cells import CONTROL, LONGEST_CONTENT, LONGEST_TEXT
@@ -25,6 +28,7 @@ class Asked:
     ref: str
     pattern: re.Pattern[str] | None
     by_change: bool
+    vault: Vault | None = None
 
 
 @dataclass
@@ -43,6 +47,10 @@ class Document:
             return (self.root / self.path).read_bytes()
         return box_of(self.root / self.path).get_bytes(self.mail - 1)
 
+    def opened(self) -> BinaryIO:
+        """Opens it for reading, so that a large file is not read whole."""
+        return io.BytesIO(self.data()) if self.mail is not None else (self.root / self.path).open("rb")
+
     def size(self) -> int:
         return len(self.data()) if self.mail is not None else (self.root / self.path).stat().st_size
 
@@ -59,13 +67,21 @@ class Record:
 
     document: Document
     act: dict[str, object]
+    vault: Vault | None = None
 
     def needs(self) -> list[str]:
         return [it.ref for it in self.act.values() if isinstance(it, Pending)]
 
     def made(self, numbers: dict[str, int]) -> dict[str, object]:
         act = {name: numbers[it.ref] if isinstance(it, Pending) else it for name, it in self.act.items()}
-        return {**act, "content": base64.b64encode(self.document.data()).decode()}
+        return {**act, "content": base64.b64encode(self.content()).decode()}
+
+    def content(self) -> bytes:
+        """The bytes of the document; of a large one the text that names it in the vault."""
+        if self.vault is None or self.document.size() <= LONGEST_CONTENT:
+            return self.document.data()
+        name = self.document.path.name if self.document.mail is None else f"{self.document.path.stem}-{self.document.mail}.eml"
+        return self.vault.put(self.document.opened, name)
 
 
 @functools.cache
@@ -111,7 +127,7 @@ def record_of(document: Document, homes: dict[str, Aggregation], numbers: dict[s
     if home is None:
         raise Unusable("its folder is in no row of the table")
     size = document.size()
-    if size > LONGEST_CONTENT:
+    if size > LONGEST_CONTENT and asked.vault is None:
         raise Unusable(too_large(size))
     fields = fields_of(document, home, asked)
     head = document.head()
@@ -134,9 +150,10 @@ def record_of(document: Document, homes: dict[str, Aggregation], numbers: dict[s
     act = {"act": "add-record", "day": asked.day, "ref": ref, "title": text_of(subject) or text_of(fields["stem"]),
            "originated": day.isoformat(), "aggregation": numbers.get(home.ref, Pending(home.ref)), "class": None,
            "schedule": None}
-    return Record(document, act)
+    return Record(document, act, asked.vault)
 
 
 def too_large(size: int) -> str:
-    """Why a large file is left: its place is the vault, which keeps it under its SHA-256; the record is its manifest."""
-    return f"it has {size:,} bytes, and a content has at most {LONGEST_CONTENT:,} (256 KB): it is left for the vault"
+    """Why a large file is left out, if no vault is named."""
+    return (f"it has {size:,} bytes, and a content has at most {LONGEST_CONTENT:,} (256 KB): --vault URL puts it into the "
+            "vault of the office")

@@ -8,6 +8,8 @@ import pathlib
 import re
 from dataclasses import dataclass
 
+from asking.vault import Vault
+
 LONGEST_TEXT, LONGEST_CODE, LARGEST_NUMBER, LONGEST_CONTENT = 200, 16, 4_294_967_295, 262_144
 # an Excel cell holds no more characters
 LONGEST_CELL = 32_767
@@ -115,6 +117,7 @@ class Files:
 
     folder: pathlib.Path
     manifests: bool
+    vault: Vault | None = None
 
     def path(self, cell: str) -> pathlib.Path:
         """The file that a cell names; the folder's own parts may be parted by backslashes."""
@@ -130,7 +133,7 @@ class Files:
         if cell:
             path = self.path(cell)
             self.readable(path)
-            if path.stat().st_size > LONGEST_CONTENT and not self.manifests:
+            if path.stat().st_size > LONGEST_CONTENT and not self.manifests and not self.vault:
                 raise too_long("the file has", path.stat().st_size)
 
     def readable(self, path: pathlib.Path) -> None:
@@ -140,12 +143,14 @@ class Files:
             raise Wrong("unread", f"the file cannot be read: {why.strerror}") from why
 
     def content(self, cell: str) -> str:
-        """The base64 of a file, or of its manifest where it is too large."""
+        """The base64 of a file. One that is too large goes into the vault, or is left where it is; what names it is taken."""
         if not cell:
             return ""
         path = self.path(cell)
         if path.stat().st_size > LONGEST_CONTENT:
-            return base64.b64encode(manifest(path, path.relative_to(self.folder.resolve()).as_posix())).decode()
+            name = path.relative_to(self.folder.resolve()).as_posix()
+            named = self.vault.put(lambda: path.open("rb"), name) if self.vault else manifest(path, name)
+            return base64.b64encode(named).decode()
         data = path.read_bytes()
         if len(data) > LONGEST_CONTENT:
             raise too_long("the file now has", len(data))

@@ -10,6 +10,7 @@ from dataclasses import dataclass, replace
 
 from asking.office import OnCopy, Office, OverHttp
 from asking.sending import Sender, Sent
+from asking.vault import Vault
 from spreadsheet.acts import ActFindings, ActRow, ActTurner, Asked
 from spreadsheet.catalogue import catalogue_in
 from spreadsheet.cells import Files, Wrong
@@ -24,6 +25,21 @@ from spreadsheet.sheet import Row, Unreadable, decoded, separated
 
 MOST_SHOWN = 40
 MOST_SPANS = 5
+
+
+def reached(asked: argparse.Namespace, url: str) -> OverHttp:
+    """The office at an address, for the name that the words give."""
+    login = asked.login.read_text().strip() if asked.login else None
+    return OverHttp(url, login, asked.ca)
+
+
+def vault_of(asked: argparse.Namespace) -> Vault | None:
+    """The vault that large files go into, if the words name one; it must answer."""
+    if not asked.vault:
+        return None
+    vault = Vault(reached(asked, asked.vault))
+    vault.ask()
+    return vault
 
 
 @dataclass
@@ -51,6 +67,7 @@ class Converter:
         self.things = Things(catalogue_in(asked.catalogue) if asked.catalogue else None)
         self.set = dict(asked.set)
         self.today = datetime.date.today()
+        self.vault = vault_of(asked)
 
     def options(self) -> Asked:
         if "day" in self.set and day_read(self.set["day"], "ymd", None) is None:
@@ -93,7 +110,7 @@ class Converter:
         if not self.asked.history:
             return ActTurner(kind, columns, self.things, self.options())
         is_files = self.asked.files and "content" in columns.form.names
-        files = Files(self.asked.folder or path.parent, self.asked.manifests) if is_files else None
+        files = Files(self.asked.folder or path.parent, self.asked.manifests, self.vault) if is_files else None
         return HistoryTurner(columns, self.things, self.options(), files)
 
     def sheets(self) -> list[Sheet]:
@@ -126,8 +143,7 @@ class Converter:
         asked = self.asked
         if not asked.office:
             return None
-        login = asked.login.read_text().strip() if asked.login else None
-        return OverHttp(asked.office, login, asked.ca)
+        return reached(asked, asked.office)
 
     def tried(self, rows: list[ActRow]) -> Sent:
         """What the program answers to the acts on a copy of the office, or on a new one."""
@@ -212,6 +228,8 @@ def convert(asked: argparse.Namespace) -> int:
         print("nothing was written or sent", file=sys.stderr)
         return 1
     status = put(converter, office, pairs)
+    if converter.vault:
+        print(converter.vault.told(), file=sys.stderr)
     return max(status, int(is_wrong))
 
 

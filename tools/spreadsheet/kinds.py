@@ -28,7 +28,7 @@ COLUMNS: dict[str, tuple[str, str, str]] = {
 }
 # other names of columns, as `plain` makes them: in English, then in German
 NAMES: dict[str, list[str]] = {
-    "act": ["kind", "what", "each row is", "art", "vorgang"],
+    "act": ["kind", "what", "each row is", "art", "handlung", "vorgang"],
     "code": ["code of the new schedule", "code of the new class", "kennung", "kürzel",
              "kennung der neuen regel", "kennung der neuen klasse"],
     "trigger": ["begins", "the period begins when", "beginn", "auslöser", "die frist beginnt, wenn"],

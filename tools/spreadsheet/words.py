@@ -50,6 +50,7 @@ def add_reading(parser: argparse.ArgumentParser) -> None:
                         help="the same value in each row, as aggregation=1")
     parser.add_argument("--files", metavar="HEADER", help="the column of file names: each content is that of the file")
     parser.add_argument("--folder", type=pathlib.Path, help="where these files are; without it, where the sheet is")
+    parser.add_argument("--vault", metavar="URL", help="put a file that is too large into the vault of this office")
     parser.add_argument("--manifests", action="store_true", help="for a file that is too large, take its manifest")
     parser.add_argument("--join-lines", action="store_true", help="make one space of each line break in a text")
     parser.add_argument("--header", type=row_number, default=1, metavar="ROW", help="the row with the columns' names")
@@ -67,7 +68,7 @@ def add_acting(parser: argparse.ArgumentParser) -> None:
     parser.add_argument("--try", dest="try_on", metavar="COPY",
                         help="try the acts on a copy of the office, or on `new`, and write them if all are done there")
     parser.add_argument("--office", metavar="URL", help="send the acts to this office, as http://127.0.0.1:8080")
-    parser.add_argument("--login", type=pathlib.Path, metavar="FILE", help="a file with NAME:PASSWORD for it")
+    parser.add_argument("--login", type=pathlib.Path, metavar="FILE", help="a file with NAME:PASSWORD for it, or the vault")
     parser.add_argument("--ca", type=pathlib.Path, metavar="FILE", help="the certificate by which it is known")
 
 
@@ -88,8 +89,10 @@ def check(parser: argparse.ArgumentParser, asked: argparse.Namespace) -> None:
     given = [name for name, _ in [*asked.column, *asked.set, *([("content", "")] if asked.files else [])]]
     if len(set(given)) < len(given):
         parser.error("a NAME is given twice")
-    if not asked.files and (asked.folder or asked.manifests):
-        parser.error("--folder and --manifests go with --files")
+    if not asked.files and (asked.folder or asked.manifests or asked.vault):
+        parser.error("--folder, --vault and --manifests go with --files")
+    if asked.vault and asked.manifests:
+        parser.error("--vault puts the files themselves in: --manifests is for an office without a vault")
     if asked.act and asked.history:
         parser.error("--act and --history do not go together")
     if asked.act or asked.history:
@@ -101,8 +104,10 @@ def check(parser: argparse.ArgumentParser, asked: argparse.Namespace) -> None:
         parser.error(f"NAME is one of {', '.join(NAMES)}, and not {strange}")
     if len(asked.sheet) > 1:
         parser.error("one sheet at a time is converted for an import")
-    if asked.late or asked.try_on or asked.office or asked.login or asked.ca:
-        parser.error("--late, --try, --office, --login and --ca go with --act or --history")
+    if asked.late or asked.try_on or asked.office:
+        parser.error("--late, --try and --office go with --act or --history")
+    if (asked.login or asked.ca) and not asked.vault:
+        parser.error("--login and --ca go with --office or --vault")
 
 
 def check_acting(parser: argparse.ArgumentParser, asked: argparse.Namespace) -> None:
@@ -114,8 +119,8 @@ def check_acting(parser: argparse.ArgumentParser, asked: argparse.Namespace) -> 
         parser.error("--history goes with --try COPY, --try new or --office URL: the office numbers the files")
     if asked.try_on and asked.office:
         parser.error("--try writes what a copy has answered, and goes with -o")
-    if (asked.login or asked.ca) and not asked.office:
-        parser.error("--login and --ca go with --office")
+    if (asked.login or asked.ca) and not asked.office and not asked.vault:
+        parser.error("--login and --ca go with --office or --vault")
     if len(asked.sheet) > (2 if asked.history else 1) and asked.act != "plan":
         parser.error("--history takes a sheet of files and one of records" if asked.history
                      else f"one sheet at a time is converted to {asked.act}; --act plan takes several")

@@ -8,7 +8,7 @@ export const dayOf = (number) => new Date(number * MILLISECONDS).toISOString().s
 export const numberOfDay = (day) => Date.parse(`${day}T00:00:00Z`) / MILLISECONDS;
 
 /** The columns of the catalogue's part `details`, in their order. */
-const COLUMNS = ["originated", "added", "class", "schedule", "length", "due"];
+const COLUMNS = ["originated", "added", "class", "schedule", "length", "due", "held"];
 const DAYS = ["originated", "added", "due"];
 
 export class Details {
@@ -16,10 +16,19 @@ export class Details {
    * @param {(number | null)[][]} columns a number for each record, by position; of a code its place among all codes
    * @param {string[]} classes the codes of all classes
    * @param {string[]} schedules
+   * @param {string[]} holds
    */
-  constructor(columns, classes, schedules) {
-    this.columns = Object.fromEntries(COLUMNS.map((name, at) => [name, columns[at]]));
-    this.codes = { class: classes, schedule: schedules };
+  constructor(columns, classes, schedules, holds = []) {
+    // a catalogue that an older program made does not have the last one
+    this.columns = Object.fromEntries(COLUMNS.map((name, at) => [name, columns[at] ?? []]));
+    this.codes = { class: classes, schedule: schedules, held: holds };
+  }
+
+  /** How many records that are here the office names this hold for; null if the catalogue does not say it. */
+  heldBy(hold) {
+    const place = this.codes.held.indexOf(hold);
+    const { held } = this.columns;
+    return held.length && place >= 0 ? held.filter((it) => it === place).length : null;
   }
 
   /** A detail of the record at a position; null where there is none. */

@@ -64,17 +64,6 @@ export function wrongsOf(all) {
   });
 }
 
-/** The text that represents a large file in the office: its SHA-256, its length and where it is kept. */
-export const manifestOf = (digest, size, place) => `SHA256 ${digest}\nLENGTH ${size}\nPLACE ${place}\n`;
-
-const MANIFEST = /^SHA256 ([0-9a-f]{64})\nLENGTH (0|[1-9]\d*)\nPLACE (.+)\n$/;
-
-/** The SHA-256, the length and the place of a large file, from the text of its manifest; null of any other text. */
-export function manifestIn(text) {
-  const found = MANIFEST.exec(text);
-  return found && { digest: found[1], size: Number(found[2]), place: found[3] };
-}
-
 /** How many bytes the act of a record has as JSON, whose content has so many bytes. */
 export function actBytes(day, values, size) {
   return bytesOf(JSON.stringify(addRecord(day, { ...values, content: "" }))) + 4 * Math.ceil(size / 3);

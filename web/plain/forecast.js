@@ -85,24 +85,27 @@ function dueBy(record, rule, aggregations) {
 /**
  * What another schedule of a class would do with the due days of its records.
  * @param {object[]} rows what is in the due list of the last day of this class with the schedule that the class has now
- * @param {object[]} records the records of these rows, or the first of them, as the office reports them
+ * @param {object[]} records the records of these rows, as the office reports them
  * @param {{ trigger: string, action: string }} rule the schedule that the class would have
  * @param {Map<number, object>} aggregations by their numbers
+ * @returns {{ counts: Object<string, number>, fallen: object[], moves: [string, string, number][] }} how many due days
+ *   move, stay, go or are not known; the rows whose confirmations no longer count; the days before and after
  */
 export function ruleForecast(rows, records, rule, aggregations) {
   const byNumber = new Map(records.map((it) => [it.number, it]));
-  const counts = { moved: 0, same: 0, none: 0, unknown: 0, fall: 0 };
+  const counts = { moved: 0, same: 0, none: 0, unknown: 0 };
   const moves = new Map();
+  const fallen = [];
   for (const row of rows) {
     const record = byNumber.get(row.record);
     const due = record && dueBy(record, rule, aggregations);
     const kind = due === undefined ? "unknown" : due === null ? "none" : due === row.due ? "same" : "moved";
     counts[kind] += 1;
-    if (row.confirmed && kind !== "unknown" && (kind !== "same" || rule.action !== row.action)) counts.fall += 1;
+    if (row.confirmed && kind !== "unknown" && (kind !== "same" || rule.action !== row.action)) fallen.push(row);
     if (kind === "moved") {
       const key = `${row.due} ${due}`;
       moves.set(key, (moves.get(key) ?? 0) + 1);
     }
   }
-  return { counts, moves: [...moves].sort().map(([key, count]) => [...key.split(" "), count]) };
+  return { counts, fallen, moves: [...moves].sort().map(([key, count]) => [...key.split(" "), count]) };
 }

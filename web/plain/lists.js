@@ -49,6 +49,23 @@ export function sorted(rows, column, down) {
   return down ? order.reverse() : order;
 }
 
+/**
+ * Rows by groups, in the order of their keys; rows of a group stay in their order.
+ * @param {object[]} rows
+ * @param {function(object): number | null} keyOf null for what belongs to no group that is known, which comes last
+ * @returns {{ key: number | null, rows: object[] }[]}
+ */
+export function grouped(rows, keyOf) {
+  const groups = new Map();
+  for (const row of rows) {
+    const key = keyOf(row);
+    if (!groups.has(key)) groups.set(key, []);
+    groups.get(key).push(row);
+  }
+  const place = (key) => key ?? Infinity;
+  return [...groups].sort(([one], [other]) => place(one) - place(other)).map(([key, own]) => ({ key, rows: own }));
+}
+
 /** Each value of a filter with how many rows have it, by value. */
 export function choices(rows, name) {
   const counts = new Map();
@@ -84,17 +101,20 @@ export const canBeConfirmed = (row) => row.action !== "review";
 
 /** What a confirmation is given for, as the list shows it. */
 export const CONFIRMED_FOR = ["class", "schedule", "action", "due", "held"];
+/** The same, and whether somebody has confirmed it already: another confirmation would take the place of theirs. */
+export const AS_SHOWN = [...CONFIRMED_FOR, "confirmed"];
 
 /**
  * How rows differ from those that are there by now.
  * @param {object[]} rows as they were shown
  * @param {object[]} others all rows of the same list, as they are now
+ * @param {string[]} names what is compared
  * @returns {{ row: object, now: object | null, names: string[] }[]} each row that differs, with the one that is there by
  *   now, or null if there is none, and the names of what differs
  */
-export function changed(rows, others) {
+export function changed(rows, others, names = AS_SHOWN) {
   const there = new Map(others.map((row) => [row.record, row]));
-  const differences = (row, now) => (now ? CONFIRMED_FOR.filter((name) => row[name] !== now[name]) : []);
+  const differences = (row, now) => (now ? names.filter((name) => row[name] !== now[name]) : []);
   const compare = (row) => ({ row, now: there.get(row.record) ?? null, names: differences(row, there.get(row.record)) });
   return rows.map(compare).filter(({ now, names }) => now === null || names.length > 0);
 }

@@ -66,7 +66,7 @@ export const DEEDS = {
   receipt: {
     kinds: ["record"],
     fields: { by: "by", day: "day" },
-    left: ({ status, digest }) => (status !== "sent" ? "notSent" : digest ? "" : "noDigest"),
+    left: ({ status, digest, lacks }) => (status !== "sent" ? "notSent" : !digest ? "noDigest" : lacks ? "noFiles" : ""),
     act: ({ number, digest }, { day, by }) => ({ act: "receipt", day, record: number, digest, by }),
     // by the catalogue it was sent, so that one which is not sent any more was received since
     already: [19],

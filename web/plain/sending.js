@@ -8,20 +8,21 @@ const ROOM = 1024;
 const MOST_ACTS = 100;
 
 /**
- * An act that is to be sent: how many bytes it has as JSON, how it is made (null where it cannot be), what it became.
- * @typedef {{ bytes: number, make: () => Promise<object | null>, fate: Fate | null }} Item
- * @typedef {{ kind: "added" | "same" | "refused" | "unknown" | "left" | "unread", number?: number, refusal?: number }}
- *   Fate
+ * An act that is to be sent: how many bytes it has as JSON, how it is made (null or a fate where it cannot be), what it
+ * became. One that `isAlone` goes in a request of its own, as soon as it is made: a large file was put into the vault then.
+ * @typedef {{ bytes: number, make: () => Promise<object | Fate | null>, fate: Fate | null, isAlone?: boolean }} Item
+ * @typedef {{ kind: "added" | "same" | "refused" | "unknown" | "left" | "unread" | "unput", number?: number,
+ *   refusal?: number, status?: number }} Fate
  */
 
 /** The items in lists, in their order, each of which fits into one body. */
 export function batches(items, most = MOST_BYTES - ROOM, count = MOST_ACTS) {
   const lists = [];
   let bytes = most;
-  for (const item of items) {
+  for (const [at, item] of items.entries()) {
     // with the comma or the bracket before it
     const more = item.bytes + 1;
-    if (bytes + more > most || lists.at(-1).length === count) {
+    if (bytes + more > most || lists.at(-1).length === count || item.isAlone || items[at - 1]?.isAlone) {
       lists.push([]);
       bytes = 1;
     }
@@ -62,6 +63,7 @@ async function sendList(list, post) {
   for (const item of list) {
     const act = await item.make();
     if (act === null) item.fate = { kind: "unread" };
+    else if (act.kind) item.fate = act;
     else sent.push({ item, act });
   }
   while (sent.length) {
@@ -96,7 +98,7 @@ export const isSettled = (item) => item.fate?.kind === "added" || item.fate?.kin
 
 /** How many items there are of each fate. */
 export function counted(items) {
-  const counts = { added: 0, same: 0, refused: 0, unknown: 0, left: 0, unread: 0 };
+  const counts = { added: 0, same: 0, refused: 0, unknown: 0, left: 0, unread: 0, unput: 0 };
   for (const { fate } of items) if (fate) counts[fate.kind] += 1;
   return counts;
 }

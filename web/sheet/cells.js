@@ -4,7 +4,7 @@ import { Wrong } from "./unreadable.js";
 export const LONGEST_TEXT = 200;
 const LONGEST_CODE = 16;
 const LARGEST_NUMBER = 4294967295;
-const LONGEST_CONTENT = 262144;
+export const LONGEST_CONTENT = 262144;
 // an Excel cell holds no more characters
 const LONGEST_CELL = 32767;
 const CONTROL = /[\u0000-\u001f\u007f-\u009f]/;

@@ -30,7 +30,7 @@ export const COLUMNS = {
 
 /** Other names of columns, as `plain` makes them: in English, then in German. */
 const OTHERS = {
-  act: ["kind", "what", "each row is", "art", "vorgang"],
+  act: ["kind", "what", "each row is", "art", "handlung", "vorgang"],
   code: [
     "code of the new schedule", "code of the new class", "kennung", "kürzel", "kennung der neuen regel",
     "kennung der neuen klasse",

@@ -14,7 +14,8 @@ import { Wrong, stripped } from "./unreadable.js";
  * What somebody may say of a sheet; what is left out, the sheet shows.
  * @typedef {{ encoding?: string, separator?: string, header?: number, days?: string, years?: number,
  *   joinLines?: boolean, columns?: Record<string, string | number | null>, set?: Record<string, string>,
- *   kind?: string, today?: string, day?: string, catalogue?: import("./members.js").Catalogue }} Options
+ *   kind?: string, today?: string, day?: string, catalogue?: import("./members.js").Catalogue,
+ *   documents?: import("./documents.js").Documents }} Options
  *
  * A row of the sheet: its number there, its cells, the seven of an import (null where one is wrong), what is wrong with
  * which, and what somebody should look at. `at` is the column of that cell, or null where the sheet has none for it.
@@ -34,7 +35,7 @@ function whereOf(row, name, { places }) {
 }
 
 /** What each cell of an import is: a function of the cell that gives its value, or throws what is wrong. */
-function partsOf(order, years, refs, things) {
+function partsOf(order, years, refs, things, documents) {
   const ref = (cell, row) => {
     const text = textOf(cell);
     if (refs.has(text)) throw new Wrong("twice", { row: refs.get(text) });
@@ -45,7 +46,8 @@ function partsOf(order, years, refs, things) {
   const codes = { class: codeCell, schedule: codeCell };
   const aggregation = (cell) =>
     cell && things.catalogue ? String(things.number("aggregation", cell)) : numberOf(cell);
-  return { ref, title: textOf, originated, aggregation, ...codes, content: contentOf };
+  const content = documents ? (cell) => documents.value(cell) : contentOf;
+  return { ref, title: textOf, originated, aggregation, ...codes, content };
 }
 
 /** What somebody should look at in a cell that is of its form: its kind and values, or null. */
@@ -85,7 +87,7 @@ function turnRecords(filled, columns, options) {
   const days = filled.map((row) => [whereOf(row, "originated", columns), cellOf(row, "originated", columns, false)]);
   const order = orderOf(days, options.days, options.years);
   const things = new Things(options.catalogue ?? null);
-  const parts = partsOf(order.name, options.years, new Map(), things);
+  const parts = partsOf(order.name, options.years, new Map(), things, options.documents);
   return { order, rows: filled.map((row) => turnRow(row, columns, parts, options, things)) };
 }
 

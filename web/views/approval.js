@@ -22,8 +22,8 @@ function signature(role) {
 }
 
 function tableOf(names, columns, cells) {
-  // only a ref and a title may be broken
-  const kind = (at) => (["ref", "title"].includes(names[at]) ? "long" : names[at] ? "whole" : "room");
+  // only refs and titles may be broken
+  const kind = (at) => (["ref", "title", "aggregation"].includes(names[at]) ? "long" : names[at] ? "whole" : "room");
   const cell = (tag) => (word, at) => made(tag, { class: kind(at) }, visible(String(word ?? "")));
   const row = (words, tag) => made("tr", {}, ...words.map(cell(tag)));
   const head = made("thead", {}, row([...columns, t("approval.decision")], "th"));

@@ -1,12 +1,13 @@
 // What is not any more as it was shown when somebody is about to act on it: said, with nothing sent, until it is asked for again.
 import { grouped, link, made, paragraph, plural, quiet, say, tableOf, told } from "../page.js";
-import { canBeConfirmed, changed } from "../plain/lists.js";
+import { canBeConfirmed, changed, valueOf } from "../plain/lists.js";
 import { visible } from "../plain/marks.js";
 import { all, t } from "../texts.js";
 
 /** A member of a row in words. */
 function wordOf(name, row) {
   if (name === "action") return t(`actions.${row.action}`);
+  if (name === "confirmed") return t(`due.${valueOf(row, name)}`);
   return row[name] ?? t(name === "held" ? "due.free" : "changes.none");
 }
 
@@ -48,14 +49,17 @@ export function tellChanged(list, changes, isUnsent = false) {
 /**
  * Reads the list anew, and compares what is marked with what is there by now: whether all of it is as it was shown. If it
  * is not, or the list cannot be read, that is said, and nothing may be sent.
+ * @param {import("./list.js").RecordList} list
+ * @param {object[]} marked
+ * @param {string[]} [names] what is compared; without them also whether somebody else has confirmed it by now
  */
-export async function isAsShown(list, marked) {
+export async function isAsShown(list, marked, names) {
   const read = await list.read();
   if (!read.rows) {
     say(list.part("panel-outcome"), "wrong", paragraph(t("changes.unread")), ...told(read.answer));
     return false;
   }
-  const changes = changed(marked, read.rows);
+  const changes = changed(marked, read.rows, names);
   if (!changes.length) return true;
   read.take(read.rows, unchanged(marked, changes));
   tellChanged(list, changes, true);

@@ -1,17 +1,20 @@
 // Filing: files are dropped or chosen, each becomes a record, and their acts go to the office in few requests.
 import { mark, onSubmit, untick } from "../fields.js";
-import { byId, grouped, made, paragraph, plural, quiet, say } from "../page.js";
+import { asking, byId, grouped, made, paragraph, plural, quiet, say } from "../page.js";
 import { addRecord, bytesOf } from "../plain/acts.js";
 import { digestOf } from "../plain/certificates.js";
 import {
-  MEMBERS, MOST_CONTENT, MOST_FILES, NO_AGGREGATION, actBytes, base64, forAll, manifestOf, sizes, wrongOf, wrongsOf,
+  MEMBERS, MOST_CONTENT, MOST_FILES, NO_AGGREGATION, actBytes, base64, forAll, sizes, wrongOf, wrongsOf,
 } from "../plain/filing.js";
 import { isText, today } from "../plain/forms.js";
 import { visible } from "../plain/marks.js";
 import { batches, isSettled } from "../plain/sending.js";
+import { manifestOf } from "../plain/vault.js";
 import { t } from "../texts.js";
 import { filesIn, placed, saidBy } from "./file_folders.js";
-import { isLeftOut, rowOf, showAnswer, showHead, showValues } from "./file_rows.js";
+import { isLeftOut, isVaulted, rowOf, showAnswer, showHead, showValues } from "./file_rows.js";
+import * as one from "./file_one.js";
+import * as vault from "./file_vault.js";
 import { addPanel, guardPage, onDrop, sayFates, send, showSums, whereAggregation } from "./filing.js";
 
 /** The files that are listed, in their order; what is written for all of them is in the fields. */
@@ -36,7 +39,10 @@ const isToBeFiled = (entry) => !isSettled(entry) && !isLeftOut(entry);
 const manifest = (entry, digest) => manifestOf(digest, entry.file.size, `${common().place}${visible(entry.file.name)}`);
 
 /** How many bytes the content of a record will have. */
-const sizeOf = (entry) => (entry.hasManifest ? bytesOf(manifest(entry, "0".repeat(64))) : entry.file.size);
+function sizeOf(entry) {
+  if (entry.hasManifest) return bytesOf(manifest(entry, "0".repeat(64)));
+  return isVaulted(entry) ? vault.sizeOfName(entry.file, entry.place) : entry.file.size;
+}
 const bytesFor = (entry, actDay) => actBytes(actDay, valuesOf(entry), sizeOf(entry));
 
 // ---- what is listed
@@ -46,24 +52,41 @@ function showTotals() {
   const filed = entries.filter(isSettled).length;
   const ready = entries.filter(isToBeFiled);
   const manifests = entries.filter((entry) => entry.hasManifest).length;
-  for (const entry of ready) entry.bytes = bytesFor(entry, today());
-  showSums("file", { count, bytes, large: large - manifests, manifests, filed, ready: ready.length, requests: batches(ready).length });
+  measure(ready, today());
+  const vaulted = entries.filter(isVaulted).length;
+  const ways = { large: large - manifests - vaulted, ...(vaulted ? { vaulted } : { manifests }) };
+  showSums("file", { count, bytes, ...ways, filed, ready: ready.length, requests: batches(ready).length });
   byId("file-caption").textContent = t("file.caption", { count: grouped(count) });
   const tried = ready.some(({ fate }) => fate);
   const key = tried ? "file.again" : "file.submit";
-  if (!isSending) byId("file-submit").textContent = t(key, { count: grouped(ready.length) });
+  one.offer(ready);
+  const submit = one.isOne() ? one.submitWords(ready) : t(key, { count: grouped(ready.length) });
+  if (!isSending) byId("file-submit").textContent = submit;
   byId("file-off-filed").hidden = filed === 0;
   byId("file-place").hidden = !entries.some((entry) => entry.hasManifest);
   showLarge(entries.filter(isLeftOut).length);
 }
 
-/** Says how many files are left out since they are too large, and what to do: once, so that a screen reader does not hear it at each letter. */
+/** Notes how large the act of each file is, and which of them goes alone. */
+function measure(ready, actDay) {
+  for (const entry of ready) Object.assign(entry, { bytes: bytesFor(entry, actDay), isAlone: isVaulted(entry) });
+}
+
+/** What is said of files that are left out since they are too large. */
+function largeWords(count) {
+  const words = vault.warnings(entries.filter((entry) => !isSettled(entry)).map(({ file }) => file));
+  if (!count || vault.state() !== "none") return words;
+  return [paragraph(plural("file.tooLarge", count, { most: grouped(MOST_CONTENT) })), paragraph(t("file.tooLargeDo"))];
+}
+
+/** Says how many files are left out and what to do: once, so that a screen reader does not hear it at each letter. */
 function showLarge(count) {
   const place = byId("file-large");
-  if (place.dataset.count === String(count)) return;
-  place.dataset.count = count;
-  const words = plural("file.tooLarge", count, { most: grouped(MOST_CONTENT) });
-  if (count) say(place, "wrong", paragraph(words), paragraph(t("file.tooLargeDo")));
+  const words = largeWords(count);
+  const said = words.map(({ textContent }) => textContent).join("\n");
+  if (place.dataset.said === said) return;
+  place.dataset.said = said;
+  if (words.length) say(place, "wrong", ...words);
   else quiet(place);
 }
 
@@ -118,6 +141,10 @@ function remove(these) {
 
 /** Lists more files, each with its place in a folder or its name, and says which could not be taken. */
 async function take(files) {
+  if (files.some(({ file }) => vault.isLarge(file))) {
+    asking(byId("file-taken"));
+    await vault.ask();
+  }
   const room = Math.max(0, MOST_FILES - entries.length);
   const listed = files.slice(0, room);
   const said = await Promise.all(listed.map(({ file }) => saidBy(file)));
@@ -137,9 +164,18 @@ async function take(files) {
 // ---- what is sent
 
 let day = "";
+/** Stops what goes into the vault. */
+let stop = new AbortController();
+
+/** The act that files a record whose file is in the vault then, or what became of it. */
+async function vaultedActOf(entry) {
+  const done = await vault.put(entry.file, entry.place, entry.answer, stop.signal);
+  return done.fate ?? addRecord(day, { ...valuesOf(entry), content: base64(done.content) });
+}
 
 /** The act that files a record, or null where its file cannot be read any more, or is another one by now. */
 async function actOf(entry) {
+  if (isVaulted(entry)) return vaultedActOf(entry);
   try {
     let bytes = new Uint8Array(await entry.file.arrayBuffer());
     if (bytes.length !== entry.file.size) return null;
@@ -190,8 +226,10 @@ function markRows(ready) {
 async function fileAll(values, ready) {
   const place = byId("file-send-outcome");
   if (!ready.length) return say(place, "wrong", paragraph(t("file.nothing")));
-  const inRows = markRows(ready);
-  const wrong = markCommon(ready) ?? inRows;
+  // of one record of all files the first row says what it is
+  const records = one.isOne() ? ready.slice(0, 1) : ready;
+  const inRows = markRows(records);
+  const wrong = markCommon(records) ?? inRows;
   if (wrong) {
     const lacksOne = ready.some((entry) => valuesOf(entry).aggregation === "");
     const needed = [made("p", {}, `${t(NO_AGGREGATION)} `, ...whereAggregation())];
@@ -199,16 +237,21 @@ async function fileAll(values, ready) {
     place.dataset.unsent = "yes";
     return wrong.focus();
   }
+  if (one.isOne() && !one.fits(ready)) return say(place, "wrong", paragraph(t("vault.one.tooMany")));
   delete place.dataset.unsent;
   quiet(place);
   untick(byId("file-send"));
   day = values["file-send-day"];
-  for (const entry of ready) entry.bytes = bytesFor(entry, day);
+  measure(ready, day);
+  stop = new AbortController();
+  const items = one.isOne() ? [one.itemOf(ready, valuesOf(ready[0]), day, stop.signal)] : ready;
   isSending = true;
-  const answer = await send("file", ready, refresh);
+  const answer = await send("file", items, refresh);
+  // there is less room by now
+  if (items[0].isAlone || ready.some(isVaulted)) await vault.ask();
   isSending = false;
   refresh();
-  sayFates(place, ready, answer);
+  sayFates(place, items, answer);
   place.focus();
 }
 
@@ -241,8 +284,15 @@ export function start() {
     remove(entries.filter(isSettled));
     byId("file-choose").focus();
   });
+  byId("file-one-tick").addEventListener("change", refresh);
+  byId("file-stop").addEventListener("click", () => stop.abort());
   onSubmit(byId("file-send"), fileAll, () => entries.filter(isToBeFiled));
 }
 
-/** Shows the files that are listed. */
-export function show() {}
+/** Shows the files that are listed, and what is true of large ones by now. */
+export async function show() {
+  if (isSending) return;
+  await vault.ask();
+  byId("file-choose-hint").textContent = t(vault.state() === "there" ? "vault.chooseHint" : "file.chooseHint");
+  if (entries.length && !isSending) refresh();
+}

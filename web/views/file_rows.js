@@ -1,9 +1,10 @@
 // The table of the view File: a row for each file, with what its record will be and what became of it.
 import { inBytes, label, made } from "../page.js";
-import { MEMBERS, MOST_CONTENT } from "../plain/filing.js";
+import { MEMBERS } from "../plain/filing.js";
 import { visible } from "../plain/marks.js";
 import { isSettled } from "../plain/sending.js";
 import { t } from "../texts.js";
+import * as vault from "./file_vault.js";
 import { fateWords } from "./filing.js";
 
 const COLUMNS = ["file", ...MEMBERS, "answer"];
@@ -57,20 +58,27 @@ export function rowOf(entry, { edited, removed, replaced }) {
   return entry.row;
 }
 
-export const isLarge = (entry) => entry.file.size > MOST_CONTENT;
+/** Whether a file goes into the vault. */
+export const isVaulted = (entry) => vault.goesIn(entry.file);
 
-/** Whether a file is left out: it is too large, and its manifest is not filed in its place. */
-export const isLeftOut = (entry) => isLarge(entry) && !entry.hasManifest;
+/** Whether a file is left out: it is too large, there is no vault for it, and its manifest is not filed in its place. */
+export const isLeftOut = (entry) => vault.isLarge(entry.file) && !entry.hasManifest && !isVaulted(entry);
+
+/** Whether its manifest may be filed in its place: where the office has no vault. */
+const mayBeReplaced = (entry) => vault.isLarge(entry.file) && vault.state() === "none";
+
+/** What is filed of it, if that is not its bytes as a content. */
+const kindOf = (entry) => (entry.hasManifest ? "manifest" : entry.isInVault || isVaulted(entry) ? "vault" : "");
 
 function words(entry) {
-  if (entry.fate) return fateWords(entry.fate, entry.hasManifest);
+  if (entry.fate) return fateWords(entry.fate, kindOf(entry));
   if (isLeftOut(entry)) return made("strong", { class: "wrong" }, t("file.large"));
-  return made("span", { class: "hint" }, t(entry.hasManifest ? "file.manifestReady" : "file.ready"));
+  return made("span", { class: "hint" }, t(`file.${kindOf(entry)}${kindOf(entry) ? "Ready" : "ready"}`));
 }
 
 /** Shows what became of a file. One that is filed is not written into any more. */
 export function showAnswer(entry) {
-  const choice = isLarge(entry) && !isSettled(entry) ? [entry.hasManifest ? entry.leave : entry.replace] : [];
+  const choice = mayBeReplaced(entry) && !isSettled(entry) ? [entry.hasManifest ? entry.leave : entry.replace] : [];
   entry.answer.replaceChildren(words(entry), ...choice, entry.off);
   const fixed = isSettled(entry) || isLeftOut(entry);
   for (const input of Object.values(entry.inputs)) input.readOnly = fixed;

@@ -3,18 +3,26 @@ import { post } from "../ask.js";
 import { field } from "../fields.js";
 import { byId, factsOf, grouped, link, made, paragraph, plural, say, sentence, told, translate } from "../page.js";
 import { counted, isSettled, sendAll } from "../plain/sending.js";
+import { whyNot } from "../plain/vault.js";
 import { all, t } from "../texts.js";
 
-const LOOKS = { added: "done", same: "done", refused: "wrong", unread: "wrong", unknown: "unknown", left: "unknown" };
+const LOOKS = {
+  added: "done", same: "done", refused: "wrong", unread: "wrong", unput: "wrong", unknown: "unknown", left: "unknown",
+};
+
+/** The text that says what became of one act that files a record. */
+function keyOf({ kind, status }, what) {
+  if (kind === "unput") return `vault.unput.${whyNot(status)}`;
+  return kind === "added" && what ? `filing.${what}Added` : `filing.${kind}`;
+}
 
 /**
- * What became of one act, in words; what was filed may be the manifest of a file. `part` is the part of the texts: that
- * of records, or that of acts from a sheet.
+ * What became of one act, in words. `what` says what was filed if it was not the file as a content: `manifest`, or
+ * `vault` for a file that is in the vault. `part` is the part of the texts: that of records, or that of acts from a sheet.
  */
-export function fateWords(fate, isManifest = false, part = "filing") {
+export function fateWords(fate, what = "", part = "filing") {
   const record = fate.number === undefined ? "" : link(`#record?number=${fate.number}`, fate.number);
-  const key = isManifest && fate.kind === "added" ? "manifestAdded" : fate.kind;
-  const words = part === "filing" ? sentence(`filing.${key}`, { record }) : [t(`${part}.${key}`, fate)];
+  const words = part === "filing" ? sentence(keyOf(fate, what), { record, status: fate.status }) : [t(`${part}.${fate.kind}`, fate)];
   if (fate.kind !== "refused") return made("span", { class: `fate ${LOOKS[fate.kind]}` }, ...words);
   const row = all().refusals[fate.refusal] ?? { name: "", meaning: "", do: "" };
   const refusal = t("said.refusal", { number: fate.refusal, name: row.name });
@@ -88,7 +96,7 @@ export async function send(name, items, changed) {
   return answer;
 }
 
-const FACTS = ["added", "same", "refused", "unread", "unknown", "left"];
+const FACTS = ["added", "same", "refused", "unread", "unput", "unknown", "left"];
 
 /**
  * Says what became of all that was sent: the counts, the answer that stopped it, and what can be done now, in the words
@@ -105,7 +113,7 @@ export function sayFates(place, items, answer, part = "filing") {
   const retry = `${part}.${counts.unknown ? "retryUnknown" : "retry"}`;
   const stopped = counts.unknown + counts.left ? [paragraph(t(retry))] : [];
   if (counts.same) stopped.unshift(paragraph(t(`${part}.sameAbout`)));
-  const kind = settled === length ? "done" : counts.refused + counts.unread ? "wrong" : "unknown";
+  const kind = settled === length ? "done" : counts.refused + counts.unread + counts.unput ? "wrong" : "unknown";
   say(place, kind, end, factsOf(facts), ...(answer ? told(answer) : []), ...stopped);
 }
 

@@ -1,6 +1,6 @@
 // The hold that the address names: its reason, who placed it, its targets, what it covers; and what lifting it would do.
 import { getNewest } from "../ask.js";
-import { part, refresh } from "../catalogue.js";
+import { details, part, refresh } from "../catalogue.js";
 import { byId, factsOf, grouped, link, made, paragraph, plural, tableOf } from "../page.js";
 import { earliest, liftForecast } from "../plain/forecast.js";
 import { isCode, isDay, today } from "../plain/forms.js";
@@ -70,6 +70,12 @@ async function sinceWords(confirmed) {
   return t(confirmed.length > MOST ? "forecast.lift.sinceSome" : "forecast.lift.since", { day: since, count: grouped(MOST) });
 }
 
+/** How many records the hold covers by the catalogue, those without a due day too. */
+async function allWords(code) {
+  const count = (await details())?.heldBy(code) ?? null;
+  return count === null ? [] : [paragraph(plural("forecast.lift.all", count))];
+}
+
 /** Asks what the office names the hold for. */
 async function make() {
   const code = byId("hold-lift-code").value.trim();
@@ -81,7 +87,7 @@ async function make() {
   if (answer.status !== 200 || !Array.isArray(rows)) return null;
   const { covered, due, confirmed } = liftForecast(rows, code, day);
   const counts = { hold: code, day, covered: grouped(covered.length), due: grouped(due.length) };
-  const nodes = [paragraph(t("forecast.lift.covers", counts))];
+  const nodes = [...(await allWords(code)), paragraph(t("forecast.lift.covers", counts))];
   if (confirmed.length) {
     const words = plural("forecast.lift.confirmed", confirmed.length);
     nodes.push(paragraph(`${words} ${await sinceWords(confirmed)}`.trim(), "grave"), listOf(confirmed));

@@ -12,6 +12,7 @@ import { Unreadable } from "../sheet/unreadable.js";
 import { t } from "../texts.js";
 import { addPanel, onDrop, sayFates, send, showSums, whereAggregation } from "./filing.js";
 import * as acts from "./import_acts.js";
+import * as documents from "./import_documents.js";
 import * as reading from "./import_reading.js";
 import * as preview from "./import_rows.js";
 import { notTaken } from "./import_saved.js";
@@ -40,6 +41,8 @@ function itemOf(row) {
   if (row.wrong.length || row.left) return null;
   if (sheet.kind !== RECORDS) return acts.actItem(row, () => day, sheet.numbers);
   const values = wordsOf(row);
+  row.document = documents.documentOf(values);
+  if (row.document) return documents.itemOf(values, row.document, () => day);
   const bytes = bytesOf(JSON.stringify(addRecord(today(), values)));
   return { bytes, make: async () => addRecord(day, values), fate: null };
 }
@@ -112,6 +115,7 @@ async function findKind() {
   reading.takeKind(sheet.kind, changed);
   preview.takeKind(sheet.kind);
   byId("import-acts-about").hidden = sheet.kind === RECORDS;
+  byId("import-with").hidden = sheet.kind !== RECORDS;
   const part = sheet.kind === RECORDS ? "import" : acts.PART;
   byId("import-send").querySelector("legend").textContent = t(`${part}.send`);
   byId("import-send").querySelector("fieldset > .hint").textContent = t(`${part}.sendAbout`);
@@ -144,6 +148,16 @@ async function kindChanged() {
   refresh();
 }
 
+/** Takes the documents that somebody chose, and the column that names them where no column of contents is known. */
+function documentsChosen() {
+  if (!sheet.bytes || sheet.kind !== RECORDS) return;
+  delete sheet.options.documents;
+  Object.assign(sheet.options, documents.options());
+  const columns = sheet.found?.columns.places ?? {};
+  const at = "content" in columns ? undefined : documents.columnIn(rows());
+  changed(at === undefined ? {} : { columns: { content: at } });
+}
+
 /** Takes what somebody says of the sheet, and reads it anew. */
 function changed(said) {
   const { columns, set, ...others } = said;
@@ -171,11 +185,12 @@ async function take([file], folders = []) {
     return say(place, "wrong", paragraph(t("import.noFile")));
   }
   sheet.name = file.name;
-  sheet.options = {};
+  sheet.options = documents.options();
   sheet.found = null;
   await findKind();
   const days = recall();
   refresh();
+  documentsChosen();
   const order = t(`import.orders.${days}`);
   if (days && sheet.found) say(place, "unknown", paragraph(t("import.recalledDays", { order })));
 }
@@ -229,6 +244,7 @@ async function importAll(values, ready) {
   day = values["import-send-day"];
   reading.remember(sheet.found, sheet.kind);
   isSending = true;
+  documents.begin();
   const isActs = sheet.kind !== RECORDS;
   const open = rows().filter((row) => row.item && !isSettled(row.item));
   const answer = await (isActs ? acts.sendActs(open, sheet.numbers, progressed) : send("import", ready, progressed));
@@ -259,6 +275,7 @@ export function start() {
   });
   onDrop(byId("import-drop"), take);
   reading.start(changed);
+  documents.start(documentsChosen);
   preview.start();
   byId("import-kind").append(...acts.kindOptions());
   byId("import-kind").addEventListener("change", kindChanged);

@@ -5,6 +5,7 @@ import { isSettled } from "../plain/sending.js";
 import { contentBytes } from "../sheet/cells.js";
 import { RECORDS, formOf } from "../sheet/kinds.js";
 import { t } from "../texts.js";
+import * as vault from "./file_vault.js";
 import { fateWords } from "./filing.js";
 import { PART, columnWord, foundKey } from "./import_acts.js";
 
@@ -22,9 +23,9 @@ const REST = "rest";
 const restOf = () => formOf(kind).names.filter((name) => !APART.includes(name));
 
 /** What became of the act of a row, in words. */
-const fateOf = (fate) => {
-  if (kind === RECORDS) return fateWords(fate);
-  return fateWords(fate, false, fate.kind === "added" && fate.number ? `${PART}.numbered` : PART);
+const fateOf = (fate, { document } = {}) => {
+  if (kind === RECORDS) return fateWords(fate, document && vault.goesIn(document.file) ? "vault" : "");
+  return fateWords(fate, "", fate.kind === "added" && fate.number ? `${PART}.numbered` : PART);
 };
 
 /** A cell in a message: its beginning. */
@@ -65,7 +66,7 @@ function answerOf(row) {
   const wrongs = row.wrong.map((it) => made("p", { class: "fate wrong" }, foundWords(it, "wrong")));
   if (wrongs.length) return [...wrongs, ...notes];
   if (row.left) return [made("span", { class: "hint" }, t(`${PART}.passed.${row.left}`)), ...notes];
-  if (row.item.fate) return [fateOf(row.item.fate), ...notes];
+  if (row.item.fate) return [fateOf(row.item.fate, row), ...notes];
   const ready = kind === RECORDS ? "import.ready" : `${PART}.ready.${row.act.act}`;
   return [made("span", { class: "hint" }, t(ready)), ...notes];
 }
@@ -82,6 +83,12 @@ function shownIn(row, name, at) {
   return ["string", "number"].includes(typeof value) ? String(value) : row.shown[name];
 }
 
+/** A document as the content of a row: its size, and that it goes into the vault. */
+function documentWords({ file }) {
+  const size = inBytes(file.size);
+  return vault.goesIn(file) ? t("import.documents.vault", { size }) : size;
+}
+
 /** A cell of the preview: the value that will be sent, else what the sheet has. */
 function cellOf(row, name, at) {
   const value = shownIn(row, name, at);
@@ -90,6 +97,7 @@ function cellOf(row, name, at) {
   const isBad = name === REST && row.wrong.some((it) => restOf().includes(it.name));
   if (isBad) return made("td", { role: "cell", class: "bad" }, visible(value));
   const isContent = name === "content" && value;
+  if (isContent && row.document) return made("td", { role: "cell" }, documentWords(row.document));
   const words = isContent ? inBytes(contentBytes(value)) : visible(value);
   return made("td", { role: "cell" }, words);
 }

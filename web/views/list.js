@@ -48,6 +48,7 @@ export class RecordList {
   #isFirst = false;
   #asked = 0;
   #table = null;
+  #groupsOf = null;
 
   /** @param {Kind} kind */
   constructor(kind) {
@@ -122,8 +123,10 @@ export class RecordList {
 
   /** Shows the rows that the filter takes, in their order. */
   #draw() {
-    this.shown = sorted(filtered(this.rows, this.filter), this.column, this.down);
-    this.#table.show(this.shown);
+    const rows = sorted(filtered(this.rows, this.filter), this.column, this.down);
+    const groups = this.#groupsOf?.(rows) ?? [{ rows }];
+    this.shown = groups.flatMap((it) => it.rows);
+    this.#table.show(groups);
     this.#table.tellOrder(this.column || this.kind.order, this.down);
     this.#tellTotals();
     this.#tellMarks();
@@ -227,6 +230,13 @@ export class RecordList {
   /** Puts the title of each record beside its ref; `titleOf` is null where none is shown. */
   tellTitles(titleOf) {
     this.#table.tellTitles(titleOf);
+  }
+
+  /** Shows the rows in the groups that a function makes of them, or in none if it is null. */
+  group(groupsOf) {
+    if (groupsOf === this.#groupsOf) return;
+    this.#groupsOf = groupsOf;
+    this.#draw();
   }
 
   /** Says that something was done with the list which changed nothing of it. */

@@ -1,24 +1,28 @@
 // What helps to decide about a list, as Due and Overdue: titles, a CSV, a list for approval, and deeds with what is marked.
 import { made, save } from "../page.js";
 import { csvOf, formulasIn } from "../plain/csv.js";
-import { valueOf } from "../plain/lists.js";
+import { CONFIRMED_FOR, valueOf } from "../plain/lists.js";
 import { t } from "../texts.js";
 import { printApproval } from "./approval.js";
 import { isAsShown } from "./changes.js";
+import { byAggregation } from "./list_groups.js";
 import { MarkedBar } from "./marked.js";
 import { anyTitleOf, titleOf, titleSwitch } from "./titles.js";
 
 /** What a list has no rows for: a receipt is of what was sent. */
 const EXCEPT = ["receipt"];
 
-/** The columns of a file or of paper: those of the list, with the title after the ref. */
-export const columnsOf = (columns) => columns.flatMap((name) => (name === "ref" ? ["ref", "title"] : [name]));
+/** The columns of a file or of paper: those of the list, with the title after the ref, and then these. */
+const columnsOf = (columns, more) => columns.flatMap((name) => (name === "ref" ? ["ref", "title", ...more] : [name]));
 
 export class Deciding {
   #list;
   #switch;
   #bar;
   #turn = 0;
+  /** Whether the list is shown by aggregations, and how rows get into these. */
+  #grouping = null;
+  #groups = null;
 
   /** @param {import("./list.js").RecordList} list */
   constructor(list) {
@@ -43,7 +47,8 @@ export class Deciding {
     const csv = button("csv", () => this.#save(list.shown));
     const paper = button("approval", () => this.#approve());
     list.part("unmark").before(all);
-    list.part("print").after(csv, paper, this.#switch.node);
+    this.#grouping = this.#groupSwitch();
+    list.part("print").after(csv, paper, this.#switch.node, this.#grouping.parentElement);
     this.#bar = new MarkedBar({
       name,
       kind: "record",
@@ -60,6 +65,23 @@ export class Deciding {
     list.part("panel").append(this.#bar.node);
   }
 
+  /** A switch that shows the list by aggregations. */
+  #groupSwitch() {
+    const box = made("input", { type: "checkbox", id: `${this.#name}-group` });
+    box.addEventListener("change", () => this.#group());
+    return made("div", { class: "titles-switch" }, box, made("label", { for: box.id }, t("deciding.group"))).firstChild;
+  }
+
+  /** Shows the list by aggregations if it is to be so and a catalogue is there. */
+  async #group() {
+    const list = this.#list;
+    const mark = (rows) => list.markOnly([...list.marks, ...rows.map(({ record }) => record)]);
+    const groups = this.#grouping.checked ? await byAggregation(list.kind.columns.length + 1, mark) : null;
+    // it may have been switched off meanwhile
+    this.#groups = this.#grouping.checked ? groups : null;
+    list.group(this.#groups?.groupsOf ?? null);
+  }
+
   async #items() {
     const title = await anyTitleOf();
     const ofRow = ({ record, ref, action }) => ({ kind: "record", number: record, ref, title: title(record), action });
@@ -68,7 +90,8 @@ export class Deciding {
 
   #isAsShown(items) {
     const numbers = new Set(items.map(({ number }) => number));
-    return isAsShown(this.#list, this.#list.markedRows().filter(({ record }) => numbers.has(record)));
+    const rows = this.#list.markedRows().filter(({ record }) => numbers.has(record));
+    return isAsShown(this.#list, rows, CONFIRMED_FOR);
   }
 
   /** Takes marks off and reads the list anew. */
@@ -84,6 +107,7 @@ export class Deciding {
     const mine = ++this.#turn;
     const title = await titleOf();
     this.#switch.renew();
+    this.#grouping.parentElement.hidden = this.#switch.node.hidden;
     if (mine === this.#turn) this.#list.tellTitles(title);
   }
 
@@ -94,9 +118,10 @@ export class Deciding {
 
   async #cells(rows) {
     const title = await anyTitleOf();
-    const columns = columnsOf(this.#list.kind.columns);
+    const columns = columnsOf(this.#list.kind.columns, this.#groups ? ["aggregation"] : []);
     const cell = (row) => (name) => {
       if (name === "title") return title(row.record) ?? "";
+      if (name === "aggregation") return this.#groups.nameOf(row);
       if (name === "action") return t(`actions.${row.action}`);
       if (name === "confirmed") return t(`due.${valueOf(row, name)}`);
       return valueOf(row, name);
@@ -105,7 +130,7 @@ export class Deciding {
   }
 
   #word(name) {
-    return name === "title" ? t("catalogue.columns.title") : t(`${this.#name}.columns.${name}`);
+    return ["title", "aggregation"].includes(name) ? t(`catalogue.columns.${name}`) : t(`${this.#name}.columns.${name}`);
   }
 
   async #save(rows) {

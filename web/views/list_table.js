@@ -169,11 +169,15 @@ export class ListTable {
     this.#fill(this.#wanting.length);
   }
 
-  /** Shows these rows, in this order, in their groups. */
-  show(rows) {
+  /** Shows these rows, in this order; each group of them below its heading, where they have such. */
+  show(groups) {
     this.#wanting = [];
-    for (let at = 0; at < rows.length; at += GROUP) {
-      this.#wanting.push([made("tbody", { role: "rowgroup" }), rows.slice(at, at + GROUP)]);
+    this.table.classList.toggle("grouped", groups.some(({ heading }) => heading));
+    for (const { heading, rows } of groups) {
+      for (let at = 0; at < rows.length; at += GROUP) {
+        const body = made("tbody", { role: "rowgroup" }, ...(heading && at === 0 ? [heading] : []));
+        this.#wanting.push([body, rows.slice(at, at + GROUP)]);
+      }
     }
     for (const group of [...this.table.tBodies]) group.remove();
     this.table.append(...this.#wanting.map(([group]) => group));

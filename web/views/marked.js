@@ -11,6 +11,7 @@ import { sayAnswers } from "./marked_answers.js";
 import { deedForm } from "./marked_form.js";
 import { preview } from "./marked_preview.js";
 import { working } from "./marked_progress.js";
+import { withFiles } from "./receipt_files.js";
 
 /**
  * What a view says of what is marked in it.
@@ -86,8 +87,9 @@ export class MarkedBar {
   async #itemsOf(deed) {
     const items = await this.marks.items();
     if (deed !== "receipt") return { items, wrong: [] };
-    const { digests, wrong } = receiptsOf(this.#forms.get(deed).list.value, items);
-    return { items: items.map((it) => ({ ...it, digest: digests.get(it.number) })), wrong };
+    const list = this.#forms.get(deed).list.value;
+    const { digests, wrong } = receiptsOf(list, items);
+    return withFiles(items.map((it) => ({ ...it, digest: digests.get(it.number) })), list, wrong);
   }
 
   /** The hold of the catalogue that has this code, if the form is that of a hold. */

@@ -1,6 +1,6 @@
 // What closing an aggregation and giving a class another schedule would do, before either is done.
 import { getNewest } from "../ask.js";
-import { aggregations, isThere, part, records, refresh, tree } from "../catalogue.js";
+import { aggregations, details, isThere, part, records, refresh, tree } from "../catalogue.js";
 import { clear } from "../fields.js";
 import { byId, grouped, link, made, paragraph, plural, tableOf } from "../page.js";
 import { closeForecast, ruleForecast } from "../plain/forecast.js";
@@ -100,6 +100,29 @@ function movesTable(moves) {
   return [tableOf(t("forecast.rule.moves"), [now, then, count], cells, "bydue"), ...more];
 }
 
+/** Which confirmations no longer count, behind a summary. */
+function fallenList(fallen) {
+  if (!fallen.length) return [];
+  const names = ["record", "ref", "action", "due", "held"];
+  const cells = (row) => [link(`#record?number=${row.record}`, row.record), visible(row.ref), t(`actions.${row.action}`), row.due, row.held ?? ""];
+  const heads = names.map((name) => t(`due.columns.${name}`));
+  const table = tableOf(t("forecast.rule.fallen", { count: grouped(fallen.length) }), heads, fallen.slice(0, MOST).map(cells), "fallen");
+  return [made("details", { class: "listed" }, made("summary", {}, t("todo.list")), table)];
+}
+
+/**
+ * When the periods of these rows' records begin: by the catalogue, as far as no act changes it; else by the office, of so
+ * many. Null where an answer failed.
+ */
+async function startsOf(rows, trigger) {
+  const [index, known] = trigger === "event" ? [null, null] : [await records(), await details()];
+  const has = (number) => Boolean(known && index?.rows[number - 1]);
+  const ofCatalogue = (number) => ({ number, aggregation: index.rows[number - 1][3], ...known.at(number - 1) });
+  const numbers = rows.map(({ record }) => record);
+  const asked = await recordsOf(numbers.filter((number) => !has(number)), MOST);
+  return asked && [...numbers.filter(has).map(ofCatalogue), ...asked];
+}
+
 async function makeRule() {
   const codes = [valueOf("plan-rule-class"), valueOf("plan-rule-schedule")];
   const there = await ruleWritten();
@@ -109,17 +132,18 @@ async function makeRule() {
   const list = jsonOf(answer);
   if (answer.status !== 200 || !Array.isArray(list)) return null;
   const rows = list.filter((row) => row.class === it.code && row.schedule === it.schedule);
-  const found = await recordsOf(rows.map(({ record }) => record), MOST);
+  const found = await startsOf(rows, rule.trigger);
   if (found === null) return null;
+  const numbers = new Set(found.map(({ number }) => number));
   const byNumber = new Map(((await aggregations())?.rows ?? []).map((one) => [one.number, one]));
-  const { counts, moves } = ruleForecast(rows.slice(0, MOST), found, rule, byNumber);
+  const { counts, moves, fallen } = ruleForecast(rows.filter(({ record }) => numbers.has(record)), found, rule, byNumber);
   const nodes = [paragraph(plural("forecast.rule.dues", rows.length, { class: it.code, schedule: it.schedule }))];
   if (rows.length) nodes.push(countsList(counts), ...(moves.length ? movesTable(moves) : []));
   const confirmed = rows.some((row) => row.confirmed);
-  if (confirmed) nodes.push(paragraph(plural("forecast.rule.fall", counts.fall), counts.fall ? "grave" : ""));
-  if (rows.length > MOST) nodes.push(paragraph(t("forecast.some", { count: MOST }), "hint"));
+  if (confirmed) nodes.push(paragraph(plural("forecast.rule.fall", fallen.length), fallen.length ? "grave" : ""), ...fallenList(fallen));
+  if (rows.length > found.length) nodes.push(paragraph(t("forecast.some", { count: grouped(found.length) }), "hint"));
   nodes.push(paragraph(t("forecast.rule.limits"), "hint"));
-  return { seen: JSON.stringify([it, rule.code, rows.length, counts]), nodes };
+  return { seen: JSON.stringify([it, rule.code, rows.length, counts, fallen.map(({ record }) => record)]), nodes };
 }
 
 // ---- what the view asks of it

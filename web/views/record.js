@@ -14,7 +14,7 @@ import * as acts from "./record_acts.js";
 import { factsOf as catalogueFacts, neighboursOf, receiptOf } from "./record_catalogue.js";
 import * as content from "./record_content.js";
 import * as event from "./record_event.js";
-import { manifestOf } from "./record_manifest.js";
+import * as files from "./record_files.js";
 
 let shown = null;
 let asked = 0;
@@ -65,7 +65,7 @@ function factsTold(record, more = {}) {
   const names = ["ref", "title", "originated", "added", "aggregation", "class", "schedule"];
   const plain = names.map((name) => [word(name), more[name] ?? visible(String(record[name]))]);
   const digest = [word("digest"), made("code", {}, record.digest)];
-  return factsOf([...plain, [word("length"), inBytes(record.length)], digest]);
+  return factsOf([...plain, [word("length"), more.length ?? inBytes(record.length)], digest]);
 }
 
 /** The schedule of a record, where a catalogue has it: it says why there is no due day, and what the rule is. */
@@ -73,12 +73,12 @@ const ruleOf = (record) => schedule(record.schedule);
 
 /** Adds what the catalogue has of a record, and what its content is, once it is shown. */
 async function tellMore(record, rule) {
-  const parts = [catalogueFacts(record, rule), neighboursOf(record), receiptOf(record), manifestOf(record)];
-  const [facts, neighbours, receipt, manifest] = await Promise.all(parts);
+  const parts = [catalogueFacts(record, rule), neighboursOf(record), receiptOf(record), files.offer(record)];
+  const [facts, neighbours, receipt, its] = await Promise.all(parts);
   // another one is shown by now
   if (shown !== record) return;
-  byId("record-facts").replaceChildren(factsTold(record, facts), ...(neighbours ? [neighbours] : []));
-  byId("record-words").append(...receipt, ...manifest);
+  byId("record-facts").replaceChildren(factsTold(record, { ...facts, ...its.facts }), ...(neighbours ? [neighbours] : []));
+  byId("record-words").append(...receipt, ...its.words);
 }
 
 function tell(record, rule) {

@@ -31,9 +31,10 @@ async function read(place) {
   return null;
 }
 
-const LOOKS = { agrees: "done", differs: "wrong", unseen: "unknown" };
+export const LOOKS = { agrees: "done", differs: "wrong", unseen: "unknown" };
 
-async function saveIt() {
+/** Saves the content. */
+export async function saveIt() {
   const place = byId("record-saved");
   const it = await read(place);
   if (!it) return;
@@ -73,6 +74,19 @@ function textNode({ bytes }) {
 
 const SHOWN = { pdf: frameOf, image: pictureOf, text: textNode };
 
+/**
+ * Shows bytes at a place, with a button that takes them away; only those of one content or file at a time.
+ * @param {Element} there
+ * @param {{ bytes: Uint8Array, kind: import("../plain/content.js").Kind }} it
+ */
+export async function showAt(there, it) {
+  hide();
+  const node = await SHOWN[it.kind.look](it);
+  const close = made("button", { type: "button", class: "quiet unlook" }, t("content.close"));
+  close.addEventListener("click", hide);
+  there.replaceChildren(node, close);
+}
+
 /** Shows the content, if it is of a kind that can be looked at, with what its digest says. */
 async function look() {
   const place = byId("record-saved");
@@ -83,25 +97,21 @@ async function look() {
     say(place, "unknown", paragraph(t("content.noLook", { name: visible(fileName(it.record, it.kind)) })));
     return;
   }
-  let node;
   try {
-    node = await SHOWN[it.kind.look](it);
+    await showAt(there, it);
   } catch {
     say(place, "wrong", paragraph(t("content.broken")));
     return;
   }
-  if (it.record !== subject) return;
+  if (it.record !== subject) return hide();
   say(place, LOOKS[it.seal], paragraph(t(`content.looked.${it.seal}`, { size: inBytes(it.bytes.length) })));
-  const close = made("button", { type: "button", class: "quiet", id: "record-unlook" }, t("content.close"));
-  close.addEventListener("click", hide);
-  there.replaceChildren(node, close);
 }
 
 /** Takes away what is looked at. */
-function hide() {
+export function hide() {
   forget();
   forget = () => {};
-  byId("record-looked").replaceChildren();
+  for (const place of document.querySelectorAll(".looked")) place.replaceChildren();
 }
 
 /** Offers the content of this record, if it is still here. */

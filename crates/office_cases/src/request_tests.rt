@@ -13,9 +13,9 @@ pub(crate) const HEADS: &str = r"
     # hosts of each version
     plan POST /acts HTTP/1.1\r\nContent-Length: 2\r\n\r\n = Refuse(Host)
     plan GET /nothing HTTP/1.1\r\nHost: a\r\nHOST: a\r\n\r\n = Refuse(Host)
-    plan POST /acts HTTP/1.0\r\nContent-Length: 2\r\n\r\n = Serve(Acts(2))
-    plan POST /acts HTTP/1.0\r\nHost: a\r\nHost: b\r\nContent-Length: 2\r\n\r\n = Serve(Acts(2))
-    plan POST /acts HTTP/1.1\nhost:\nCONTENT-length: \t 0 \t\n\n = Serve(Acts(0))
+    plan POST /acts HTTP/1.0\r\nContent-Length: 2\r\n\r\n = Acts(2)
+    plan POST /acts HTTP/1.0\r\nHost: a\r\nHost: b\r\nContent-Length: 2\r\n\r\n = Acts(2)
+    plan POST /acts HTTP/1.1\nhost:\nCONTENT-length: \t 0 \t\n\n = Acts(0)
 
     # targets that name nothing
     plan GET /nothing HTTP/1.1\r\nHost: h\r\n\r\n = Refuse(Path)
@@ -56,9 +56,9 @@ pub(crate) const HEADS: &str = r"
     plan POST /acts HTTP/1.1\r\nHost: h\r\nContent-Length: 1048577\r\n\r\n = Refuse(ContentTooLarge)
 
     # bodies that are read
-    plan POST /acts HTTP/1.1\r\nHost: h\r\nContent-Length: 20\r\n\r\n = Serve(Acts(20))
-    plan POST /acts HTTP/1.1\r\nHost: h\r\nContent-Length: 0000000000000000007\r\n\r\n = Serve(Acts(7))
-    plan POST /acts HTTP/1.1\r\nHost: h\r\nContent-Length: 1048576\r\n\r\n = Serve(Acts(1048576))
+    plan POST /acts HTTP/1.1\r\nHost: h\r\nContent-Length: 20\r\n\r\n = Acts(20)
+    plan POST /acts HTTP/1.1\r\nHost: h\r\nContent-Length: 0000000000000000007\r\n\r\n = Acts(7)
+    plan POST /acts HTTP/1.1\r\nHost: h\r\nContent-Length: 1048576\r\n\r\n = Acts(1048576)
 
     # numbers of paths
     plan GET /records/1 HTTP/1.1\r\nHost: h\r\n\r\n = Serve(Record(Some(1)))

@@ -15,7 +15,7 @@ use Rattle.clap.specs.Lexer.{long_of, short_of}
 use Rattle.clap.specs.declared.error.kind.ErrorKind.{ErrorKind}
 use Rattle.clap.specs.declared.error.kind.ErrorKind.TheVariants.{DisplayHelp, DisplayHelpOnMissingArgumentOrSubcommand, InvalidSubcommand, MissingSubcommand}
 use Rattle.clap.proofs.OnLiterals.{clap_on_literals}
-use Rattle.office_command_line.specs.Command.{Asked, asked_in, nothing_asked, office_app, with_csv_commands, with_file_commands, with_import_command, with_plain_commands, with_register_commands, with_run_commands, with_service_command}
+use Rattle.office_command_line.specs.Command.{CommandLine, line_in, no_line, office_app, with_csv_commands, with_file_commands, with_import_command, with_plain_commands, with_register_commands, with_run_commands, with_service_command}
 
 -- ---- a walk without a fault stops at no `help`
 
@@ -110,13 +110,13 @@ module _ (s : Shape) (names : Names) (enabled : s.disable_help_subcommand ≡ fa
 
 -- ---- a subcommand that is no `help` asks for something
 
-abbrev is_nothing : Asked → Bool
-is_nothing nothing_asked = true
+abbrev is_nothing : CommandLine → Bool
+is_nothing no_line = true
 is_nothing _ = false
 
 -- where the subcommand is met by its name, and it is not `help`, something is asked for
 abbrev Asks : Shape → Type 0
-Asks s = (name : Text) (rows : List Row) → answers_to name (label_of s) ≡ true → bytes_eq name (codes "help") ≡ false → asked_in (Some (s.name, rows)) ≢ nothing_asked
+Asks s = (name : Text) (rows : List Row) → answers_to name (label_of s) ≡ true → bytes_eq name (codes "help") ≡ false → line_in (Some (s.name, rows)) ≢ no_line
 
 abbrev AllAsk : List Shape → Type 0
 AllAsk [] = ⊤
@@ -124,19 +124,19 @@ AllAsk (s ∷ subs) = Asks s × AllAsk subs
 
 found_asks : (subs : List Shape) → AllAsk subs → (p : Text × List Text) → bytes_eq p.0 (codes "help") ≡ false
     → is_some (option_map (λ s. rows_at s p.1) (find (λ s. answers_to p.0 (label_of s)) subs)) ≡ true
-    → asked_in (option_map (λ s. rows_at s p.1) (find (λ s. answers_to p.0 (label_of s)) subs)) ≢ nothing_asked
+    → line_in (option_map (λ s. rows_at s p.1) (find (λ s. answers_to p.0 (label_of s)) subs)) ≢ no_line
 found_asks [] all p other = λ is. absurd (true≢false (sym is))
 found_asks (s ∷ subs) all p other = go (answers_to p.0 (label_of s)) refl (found_asks subs all.1 p other)
   where
     go : (b : Bool) → answers_to p.0 (label_of s) ≡ b
         → (is_some (option_map (λ s. rows_at s p.1) (find (λ s. answers_to p.0 (label_of s)) subs)) ≡ true
-        → asked_in (option_map (λ s. rows_at s p.1) (find (λ s. answers_to p.0 (label_of s)) subs)) ≢ nothing_asked)
+        → line_in (option_map (λ s. rows_at s p.1) (find (λ s. answers_to p.0 (label_of s)) subs)) ≢ no_line)
         → is_some (option_map (λ s. rows_at s p.1) (cond b (Some s) (find (λ s. answers_to p.0 (label_of s)) subs))) ≡ true
-        → asked_in (option_map (λ s. rows_at s p.1) (cond b (Some s) (find (λ s. answers_to p.0 (label_of s)) subs))) ≢ nothing_asked
+        → line_in (option_map (λ s. rows_at s p.1) (cond b (Some s) (find (λ s. answers_to p.0 (label_of s)) subs))) ≢ no_line
     go true hit below is = all.0 p.0 (rows_at s p.1).1 hit other
     go false miss below is = below is
 
-entered_asks : (a : App) → AllAsk a.subs → (stop : Option (Text × List Text)) → IsNoHelp stop → is_some (entered a stop) ≡ true → asked_in (entered a stop) ≢ nothing_asked
+entered_asks : (a : App) → AllAsk a.subs → (stop : Option (Text × List Text)) → IsNoHelp stop → is_some (entered a stop) ≡ true → line_in (entered a stop) ≢ no_line
 entered_asks a all None other is = absurd (true≢false (sym is))
 entered_asks a all (Some p) other is = found_asks a.subs all p other is
 
@@ -178,7 +178,7 @@ module _ (s : Shape) (names : Names) (h : Held) (words : List Text) (has : Bool)
       (second_none walks (or_else below (or_else settles (or_else defaults checks))) none)))
 
 built_asks : (a : App) (words : List Text) → a.top.disable_help_subcommand ≡ false → a.top.subcommand_required ≡ true → AllAsk a.subs → built_fault a nothing_held words ≡ []
-    → asked_in (entered a (walk a.top.rules (names_of a) nothing_held words).stopped) ≢ nothing_asked
+    → line_in (entered a (walk a.top.rules (names_of a) nothing_held words).stopped) ≢ no_line
 built_asks a words enabled required all none =
     let stop = (walk a.top.rules (names_of a) nothing_held words).stopped in
     let has = is_some (entered a stop) in
@@ -193,7 +193,7 @@ named_help name hit other =
     let same : codes "help" ≡ name = (bytes_eq-Decides (codes "help") name).0 (sym (or-false _) ∙ hit) in
     true≢false (sym ((bytes_eq-Decides name (codes "help")).1 (sym same)) ∙ other)
 
-asks : {x : Asked} → is_nothing x ≡ false → x ≢ nothing_asked
+asks : {x : CommandLine} → is_nothing x ≡ false → x ≢ no_line
 asks h e = true≢false (sym (ap is_nothing e) ∙ h)
 
 all_ask : AllAsk (built office_app).subs
@@ -238,5 +238,5 @@ office_required : (built office_app).top.subcommand_required ≡ true
 unfolding clap_on_literals office_app with_service_command with_csv_commands with_register_commands with_import_command with_run_commands with_file_commands with_plain_commands
 office_required = refl
 
-pub command_named : (words : List Text) → fault_of office_app words ≡ [] → asked_in (subcommand_of office_app words) ≢ nothing_asked
+pub command_named : (words : List Text) → fault_of office_app words ≡ [] → line_in (subcommand_of office_app words) ≢ no_line
 command_named words none = built_asks (built office_app) (argument_words office_app words) office_enabled office_required all_ask none

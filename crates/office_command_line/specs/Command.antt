@@ -1,4 +1,4 @@
--- The command line of the office, as `clap` reads it, and what its words ask for. Source: own.
+-- The command line of the office, as `clap` reads it, and what its words say. Source: own.
 use Rattle.std.specs.Prelude.{true, codes, List, [], ◌∷◌, Option, Some, None, unwrap_or, if◌then◌else◌}
 use Rattle.std.specs.Str.{bytes_eq}
 use Rattle.clap.specs.Words.{App, Row, Rule, Text, first_of, new_app, new_rule, with_rule, with_subcommand}
@@ -115,79 +115,79 @@ office_app =
 abbrev pub text_of : Text → List Row → Text
 text_of name rows = unwrap_or (first_of name rows) []
 
--- what the words ask for
-pub data Asked : Type 0 where
-  nothing_asked : Asked
-  due_day_asked : Text → Text → Text → Text → Asked
-  plan_file_asked : Text → Asked
-  init_file_asked : Text → Asked
-  application_asked : Text → Text → Asked
-  resumption_asked : Text → Asked
-  certificate_asked : Text → Text → Asked
-  importation_asked : Text → Text → Text → Asked
-  exportation_asked : Text → Text → Asked
-  overdue_list_asked : Text → Text → Text → Asked
-  service_asked : Text → Text → Text → Asked
+-- a command with its operands as they are written
+pub data CommandLine : Type 0 where
+  no_line : CommandLine
+  due_line : Text → Text → Text → Text → CommandLine
+  plan_line : Text → CommandLine
+  init_line : Text → CommandLine
+  apply_line : Text → Text → CommandLine
+  resume_line : Text → CommandLine
+  certificate_line : Text → Text → CommandLine
+  import_line : Text → Text → Text → CommandLine
+  export_line : Text → Text → CommandLine
+  overdue_line : Text → Text → Text → CommandLine
+  serve_line : Text → Text → Text → CommandLine
 
-abbrev pub asked : Words → Asked
-asked (Due unit count offset day) = due_day_asked unit.now count.now offset.now day.now
-asked (Plan file) = plan_file_asked file.now
-asked (Init file) = init_file_asked file.now
-asked (Apply file acts) = application_asked file.now acts.now
-asked (Resume file) = resumption_asked file.now
-asked (Certificate file number) = certificate_asked file.now number.now
-asked (Import file day csv) = importation_asked file.now day.now csv.now
-asked (Export file register) = exportation_asked file.now register.now
-asked (Overdue file day count) = overdue_list_asked file.now day.now count.now
-asked (Serve file port count) = service_asked file.now port.now count.now
-asked Nothing = nothing_asked
+abbrev pub line_of : Words → CommandLine
+line_of (Due unit count offset day) = due_line unit.now count.now offset.now day.now
+line_of (Plan file) = plan_line file.now
+line_of (Init file) = init_line file.now
+line_of (Apply file acts) = apply_line file.now acts.now
+line_of (Resume file) = resume_line file.now
+line_of (Certificate file number) = certificate_line file.now number.now
+line_of (Import file day csv) = import_line file.now day.now csv.now
+line_of (Export file register) = export_line file.now register.now
+line_of (Overdue file day count) = overdue_line file.now day.now count.now
+line_of (Serve file port count) = serve_line file.now port.now count.now
+line_of Nothing = no_line
 
-abbrev pub due_asked : List Row → Asked
-due_asked rows =
-    due_day_asked (text_of (codes "UNIT") rows) (text_of (codes "COUNT") rows) (text_of (codes "OFFSET") rows)
+abbrev pub due_in : List Row → CommandLine
+due_in rows =
+    due_line (text_of (codes "UNIT") rows) (text_of (codes "COUNT") rows) (text_of (codes "OFFSET") rows)
     (text_of (codes "DAY") rows)
 
-abbrev pub plan_asked : List Row → Asked
-plan_asked rows = plan_file_asked (text_of (codes "FILE") rows)
+abbrev pub plan_in : List Row → CommandLine
+plan_in rows = plan_line (text_of (codes "FILE") rows)
 
-abbrev pub init_asked : List Row → Asked
-init_asked rows = init_file_asked (text_of (codes "FILE") rows)
+abbrev pub init_in : List Row → CommandLine
+init_in rows = init_line (text_of (codes "FILE") rows)
 
-abbrev pub apply_asked : List Row → Asked
-apply_asked rows = application_asked (text_of (codes "FILE") rows) (text_of (codes "ACTS") rows)
+abbrev pub apply_in : List Row → CommandLine
+apply_in rows = apply_line (text_of (codes "FILE") rows) (text_of (codes "ACTS") rows)
 
-abbrev pub resume_asked : List Row → Asked
-resume_asked rows = resumption_asked (text_of (codes "FILE") rows)
+abbrev pub resume_in : List Row → CommandLine
+resume_in rows = resume_line (text_of (codes "FILE") rows)
 
-abbrev pub number_asked : List Row → Asked
-number_asked rows = certificate_asked (text_of (codes "FILE") rows) (text_of (codes "N") rows)
+abbrev pub certificate_in : List Row → CommandLine
+certificate_in rows = certificate_line (text_of (codes "FILE") rows) (text_of (codes "N") rows)
 
-abbrev pub import_asked : List Row → Asked
-import_asked rows =
-    importation_asked (text_of (codes "FILE") rows) (text_of (codes "DAY") rows) (text_of (codes "CSV") rows)
+abbrev pub import_in : List Row → CommandLine
+import_in rows =
+    import_line (text_of (codes "FILE") rows) (text_of (codes "DAY") rows) (text_of (codes "CSV") rows)
 
-abbrev pub export_asked : List Row → Asked
-export_asked rows = exportation_asked (text_of (codes "FILE") rows) (text_of (codes "REGISTER") rows)
+abbrev pub export_in : List Row → CommandLine
+export_in rows = export_line (text_of (codes "FILE") rows) (text_of (codes "REGISTER") rows)
 
-abbrev pub overdue_asked : List Row → Asked
-overdue_asked rows =
-    overdue_list_asked (text_of (codes "FILE") rows) (text_of (codes "DAY") rows) (text_of (codes "COUNT") rows)
+abbrev pub overdue_in : List Row → CommandLine
+overdue_in rows =
+    overdue_line (text_of (codes "FILE") rows) (text_of (codes "DAY") rows) (text_of (codes "COUNT") rows)
 
-abbrev pub serve_asked : List Row → Asked
-serve_asked rows =
-    service_asked (text_of (codes "FILE") rows) (text_of (codes "PORT") rows) (text_of (codes "COUNT") rows)
+abbrev pub serve_in : List Row → CommandLine
+serve_in rows =
+    serve_line (text_of (codes "FILE") rows) (text_of (codes "PORT") rows) (text_of (codes "COUNT") rows)
 
--- what a subcommand with its matches asks for
-abbrev pub asked_in : Option (Text × List Row) → Asked
-asked_in None = nothing_asked
-asked_in (Some p) =
-    if bytes_eq p.0 (codes "due") then due_asked p.1
-    else (if bytes_eq p.0 (codes "plan") then plan_asked p.1
-    else (if bytes_eq p.0 (codes "init") then init_asked p.1
-    else (if bytes_eq p.0 (codes "apply") then apply_asked p.1
-    else (if bytes_eq p.0 (codes "resume") then resume_asked p.1
-    else (if bytes_eq p.0 (codes "certificate") then number_asked p.1
-    else (if bytes_eq p.0 (codes "import") then import_asked p.1
-    else (if bytes_eq p.0 (codes "export") then export_asked p.1
-    else (if bytes_eq p.0 (codes "overdue") then overdue_asked p.1
-    else (if bytes_eq p.0 (codes "serve") then serve_asked p.1 else nothing_asked)))))))))
+-- the command line of a subcommand with its matches
+abbrev pub line_in : Option (Text × List Row) → CommandLine
+line_in None = no_line
+line_in (Some p) =
+    if bytes_eq p.0 (codes "due") then due_in p.1
+    else (if bytes_eq p.0 (codes "plan") then plan_in p.1
+    else (if bytes_eq p.0 (codes "init") then init_in p.1
+    else (if bytes_eq p.0 (codes "apply") then apply_in p.1
+    else (if bytes_eq p.0 (codes "resume") then resume_in p.1
+    else (if bytes_eq p.0 (codes "certificate") then certificate_in p.1
+    else (if bytes_eq p.0 (codes "import") then import_in p.1
+    else (if bytes_eq p.0 (codes "export") then export_in p.1
+    else (if bytes_eq p.0 (codes "overdue") then overdue_in p.1
+    else (if bytes_eq p.0 (codes "serve") then serve_in p.1 else no_line)))))))))

@@ -1,7 +1,7 @@
 //! What the program is to do, with the operands of its words read.
 ghost use Rattle.std.specs.Prelude.{◌≡◌, Err, IfErr, IfOk, Ok};
-ghost use Rattle.office_command_line.specs.Command.{asked};
-ghost use Rattle.office_command_line.specs.Orders.{order_asked, ordered};
+ghost use Rattle.office_command_line.specs.Command.{line_of};
+ghost use Rattle.office_command_line.specs.Orders.{command, command_read};
 
 use crate::register::{Register, read_register};
 use crate::service::read_service;
@@ -77,8 +77,8 @@ pub enum Order<'a> {
 /// above. `BadText` comes where an operand is no day, no digits or no register, and else
 /// `BadNumber` where a number is out of its range.
 pub fn order_of<'a>(words: Words<'a>) -> Result<Order<'a>, Refusal>
-    ensures ok { IfOk result (λ order. order_asked (asked words.entry) ≡ Ok (ordered order)) }
-    ensures err { IfErr result (λ refusal. order_asked (asked words.entry) ≡ Err refusal) }
+    ensures ok { IfOk result (λ order. command_read (line_of words.entry) ≡ Ok (command order)) }
+    ensures err { IfErr result (λ refusal. command_read (line_of words.entry) ≡ Err refusal) }
 {
     match words {
         Words::Due {

@@ -1,7 +1,7 @@
 //! The words of the command line as a command with its operands, before these are read.
 ghost use Rattle.std.specs.Prelude.{◌≡◌, ◌≢◌, IfOk, IfErr, true, map};
 ghost use Rattle.clap.specs.Words.{FailsBy, fault_of, found_of, kind_of, rows_of, subcommand_of, subcommand_rows_of, takes};
-ghost use Rattle.office_command_line.specs.Command.{apply_asked, asked, asked_in, due_asked, export_asked, import_asked, init_asked, nothing_asked, number_asked, office_app, overdue_asked, plan_asked, resume_asked, serve_asked, text_of};
+ghost use Rattle.office_command_line.specs.Command.{apply_in, line_in, line_of, due_in, export_in, import_in, init_in, no_line, certificate_in, office_app, overdue_in, plan_in, resume_in, serve_in, text_of};
 
 use crate::command::office_command;
 use clap::error::ErrorKind;
@@ -65,7 +65,7 @@ fn operand<'a>(matches: &ArgMatches<'a>, name: &str) -> &'a str
 }
 
 fn due_words<'a>(matches: &ArgMatches<'a>) -> Words<'a>
-    ensures { asked result ≡ due_asked (rows_of (found_of matches.now)) }
+    ensures { line_of result ≡ due_in (rows_of (found_of matches.now)) }
 {
     Words::Due {
         unit: operand(matches, "UNIT"),
@@ -76,7 +76,7 @@ fn due_words<'a>(matches: &ArgMatches<'a>) -> Words<'a>
 }
 
 fn plan_words<'a>(matches: &ArgMatches<'a>) -> Words<'a>
-    ensures { asked result ≡ plan_asked (rows_of (found_of matches.now)) }
+    ensures { line_of result ≡ plan_in (rows_of (found_of matches.now)) }
 {
     Words::Plan {
         file: operand(matches, "FILE"),
@@ -84,7 +84,7 @@ fn plan_words<'a>(matches: &ArgMatches<'a>) -> Words<'a>
 }
 
 fn init_words<'a>(matches: &ArgMatches<'a>) -> Words<'a>
-    ensures { asked result ≡ init_asked (rows_of (found_of matches.now)) }
+    ensures { line_of result ≡ init_in (rows_of (found_of matches.now)) }
 {
     Words::Init {
         file: operand(matches, "FILE"),
@@ -92,7 +92,7 @@ fn init_words<'a>(matches: &ArgMatches<'a>) -> Words<'a>
 }
 
 fn apply_words<'a>(matches: &ArgMatches<'a>) -> Words<'a>
-    ensures { asked result ≡ apply_asked (rows_of (found_of matches.now)) }
+    ensures { line_of result ≡ apply_in (rows_of (found_of matches.now)) }
 {
     Words::Apply {
         file: operand(matches, "FILE"),
@@ -101,7 +101,7 @@ fn apply_words<'a>(matches: &ArgMatches<'a>) -> Words<'a>
 }
 
 fn resume_words<'a>(matches: &ArgMatches<'a>) -> Words<'a>
-    ensures { asked result ≡ resume_asked (rows_of (found_of matches.now)) }
+    ensures { line_of result ≡ resume_in (rows_of (found_of matches.now)) }
 {
     Words::Resume {
         file: operand(matches, "FILE"),
@@ -109,7 +109,7 @@ fn resume_words<'a>(matches: &ArgMatches<'a>) -> Words<'a>
 }
 
 fn certificate_words<'a>(matches: &ArgMatches<'a>) -> Words<'a>
-    ensures { asked result ≡ number_asked (rows_of (found_of matches.now)) }
+    ensures { line_of result ≡ certificate_in (rows_of (found_of matches.now)) }
 {
     Words::Certificate {
         file: operand(matches, "FILE"),
@@ -118,7 +118,7 @@ fn certificate_words<'a>(matches: &ArgMatches<'a>) -> Words<'a>
 }
 
 fn import_words<'a>(matches: &ArgMatches<'a>) -> Words<'a>
-    ensures { asked result ≡ import_asked (rows_of (found_of matches.now)) }
+    ensures { line_of result ≡ import_in (rows_of (found_of matches.now)) }
 {
     Words::Import {
         file: operand(matches, "FILE"),
@@ -128,7 +128,7 @@ fn import_words<'a>(matches: &ArgMatches<'a>) -> Words<'a>
 }
 
 fn export_words<'a>(matches: &ArgMatches<'a>) -> Words<'a>
-    ensures { asked result ≡ export_asked (rows_of (found_of matches.now)) }
+    ensures { line_of result ≡ export_in (rows_of (found_of matches.now)) }
 {
     Words::Export {
         file: operand(matches, "FILE"),
@@ -137,7 +137,7 @@ fn export_words<'a>(matches: &ArgMatches<'a>) -> Words<'a>
 }
 
 fn overdue_words<'a>(matches: &ArgMatches<'a>) -> Words<'a>
-    ensures { asked result ≡ overdue_asked (rows_of (found_of matches.now)) }
+    ensures { line_of result ≡ overdue_in (rows_of (found_of matches.now)) }
 {
     Words::Overdue {
         file: operand(matches, "FILE"),
@@ -147,7 +147,7 @@ fn overdue_words<'a>(matches: &ArgMatches<'a>) -> Words<'a>
 }
 
 fn serve_words<'a>(matches: &ArgMatches<'a>) -> Words<'a>
-    ensures { asked result ≡ serve_asked (rows_of (found_of matches.now)) }
+    ensures { line_of result ≡ serve_in (rows_of (found_of matches.now)) }
 {
     Words::Serve {
         file: operand(matches, "FILE"),
@@ -157,7 +157,7 @@ fn serve_words<'a>(matches: &ArgMatches<'a>) -> Words<'a>
 }
 
 fn words_of<'a>(matches: &ArgMatches<'a>) -> Words<'a>
-    ensures { asked result ≡ asked_in (subcommand_rows_of matches.now) }
+    ensures { line_of result ≡ line_in (subcommand_rows_of matches.now) }
 {
     match matches.subcommand() {
         Some(("due", inner)) => due_words(inner),
@@ -182,9 +182,9 @@ pub fn read_words<'a>(alloc: Global, words: &'a [&'a str]) -> Result<Words<'a>, 
     // Words in which `clap` finds a fault are refused, by the kind of the first fault.
     ensures refused { FailsBy (fault_of office_app (map (λ s. s.now) words.entry.now)) result }
     ensures asked { IfOk result
-        (λ w. asked w ≡ asked_in (subcommand_of office_app (map (λ s. s.now) words.entry.now))) }
+        (λ w. line_of w ≡ line_in (subcommand_of office_app (map (λ s. s.now) words.entry.now))) }
     // A command is named.
-    ensures named { IfOk result (λ w. asked w ≢ nothing_asked) }
+    ensures named { IfOk result (λ w. line_of w ≢ no_line) }
 
     // Where the words are a command of the program, only lack of memory can fail.
     ensures taken { takes office_app (map (λ s. s.now) words.entry.now) ≡ true

@@ -12,8 +12,8 @@ use Rattle.office_desk.specs.Desk.{DeskState}
 use Rattle.office_desk.specs.Leaving.{IsAt}
 use Rattle.office_csv.specs.ImportRows.{Fields}
 use Rattle.office_wire.specs.Importing.{ArePrefixRows, AreSomeRows, EndsImport, IsRowStopped}
-use Rattle.office_wire.specs.declared.importing.ImportStop.{ImportStop}
-use Rattle.office_wire.specs.declared.importing.ImportStop.TheVariants as import
+use Rattle.office_wire.specs.declared.record_import.ImportStop.{ImportStop}
+use Rattle.office_wire.specs.declared.record_import.ImportStop.TheVariants as import
 use Rattle.office_commands.specs.Importing.{AreImported, ImportsAt, IsRowCut, ending_of_import}
 use Rattle.office_commands.specs.declared.ending.Ending.{Ending}
 

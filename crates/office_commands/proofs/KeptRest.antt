@@ -6,10 +6,11 @@ use Rattle.sqlite_trees.specs.declared.store.Store.{Ghosts}
 use Rattle.office_rules.specs.State.{State, empty_state}
 use Rattle.office_sql.specs.declared.editions.Edition.TheVariants as edition
 use Rattle.office_sql.proofs.Rest.{leaves_kept}
+use Rattle.office_desk.specs.Calling.{LeavesRestOf}
 use Rattle.office_desk.specs.Desk.{DeskState}
 use Rattle.office_desk.specs.Leaving.{IsAt}
 use Rattle.office_desk.specs.Opening.{IsOpenable, Opens}
-use Rattle.office_commands.specs.Calling.{SparesRestAt}
+use Rattle.office_desk.specs.Outcomes.{FromEach}
 use Rattle.office_commands.specs.Opening.{IsRestKept}
 
 module _ {S : Type 0} (g : Ghosts S) (conn : Held S) (desk : DeskState S) (it : Opens g conn desk) where
@@ -19,7 +20,7 @@ module _ {S : Type 0} (g : Ghosts S) (conn : Held S) (desk : DeskState S) (it : 
   found_at clean (inr at) = let found = (it.finds clean).found at.0 at.1 in (found.0, found.2)
 
   -- by what spares it
-  pub kept_after : (after : DeskState S) → (HasCleanDisk (state g after.held) → HasCleanDisk (state g desk.held)) → SparesRestAt g desk after → IsRestKept (state g conn) (state g after.held)
+  pub kept_after : (after : DeskState S) → (HasCleanDisk (state g after.held) → HasCleanDisk (state g desk.held)) → FromEach g desk after (λ s. LeavesRestOf g desk after) → IsRestKept (state g conn) (state g after.held)
   kept_after after was_clean spares clean openable =
       let here = was_clean clean in
       let at = found_at here openable in

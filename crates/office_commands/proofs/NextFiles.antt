@@ -1,4 +1,4 @@
--- What the two files hold after a word, by what a crash leaves of its connection.
+-- What the two files hold after a command, by what a crash leaves of its connection.
 use Rattle.std.proofs.Common.{inl, inr, ℕ, IsTrue, IfSome, List, Option, Some, None, sym, subst, arith}
 use Rattle.std.proofs.Math.Logic.{∥∥₁_elim, ∥∥₁_map}
 use Rattle.sqlite_disk.specs.declared.Disk.{Ghosts}
@@ -17,16 +17,16 @@ use Rattle.sqlite.specs.declared.file.Leftover.TheVariants as leftover
 use Rattle.office_rules.specs.Rows.{rows_of}
 use Rattle.office_rules.specs.State.{State}
 use Rattle.office_store.specs.RepresentsRows.{RepresentsRowsIn}
-use Rattle.office_command_line.specs.Orders.{Ordered}
+use Rattle.office_command_line.specs.Orders.{Command}
 use Rattle.office_commands.specs.Files.{HeldOffice, IsClosedCopy, IsLeftOf, IsUnclosed, IsUnopenedLeft, RunsInFiles, ServesInFiles}
-use Rattle.office_commands.specs.NextWord.{HoldsOfficeAt, HoldsWholeOffice, IsLeftBy, IsOfficeAt, IsServedTo, LeavesAt, LeavesFilesAt, StaysOffice}
+use Rattle.office_commands.specs.NextCommand.{HoldsOfficeAt, HoldsWholeOffice, IsLeftBy, IsOfficeAt, IsServedTo, LeavesAt, LeavesFilesAt, StaysOffice}
 use Rattle.office_commands.specs.Tables.{HoldsTables, SparesTables}
 use Rattle.office_commands.proofs.LeftTables.{database_of, leaves_tables}
 use Rattle.office_commands.specs.declared.ending.Ending.{Ending}
-use Rattle.office_commands.specs.declared.opening.FilesLeft.{FilesLeft}
-use Rattle.office_commands.specs.declared.opening.FilesLeft.TheVariants as files
+use Rattle.office_commands.specs.declared.office_files.FilesLeft.{FilesLeft}
+use Rattle.office_commands.specs.declared.office_files.FilesLeft.TheVariants as files
 use Rattle.office_commands.proofs.NextService.{service_left}
-use Rattle.office_commands.proofs.NextStates.{IsEnded, IsOneDatabase, StaySound, word_left}
+use Rattle.office_commands.proofs.NextStates.{IsEnded, IsOneDatabase, StaySound, command_left}
 
 -- an office of which each page has its sum is one
 pub whole_office : (image : Image) (s : State) → HoldsWholeOffice image s → HoldsOfficeAt image s
@@ -84,17 +84,17 @@ module _ {D : Type 0} {g : Ghosts D} (old : Image) (s : State) (Is : State → T
     files_at (files.Closed it) copied = closed_at it copied
     files_at (files.Unclosed store) closed = unclosed_at store closed
 
--- each word leaves its files so
-pub word_leaves : IsOneDatabase → StaySound → IsEnded → {D : Type 0} {g : Ghosts D} (image : Image) (s : State) (order : Ordered) (text : List ℕ) (written after : Option (List ℕ)) (ending : Ending) (left : FilesLeft D g)
+-- each command leaves its files so
+pub command_leaves : IsOneDatabase → StaySound → IsEnded → {D : Type 0} {g : Ghosts D} (image : Image) (s : State) (order : Command) (text : List ℕ) (written after : Option (List ℕ)) (ending : Ending) (left : FilesLeft D g)
     → HoldsOfficeAt image s → RunsInFiles left image order (Some text) written after ending → LeavesFilesAt image s (IsLeftBy order text written after ending s) left
-word_leaves one stay ends image s order text written after ending left holds (inl none) = unopened_at image s (IsLeftBy order text written after ending s) left none.1
-word_leaves one stay ends image s order text written after ending left holds (inr (last, over, is_left)) =
+command_leaves one stay ends image s order text written after ending left holds (inl none) = unopened_at image s (IsLeftBy order text written after ending s) left none.1
+command_leaves one stay ends image s order text written after ending left holds (inr (last, over, is_left)) =
     let ed = holds.office.edition in
     let held : HeldOffice ed image holds.trees = record { held = holds.held; office = holds.office.office } in
     files_at image s (IsLeftBy order text written after ending s) last
     (λ clean.
     let was = over.opened.rest clean ed holds.trees held in
-    word_left one stay ends over_files over.was last s clean holds.office.sound ed was.0 (subst (RepresentsRowsIn ed (rows_of s)) (sym was.1) holds.office.rows) order text written after ending over.ends)
+    command_left one stay ends over_files over.was last s clean holds.office.sound ed was.0 (subst (RepresentsRowsIn ed (rows_of s)) (sym was.1) holds.office.rows) order text written after ending over.ends)
     over.stays left is_left
 
 -- and so does a service

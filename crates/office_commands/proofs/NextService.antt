@@ -16,18 +16,21 @@ use Rattle.office_sql.specs.Office.{IsAtRestOver}
 use Rattle.office_store.specs.RepresentsRows.{RepresentsRowsIn}
 use Rattle.office_store.specs.declared.fault.Fault.{Fault}
 use Rattle.office_store.specs.declared.fault.Fault.TheVariants as fault
+use Rattle.office_desk.specs.Contents.{IsContentRead}
 use Rattle.office_desk.specs.Desk.{DeskState}
 use Rattle.office_desk.specs.Headline.{AreWellFormed}
 use Rattle.office_desk.specs.Leaving.{IsAt, StopsAt, StopsLeaving}
 use Rattle.office_desk.specs.Outcomes.{ActsCameTo, ActsLead, ActsOutcome, all_done, stopped}
+use Rattle.office_desk.specs.Resumptions.{none_open, run_closed, run_stopped}
 use Rattle.office_desk.proofs.Found.{after-append}
 use Rattle.office_desk.proofs.StepFates.{after_run, run_steps}
 use Rattle.office_json.specs.Lists.{NoActs, acts_in, bad_act, not_json}
-use Rattle.office_wire.specs.Answering.{AnyAnswer, IsUnreported, PerformsAsked, Resumes, Serves}
+use Rattle.office_wire.specs.Answering.{AnyAnswer, PerformsAsked, Resumes, Serves}
 use Rattle.office_wire.specs.Connections.{Turn, Turns}
 use Rattle.office_wire.specs.Serving.{LeavesServed}
-use Rattle.office_http.specs.Receiving.{Wanted, acts, certificate_reported, content_reported, cut, due_reported, overdue_reported, record_reported, refused, resumption}
-use Rattle.office_commands.specs.NextWord.{IsServedTo, LeavesAt}
+use Rattle.office_http.specs.Receiving.{Wanted, acts, cut, refused, requested}
+use Rattle.office_http.specs.declared.path_request.PathRequest.TheVariants as path
+use Rattle.office_commands.specs.NextCommand.{IsServedTo, LeavesAt}
 use Rattle.office_commands.specs.Serving.{IsDeskOf, ServiceEnds}
 use Rattle.office_commands.specs.declared.ending.Ending.{Ending}
 use Rattle.office_commands.proofs.NextStates.{IsEnded, IsOneDatabase, StaySound, at_rows, at_stop, at_unopened, well_formed_prefix, found_same, sound_acts, sound_steps}
@@ -89,38 +92,38 @@ module _ (stay : StaySound) (ends : IsEnded) {S : Type 0} (g : Ghosts S) where
     acts_served (Err (bad_act place why)) it = as_it_was t d it.1
 
     run_served : Resumes AnyAnswer g t d → ServedAt t d
-    run_served (inl (run, it)) =
+    run_served (run_closed run, told, it) =
         let n = suc (length (candidates t.office run)) in
-        inl (whole t run, subst (IsServedTo t) (ends t run it.was_open) (steps_to n t), it.closed)
-    run_served (inr (inl it)) = as_it_was t d it.represents
-    run_served (inr (inr (f, it))) =
-        let n = it.stopped.0 in
-        stop_served t (after_steps t n) (after_steps t (suc n)) (steps_to n t) (steps_to (suc n) t) (sound_steps stay n t sound) (sound_steps stay (suc n) t sound) f d it.stopped.1 it.stopped.2
+        inl (whole t run, subst (IsServedTo t) (ends t run it.fits) (steps_to n t), it.leads)
+    run_served (none_open, told, it) = as_it_was t d it.leads
+    run_served (run_stopped f, told, it) =
+        let n = it.leads.0 in
+        stop_served t (after_steps t n) (after_steps t (suc n)) (steps_to n t) (steps_to (suc n) t) (sound_steps stay n t sound) (sound_steps stay (suc n) t sound) f d it.leads.1 it.leads.2
 
-    unreported_served : (r : ℕ) (f : Fault) → IsUnreported AnyAnswer g t r f d → ServedAt t d
-    unreported_served r fault.Store it = inr (it.poisoned refl, λ db may. (t, ([], tt, refl), record { edition = edition.Two; office = it.offices db may; sound = sound; rows = it.leaves db may }))
-    unreported_served r fault.Memory it = as_it_was t d (it.kept (λ e. cc))
-    unreported_served r fault.Reopen it = as_it_was t d (it.kept (λ e. cc))
-    unreported_served r fault.Damaged it = as_it_was t d (it.kept (λ e. cc))
-    unreported_served r fault.Version it = as_it_was t d (it.kept (λ e. cc))
+    unread_served : (r : ℕ) (f : Fault) → IsContentRead g t r (Err f) d → ServedAt t d
+    unread_served r fault.Store it = inr (it.ends.poisoned refl, λ db may. (t, ([], tt, refl), record { edition = edition.Two; office = it.offices db may; sound = sound; rows = it.leaves db may }))
+    unread_served r fault.Memory it = as_it_was t d (it.ends.kept (λ e. cc))
+    unread_served r fault.Reopen it = as_it_was t d (it.ends.kept (λ e. cc))
+    unread_served r fault.Damaged it = as_it_was t d (it.ends.kept (λ e. cc))
+    unread_served r fault.Version it = as_it_was t d (it.ends.kept (λ e. cc))
 
     wanted_served : (it : Wanted) → Serves AnyAnswer g t it d → ServedAt t d
     wanted_served (refused check) served = as_it_was t d served.1
     wanted_served cut served = as_it_was t d served.1
     wanted_served (acts body) served = acts_served (acts_in body) served
-    wanted_served resumption served = run_served served
-    wanted_served (record_reported None) served = as_it_was t d served.1
-    wanted_served (record_reported (Some r)) served = as_it_was t d served.1
-    wanted_served (content_reported None) served = as_it_was t d served.1
-    wanted_served (content_reported (Some r)) (inl it) = as_it_was t d it.3
-    wanted_served (content_reported (Some r)) (inr (f, it)) = unreported_served r f it
-    wanted_served (due_reported None) served = as_it_was t d served.1
-    wanted_served (due_reported (Some day)) served = as_it_was t d served.1
-    wanted_served (overdue_reported None count) served = as_it_was t d served.1
-    wanted_served (overdue_reported (Some day) None) served = as_it_was t d served.1
-    wanted_served (overdue_reported (Some day) (Some n)) served = as_it_was t d served.1
-    wanted_served (certificate_reported None) served = as_it_was t d served.1
-    wanted_served (certificate_reported (Some run)) served = as_it_was t d served.1
+    wanted_served (requested path.Resume) served = run_served served
+    wanted_served (requested (path.Record None)) served = as_it_was t d served.1
+    wanted_served (requested (path.Record (Some r))) served = as_it_was t d served.1
+    wanted_served (requested (path.Content None)) served = as_it_was t d served.1
+    wanted_served (requested (path.Content (Some r))) (Ok content, told, it) = as_it_was t d it.ends.represents
+    wanted_served (requested (path.Content (Some r))) (Err f, told, it) = unread_served r f it
+    wanted_served (requested (path.Due None)) served = as_it_was t d served.1
+    wanted_served (requested (path.Due (Some day))) served = as_it_was t d served.1
+    wanted_served (requested (path.Overdue None count)) served = as_it_was t d served.1
+    wanted_served (requested (path.Overdue (Some day) None)) served = as_it_was t d served.1
+    wanted_served (requested (path.Overdue (Some day) (Some n))) served = as_it_was t d served.1
+    wanted_served (requested (path.Certificate None)) served = as_it_was t d served.1
+    wanted_served (requested (path.Certificate (Some run))) served = as_it_was t d served.1
 
     left_served : LeavesServed g t d → ServedAt t d
     left_served (it, served) = wanted_served it served
@@ -150,12 +153,9 @@ module _ (stay : StaySound) (ends : IsEnded) {S : Type 0} (g : Ghosts S) where
 module _ (one : IsOneDatabase) (stay : StaySound) (ends : IsEnded) {S : Type 0} (g : Ghosts S) (old new : Held S) (s : State) (clean : HasCleanDisk (state g new)) (sound : IsSound s) where
   -- the desk that was opened is at the state at which the office was
   desk_at : (ed : Edition) (desk : DeskState S) → IsAtRestOver ed (state g old) → RepresentsRowsIn ed (rows_of s) (state g old).now.trees → IsDeskOf g old desk → HasCleanDisk (state g desk.held) → IsAt g s desk
-  desk_at edition.One desk rest rows of clean_desk =
-      let m = of.moved clean_desk rest in
-      subst (λ (t : State). IsAt g t desk) (found_same one stay ends (state g old) (state g new) s clean sound edition.One m.0 rows m.1) m.2
-  desk_at edition.Two desk rest rows of clean_desk =
-      let m = of.found clean_desk rest in
-      subst (λ (t : State). IsAt g t desk) (found_same one stay ends (state g old) (state g new) s clean sound edition.Two m.0 rows m.1) m.2
+  desk_at ed desk rest rows of clean_desk =
+      let m = of.opened.found ed clean_desk rest in
+      subst (λ (t : State). IsAt g t desk) (found_same one stay ends (state g old) (state g new) s clean sound ed m.0 rows m.1) m.2
 
   pub service_left : (ed : Edition) → IsAtRestOver ed (state g old) → RepresentsRowsIn ed (rows_of s) (state g old).now.trees → (port count : ℕ) (written after : Option (List ℕ)) (ending : Ending) → ServiceEnds g port count old new written after ending
       → LeavesAt (IsServedTo s) (state g new)

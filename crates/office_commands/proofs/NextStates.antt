@@ -1,4 +1,4 @@
--- At which state a word leaves an office, whatever a crash leaves of it.
+-- At which state a command leaves an office, whatever a crash leaves of it.
 use Rattle.std.proofs.Common.{◌≡◌, ◌⊎◌, inl, inr, ℕ, ℤ, zero, suc, ◌+◌, List, [], ◌∷◌, ◌++◌, length, take, Option, Some, None, Result, Ok, Err, refl, sym, ap, subst, ◌∙◌, append-nil, arith}
 use Rattle.std.proofs.Math.Seq.{take-length}
 use Rattle.std.specs.Prelude.{option_map}
@@ -30,22 +30,24 @@ use Rattle.office_desk.specs.Headline.{AreWellFormed}
 use Rattle.office_desk.specs.Leaving.{StopsLeaving}
 use Rattle.office_desk.specs.Opening.{RepresentIn}
 use Rattle.office_desk.specs.Outcomes.{ActsCameTo, ActsOutcome, all_done, stopped, answered_acts}
+use Rattle.office_desk.specs.Resumptions.{RunLeft, none_open, run_closed, run_stopped}
 use Rattle.office_desk.proofs.RunSteps.{step_run}
 use Rattle.office_json.specs.Answers.{answer_lines}
 use Rattle.office_json.specs.Lists.{acts_in}
 use Rattle.office_csv.specs.ImportRows.{Fields, act_asked}
 use Rattle.office_wire.specs.Importing.{AreLinesOut, ArePrefixRows, AreRowsDone, AreSomeRows, IsAnsweredBy, lines_from}
-use Rattle.office_command_line.specs.Orders.{Ordered, application_ordered, certificate_ordered, due_day_ordered, exportation_ordered, importation_ordered, init_file_ordered, nothing_ordered, overdue_ordered, plan_file_ordered, resumption_ordered, service_ordered}
+use Rattle.office_command_line.specs.Orders as command
+use Rattle.office_command_line.specs.Orders.{Command}
 use Rattle.office_command_line.specs.declared.register.Register.{Register}
 use Rattle.office_command_line.specs.declared.register.Register.TheVariants as register
 use Rattle.office_commands.specs.Applying.{Applies, Performs}
 use Rattle.office_commands.specs.Certifying.{CertificateEnds}
 use Rattle.office_commands.specs.Exporting.{ExportEnds}
-use Rattle.office_wire.specs.declared.importing.ImportStop.{ImportStop}
-use Rattle.office_wire.specs.declared.importing.ImportStop.TheVariants as import
+use Rattle.office_wire.specs.declared.record_import.ImportStop.{ImportStop}
+use Rattle.office_wire.specs.declared.record_import.ImportStop.TheVariants as import
 use Rattle.office_commands.specs.Importing.{AreImported, ImportsAt, IsRowCut, ending_of_import}
-use Rattle.office_commands.specs.NextWord.{AreActsDone, AreRowsAdded, AreStepsTaken, AreWritten, IsLeftBy, IsOfficeAt, IsUntouched, LeavesAt}
-use Rattle.office_commands.specs.Opening.{IsNotOpened, IsOfOpened, IsOpened, IsRestKept, IsUnopened}
+use Rattle.office_commands.specs.NextCommand.{AreActsDone, AreRowsAdded, AreStepsTaken, AreWritten, IsLeftBy, IsOfficeAt, IsUntouched, LeavesAt}
+use Rattle.office_commands.specs.Opening.{FromOpened, IsNotOpened, IsOpened, IsRestKept, IsUnopened}
 use Rattle.office_commands.specs.Resuming.{ResumeEnds, Resumes}
 use Rattle.office_commands.specs.Making.{InitEnds}
 use Rattle.office_commands.specs.Running.{RunEnds}
@@ -116,13 +118,8 @@ module _ (one : IsOneDatabase) (stay : StaySound) (ends : IsEnded) (old new : Fi
   pub found_same : (ed : Edition) (t : State) → RepresentsRowsIn ed (rows_of s) old.now.trees → RepresentIn ed old.now.trees t → t ≡ s
   found_same ed t rows found = one ed t s old.now.trees found.sound sound found.rows rows
 
-  pub of_opened : (ed : Edition) (P : State → Type 0) → IsAtRestOver ed old → RepresentsRowsIn ed (rows_of s) old.now.trees → IsOfOpened old new P → P s
-  of_opened edition.One P rest rows it = let m = it.moved clean rest in subst P (found_same edition.One m.0 rows m.1) m.2
-  of_opened edition.Two P rest rows it = let m = it.found clean rest in subst P (found_same edition.Two m.0 rows m.1) m.2
-
-  rows_opened : (ed : Edition) → IsAtRestOver ed old → RepresentsRowsIn ed (rows_of s) old.now.trees → IsOpened old new → HoldsRows (rows_of s) new
-  rows_opened edition.One rest rows it = let m = it.moved clean rest in subst (λ (t : State). HoldsRows (rows_of t) new) (found_same edition.One m.0 rows m.1) m.2
-  rows_opened edition.Two rest rows it = let m = it.found clean rest in subst (λ (t : State). HoldsRows (rows_of t) new) (found_same edition.Two m.0 rows m.1) m.2
+  pub of_opened : (ed : Edition) (P : State → Type 0) → IsAtRestOver ed old → RepresentsRowsIn ed (rows_of s) old.now.trees → FromOpened old new P → P s
+  of_opened ed P rest rows it = let m = it.found ed clean rest in subst P (found_same ed m.0 rows m.1) m.2
 
   -- what was there before
   at_before : (ed : Edition) → IsAtRestOver ed old → RepresentsRowsIn ed (rows_of s) old.now.trees → (db : Trees) → old.may_leave db → IsOfficeAt db s
@@ -136,11 +133,11 @@ module _ (one : IsOneDatabase) (stay : StaySound) (ends : IsEnded) (old new : Fi
       }
 
   pub at_unopened : (ed : Edition) (f : Fault) → IsAtRestOver ed old → RepresentsRowsIn ed (rows_of s) old.now.trees → IsUnopened f old new → (db : Trees) → new.may_leave db → IsOfficeAt db s
-  at_unopened edition.One f rest rows it db may = elim (it.leaves_old clean rest db may) [
+  at_unopened edition.One f rest rows it db may = elim (((it.left clean).office edition.One rest).leaves db may) [
     | inl before ↦ at_before edition.One rest rows db before
     | inr next ↦ record { edition = edition.Two; office = next.3; sound = sound; rows = subst (λ (t : State). RepresentsRows (rows_of t) db) (found_same edition.One next.0 rows next.1) next.2 }
   ]
-  at_unopened edition.Two f rest rows it db may = at_before edition.Two rest rows db (it.leaves clean rest db may)
+  at_unopened edition.Two f rest rows it db may = at_before edition.Two rest rows db (((it.left clean).office edition.Two rest).leaves db may)
 
   module _ (ed : Edition) (rest : IsAtRestOver ed old) (rows : RepresentsRowsIn ed (rows_of s) old.now.trees) where
     -- the state is left
@@ -154,7 +151,7 @@ module _ (one : IsOneDatabase) (stay : StaySound) (ends : IsEnded) (old new : Fi
     not_opened written after ending it = (at_unopened ed it.0 rest rows it.2, it.3)
 
     opened_left : IsOpened old new → LeavesAt (λ u. u ≡ s) new
-    opened_left it = same_left (at_rows new s sound (rows_opened ed rest rows it))
+    opened_left it = same_left (at_rows new s sound (of_opened ed (λ t. HoldsRows (rows_of t) new) rest rows it.opened))
 
     -- ---- init
 
@@ -203,7 +200,7 @@ module _ (one : IsOneDatabase) (stay : StaySound) (ends : IsEnded) (old new : Fi
               | inr next ↦ (w, inr (record { acts = acts; read = read; count = n; within = it.fits.0; answered = reported; state = inr refl }), next)
             ]
 
-        performs_left : (ending : Ending) → Performs (IsOfOpened old new) acts new written after ending → LeavesAt (ActsLeft ending) new
+        performs_left : (ending : Ending) → Performs (FromOpened old new) acts new written after ending → LeavesAt (ActsLeft ending) new
         performs_left ending it =
             let came = of_opened ed (λ t. ActsCameTo t acts it.outcome new) rest rows it.came in
             came_left ending it.outcome came (elim it.reported [
@@ -211,7 +208,7 @@ module _ (one : IsOneDatabase) (stay : StaySound) (ends : IsEnded) (old new : Fi
               | inr some ↦ inr (some.1, subst (λ (xs : List Answer). AppendsSome written after (answer_lines xs)) came.answered some.0)
             ])
 
-      applies_left : (ending : Ending) → IsNotOpened old new written after ending ⊎ IsRestKept old new × Applies (IsOfOpened old new) text new written after ending → LeavesAt (ActsLeft ending) new
+      applies_left : (ending : Ending) → IsNotOpened old new written after ending ⊎ IsRestKept old new × Applies (FromOpened old new) text new written after ending → LeavesAt (ActsLeft ending) new
       applies_left ending (inl none) = let it = not_opened written after ending none in untouched (ActsLeft ending) written after inl it.1 it.0
       applies_left ending (inr (kept, inl unread)) = untouched (ActsLeft ending) written after inl unread.2 (at_rows new s sound (of_opened ed (λ t. HoldsRows (rows_of t) new) rest rows unread.1))
       applies_left ending (inr (kept, inr it)) = performs_left it.0 it.1 ending it.2
@@ -291,7 +288,7 @@ module _ (one : IsOneDatabase) (stay : StaySound) (ends : IsEnded) (old new : Fi
       imports_left ending (Err (import.Fault f)) is (fs, reported, u, done, lines, inr it) = cut_row ending fs reported u it.0 f it.1 done lines it.2
       imports_left ending (Err import.Io) is (fs, reported, u, prefix, done, holds, out) = added ending fs reported u prefix done (inr (is, out)) holds
 
-      import_left : (ending : Ending) → IsNotOpened old new written after ending ⊎ ImportsAt (IsOfOpened old new) day text new written after ending → LeavesAt (RowsLeft ending) new
+      import_left : (ending : Ending) → IsNotOpened old new written after ending ⊎ ImportsAt (FromOpened old new) day text new written after ending → LeavesAt (RowsLeft ending) new
       import_left ending (inl none) = let it = not_opened written after ending none in untouched (RowsLeft ending) written after inl it.1 it.0
       import_left ending (inr (done, is, it)) = imports_left ending done is (of_opened ed (AreImported day text done new written after) rest rows it)
 
@@ -309,14 +306,15 @@ module _ (one : IsOneDatabase) (stay : StaySound) (ends : IsEnded) (old new : Fi
     none_taken : (ending : Ending) → (ending ≡ how.Done → ⊥) → ((db : Trees) → new.may_leave db → IsOfficeAt db s) → LeavesAt (AreStepsTaken ending s) new
     none_taken ending other at db may = (s, record { count = 0; state = refl; closed = λ done. absurd (other done) }, at db may)
 
-    resumes_left : (written after : Option (List ℕ)) (ending : Ending) → Resumes (IsOfOpened old new) new written after ending → LeavesAt (AreStepsTaken ending s) new
-    resumes_left written after ending (inl (Some run, it, reported)) = let at = of_opened ed _ rest rows it in whole_left ending run at.was_open at.is_whole
-    resumes_left written after ending (inl (None, it, reported)) = none_taken ending (λ done. let other : how.Refused refused.NoRun ≡ how.Done = sym reported.0 ∙ done in cc) (at_rows new s sound (of_opened ed _ rest rows it).rows)
-    resumes_left written after ending (inr (f, it, is, same)) =
-        let at = of_opened ed _ rest rows it in
-        let n = at.stopped.0 in
-        let not_done : ending ≡ how.Done → ⊥ = λ done. let other : how.Fault f ≡ how.Done = sym is ∙ done in cc in
-        λ db may. elim (at_stop new (after_steps s n) (after_steps s (suc n)) f (sound_steps stay n s sound) (sound_steps stay (suc n) s sound) at.stopped.1 db may) [
+    resumes_left : (written after : Option (List ℕ)) (ending : Ending) → Resumes (FromOpened old new) new written after ending → LeavesAt (AreStepsTaken ending s) new
+    resumes_left written after ending (run_closed run, it, reported) = let at = of_opened ed (RunLeft (run_closed run) new) rest rows it in whole_left ending run at.fits at.leaves
+    resumes_left written after ending (none_open, it, reported) =
+        none_taken ending (λ done. let other : how.Refused refused.NoRun ≡ how.Done = sym reported.0 ∙ done in cc) (at_rows new s sound (of_opened ed (RunLeft none_open new) rest rows it).leaves)
+    resumes_left written after ending (run_stopped f, it, reported) =
+        let at = of_opened ed (RunLeft (run_stopped f) new) rest rows it in
+        let n = at.leaves.0 in
+        let not_done : ending ≡ how.Done → ⊥ = λ done. let other : how.Fault f ≡ how.Done = sym reported.0 ∙ done in cc in
+        λ db may. elim (at_stop new (after_steps s n) (after_steps s (suc n)) f (sound_steps stay n s sound) (sound_steps stay (suc n) s sound) at.leaves.1 db may) [
           | inl here ↦ (after_steps s n, record { count = n; state = refl; closed = λ done. absurd (not_done done) }, here)
           | inr next ↦ (after_steps s (suc n), record { count = suc n; state = refl; closed = λ done. absurd (not_done done) }, next)
         ]
@@ -325,25 +323,25 @@ module _ (one : IsOneDatabase) (stay : StaySound) (ends : IsEnded) (old new : Fi
     resume_left written after ending (inl none) = none_taken ending (λ done. let other : how.Fault none.0 ≡ how.Done = sym none.1 ∙ done in cc) (not_opened written after ending none).0
     resume_left written after ending (inr it) = resumes_left written after ending it.1
 
--- ---- each word
+-- ---- each command
 
 module _ (one : IsOneDatabase) (stay : StaySound) (ends : IsEnded) {S : Type 0} (g : Ghosts S) (old new : Held S) (s : State) (clean : HasCleanDisk (state g new)) (sound : IsSound s) (ed : Edition) (rest : IsAtRestOver ed (state g old)) (rows : RepresentsRowsIn ed (rows_of s) (state g old).now.trees) where
   -- where the connection is as it was
   same_held : new ≡ old → LeavesAt (λ u. u ≡ s) (state g new)
   same_held same = subst (λ (h : Held S). LeavesAt (λ u. u ≡ s) (state g h)) (sym same) (λ db may. (s, refl, at_before one stay ends (state g old) (state g new) s clean sound ed rest rows db may))
 
-  pub word_left : (order : Ordered) (text : List ℕ) (written after : Option (List ℕ)) (ending : Ending) → RunEnds g order (Some text) old new written after ending → LeavesAt (IsLeftBy order text written after ending s) (state g new)
-  word_left nothing_ordered text written after ending it = same_held it.1
-  word_left (due_day_ordered unit count offset day) text written after ending it = same_held it.1
-  word_left (plan_file_ordered file) text written after ending it = same_held it.1
-  word_left (service_ordered file port count) text written after ending it = same_held it.1
-  word_left (init_file_ordered file) text written after ending it = init_left one stay ends (state g old) (state g new) s clean sound ed rest rows written after ending it
-  word_left (application_ordered file acts) text written after ending (inl none) = λ db may.
+  pub command_left : (order : Command) (text : List ℕ) (written after : Option (List ℕ)) (ending : Ending) → RunEnds g order (Some text) old new written after ending → LeavesAt (IsLeftBy order text written after ending s) (state g new)
+  command_left command.nothing text written after ending it = same_held it.1
+  command_left (command.due unit count offset day) text written after ending it = same_held it.1
+  command_left (command.plan file) text written after ending it = same_held it.1
+  command_left (command.serve file port count) text written after ending it = same_held it.1
+  command_left (command.init file) text written after ending it = init_left one stay ends (state g old) (state g new) s clean sound ed rest rows written after ending it
+  command_left (command.apply file acts) text written after ending (inl none) = λ db may.
       let here = same_held none.1 db may in
       (s, inl (refl, none.2), subst (IsOfficeAt db) here.1 here.2)
-  word_left (application_ordered file acts) text written after ending (inr it) = applies_left one stay ends (state g old) (state g new) s clean sound ed rest rows text written after ending it
-  word_left (importation_ordered file day csv) text written after ending it = import_left one stay ends (state g old) (state g new) s clean sound ed rest rows day (option_map strip_bom (Some text)) written after ending it
-  word_left (overdue_ordered file day n) text written after ending it = export_left one stay ends (state g old) (state g new) s clean sound ed rest rows (register.Overdue day n) written after ending it
-  word_left (exportation_ordered file register) text written after ending it = export_left one stay ends (state g old) (state g new) s clean sound ed rest rows register written after ending it
-  word_left (resumption_ordered file) text written after ending it = resume_left one stay ends (state g old) (state g new) s clean sound ed rest rows written after ending it
-  word_left (certificate_ordered file run) text written after ending it = certificate_left one stay ends (state g old) (state g new) s clean sound ed rest rows run written after ending it
+  command_left (command.apply file acts) text written after ending (inr it) = applies_left one stay ends (state g old) (state g new) s clean sound ed rest rows text written after ending it
+  command_left (command.import file day csv) text written after ending it = import_left one stay ends (state g old) (state g new) s clean sound ed rest rows day (option_map strip_bom (Some text)) written after ending it
+  command_left (command.overdue file day n) text written after ending it = export_left one stay ends (state g old) (state g new) s clean sound ed rest rows (register.Overdue day n) written after ending it
+  command_left (command.export file register) text written after ending it = export_left one stay ends (state g old) (state g new) s clean sound ed rest rows register written after ending it
+  command_left (command.resume file) text written after ending it = resume_left one stay ends (state g old) (state g new) s clean sound ed rest rows written after ending it
+  command_left (command.certificate file run) text written after ending it = certificate_left one stay ends (state g old) (state g new) s clean sound ed rest rows run written after ending it

@@ -4,21 +4,16 @@ use Rattle.sqlite.specs.Held.{Held, state}
 use Rattle.sqlite.specs.State.{HasCleanDisk}
 use Rattle.sqlite_trees.specs.declared.store.Store.{Ghosts}
 use Rattle.office_base.specs.declared.output.Io.{Io}
-use Rattle.office_sql.specs.declared.editions.Edition.TheVariants as edition
 use Rattle.office_desk.specs.Desk.{DeskState}
 use Rattle.office_desk.specs.Opening.{Opens}
 use Rattle.office_wire.specs.Connections.{Turn, Turns}
 use Rattle.office_commands.specs.Serving.{IsDeskOf, ServesAt}
 use Rattle.office_commands.specs.declared.ending.Ending.{Ending}
+use Rattle.office_commands.proofs.Desks.{desk_at}
 
 -- a desk that was opened over a connection is the one of it that a service has
 pub desk_of : {S : Type 0} (g : Ghosts S) (conn : Held S) (desk : DeskState S) → Opens g conn desk → IsDeskOf g conn desk
-desk_of g conn desk it = record {
-  is_open = it.is_open;
-  made = λ clean blank. (it.finds clean).made blank;
-  found = λ clean rest. (it.finds clean).found edition.Two rest;
-  moved = λ clean rest. (it.finds clean).found edition.One rest;
-}
+desk_of g conn desk it = record { is_open = it.is_open; opened = desk_at g conn desk it }
 
 pub clean_turn : {S : Type 0} (g : Ghosts S) (status : Result ℕ Io) (old new : DeskState S) → Turn g status old new → HasCleanDisk (state g new.held) → HasCleanDisk (state g old.held)
 clean_turn g status old new (inl failed) clean = subst (λ (d : DeskState _). HasCleanDisk (state g d.held)) failed.1 clean

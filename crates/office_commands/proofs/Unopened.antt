@@ -2,25 +2,17 @@
 use Rattle.std.proofs.Common.{ap, subst}
 use Rattle.sqlite.specs.Held.{Held, state}
 use Rattle.sqlite_trees.specs.declared.store.Store.{Ghosts}
-use Rattle.office_sql.specs.declared.editions.Edition.TheVariants as edition
 use Rattle.office_store.specs.declared.fault.Fault.{Fault}
 use Rattle.office_desk.specs.Opening.{GivesBack}
 use Rattle.office_commands.specs.Opening.{IsUnopened}
 
 pub unopened : {S : Type 0} (g : Ghosts S) (conn : Held S) (f : Fault) (back : Held S) → GivesBack g conn f back → IsUnopened f (state g conn) (state g back)
 unopened {S = S} g conn f back it = record {
-  version = λ ed clean rest. ((it.left clean).office ed rest).version;
-  damaged = λ ed clean rest. ((it.left clean).office ed rest).damaged;
-  this_version = λ ed clean rest. ((it.left clean).office ed rest).this_version;
+  left = it.left;
   anew = λ none. (it.anew none).faults;
   other_tables = λ none wrong. let is = (it.anew none).damaged wrong in (is.0, ap (λ (h : Held S). (state g h).now) is.1, λ db may. subst (λ (h : Held S). (state g h).may_leave db) is.1 may);
   always = λ none other. (it.anew none).other other;
   used = λ none in_use. let is = (it.anew none).used in_use in (ap (λ (h : Held S). (state g h).now) is, λ db may. subst (λ (h : Held S). (state g h).may_leave db) is may);
-  kept = λ ed clean rest. ((it.left clean).office ed rest).kept;
-  leaves = λ clean rest. ((it.left clean).office edition.Two rest).leaves;
-  leaves_old = λ clean rest. ((it.left clean).office edition.One rest).leaves;
-  leaves_first = λ clean blank. (it.left clean).first blank;
-  rest = λ clean. (it.left clean).rest;
   faults = it.faults;
   outside = it.ended;
 }

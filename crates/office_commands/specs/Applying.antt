@@ -15,7 +15,7 @@ use Rattle.office_commands.specs.Calling.{Reports}
 use Rattle.office_commands.specs.Endings.{ending_of_acts}
 use Rattle.office_commands.specs.declared.ending.Ending.{Ending}
 use Rattle.office_commands.specs.declared.ending.Ending.TheVariants as how
-use Rattle.office_commands.specs.Opening.{IsNotOpened, IsOfOpened, IsRestKept}
+use Rattle.office_commands.specs.Opening.{FromOpened, IsNotOpened, IsRestKept}
 
 -- acts were performed: what they came to is reported; and of the state at which the desk was, as Of says, they did
 pub record Performs (Of : (State → Type 0) → Type 0) (acts : List Act) (new : FileState)
@@ -45,7 +45,7 @@ Applies Of text new written after ending =
 abbrev pub TextEnds : List ℕ → FileState → FileState → Option (List ℕ) → Option (List ℕ) → Ending → Type 0
 TextEnds text old new written after ending =
     IsNotOpened old new written after ending
-    ⊎ IsRestKept old new × Applies (IsOfOpened old new) text new written after ending
+    ⊎ IsRestKept old new × Applies (FromOpened old new) text new written after ending
 
 -- the text of acts was not read to its end, or memory ran out for it, and nothing was done
 abbrev pub IsNoText : {S : Type 0} → Held S → Held S → Option (List ℕ) → Option (List ℕ) → Ending → Type 0

@@ -8,7 +8,7 @@ use Rattle.office_store.specs.declared.fault.Fault.TheVariants as fault
 use Rattle.office_commands.specs.Calling.{Reports}
 use Rattle.office_commands.specs.declared.ending.Ending.{Ending}
 use Rattle.office_commands.specs.declared.ending.Ending.TheVariants as how
-use Rattle.office_commands.specs.Opening.{IsNotOpened, IsOfOpened, IsOpened}
+use Rattle.office_commands.specs.Opening.{FromOpened, IsNotOpened, IsOpened}
 
 -- the certificate of the run in the state; None where there is none
 abbrev pub IsCertificate : ℕ → Option (List ℕ) → State → Type 0
@@ -30,4 +30,4 @@ Certifies Of run written after ending =
 abbrev pub CertificateEnds : ℕ → FileState → FileState → Option (List ℕ) → Option (List ℕ) → Ending → Type 0
 CertificateEnds run old new written after ending =
     IsNotOpened old new written after ending
-    ⊎ IsOpened old new × Certifies (IsOfOpened old new) run written after ending
+    ⊎ IsOpened old new × Certifies (FromOpened old new) run written after ending

@@ -11,7 +11,7 @@ use Rattle.office_command_line.specs.declared.register.Register.{Register}
 use Rattle.office_command_line.specs.declared.register.Register.TheVariants as register
 use Rattle.office_commands.specs.declared.ending.Ending.{Ending}
 use Rattle.office_commands.specs.declared.ending.Ending.TheVariants as how
-use Rattle.office_commands.specs.Opening.{IsNotOpened, IsOfOpened, IsOpened}
+use Rattle.office_commands.specs.Opening.{FromOpened, IsNotOpened, IsOpened}
 
 -- what stopped an export is reported as such
 abbrev pub ending_of_export : Result (Unit {0}) ExportStop → Ending
@@ -41,4 +41,4 @@ Exports Of it written after ending =
 -- opened stays as it was
 abbrev pub ExportEnds : Register → FileState → FileState → Option (List ℕ) → Option (List ℕ) → Ending → Type 0
 ExportEnds it old new written after ending =
-    IsNotOpened old new written after ending ⊎ IsOpened old new × Exports (IsOfOpened old new) it written after ending
+    IsNotOpened old new written after ending ⊎ IsOpened old new × Exports (FromOpened old new) it written after ending

@@ -16,14 +16,14 @@ use Rattle.sqlite.specs.State.{State as FileState, HasCleanDisk}
 use Rattle.office_sql.specs.declared.editions.Edition.{Edition}
 use Rattle.office_sql.specs.Office.{IsAtRestOver, IsBlank, IsOfficeIn}
 use Rattle.office_store.specs.declared.fault.Fault.TheVariants as fault
-use Rattle.office_command_line.specs.Orders.{Ordered}
+use Rattle.office_command_line.specs.Orders.{Command}
 use Rattle.office_commands.specs.Running.{RunEnds}
 use Rattle.office_commands.specs.Serving.{ServiceEnds}
 use Rattle.office_commands.specs.Tables.{HoldsTables, SparesTables}
 use Rattle.office_commands.specs.declared.ending.Ending.{Ending}
 use Rattle.office_commands.specs.declared.ending.Ending.TheVariants as how
-use Rattle.office_commands.specs.declared.opening.FilesLeft.{FilesLeft}
-use Rattle.office_commands.specs.declared.opening.FilesLeft.TheVariants as files
+use Rattle.office_commands.specs.declared.office_files.FilesLeft.{FilesLeft}
+use Rattle.office_commands.specs.declared.office_files.FilesLeft.TheVariants as files
 
 -- the two files held this database, which has the office's tables of that version, beside whatever else
 pub record HeldOffice (ed : Edition) (image : Image) (trees : Trees) : Type 0 where
@@ -84,7 +84,7 @@ EndsInFiles {D} {g} left image Ends written after ending =
     ⊎ ((last : Held (FileStore D g)) × EndsOver image Ends last × IsLeftOf last left)
 
 -- an order on the office in files that held this, where the reader reports the text that it reads
-abbrev pub RunsInFiles : {D : Type 0} {g : Ghosts D} → FilesLeft D g → Image → Ordered → Option (List ℕ)
+abbrev pub RunsInFiles : {D : Type 0} {g : Ghosts D} → FilesLeft D g → Image → Command → Option (List ℕ)
     → Option (List ℕ) → Option (List ℕ) → Ending → Type 0
 RunsInFiles left image order text written after ending =
     EndsInFiles left image (λ was last. RunEnds over_files order text was last written after ending) written after

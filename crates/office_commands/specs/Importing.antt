@@ -16,10 +16,10 @@ use Rattle.office_store.specs.declared.fault.Fault.TheVariants as fault
 use Rattle.office_desk.specs.Leaving.{StopsLeaving}
 use Rattle.office_csv.specs.ImportRows.{Fields, act_asked}
 use Rattle.office_csv.specs.ImportText.{LacksHeader}
-use Rattle.office_wire.specs.declared.importing.ImportStop.{ImportStop}
-use Rattle.office_wire.specs.declared.importing.ImportStop.TheVariants as import
+use Rattle.office_wire.specs.declared.record_import.ImportStop.{ImportStop}
+use Rattle.office_wire.specs.declared.record_import.ImportStop.TheVariants as import
 use Rattle.office_wire.specs.Importing.{AreAllRows, AreLinesOut, ArePrefixRows, AreRowsBeforeBad, AreRowsDone, AreSomeRows, lines_from, refused_count}
-use Rattle.office_commands.specs.Opening.{IsNotOpened, IsOfOpened}
+use Rattle.office_commands.specs.Opening.{FromOpened, IsNotOpened}
 use Rattle.office_commands.specs.declared.ending.Ending.{Ending}
 use Rattle.office_commands.specs.declared.ending.Ending.TheVariants as how
 
@@ -95,4 +95,4 @@ abbrev pub ImportEnds : ℤ → Option (List ℕ) → FileState → FileState �
     → Type 0
 ImportEnds day text old new written after ending =
     IsNotOpened old new written after ending
-    ⊎ ImportsAt (IsOfOpened old new) day (option_map strip_bom text) new written after ending
+    ⊎ ImportsAt (FromOpened old new) day (option_map strip_bom text) new written after ending

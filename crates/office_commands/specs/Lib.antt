@@ -6,7 +6,7 @@ pub mod Exporting
 pub mod Files
 pub mod Importing
 pub mod Making
-pub mod NextWord
+pub mod NextCommand
 pub mod Opening
 pub mod Reopening
 pub mod Resuming

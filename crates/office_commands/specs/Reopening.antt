@@ -13,12 +13,12 @@ use Rattle.sqlite.specs.Held.{Held}
 use Rattle.office_sql.specs.declared.editions.Edition.{Edition}
 use Rattle.office_sql.specs.Office.{IsOfficeIn}
 use Rattle.office_rules.specs.State.{State}
-use Rattle.office_command_line.specs.Orders.{Ordered}
+use Rattle.office_command_line.specs.Orders.{Command}
 use Rattle.office_commands.specs.Files.{HeldOffice, IsLeftOf, LeavesAnOffice, RunsInFiles, ServesInFiles}
-use Rattle.office_commands.specs.NextWord.{HoldsOfficeAt, HoldsWholeOffice, IsLeftBy, IsServedTo, LeavesFilesAt}
+use Rattle.office_commands.specs.NextCommand.{HoldsOfficeAt, HoldsWholeOffice, IsLeftBy, IsServedTo, LeavesFilesAt}
 use Rattle.office_commands.specs.declared.ending.Ending.{Ending}
-use Rattle.office_commands.specs.declared.opening.FilesLeft.{FilesLeft}
-use Rattle.office_commands.specs.declared.opening.FilesLeft.TheVariants as files
+use Rattle.office_commands.specs.declared.office_files.FilesLeft.{FilesLeft}
+use Rattle.office_commands.specs.declared.office_files.FilesLeft.TheVariants as files
 
 -- two files hold these tables of an office, as they read now and after any crash
 pub record KeepOffice {D : Type 0} (g : Ghosts D) (ed : Edition) (it : Files D) (trees : Trees) : Type 0 where
@@ -39,10 +39,10 @@ CrashHoldsOffice last =
     LeavesAnOffice (file_state last) → (left : Image) → (store_state last.store).may_leave left
     → ∥ ((trees : Trees) × (ed : Edition) × (file_state last).may_leave trees × HeldOffice ed left trees) ∥₁
 
--- over files that hold an office at a state a word was run: they hold one at a state at which the word leaves it
-abbrev pub WordLeavesOffice : {D : Type 0} → Ghosts D → Type 0
-WordLeavesOffice {D} g =
-    (image : Image) (s : State) (order : Ordered) (text : List ℕ) (written after : Option (List ℕ)) (ending : Ending)
+-- over files that hold an office at a state a command was run: they hold one at a state at which the command leaves it
+abbrev pub CommandLeavesOffice : {D : Type 0} → Ghosts D → Type 0
+CommandLeavesOffice {D} g =
+    (image : Image) (s : State) (order : Command) (text : List ℕ) (written after : Option (List ℕ)) (ending : Ending)
     (left : FilesLeft D g)
     → HoldsOfficeAt image s → RunsInFiles left image order (Some text) written after ending
     → LeavesFilesAt image s (IsLeftBy order text written after ending s) left

@@ -1,14 +1,15 @@
 -- How an order on the office in a file ends. Source: own.
 use Rattle.std.specs.Prelude.{◌≡◌, ℕ, List, ◌∷◌, [], ◌++◌, codes, Option}
 use Rattle.std.specs.Fmt.{decimal}
-use Rattle.sqlite.specs.Held.{Held}
+use Rattle.sqlite.specs.Held.{Held, state}
+use Rattle.sqlite.specs.State.{State as FileState}
 use Rattle.sqlite_trees.specs.declared.store.Store.{Ghosts}
-use Rattle.office_command_line.specs.Orders.{Ordered, application_ordered, certificate_ordered, due_day_ordered, exportation_ordered, importation_ordered, init_file_ordered, nothing_ordered, overdue_ordered, plan_file_ordered, resumption_ordered, service_ordered}
+use Rattle.office_command_line.specs.Orders as command
+use Rattle.office_command_line.specs.Orders.{Command}
 use Rattle.office_command_line.specs.declared.register.Register.TheVariants as register
 use Rattle.office_commands.specs.declared.ending.Ending.{Ending}
 use Rattle.office_commands.specs.declared.ending.Ending.TheVariants as how
 use Rattle.office_commands.specs.Applying.{ApplyEnds}
-use Rattle.office_commands.specs.Calling.{CarriedOut, Exits, Shown}
 use Rattle.office_commands.specs.Certifying.{CertificateEnds}
 use Rattle.office_commands.specs.Exporting.{ExportEnds}
 use Rattle.office_commands.specs.Importing.{ImportEnds}
@@ -23,24 +24,24 @@ listening_line port = codes "listening 127.0.0.1:" ++ decimal port ++ 10 ∷ []
 abbrev pub IsNotRun : {S : Type 0} → Held S → Held S → Option (List ℕ) → Option (List ℕ) → Ending → Type 0
 IsNotRun old new written after ending = (ending ≡ how.BadWords) × (new ≡ old) × (after ≡ written)
 
+-- how a command ends, by what the connections show
+abbrev pub Shown : {S : Type 0} → Ghosts S
+    → (FileState → FileState → Option (List ℕ) → Option (List ℕ) → Ending → Type 0) → Held S → Held S → Option (List ℕ)
+    → Option (List ℕ) → Ending → Type 0
+Shown g Ends old new written after ending = Ends (state g old) (state g new) written after ending
+
 -- what an order does, by its ending, where the reader reports the text that it reads; an order that is not carried out
 -- over a connection is none here, and nothing is done
-abbrev pub RunEnds : {S : Type 0} → Ghosts S → Ordered → Option (List ℕ) → Held S → Held S → Option (List ℕ)
+abbrev pub RunEnds : {S : Type 0} → Ghosts S → Command → Option (List ℕ) → Held S → Held S → Option (List ℕ)
     → Option (List ℕ) → Ending → Type 0
-RunEnds g nothing_ordered text = IsNotRun
-RunEnds g (due_day_ordered unit count offset day) text = IsNotRun
-RunEnds g (plan_file_ordered file) text = IsNotRun
-RunEnds g (service_ordered file port count) text = IsNotRun
-RunEnds g (init_file_ordered file) text = Shown g InitEnds
-RunEnds g (application_ordered file acts) text = ApplyEnds g text
-RunEnds g (importation_ordered file day csv) text = Shown g (ImportEnds day text)
-RunEnds g (overdue_ordered file day n) text = Shown g (ExportEnds (register.Overdue day n))
-RunEnds g (exportation_ordered file it) text = Shown g (ExportEnds it)
-RunEnds g (resumption_ordered file) text = Shown g ResumeEnds
-RunEnds g (certificate_ordered file run) text = Shown g (CertificateEnds run)
-
--- an order was carried out over a connection, with the status of its ending
-abbrev pub Runs : {S O : Type 0} → Ghosts S → Ordered → Option (List ℕ) → Held S → ℕ × Held S → (O → Option (List ℕ))
-    → O → O → Type 0
-Runs g order text old result contents out after =
-    Exits result.0 (λ ending. CarriedOut g old (ending, result.1) contents out after (RunEnds g order text))
+RunEnds g command.nothing text = IsNotRun
+RunEnds g (command.due unit count offset day) text = IsNotRun
+RunEnds g (command.plan file) text = IsNotRun
+RunEnds g (command.serve file port count) text = IsNotRun
+RunEnds g (command.init file) text = Shown g InitEnds
+RunEnds g (command.apply file acts) text = ApplyEnds g text
+RunEnds g (command.import file day csv) text = Shown g (ImportEnds day text)
+RunEnds g (command.overdue file day n) text = Shown g (ExportEnds (register.Overdue day n))
+RunEnds g (command.export file it) text = Shown g (ExportEnds it)
+RunEnds g (command.resume file) text = Shown g ResumeEnds
+RunEnds g (command.certificate file run) text = Shown g (CertificateEnds run)

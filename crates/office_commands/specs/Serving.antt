@@ -3,29 +3,19 @@ use Rattle.std.specs.Prelude.{◌≡◌, ◌⊎◌, ◌≤◌, ℕ, Bool, false,
 use Rattle.std.specs.Io.KnownBytes.{Appends}
 use Rattle.sqlite_trees.specs.declared.store.Store.{Ghosts}
 use Rattle.sqlite.specs.Held.{Held, state}
-use Rattle.sqlite.specs.State.{HasCleanDisk}
-use Rattle.office_rules.specs.State.{State, empty_state}
-use Rattle.office_sql.specs.declared.editions.Edition.TheVariants as edition
-use Rattle.office_sql.specs.Office.{IsAtRest, IsAtRestOver, IsBlank}
 use Rattle.office_desk.specs.Desk.{DeskState}
 use Rattle.office_desk.specs.Leaving.{IsAt}
-use Rattle.office_desk.specs.Opening.{OldRepresent, RepresentState}
 use Rattle.office_wire.specs.Connections.{Turns}
 use Rattle.office_commands.specs.declared.ending.Ending.{Ending}
 use Rattle.office_commands.specs.declared.ending.Ending.TheVariants as how
 use Rattle.office_commands.specs.Endings.{ending_of_service}
-use Rattle.office_commands.specs.Opening.{IsNotOpened}
+use Rattle.office_commands.specs.Opening.{FromOpened, IsNotOpened}
 use Rattle.office_commands.specs.Running.{listening_line}
 
--- a desk was opened over a connection: it is at the state of a new office where there was none, else at one that the
--- tables represent
+-- a desk was opened over a connection, at the state with which the office was opened
 pub record IsDeskOf {S : Type 0} (g : Ghosts S) (conn : Held S) (desk : DeskState S) : Type 0 where
   pub is_open : desk.is_poisoned ≡ false
-  pub made : HasCleanDisk (state g desk.held) → IsBlank (state g conn) → IsAt g empty_state desk
-  pub found : HasCleanDisk (state g desk.held) → IsAtRest (state g conn)
-      → (s : State) × RepresentState (state g conn).now.trees s × IsAt g s desk
-  pub moved : HasCleanDisk (state g desk.held) → IsAtRestOver edition.One (state g conn)
-      → (s : State) × OldRepresent (state g conn).now.trees s × IsAt g s desk
+  pub opened : FromOpened (state g conn) (state g desk.held) (λ t. IsAt g t desk)
 
 -- a desk was served, by the ending: where it listens was not reported, and nothing is served; or connections were, one
 -- after another, as many as were asked for or fewer where the desk was poisoned

@@ -1,4 +1,4 @@
-//! How a word of the program ends: the exit status, and the line on standard error.
+//! How a command of the program ends: the exit status, and the line on standard error.
 ghost use Rattle.std.specs.Prelude.{◌≡◌};
 
 use office_base::{Io, Refusal, Stop};

@@ -11,11 +11,11 @@ mod due_register;
 mod entry_register;
 mod fields;
 mod import_row;
+mod import_text;
 mod overdue_register;
-mod reading;
 
 pub use due_register::{write_due_header, write_due_line};
 pub use entry_register::{write_entry_header, write_entry_line};
 pub use import_row::{ImportRow, read_import_row};
+pub use import_text::{RowStop, import_reader, next_row, read_header, row_in};
 pub use overdue_register::{write_overdue_header, write_overdue_line};
-pub use reading::{RowStop, import_reader, next_row, read_header, row_in};

@@ -14,3 +14,4 @@ pub mod StepFates
 pub mod StepsSoFar
 pub mod Ended
 pub mod Outcomes
+pub mod Resumptions

@@ -1,17 +1,14 @@
 -- What a call of a desk does, from each state with its office, and what it leaves of the tables. Source: own.
-use Rattle.std.specs.Prelude.{◌≡◌, ◌≢◌, ◌⊎◌, ◌+◌, ℕ, suc, false, List, [], ◌∷◌, ◌++◌, take, Vec, Result, Err, MatchResult, IfErr, IfOk, IsTrue, OnOk, Option, Some, None, option_map}
-use Rattle.std.specs.Global.{Global}
+use Rattle.std.specs.Prelude.{◌≡◌, ◌⊎◌, ◌+◌, ℕ, suc, false, List, ◌++◌, take, Result, Err, MatchResult, IfErr, IfOk, IsTrue, OnOk, Some, None}
 use Rattle.sqlite.specs.Held.{state}
 use Rattle.sqlite.specs.State.{HasCleanDisk}
 use Rattle.sqlite_trees.specs.declared.store.Store.{Ghosts}
 use Rattle.office_rules.specs.Acts.{after, answers, step}
-use Rattle.office_rules.specs.Forms.{IsWellFormedAct}
 use Rattle.office_rules.specs.Rows.{rows_of}
-use Rattle.office_rules.specs.Runs.{IsMidway, after_steps, open_run, whole}
+use Rattle.office_rules.specs.Runs.{IsMidway, after_steps, open_run}
 use Rattle.office_rules.specs.State.{State}
 use Rattle.office_rules.specs.Writes.{all_office_writes, all_writes}
 use Rattle.office_rules.specs.declared.act.Act.{Act}
-use Rattle.office_rules.specs.declared.act.Act.TheVariants as act
 use Rattle.office_rules.specs.declared.answer.Answer.{Answer}
 use Rattle.office_rules.specs.declared.change.Change.{Change}
 use Rattle.office_sql.specs.Office.{Leaves, SparesRest}
@@ -19,9 +16,9 @@ use Rattle.office_store.specs.RepresentsRows.{HoldsRows, LeavesOffices}
 use Rattle.office_store.specs.declared.fault.Fault.{Fault}
 use Rattle.office_store.specs.declared.fault.Fault.TheVariants as fault
 use Rattle.office_desk.specs.Desk.{DeskState}
-use Rattle.office_desk.specs.Fates.{LeavesFates, LeavesStepFates}
+use Rattle.office_desk.specs.Fates.{LeavesFates}
 use Rattle.office_desk.specs.Headline.{AreWellFormed}
-use Rattle.office_desk.specs.Leaving.{IsContentReported, IsPrefixAnswered, IsOtherContent, LeavesRowsOf, IsAt, StopsAt, StopsLeaving}
+use Rattle.office_desk.specs.Leaving.{IsPrefixAnswered, IsAt, StopsAt, StopsLeaving}
 use Rattle.office_desk.specs.Resuming.{AreRunSteps, LeavesMidway, resumed_answer}
 
 -- whatever a crash leaves has all that is not the office's as it was
@@ -37,16 +34,6 @@ pub record Called {S : Type 0} (g : Ghosts S) (old new : DeskState S) (Did : Sta
   pub clean : HasCleanDisk (state g new.held) → HasCleanDisk (state g old.held)
   pub did : (s : State) → old.is_poisoned ≡ false → s.office ≡ old.office → Did s (WasAt g s old new)
   pub rest : (s : State) → HasCleanDisk (state g new.held) → IsAt g s old → LeavesRestOf g old new
-
--- by any desk
-pub record Asked {S : Type 0} (g : Ghosts S) (old new : DeskState S) (Gone Now : Type 0) (Did : State → Type 0 → Type 0)
-    : Type 0 where
-  -- one that was poisoned stays as it was, and is answered so
-  pub gone : IsTrue old.is_poisoned → (new ≡ old) × Gone
-  -- of one that was open this is so now
-  pub here : old.is_poisoned ≡ false → Now
-  -- and this was done
-  pub called : Called g old new Did
 
 -- a change was done in memory, and is answered
 pub record IsMade {S : Type 0} (change : Change) (answer : Answer) (old new : DeskState S) : Type 0 where
@@ -92,16 +79,6 @@ abbrev pub EndAct : {S : Type 0} (g : Ghosts S) (s : State) (a : Act) (result : 
     (old new : DeskState S) (At : Type 0) → Type 0
 EndAct g s a result old new At =
     MatchResult result (λ answer. IsDone g s a answer new At) (λ f. IsFaulted g s (step s a).1 f old new At)
-
--- and what a crash leaves at each end
-pub record PerformedOne {S : Type 0} (g : Ghosts S) (s : State) (a : Act) (result : Result Answer Fault)
-    (old new : DeskState S) (At : Type 0) : Type 0 where
-  pub formed : IsWellFormedAct a
-  pub ends : EndAct g s a result old new At
-  pub offices : At → LeavesOffices (state g new.held)
-  pub fates : At → LeavesFates s (a ∷ []) (state g new.held)
-  pub midway : (begun : State) (run : ℕ) → a ≡ act.RunStep → open_run begun.office ≡ Some run → IsMidway begun run s
-      → At → LeavesMidway begun run (state g new.held)
 
 -- acts were done, and are answered behind those that were given
 pub record AreDone {S : Type 0} (g : Ghosts S) (s : State) (acts : List Act) (given found : List Answer)
@@ -158,77 +135,6 @@ abbrev pub EndSteps : {S : Type 0} (g : Ghosts S) (s : State) (result : Result A
     (At : Type 0) → Type 0
 EndSteps g s result old new At =
     MatchResult result (λ answer. AreStepsDone g s answer old new At) (λ f. AreStepsStopped g s f old new At)
-
--- the run was closed as one that never stopped, or none was open
-pub record IsResumed {S : Type 0} (g : Ghosts S) (s : State) (answer : Answer) (old new : DeskState S) (At : Type 0) :
-    Type 0 where
-  pub answered : answer ≡ resumed_answer (open_run old.office)
-  pub is_open : new.is_poisoned ≡ false
-  pub office : (begun : State) (run : ℕ) → open_run begun.office ≡ Some run → IsMidway begun run s
-      → new.office ≡ (whole begun run).office
-  pub whole : (begun : State) (run : ℕ) → open_run begun.office ≡ Some run → IsMidway begun run s → At
-      → IsAt g (whole begun run) new
-  pub same : open_run old.office ≡ None → new.office ≡ old.office
-  pub none : open_run s.office ≡ None → At → IsAt g s new
-
--- and what a crash leaves
-pub record Resumed {S : Type 0} (g : Ghosts S) (s : State) (result : Result Answer Fault) (old new : DeskState S)
-    (At : Type 0) : Type 0 where
-  pub ends : MatchResult result (λ answer. IsResumed g s answer old new At) (λ f. AreStepsStopped g s f old new At)
-  pub left : open_run s.office ≡ None → At → LeavesRowsOf s (state g new.held)
-  pub midway : (begun : State) (run : ℕ) → open_run begun.office ≡ Some run → IsMidway begun run s → At
-      → LeavesMidway begun run (state g new.held)
-  pub offices : At → LeavesOffices (state g new.held)
-  pub fates : At → LeavesStepFates s (state g new.held)
-
--- ---- a content
-
--- a content is reported, and the desk stays
-pub record IsContentTaken {S : Type 0} (g : Ghosts S) (s : State) (r : ℕ) (bytes : Option (List ℕ)) (new : DeskState S)
-    (At : Type 0) : Type 0 where
-  pub reported : At → IsContentReported s r bytes
-  pub is_open : new.is_poisoned ≡ false
-  pub represents : At → IsAt g s new
-
--- a content is not reported
-pub record IsContentMissed {S : Type 0} (g : Ghosts S) (s : State) (r : ℕ) (f : Fault) (new : DeskState S) (At : Type 0)
-    : Type 0 where
-  pub faults : (f ≢ fault.Reopen) × (f ≢ fault.Version)
-  pub damaged : At → f ≡ fault.Damaged → IsOtherContent s r
-  -- where the database failed the desk is poisoned, and else it stays
-  pub poisoned : f ≡ fault.Store → IsTrue new.is_poisoned
-  pub kept : At → f ≢ fault.Store → IsAt g s new
-
--- how the reading of a content ends, and what a crash leaves
-pub record IsContentRead {S : Type 0} (g : Ghosts S) (s : State) (r : ℕ) (result : Result (Option (Vec ℕ Global)) Fault)
-    (old new : DeskState S) (At : Type 0) : Type 0 where
-  pub ends : MatchResult result (λ bytes. IsContentTaken g s r (option_map (λ it. it.items) bytes) new At)
-      (λ f. IsContentMissed g s r f new At)
-  pub office : new.office ≡ old.office
-  pub leaves : At → LeavesRowsOf s (state g new.held)
-  pub offices : At → LeavesOffices (state g new.held)
-
--- ---- the public calls
-
--- one act is performed
-abbrev pub PerformsOne : {S : Type 0} (g : Ghosts S) (a : Act) (result : Result Answer Fault) (old new : DeskState S)
-    → Type 0
-PerformsOne g a result old new =
-    Asked g old new (result ≡ Err fault.Reopen) (OnOk result (new.is_poisoned ≡ false))
-    (λ s At. PerformedOne g s a result old new At)
-
--- the open run is resumed
-abbrev pub ResumesRun : {S : Type 0} (g : Ghosts S) (result : Result Answer Fault) (old new : DeskState S) → Type 0
-ResumesRun g result old new =
-    Asked g old new (result ≡ Err fault.Reopen) (OnOk result (new.is_poisoned ≡ false))
-    (λ s At. Resumed g s result old new At)
-
--- the content of a record is read
-abbrev pub ReadsContent : {S : Type 0} (g : Ghosts S) (r : ℕ) (result : Result (Option (Vec ℕ Global)) Fault)
-    (old new : DeskState S) → Type 0
-ReadsContent g r result old new =
-    Asked g old new (result ≡ Err fault.Reopen) (OnOk result (new.is_poisoned ≡ false))
-    (λ s At. IsContentRead g s r result old new At)
 
 -- something is read of the office in memory
 pub record Reads {S X : Type 0} (desk : DeskState S) (Is : X → Type 0) (result : Result X Fault) : Type 0 where

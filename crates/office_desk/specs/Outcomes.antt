@@ -1,10 +1,11 @@
 -- What a call came to, as data, and what that means: for the answers, the desk, the file. Source: own.
-use Rattle.std.specs.Prelude.{◌≡◌, ◌+◌, ◌≤◌, ℕ, false, List, ◌++◌, drop, length, take, Result, Ok, Err, Some}
+use Rattle.std.specs.Prelude.{◌≡◌, ◌+◌, ◌≤◌, ℕ, false, List, [], ◌∷◌, ◌++◌, drop, length, take, IfOk, Result, Ok, Err, Some}
 use Rattle.sqlite.specs.Held.{state}
 use Rattle.sqlite.specs.State as sqlite
 use Rattle.sqlite.specs.State.{HasCleanDisk}
 use Rattle.sqlite_trees.specs.declared.store.Store.{Ghosts}
-use Rattle.office_rules.specs.Acts.{after, answers}
+use Rattle.office_rules.specs.Acts.{after, answers, step}
+use Rattle.office_rules.specs.Forms.{IsWellFormedAct}
 use Rattle.office_rules.specs.Rows.{rows_of}
 use Rattle.office_rules.specs.Runs.{IsMidway, open_run}
 use Rattle.office_rules.specs.Sound.{IsSound}
@@ -13,6 +14,7 @@ use Rattle.office_rules.specs.declared.act.Act.{Act}
 use Rattle.office_rules.specs.declared.answer.Answer.{Answer}
 use Rattle.office_store.specs.RepresentsRows.{HoldsRows, LeavesOffices}
 use Rattle.office_store.specs.declared.fault.Fault.{Fault}
+use Rattle.office_store.specs.declared.fault.Fault.TheVariants as fault
 use Rattle.office_desk.specs.Calling.{LeavesRestOf}
 use Rattle.office_desk.specs.Desk.{DeskState}
 use Rattle.office_desk.specs.Fates.{LeavesFates}
@@ -34,6 +36,11 @@ answers_of (stopped told f) = told
 abbrev pub acts_outcome : Result (Unit {0}) Fault → (given found : List Answer) → ActsOutcome
 acts_outcome (Ok done) given found = all_done (drop (length given) found)
 acts_outcome (Err f) given found = stopped (drop (length given) found) f
+
+-- the outcome of a call for one act, as of the list of it alone
+abbrev pub act_outcome : Result Answer Fault → ActsOutcome
+act_outcome (Ok answer) = all_done (answer ∷ [])
+act_outcome (Err f) = stopped [] f
 
 -- the acts that were answered
 abbrev pub answered_acts : List Act → ActsOutcome → List Act
@@ -68,6 +75,14 @@ pub record AreAnswered {S : Type 0} (s : State) (acts : List Act) (o : ActsOutco
   pub fits : CanComeTo acts o
   pub added : found ≡ given ++ answers s (answered_acts acts o)
   pub leads : ActsLead s acts o new
+
+-- one act was answered from a state, and in memory the desk is where it leads; where memory ran out, nothing was done
+pub record IsActAnswered {S : Type 0} (s : State) (a : Act) (result : Result Answer Fault) (old new : DeskState S) :
+    Type 0 where
+  pub formed : IsWellFormedAct a
+  pub answered : IfOk result (λ answer. answer ≡ (step s a).0)
+  pub leads : ActsLead s (a ∷ []) (act_outcome result) new
+  pub memory : result ≡ Err fault.Memory → new ≡ old
 
 -- acts from a state came to this: what was answered, and what a crash leaves of tables and contents, where all are steps
 -- of a run the run midway

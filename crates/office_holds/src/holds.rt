@@ -8,7 +8,7 @@ ghost use Rattle.office_rules.specs.Holds.{is_held, least_covering};
 
 use crate::Hold;
 use crate::counts::HoldCounts;
-use crate::finding::first_covering;
+use crate::least_hold::first_covering;
 use office_records::{Code, RecordNo};
 use office_tree::Tree;
 use std::alloc::Global;

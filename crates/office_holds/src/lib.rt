@@ -11,20 +11,20 @@
 //! above it, of which there are up to eight, and of its class.
 #![tactic(auto)]
 
-mod changing;
-mod checking;
-mod counting;
+mod change_steps;
+mod counted_changes;
 mod counts;
-mod examining;
-mod finding;
+mod held_class;
 mod hold;
+mod hold_acts;
+mod hold_refusals;
+mod hold_rows;
+mod hold_soundness;
 mod holds;
 pub mod laws;
-mod leaving;
-mod loading;
+mod least_hold;
 mod numbers;
 mod sets;
-mod storing;
 
 pub use hold::Hold;
 pub use holds::Holds;

@@ -7,7 +7,7 @@ use Rattle.std.specs.Io.KnownBytes.{Consumes}
 use Rattle.httparse.specs.Grammar.{RequestHead, print_request, HasNoRequest}
 use Rattle.httparse.specs.declared.spans.HeaderSpan.{HeaderSpan}
 use Rattle.office_http.specs.Requests.{IsRequest, IsHeadless, ReadsHead, headless}
-use Rattle.office_http.specs.declared.reading.Head.TheVariants.{Missing}
+use Rattle.office_http.specs.declared.head.Head.TheVariants.{Missing}
 
 not_empty : (a b : List ℕ) → a ≢ [] → a ++ b ≢ []
 not_empty [] b h = λ e. h refl

@@ -1,5 +1,5 @@
 -- A head that is served as acts has the method POST.
-use Rattle.std.proofs.Common.{◌≡◌, ◌≢◌, ap, refl, ℕ, List, Bool, true, false, Option, Some, None, codes, cond, bytes_eq, map}
+use Rattle.std.proofs.Common.{◌≡◌, ap, refl, ℕ, List, Bool, true, false, Option, Some, None, codes, cond, bytes_eq, map}
 use Rattle.std.proofs.lemmas.Slice.Eq.{bytes_eq-Decides}
 use Rattle.httparse.specs.Grammar.{RequestHead}
 use Rattle.httparse.specs.Spans.{name_and_value}
@@ -11,13 +11,13 @@ use Rattle.office_http.specs.declared.check.Check.TheVariants as checks
 use Rattle.office_http.specs.declared.paths.Resource.{Resource}
 use Rattle.office_http.specs.declared.paths.Resource.TheVariants as resources
 use Rattle.office_http.specs.declared.request_plan.RequestPlan.{RequestPlan}
-use Rattle.office_http.specs.declared.request_plan.RequestPlan.TheVariants.{Refuse, Serve}
-use Rattle.office_http.specs.declared.want.Want.{Want}
-use Rattle.office_http.specs.declared.want.Want.TheVariants as wants
+use Rattle.office_http.specs.declared.request_plan.RequestPlan.TheVariants.{Acts, Refuse, Serve}
+use Rattle.office_http.specs.declared.path_request.PathRequest.{PathRequest}
+use Rattle.office_http.specs.declared.path_request.PathRequest.TheVariants as requests
 
 -- a plan to do acts is one for POST
 abbrev IsPosted : List ℕ → RequestPlan → Type 0
-IsPosted method plan = (size : ℕ) → plan ≡ Serve (wants.Acts size) → bytes_eq method (codes "POST") ≡ true
+IsPosted method plan = (size : ℕ) → plan ≡ Acts size → bytes_eq method (codes "POST") ≡ true
 
 refused : (method : List ℕ) (check : Check) → IsPosted method (Refuse check)
 refused method check size same = cc
@@ -30,17 +30,17 @@ posted : (method : List ℕ) (b : Bool) (plan : RequestPlan) (check : Check) →
 posted method true plan check post size same = post
 posted method false plan check post size same = cc
 
-got : (method : List ℕ) (want : Want) → ((size : ℕ) → want ≢ wants.Acts size) → IsPosted method (get_plan method (Serve want))
-got method want other = chosen method (bytes_eq method (codes "GET")) (Serve want) (Refuse checks.NotGet) (λ size same. absurd (other size cc)) (refused method checks.NotGet)
+got : (method : List ℕ) (request : PathRequest) → IsPosted method (get_plan method (Serve request))
+got method request = chosen method (bytes_eq method (codes "GET")) (Serve request) (Refuse checks.NotGet) (λ size same. cc) (refused method checks.NotGet)
 
 resource_posted : (resource : Resource) (path method : List ℕ) (fields : List (List ℕ × List ℕ)) → IsPosted method (resource_plan resource path method fields)
 resource_posted resources.Acts path method fields = posted method (bytes_eq method (codes "POST")) (acts_plan fields) checks.NotPost refl
-resource_posted resources.OpenRun path method fields = posted method (bytes_eq method (codes "POST")) (Serve wants.Resume) checks.NotPost refl
-resource_posted resources.Record path method fields = got method _ (λ size same. cc)
-resource_posted resources.Content path method fields = got method _ (λ size same. cc)
-resource_posted resources.Due path method fields = got method _ (λ size same. cc)
-resource_posted resources.Overdue path method fields = got method _ (λ size same. cc)
-resource_posted resources.Certificate path method fields = got method _ (λ size same. cc)
+resource_posted resources.OpenRun path method fields = posted method (bytes_eq method (codes "POST")) (Serve requests.Resume) checks.NotPost refl
+resource_posted resources.Record path method fields = got method _
+resource_posted resources.Content path method fields = got method _
+resource_posted resources.Due path method fields = got method _
+resource_posted resources.Overdue path method fields = got method _
+resource_posted resources.Certificate path method fields = got method _
 
 path_posted : (resource : Option Resource) (path method : List ℕ) (fields : List (List ℕ × List ℕ)) → IsPosted method (path_plan resource path method fields)
 path_posted None path method fields = refused method checks.Path
@@ -57,5 +57,5 @@ no_head : (method : List ℕ) → method ≡ codes "POST" → is_head_method met
 no_head method same = ap is_head_method same
 
 -- so it is not HEAD
-pub acts_are_no_head : (h : RequestHead) (size : ℕ) → plan_at h ≡ Serve (wants.Acts size) → is_head_method h.method ≡ false
+pub acts_are_no_head : (h : RequestHead) (size : ℕ) → plan_at h ≡ Acts size → is_head_method h.method ≡ false
 acts_are_no_head h size same = no_head h.method ((bytes_eq-Decides h.method (codes "POST")).0 (plan_posted h size same))

@@ -1,50 +1,37 @@
 -- What a connection asks for, by all its bytes. Source: RFC 9112 for the request, as `office_http` reads it; the rest
 -- is own.
-use Rattle.std.specs.Prelude.{◌≡◌, ◌++◌, ℕ, ℤ, List, IfOk, IfSome, MatchResult, length, take, nat_lt, if◌then◌else◌, Option, Result}
+use Rattle.std.specs.Prelude.{◌≡◌, ◌++◌, ℕ, List, IfOk, IfSome, MatchResult, length, take, nat_lt, if◌then◌else◌, Option, Result}
 use Rattle.httparse.specs.Grammar.{RequestHead}
 use Rattle.office_http.specs.RequestPlans.{is_head_method, plan_at}
 use Rattle.office_http.specs.Requests.{IsRequest, nothing, headless, asks}
 use Rattle.office_http.specs.declared.check.Check.{Check}
 use Rattle.office_http.specs.declared.request_plan.RequestPlan.{RequestPlan}
-use Rattle.office_http.specs.declared.request_plan.RequestPlan.TheVariants.{Refuse, Serve}
-use Rattle.office_http.specs.declared.want.Want.{Want}
-use Rattle.office_http.specs.declared.want.Want.TheVariants as wants
-use Rattle.office_http.specs.declared.receiving.Asked.{Asked}
-use Rattle.office_http.specs.declared.receiving.Operation.{Operation}
-use Rattle.office_http.specs.declared.receiving.Operation.TheVariants as operation
-use Rattle.office_http.specs.declared.receiving.Received.{Received}
-use Rattle.office_http.specs.declared.receiving.Received.TheVariants as received
-use Rattle.office_http.specs.declared.receiving.ReceiveStop.{ReceiveStop}
-use Rattle.office_http.specs.declared.receiving.ReceiveStop.TheVariants as stop
+use Rattle.office_http.specs.declared.request_plan.RequestPlan.TheVariants.{Acts, Refuse, Serve}
+use Rattle.office_http.specs.declared.path_request.PathRequest.{PathRequest}
+use Rattle.office_http.specs.declared.request.ParsedRequest.{ParsedRequest}
+use Rattle.office_http.specs.declared.request.Operation.{Operation}
+use Rattle.office_http.specs.declared.request.Operation.TheVariants as operation
+use Rattle.office_http.specs.declared.request.Received.{Received}
+use Rattle.office_http.specs.declared.request.Received.TheVariants as received
+use Rattle.office_http.specs.declared.request.ReceiveStop.{ReceiveStop}
+use Rattle.office_http.specs.declared.request.ReceiveStop.TheVariants as stop
 
--- what is asked of the office: nothing, since a check of the head fails or the body is cut; or one of seven things
+-- what is asked of the office: nothing, since a check of the head fails or the body is cut; the acts of a body; or what
+-- the path says
 pub data Wanted : Type 0 where
   refused : Check → Wanted
   cut : Wanted
   acts : List ℕ → Wanted
-  resumption : Wanted
-  record_reported : Option ℕ → Wanted
-  content_reported : Option ℕ → Wanted
-  due_reported : Option ℤ → Wanted
-  overdue_reported : Option ℤ → Option ℕ → Wanted
-  certificate_reported : Option ℕ → Wanted
+  requested : PathRequest → Wanted
 
 -- the body of acts, where so many bytes are there; those after it do not matter
 abbrev pub body_wanted : ℕ → List ℕ → Wanted
 body_wanted size rest = if nat_lt (length rest) size then cut else acts (take size rest)
 
-abbrev pub want_wanted : Want → List ℕ → Wanted
-want_wanted (wants.Acts size) rest = body_wanted size rest
-want_wanted wants.Resume rest = resumption
-want_wanted (wants.Record n) rest = record_reported n
-want_wanted (wants.Content n) rest = content_reported n
-want_wanted (wants.Due day) rest = due_reported day
-want_wanted (wants.Overdue day n) rest = overdue_reported day n
-want_wanted (wants.Certificate n) rest = certificate_reported n
-
 abbrev pub plan_wanted : RequestPlan → List ℕ → Wanted
 plan_wanted (Refuse check) rest = refused check
-plan_wanted (Serve want) rest = want_wanted want rest
+plan_wanted (Acts size) rest = body_wanted size rest
+plan_wanted (Serve request) rest = requested request
 
 -- what a head and the bytes after it ask for
 abbrev pub wanted : RequestHead → List ℕ → Wanted
@@ -57,19 +44,14 @@ abbrev pub asked_for : Operation → Wanted
 asked_for (operation.Refused check) = refused check
 asked_for operation.Cut = cut
 asked_for (operation.Acts body) = acts body
-asked_for operation.Resumption = resumption
-asked_for (operation.Record n) = record_reported n
-asked_for (operation.Content n) = content_reported n
-asked_for (operation.Due day) = due_reported day
-asked_for (operation.Overdue day n) = overdue_reported day n
-asked_for (operation.Certificate n) = certificate_reported n
+asked_for (operation.Serve request) = requested request
 
 -- what was received is what these bytes and all that the reader had left ask for
 abbrev pub AsksFor : {E : Type 0} → (List ℕ → Wanted) → List ℕ → Option (List ℕ) → Result Operation E → Type 0
 AsksFor wanted_of read left result = IfOk result (λ it. IfSome left (λ rest. asked_for it ≡ wanted_of (read ++ rest)))
 
 -- of a head and the bytes after it: what they ask for, and whether the head of the answer alone is written
-pub record IsAskedBy (h : RequestHead) (rest : List ℕ) (it : Asked) : Type 0 where
+pub record IsAskedBy (h : RequestHead) (rest : List ℕ) (it : ParsedRequest) : Type 0 where
   pub wanted : asked_for it.operation ≡ wanted h rest
   pub is_head : it.is_head ≡ is_head_method h.method
 
@@ -82,7 +64,7 @@ IsReceived (received.Request it) bytes =
 
 -- acts in a body of some size are asked for
 abbrev pub HasActs : RequestHead → Type 0
-HasActs h = (size : ℕ) × (plan_at h ≡ Serve (wants.Acts size))
+HasActs h = (size : ℕ) × (plan_at h ≡ Acts size)
 
 -- why the rest of a request with that head was not received: the body of acts alone takes memory
 abbrev pub IsOutOfMemoryFor : RequestHead → ReceiveStop → Type 0

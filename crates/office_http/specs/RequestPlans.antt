@@ -15,13 +15,13 @@ use Rattle.office_http.specs.declared.check.Check.TheVariants as checks
 use Rattle.office_http.specs.declared.paths.Resource.{Resource}
 use Rattle.office_http.specs.declared.paths.Resource.TheVariants as resources
 use Rattle.office_http.specs.declared.request_plan.RequestPlan.{RequestPlan}
-use Rattle.office_http.specs.declared.request_plan.RequestPlan.TheVariants.{Refuse, Serve}
-use Rattle.office_http.specs.declared.want.Want.TheVariants as wants
+use Rattle.office_http.specs.declared.request_plan.RequestPlan.TheVariants.{Acts, Refuse, Serve}
+use Rattle.office_http.specs.declared.path_request.PathRequest.TheVariants as requests
 
 -- the body's length is within the limit of 1,048,576 bytes
 abbrev pub sized_plan : Option ℕ → RequestPlan
 sized_plan None = Refuse checks.LengthInvalid
-sized_plan (Some size) = if nat_lt 1_048_576 size then Refuse checks.ContentTooLarge else Serve (wants.Acts size)
+sized_plan (Some size) = if nat_lt 1_048_576 size then Refuse checks.ContentTooLarge else Acts size
 
 -- the body's length is said, by one field line
 abbrev pub length_plan : Values → RequestPlan
@@ -50,17 +50,17 @@ post_plan method plan = if bytes_eq method (codes "POST") then plan else Refuse 
 -- what is done for a method at a path that names this
 abbrev pub resource_plan : Resource → List ℕ → List ℕ → List (List ℕ × List ℕ) → RequestPlan
 resource_plan resources.Acts path method fields = post_plan method (acts_plan fields)
-resource_plan resources.OpenRun path method fields = post_plan method (Serve wants.Resume)
+resource_plan resources.OpenRun path method fields = post_plan method (Serve requests.Resume)
 resource_plan resources.Record path method fields =
-    get_plan method (Serve (wants.Record (segment_number (path_segment 2 path))))
+    get_plan method (Serve (requests.Record (segment_number (path_segment 2 path))))
 resource_plan resources.Content path method fields =
-    get_plan method (Serve (wants.Content (segment_number (path_segment 2 path))))
-resource_plan resources.Due path method fields = get_plan method (Serve (wants.Due (day_named (path_segment 2 path))))
+    get_plan method (Serve (requests.Content (segment_number (path_segment 2 path))))
+resource_plan resources.Due path method fields = get_plan method (Serve (requests.Due (day_named (path_segment 2 path))))
 resource_plan resources.Overdue path method fields =
     get_plan method
-    (Serve (wants.Overdue (day_named (path_segment 2 path)) (result_ok (confirm_days_named (path_segment 3 path)))))
+    (Serve (requests.Overdue (day_named (path_segment 2 path)) (result_ok (confirm_days_named (path_segment 3 path)))))
 resource_plan resources.Certificate path method fields =
-    get_plan method (Serve (wants.Certificate (segment_number (path_segment 2 path))))
+    get_plan method (Serve (requests.Certificate (segment_number (path_segment 2 path))))
 
 -- the path names something
 abbrev pub path_plan : Option Resource → List ℕ → List ℕ → List (List ℕ × List ℕ) → RequestPlan
@@ -104,13 +104,8 @@ is_head_method method = bytes_eq method (codes "HEAD")
 -- a body that is asked for is within the limit
 abbrev pub IsSized : RequestPlan → Type 0
 IsSized (Refuse check) = Unit {0}
-IsSized (Serve (wants.Acts size)) = size ≤ 1_048_576
-IsSized (Serve wants.Resume) = Unit {0}
-IsSized (Serve (wants.Record n)) = Unit {0}
-IsSized (Serve (wants.Content n)) = Unit {0}
-IsSized (Serve (wants.Due day)) = Unit {0}
-IsSized (Serve (wants.Overdue day days)) = Unit {0}
-IsSized (Serve (wants.Certificate n)) = Unit {0}
+IsSized (Acts size) = size ≤ 1_048_576
+IsSized (Serve request) = Unit {0}
 
 -- what is done for a head that lies in a buffer: what its parts say there, and so what is done for any head that they
 -- are

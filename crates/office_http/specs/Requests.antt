@@ -6,10 +6,10 @@ use Rattle.httparse.specs.Grammar.{RequestHead, print_request, ReadsRequest, Has
 use Rattle.httparse.specs.declared.spans.HeaderSpan.{HeaderSpan}
 use Rattle.httparse.specs.declared.spans.RequestSpans.{RequestSpans}
 use Rattle.httparse.specs.Spans.{IsRequestAt, IsRequestWithin}
-use Rattle.office_http.specs.declared.reading.HeadParse.{HeadParse}
-use Rattle.office_http.specs.declared.reading.HeadParse.TheVariants.{Whole, Part, Never}
-use Rattle.office_http.specs.declared.reading.Head.{Head}
-use Rattle.office_http.specs.declared.reading.Head.TheVariants.{Found, Missing, Empty}
+use Rattle.office_http.specs.declared.head.HeadParse.{HeadParse}
+use Rattle.office_http.specs.declared.head.HeadParse.TheVariants.{Whole, Part, Never}
+use Rattle.office_http.specs.declared.head.Head.{Head}
+use Rattle.office_http.specs.declared.head.Head.TheVariants.{Found, Missing, Empty}
 
 -- a head within the limits: its bytes, and its field lines
 pub record IsShort (h : RequestHead) : Type 0 where

@@ -4,7 +4,7 @@ ghost use Rattle.std.specs.Io.KnownBytes.{Consumes, IsAtEnd};
 ghost use Rattle.std.specs.Vec.{vec_capacity};
 ghost use Rattle.office_http.specs.Bodies.{ReadsBody};
 
-use crate::reading::read_piece;
+use crate::head::read_piece;
 use office_base::{Io, Stop};
 use std::io::Read;
 

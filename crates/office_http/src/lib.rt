@@ -2,8 +2,8 @@
 //! more.
 //!
 //! [`read_head`] reads until the head of a request is whole or there will be none, and [`plan_in`]
-//! reports what is done for it: the first check that fails, as a [`Check`], or what is asked for,
-//! as a [`Want`]. It looks the path up in [`Routes`], which are made once. [`read_body`] reads the
+//! reports what is done for it: the first check that fails, as a [`Check`], or what is asked for:
+//! the acts of a body, or a [`PathRequest`]. It looks the path up in [`Routes`], which are made once. [`read_body`] reads the
 //! body that a head announces. The answer is a [`Reply`], and [`write_reply`] writes it;
 //! [`check_reply`] and [`failure_reply`] give the answers whose bytes are fixed. What is asked for
 //! is done by others, who know the office: here are heads, fields, paths and lengths alone.
@@ -21,16 +21,16 @@ mod deadline;
 mod failure;
 mod fields;
 mod fixed;
+mod head;
 mod method;
 mod numbers;
+mod path_request;
 mod paths;
-mod reading;
-mod receiving;
 mod reply;
+mod reply_text;
+mod request;
 mod request_plan;
 mod status;
-mod want;
-mod writing;
 
 pub use acts_body::ActsBody;
 pub use body::read_body;
@@ -38,11 +38,11 @@ pub use check::Check;
 pub use deadline::{LONGEST, Timed};
 pub use failure::Failure;
 pub use fixed::{check_reply, failure_reply};
+pub use head::{Head, LONGEST_HEAD, MOST_FIELDS, law_of_requests, read_head};
+pub use path_request::PathRequest;
 pub use paths::Routes;
-pub use reading::{Head, LONGEST_HEAD, MOST_FIELDS, law_of_requests, read_head};
-pub use receiving::{Asked, Operation, ReceiveStop, Received, receive};
 pub use reply::{Allow, Body, Kind, Reply};
+pub use reply_text::{law_of_replies, write_reply};
+pub use request::{Operation, ParsedRequest, ReceiveStop, Received, receive};
 pub use request_plan::{RequestPlan, is_head_in, plan_in};
 pub use status::Status;
-pub use want::Want;
-pub use writing::{law_of_replies, write_reply};

@@ -8,8 +8,8 @@ use crate::check::Check;
 use crate::fields::{Found, find_named};
 use crate::method::is_method;
 use crate::numbers::{content_length, segment_number};
+use crate::path_request::PathRequest;
 use crate::paths::{Resource, Routes, path_of, path_segment};
-use crate::want::Want;
 use http::Method;
 use httparse::spans::{HeaderSpan, RequestSpans};
 use office_days::{Day, read_confirm_days};
@@ -19,8 +19,10 @@ use office_days::{Day, read_confirm_days};
 pub enum RequestPlan {
     /// A check fails, and its answer is given.
     Refuse(Check),
-    /// What is asked for is done.
-    Serve(Want),
+    /// The acts in a body of that many bytes are performed.
+    Acts(u64),
+    /// What the path asks for is done.
+    Serve(PathRequest),
 }
 
 /// What is done for a body of that length.
@@ -31,7 +33,7 @@ fn sized_plan(size: Option<u64>) -> RequestPlan
     match size {
         None => RequestPlan::Refuse(Check::LengthInvalid),
         Some(size) if size > 1_048_576 => RequestPlan::Refuse(Check::ContentTooLarge),
-        Some(size) => RequestPlan::Serve(Want::Acts(size)),
+        Some(size) => RequestPlan::Acts(size),
     }
 }
 
@@ -63,11 +65,11 @@ fn acts_plan(buf: &[u8], headers: &[HeaderSpan]) -> RequestPlan
 }
 
 /// What a GET asks for, or why it is none.
-fn get_plan(method: &[u8], want: Want) -> RequestPlan
-    ensures { result ≡ get_plan method.now (RequestPlan.Serve want) }
+fn get_plan(method: &[u8], request: PathRequest) -> RequestPlan
+    ensures { result ≡ get_plan method.now (RequestPlan.Serve request) }
 {
     if is_method(method, &Method::GET) {
-        RequestPlan::Serve(want)
+        RequestPlan::Serve(request)
     } else {
         RequestPlan::Refuse(Check::NotGet)
     }
@@ -89,16 +91,21 @@ fn resource_plan(
     let segment = path_segment(path, 2);
     match resource {
         Resource::Acts if is_method(method, &Method::POST) => acts_plan(buf, headers),
-        Resource::OpenRun if is_method(method, &Method::POST) => RequestPlan::Serve(Want::Resume),
+        Resource::OpenRun if is_method(method, &Method::POST) => RequestPlan::Serve(
+            PathRequest::Resume,
+        ),
         Resource::Acts | Resource::OpenRun => RequestPlan::Refuse(Check::NotPost),
-        Resource::Record => get_plan(method, Want::Record(segment_number(segment))),
-        Resource::Content => get_plan(method, Want::Content(segment_number(segment))),
-        Resource::Due => get_plan(method, Want::Due(Day::read(segment))),
+        Resource::Record => get_plan(method, PathRequest::Record(segment_number(segment))),
+        Resource::Content => get_plan(method, PathRequest::Content(segment_number(segment))),
+        Resource::Due => get_plan(method, PathRequest::Due(Day::read(segment))),
         Resource::Overdue => {
             let days = read_confirm_days(path_segment(path, 3)).ok();
-            get_plan(method, Want::Overdue(Day::read(segment), days))
+            get_plan(method, PathRequest::Overdue(Day::read(segment), days))
         }
-        Resource::Certificate => get_plan(method, Want::Certificate(segment_number(segment))),
+        Resource::Certificate => get_plan(
+            method,
+            PathRequest::Certificate(segment_number(segment)),
+        ),
     }
 }
 

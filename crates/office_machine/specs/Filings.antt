@@ -1,6 +1,6 @@
 -- What is asked with a new record, as the members of its act are handed on. Source: own.
 use Rattle.office_rules.specs.NewRecords.{NewRecord, new_record}
-use Rattle.office_machine.specs.declared.filing.Filing.{Filing}
+use Rattle.office_machine.specs.declared.new_record.Filing.{Filing}
 
 -- the record of these members
 abbrev pub filed : Filing → NewRecord

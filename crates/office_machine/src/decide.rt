@@ -4,7 +4,7 @@ ghost use Rattle.office_rules.specs.Acts.{IsDecidedTo, IsOnAggregations, IsOnHol
 ghost use Rattle.office_rules.specs.Sound.{IsSoundOffice};
 ghost use Rattle.office_rules.specs.State.{with_contents};
 
-use crate::filing::Filing;
+use crate::new_record::Filing;
 use crate::parts::Parts;
 use crate::{Act, Decision};
 use office_base::Memory;

@@ -10,7 +10,7 @@ ghost use Rattle.office_rules.specs.State.{ByteMap, with_contents};
 ghost use Rattle.office_rules.specs.Tables.{RepresentNone};
 ghost use Rattle.office_machine.specs.TreeRows.{AreTreeRows};
 
-mod agreeing;
+mod agreement;
 mod entries;
 pub(crate) mod records;
 mod runs;

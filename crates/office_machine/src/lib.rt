@@ -5,34 +5,34 @@
 //! rows of those tables, which it takes in one after another as they are read.
 #![tactic(auto)]
 
-mod applying;
 mod builder;
 mod certificate;
-mod closing;
 mod decide;
-mod deciding;
-mod deciding_holds;
-mod deciding_records;
-mod deciding_runs;
-mod disposing;
+mod disposal;
 mod due_list;
 mod due_rows;
+mod entry_maps;
 mod entry_rows;
 mod examination;
-mod filing;
 mod from_tables;
+mod hold_decisions;
 mod keys;
 mod loader;
 mod machine;
-mod marking;
+mod marks;
 mod min_refusal;
+mod new_record;
+mod open_run;
 mod parts;
-mod reading;
-mod reclassifying;
-mod running;
+mod readings;
+mod reclassification;
+mod record_decisions;
+mod run_certificate;
+mod run_decisions;
+mod run_step;
 mod selection;
-mod storing;
-mod taking;
+mod tree_decisions;
+mod writes;
 
 pub use builder::Builder;
 pub use due_rows::DueRows;

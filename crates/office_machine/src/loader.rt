@@ -2,9 +2,9 @@
 ghost use Rattle.std.specs.Prelude.{◌≡◌};
 ghost use Rattle.office_rules.specs.Tables.{no_rows};
 
-mod holding;
-mod planning;
-mod recording;
+mod hold_loader;
+mod record_loader;
+mod schedule_loader;
 
 use crate::certificate::Certificate;
 use crate::keys::ContentKeys;

@@ -9,11 +9,11 @@
 
 mod due;
 mod lines;
-mod parting;
 mod parts;
 mod plan;
 mod plan_line;
 mod plan_step;
+mod plan_words;
 mod text;
 
 pub use due::due_to;

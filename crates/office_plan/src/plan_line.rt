@@ -2,10 +2,10 @@
 ghost use Rattle.std.specs.Prelude.{◌≡◌, ◌<◌, ◌==◌, map, IfOk};
 ghost use Rattle.office_plan.specs.PlanLines.{action_at, aggregation_line, class_line, close_line, code_at, day_at, days_at, disposal_at, event_line, is_line, keeping_at, line_asked, line_by_words, number_at, offset_at, optional_code_at, optional_number_at, period_at, place_at, record_line, schedule_at, schedule_line, trigger_at, word_at};
 
-use crate::parting::words_of;
 use crate::parts::{
     both, read_code, read_day, read_optional_code, read_optional_number, read_period,
 };
+use crate::plan_words::words_of;
 use office_base::{Memory, Refusal, read_thing_number};
 use office_days::{Day, Offset, Period};
 use office_records::{Action, AggNo, Code, RecordNo, Schedule, Trigger};

@@ -22,7 +22,7 @@ mod class;
 mod classified;
 mod code;
 mod conditions;
-mod confirming;
+mod confirmation;
 mod event;
 mod formed;
 mod head;
@@ -40,7 +40,7 @@ pub use class::Class;
 pub use classified::Classified;
 pub use code::Code;
 pub use conditions::first_of;
-pub use confirming::same_action;
+pub use confirmation::same_action;
 pub use event::Event;
 pub use formed::{
     well_formed_aggregations, well_formed_classes, well_formed_events, well_formed_records,

@@ -6,7 +6,7 @@ ghost use Rattle.office_records.specs.Lists.{numbered};
 ghost use Rattle.office_records.specs.declared.aggregation.Aggregation.{Aggregation};
 ghost use Rattle.office_records.specs.declared.head.Record.{Record};
 
-use crate::pushing::push_row;
+use crate::new_rows::push_row;
 use office_base::Memory;
 use office_records::{AggNo, Aggregation, Record};
 use std::alloc::Global;

@@ -9,7 +9,7 @@ ghost use Rattle.office_records.specs.Tree.{code_cmp, has_aggregation, has_recor
 ghost use Rattle.office_records.specs.declared.class.Class.{Class};
 
 use crate::class_lists::{ClassLists, ClassNo};
-use crate::classifying::class_in;
+use crate::classification::class_in;
 use crate::directory::Directory;
 use crate::rows::Rows;
 use office_base::Memory;

@@ -4,7 +4,7 @@ ghost use Rattle.office_records.specs.Lists.{numbered, put};
 ghost use Rattle.office_tree.specs.ClassLists.{AreClassLists, HaveRoom};
 ghost use Rattle.office_tree.specs.Rooms.{HasRoom};
 
-use crate::pushing::push_row;
+use crate::new_rows::push_row;
 use office_base::Memory;
 use office_records::RecordNo;
 use std::alloc::Global;

@@ -6,7 +6,7 @@ ghost use Rattle.office_records.specs.Tree.{code_cmp};
 ghost use Rattle.office_tree.specs.Derived.{HasAggregationRoom, KeepsBesideRefs};
 
 use crate::child_lists::ChildLists;
-use crate::indexing::put_ref;
+use crate::ref_index::put_ref;
 use crate::schedule_numbers::ScheduleNumbers;
 use crate::summary::AggregationSummary;
 use office_base::Memory;

@@ -18,42 +18,42 @@
 //! what is cached of each record.
 #![tactic(auto)]
 
-mod applying;
+mod addition_refusals;
+mod additions;
 mod bits;
 mod candidates;
-mod changing;
-mod checking;
-mod checking_changes;
+mod change_refusals;
+mod changes;
 mod child_lists;
 mod class_index;
 mod class_lists;
-mod classifying;
-mod confirming;
+mod classification;
+mod confirmation;
 mod derived;
 mod directory;
-mod editing;
-mod examining;
-mod finding;
+mod due_days;
 mod groups;
-mod indexing;
-mod loading;
+mod lookup;
+mod new_rows;
 mod per_record;
-mod placing;
-mod pushing;
 mod record_cache;
 mod record_caches;
-mod refreshing;
+mod ref_index;
+mod renewal;
+mod row_edits;
+mod row_puts;
 mod rows;
 mod schedule_numbers;
-mod scheduling;
-mod spending;
+mod soundness;
+mod spent;
 mod summary;
 mod tree;
+mod tree_parts;
 
 pub use office_base::Memory;
 pub use office_records::{
     Action, AggNo, Aggregation, Class, Classified, Code, Confirmation, Event, Receipt, Record,
     RecordNo, Review, Schedule, Status, Text, Trigger,
 };
-pub use placing::put_row;
+pub use row_puts::put_row;
 pub use tree::Tree;

@@ -4,7 +4,7 @@ ghost use Rattle.office_tree.specs.Marks.{AreMarked, mark_at};
 ghost use Rattle.office_tree.specs.declared.record_cache.RecordCache.{RecordCache};
 
 use crate::candidates::CandidateSet;
-use crate::pushing::push_row;
+use crate::new_rows::push_row;
 use crate::record_cache::RecordCache;
 use office_base::Memory;
 use office_days::DueDay;

@@ -11,10 +11,10 @@ ghost use Rattle.office_tree.specs.Derived.{CanCache};
 ghost use Rattle.office_records.specs.Sound.{IsSound};
 ghost use Rattle.office_records.specs.Tree.{has_aggregation, has_record, plan_of, schedule_of};
 
-use crate::classifying::class_in;
+use crate::classification::class_in;
 use crate::directory::Directory;
+use crate::due_days::{due_by, start_in};
 use crate::record_cache::RecordCache;
-use crate::scheduling::{due_by, start_in};
 use office_days::DueDay;
 use office_records::{
     Action, AggNo, Aggregation, Class, Code, Confirmation, Event, Record, RecordNo, Schedule,

@@ -6,9 +6,9 @@ ghost use Rattle.office_records.specs.Sound.{IsForest, IsSound, RootsHaveClasses
 ghost use Rattle.office_tree.specs.Summaries.{AreAdded, AreSummaries, AreTurned, is_in_chain};
 ghost use Rattle.office_records.specs.Tree.{TreeState};
 
-use crate::checking_changes::is_ended;
-use crate::classifying::chain_of;
-use crate::scheduling::later;
+use crate::change_refusals::is_ended;
+use crate::classification::chain_of;
+use crate::due_days::later;
 use office_base::Memory;
 use office_days::Day;
 use office_records::{AggNo, Aggregation, Record, Status};

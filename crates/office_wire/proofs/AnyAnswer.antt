@@ -7,7 +7,8 @@ use Rattle.office_desk.specs.Desk.{DeskState}
 use Rattle.office_json.specs.Lists.{NoActs, not_json, bad_act}
 use Rattle.office_http.specs.Replies.{Response}
 use Rattle.office_wire.specs.Answering.{AnyAnswer, ArePerformed, PerformsAsked, Resumes, Serves, RunsOutOfMemory, ReportsCertificate, ReportsContent, ReportsDue, ReportsOverdue, ReportsRecord}
-use Rattle.office_http.specs.Receiving.{Wanted, refused, cut, acts, resumption, record_reported, content_reported, due_reported, overdue_reported, certificate_reported}
+use Rattle.office_http.specs.Receiving.{Wanted, acts, cut, refused, requested}
+use Rattle.office_http.specs.declared.path_request.PathRequest.TheVariants as path
 use Rattle.office_wire.specs.Serving.{IsServed, LeavesServed}
 
 performed_any : {S : Type 0} (Reported : Response → Type 0) (g : Ghosts S) (t : State) (done : List Act) (desk : DeskState S) → ArePerformed Reported g t done desk → ArePerformed AnyAnswer g t done desk
@@ -19,43 +20,11 @@ asked_any Reported g t (Err not_json) desk it = (tt, it.1)
 asked_any Reported g t (Err (bad_act place why)) desk it = (tt, it.1)
 
 resumed_any : {S : Type 0} (Reported : Response → Type 0) (g : Ghosts S) (t : State) (desk : DeskState S) → Resumes Reported g t desk → Resumes AnyAnswer g t desk
-resumed_any Reported g t desk (inl it) = inl (
-  it.0,
-  record {
-    was_open = it.1.was_open;
-    reported = tt;
-    closed = it.1.closed;
-    never_stopped = it.1.never_stopped;
-    fates = it.1.fates;
-  },
-)
-resumed_any Reported g t desk (inr (inl it)) = inr (inl (record { none_open = it.none_open; reported = tt; represents = it.represents }))
-resumed_any Reported g t desk (inr (inr it)) = inr (inr (
-  it.0,
-  record {
-    reported = tt;
-    stopped = it.1.stopped;
-    midway = it.1.midway;
-    none_open = it.1.none_open;
-    fates = it.1.fates;
-  },
-))
+resumed_any Reported g t desk it = (it.0, tt, it.2)
 
 content_any : {S : Type 0} (Reported : Response → Type 0) (g : Ghosts S) (t : State) (r : Option ℕ) (desk : DeskState S) → ReportsContent Reported g t r desk → ReportsContent AnyAnswer g t r desk
 content_any Reported g t None desk it = (tt, it.1)
-content_any Reported g t (Some r) desk (inl it) = inl (it.0, it.1, tt, it.3)
-content_any Reported g t (Some r) desk (inr it) = inr (
-  it.0,
-  record {
-    reported = tt;
-    damaged = it.1.damaged;
-    kept = it.1.kept;
-    poisoned = it.1.poisoned;
-    leaves = it.1.leaves;
-    offices = it.1.offices;
-    no_other = it.1.no_other;
-  },
-)
+content_any Reported g t (Some r) desk it = (it.0, tt, it.2)
 
 record_any : {S : Type 0} (Reported : Response → Type 0) (g : Ghosts S) (t : State) (r : Option ℕ) (desk : DeskState S) → ReportsRecord Reported g t r desk → ReportsRecord AnyAnswer g t r desk
 record_any Reported g t None desk it = (tt, it.1)
@@ -78,12 +47,12 @@ serves_any : {S : Type 0} (Reported : Response → Type 0) (g : Ghosts S) (t : S
 serves_any Reported g t (refused check) desk served = (tt, served.1)
 serves_any Reported g t cut desk served = (tt, served.1)
 serves_any Reported g t (acts body) desk served = asked_any Reported g t _ desk served
-serves_any Reported g t resumption desk served = resumed_any Reported g t desk served
-serves_any Reported g t (record_reported r) desk served = record_any Reported g t r desk served
-serves_any Reported g t (content_reported r) desk served = content_any Reported g t r desk served
-serves_any Reported g t (due_reported day) desk served = due_any Reported g t day desk served
-serves_any Reported g t (overdue_reported day count) desk served = overdue_any Reported g t day count desk served
-serves_any Reported g t (certificate_reported run) desk served = certificate_any Reported g t run desk served
+serves_any Reported g t (requested path.Resume) desk served = resumed_any Reported g t desk served
+serves_any Reported g t (requested (path.Record r)) desk served = record_any Reported g t r desk served
+serves_any Reported g t (requested (path.Content r)) desk served = content_any Reported g t r desk served
+serves_any Reported g t (requested (path.Due day)) desk served = due_any Reported g t day desk served
+serves_any Reported g t (requested (path.Overdue day count)) desk served = overdue_any Reported g t day count desk served
+serves_any Reported g t (requested (path.Certificate run)) desk served = certificate_any Reported g t run desk served
 
 -- where memory ran out for it, the desk is where serving it leaves it, or where it was
 out_of_memory_leaves : {S : Type 0} (g : Ghosts S) (t : State) (it : Wanted) (desk : DeskState S) → RunsOutOfMemory g t it desk → LeavesServed g t desk
@@ -91,13 +60,13 @@ out_of_memory_leaves g t (refused check) desk out = absurd out
 out_of_memory_leaves g t cut desk out = absurd out
 out_of_memory_leaves g t (acts body) desk (inl at) = (cut, (tt, at))
 out_of_memory_leaves g t (acts body) desk (inr served) = (acts body, served)
-out_of_memory_leaves g t resumption desk served = (resumption, served)
-out_of_memory_leaves g t (record_reported r) desk out = (cut, (tt, out.1))
-out_of_memory_leaves g t (content_reported None) desk out = absurd out
-out_of_memory_leaves g t (content_reported (Some r)) desk out = (content_reported (Some r), inr out)
-out_of_memory_leaves g t (due_reported day) desk out = (cut, (tt, out.1))
-out_of_memory_leaves g t (overdue_reported day count) desk out = (cut, (tt, out.2))
-out_of_memory_leaves g t (certificate_reported run) desk out = (cut, (tt, out.1))
+out_of_memory_leaves g t (requested path.Resume) desk served = (requested path.Resume, served)
+out_of_memory_leaves g t (requested (path.Record r)) desk out = (cut, (tt, out.1))
+out_of_memory_leaves g t (requested (path.Content None)) desk out = absurd out
+out_of_memory_leaves g t (requested (path.Content (Some r))) desk out = (requested (path.Content (Some r)), (Err out.0, tt, out.1))
+out_of_memory_leaves g t (requested (path.Due day)) desk out = (cut, (tt, out.1))
+out_of_memory_leaves g t (requested (path.Overdue day count)) desk out = (cut, (tt, out.2))
+out_of_memory_leaves g t (requested (path.Certificate run)) desk out = (cut, (tt, out.1))
 
 -- what is served leaves the desk as serving it may
 pub served_leaves : {S : Type 0} (g : Ghosts S) (t : State) (it : Wanted) (r : Response) (desk : DeskState S) → IsServed g t it r desk → LeavesServed g t desk

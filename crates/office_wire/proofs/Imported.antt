@@ -6,40 +6,42 @@ use Rattle.csv.specs.Reading.{ReadsNext, default_config}
 use Rattle.csv.specs.Records.{AllText}
 use Rattle.csv.specs.declared.parser.State.{State as Reading}
 use Rattle.csv.specs.declared.parser.State.TheVariants.{StartRecord}
+use Rattle.sqlite.specs.Held.{state}
 use Rattle.sqlite_trees.specs.declared.store.Store.{Ghosts}
 use Rattle.office_base.specs.Output.{AppendsSome}
 use Rattle.office_base.specs.declared.refusal.Refusal.{Refusal}
 use Rattle.office_rules.specs.Acts.{step}
 use Rattle.office_rules.specs.Answers.{is_refusal}
-use Rattle.office_rules.specs.State.{State, Office}
+use Rattle.office_rules.specs.State.{State}
 use Rattle.office_rules.specs.declared.act.Act.{Act}
 use Rattle.office_rules.specs.declared.answer.Answer.{Answer}
 use Rattle.office_store.specs.declared.fault.Fault.{Fault}
 use Rattle.office_store.specs.declared.fault.Fault.TheVariants as fault
-use Rattle.office_desk.specs.Calling.{PerformedOne}
 use Rattle.office_desk.specs.Desk.{DeskState}
-use Rattle.office_desk.specs.Leaving.{IsAt, StopsAt}
+use Rattle.office_desk.specs.Leaving.{IsAt}
+use Rattle.office_desk.specs.Outcomes.{ActsCameTo, IsActAnswered, act_outcome}
 use Rattle.office_rules.specs.Parts.{fault_of}
 use Rattle.office_rules.specs.declared.read_fault.ReadFault.TheVariants.{Refused, Memory}
 use Rattle.office_json.proofs.Appending.{appends_both}
 use Rattle.office_csv.specs.ImportRows.{Fields, act_asked, fields_in}
 use Rattle.office_csv.specs.ImportText.{AreAtPrefix, HeadsText, TakesNoText}
-use Rattle.office_csv.specs.declared.reading.RowStop.{RowStop}
-use Rattle.office_csv.specs.declared.reading.RowStop.TheVariants as row_stop
+use Rattle.office_csv.specs.declared.import_text.RowStop.{RowStop}
+use Rattle.office_csv.specs.declared.import_text.RowStop.TheVariants as row_stop
 use Rattle.office_csv.proofs.Prefix.{bad_next, bad_text, no_more, none_yet, one_more}
 use Rattle.office_wire.specs.Calling.{CalledAt}
 use Rattle.office_wire.specs.Importing.{ArePrefixRows, AreImported, AreRowsBehind, AreRowsDone, AreSomeRows, EndsImport, EndsLine, EndsRow, EndsRows, EndsTaking, Imports, IsRowDone, IsRowStopped, RowsStop, Stops, StopsAtFault, StopsAtIo, TakeStops, line_of, lines_from, one_if, refused_count, stop_at}
-use Rattle.office_wire.specs.declared.importing.ImportStop.{ImportStop}
-use Rattle.office_wire.specs.declared.importing.ImportStop.TheVariants as stop
+use Rattle.office_wire.specs.declared.record_import.ImportStop.{ImportStop}
+use Rattle.office_wire.specs.declared.record_import.ImportStop.TheVariants as stop
 use Rattle.office_wire.proofs.Calls.{called, called_on, not_called}
 
 -- ---- one row
 
 -- an act was read, and was done or stopped
-pub row_ended : {S : Type 0} (g : Ghosts S) (day : ℤ) (s : State) (row : Fields) (act : Act) (x : Result Answer Fault) (old desk : DeskState S) (At : Type 0) → act_asked day row ≡ Ok act
-    → old.office ≡ s.office → PerformedOne g s act x old desk At → At → EndsRow g day s row x desk
-row_ended g day s row act (Ok answer) old desk At read same it at = ((step s act).1, (rw read (it.formed, it.ends.answered, refl)), it.ends.represents at)
-row_ended g day s row act (Err f) old desk At read same it at = inr (act, read, it.formed, (subst (λ (o : Office). StopsAt o f desk) same it.ends.stops, it.ends.left at))
+pub row_ended : {S : Type 0} (g : Ghosts S) (day : ℤ) (s : State) (row : Fields) (act : Act) (x : Result Answer Fault) (old desk : DeskState S) → act_asked day row ≡ Ok act → IsActAnswered s act x old desk
+    → ActsCameTo s (act ∷ []) (act_outcome x) (state g desk.held) → EndsRow g day s row x desk
+row_ended g day s row act (Ok answer) old desk read it came =
+    ((step s act).1, (rw read (it.formed, it.answered, refl)), record { is_open = it.leads.1; office = it.leads.0; sound = came.leaves.sound; rows = came.leaves.rows })
+row_ended g day s row act (Err f) old desk read it came = inr (act, read, it.formed, (it.leads, came.leaves))
 
 -- no act was read, since a field is not of its form or out of its range
 pub bad_row : (x : Result Act Refusal) (why : Refusal) → (Refused why ≡ Memory) ⊎ (Refused why ≡ fault_of x) → x ≡ Err why

@@ -1,6 +1,6 @@
 -- The answer to a request that was received.
 use Rattle.std.proofs.Common.{◌≡◌, ◌⊎◌, ◌∙◌, ap, refl, subst, sym, inl, inr, ℕ, Bool, false, List, Option, Some, None, Result, Ok, Err}
-use Rattle.std.specs.Prelude.{IfSome}
+use Rattle.std.specs.Prelude.{IfOk, IfSome}
 use Rattle.std.proofs.lemmas.Result.{IfOk-weaker}
 use Rattle.httparse.specs.Grammar.{RequestHead}
 use Rattle.sqlite_trees.specs.declared.store.Store.{Ghosts}
@@ -15,13 +15,12 @@ use Rattle.office_http.specs.declared.status.Status.{Status}
 use Rattle.office_http.proofs.PostedActs.{acts_are_no_head}
 use Rattle.office_base.specs.declared.output.Io.{Io}
 use Rattle.office_wire.specs.Calling.{AnsweredAt, CalledAt}
-use Rattle.office_wire.specs.Connections.{IsVisited}
 use Rattle.office_http.specs.Receiving.{HasActs, IsAskedBy, IsReceived, IsOutOfMemory, Wanted, asked_for, cut}
-use Rattle.office_wire.specs.Serving.{AnswersNext, Breaks, GoneReplies, HasReply, InHalves, IsFailed, IsGoneReply, IsGoneServed, IsGoneToSend, IsNextReady, IsOneServed, IsReply, IsSent, IsServed, IsSomeSent, IsToSend, Replies, Sends, ServesOne, ReportsUnavailable}
-use Rattle.office_http.specs.declared.receiving.Asked.{Asked}
-use Rattle.office_http.specs.declared.receiving.Received.TheVariants as received
-use Rattle.office_http.specs.declared.receiving.ReceiveStop.TheVariants as stop
-use Rattle.office_wire.specs.declared.serving.OutgoingReply.{OutgoingReply}
+use Rattle.office_wire.specs.Serving.{AnswersNext, Breaks, GoneReplies, HasReply, InHalves, IsFailed, IsGoneAnswered, IsGoneReply, IsGoneServed, IsGoneToSend, IsNextReady, IsOneServed, IsReply, IsSent, IsServed, IsSomeSent, IsToSend, Replies, Sends, ReportsUnavailable}
+use Rattle.office_http.specs.declared.request.ParsedRequest.{ParsedRequest}
+use Rattle.office_http.specs.declared.request.Received.TheVariants as received
+use Rattle.office_http.specs.declared.request.ReceiveStop.TheVariants as stop
+use Rattle.office_wire.specs.declared.exchange.OutgoingReply.{OutgoingReply}
 use Rattle.office_wire.proofs.AnyAnswer.{served_leaves}
 use Rattle.office_wire.proofs.Calls.{answered, called, not_answered}
 
@@ -33,7 +32,7 @@ some_trivial : {A : Type 0} (o : Option A) → IfSome o (λ a. Unit {0})
 some_trivial None = tt
 some_trivial (Some a) = tt
 
-pub asked_reply : {S : Type 0} (g : Ghosts S) (t : State) (bytes : List ℕ) (unread : Type 0) (h : RequestHead) (rest : List ℕ) (it : Asked) (is_head : Bool) (r : Response) (desk : DeskState S)
+pub asked_reply : {S : Type 0} (g : Ghosts S) (t : State) (bytes : List ℕ) (unread : Type 0) (h : RequestHead) (rest : List ℕ) (it : ParsedRequest) (is_head : Bool) (r : Response) (desk : DeskState S)
     → IsRequest (asks h rest) bytes → IsAskedBy h rest it → is_head ≡ it.is_head → IsServed g t (asked_for it.operation) r desk → IsReply g t bytes unread is_head r desk
 asked_reply g t bytes unread h rest it is_head r desk request by same served =
     inl (asks h rest, request, (same ∙ by.is_head, inl (subst (λ (w : Wanted). IsServed g t w r desk) by.wanted served)))
@@ -49,7 +48,7 @@ out_of_memory_reply g t bytes unread h rest (Some it) desk request has failed re
     inl (asks h rest, request, (no_head h it.is_head has failed.1, inr ((has, failed.0), represents)))
 
 -- from a poisoned desk
-pub asked_gone : (bytes : List ℕ) (unread : Type 0) (h : RequestHead) (rest : List ℕ) (it : Asked) (is_head : Bool) (r : Response)
+pub asked_gone : (bytes : List ℕ) (unread : Type 0) (h : RequestHead) (rest : List ℕ) (it : ParsedRequest) (is_head : Bool) (r : Response)
     → IsRequest (asks h rest) bytes → IsAskedBy h rest it → is_head ≡ it.is_head → IsGoneServed (asked_for it.operation) r → IsGoneReply bytes unread is_head r
 asked_gone bytes unread h rest it is_head r request by same served =
     inl (asks h rest, request, (same ∙ by.is_head, inl (subst (λ (w : Wanted). IsGoneServed w r) by.wanted served)))
@@ -131,7 +130,7 @@ module _ {S : Type 0} (g : Ghosts S) (all : Option (List ℕ)) (unread : Type 0)
       (λ t bytes at it. out_of_memory_reply g t bytes unread it.0 it.1 next desk it.2 it.3 failed at) (λ bytes it. out_of_memory_gone bytes unread it.0 it.1 next it.2 it.3 failed)
 
   -- a request was answered
-  pub asked_next : (old new : DeskState S) (asked : Asked) (sent : OutgoingReply) → IfSome all (λ bytes. IsReceived (received.Request asked) bytes) → sent.is_head ≡ asked.is_head → HasReply g (asked_for asked.operation) (response sent.reply) old new
+  pub asked_next : (old new : DeskState S) (asked : ParsedRequest) (sent : OutgoingReply) → IfSome all (λ bytes. IsReceived (received.Request asked) bytes) → sent.is_head ≡ asked.is_head → HasReply g (asked_for asked.operation) (response sent.reply) old new
       → AnsweredAt g old new (λ t. IsNextReady g t all unread (Ok (Some sent)) new) (IfSome all (λ bytes. IsGoneToSend bytes unread (Some sent))) (ReportsUnavailable (Some sent))
   asked_next old new asked sent came same it =
       let r = response sent.reply in
@@ -153,12 +152,18 @@ module _ {S : Type 0} (g : Ghosts S) (all : Option (List ℕ)) (unread : Type 0)
 -- ---- both halves
 
 module _ {R W S : Type 0} (g : Ghosts S) (all : R → Option (List ℕ)) (reader left : R) (contents : W → Option (List ℕ)) (writer after : W) (old new : DeskState S) where
-  pub one_failed : (e : Io) → AnswersNext g all reader left (Err e) old new → ServesOne g all reader left contents writer after (Err e) old new
+  -- one request was served; at 503 alone the desk may be poisoned by it
+  abbrev pub OneServed : Result ℕ Io → Type 0
+  OneServed status =
+      AnsweredAt g old new (λ t. IsOneServed g t (all reader) (left ≡ reader) status (contents writer) (contents after) new)
+      (IsGoneAnswered (all reader) (left ≡ reader) status (contents writer) (contents after)) (IfOk status (λ code. code ≡ 503))
+
+  pub one_failed : (e : Io) → AnswersNext g all reader left (Err e) old new → OneServed (Err e)
   one_failed e it =
       answered g old new (λ t. IsNextReady g t (all reader) (left ≡ reader) (Err e) new) (λ t. IsOneServed g t (all reader) (left ≡ reader) (Err e) (contents writer) (contents after) new) _ _ _ _ it
       (λ t next. record { ok = tt; leaves = next.leaves }) (λ gone. gone) (λ reported. reported)
 
-  pub one_sent : (it : Option OutgoingReply) (status : Result ℕ Io) → AnswersNext g all reader left (Ok it) old new → Sends it status (contents writer) (contents after) → ServesOne g all reader left contents writer after status old new
+  pub one_sent : (it : Option OutgoingReply) (status : Result ℕ Io) → AnswersNext g all reader left (Ok it) old new → Sends it status (contents writer) (contents after) → OneServed status
   one_sent it status next sent =
       let unread : Type 0 = left ≡ reader in
       answered g old new (λ t. IsNextReady g t (all reader) unread (Ok it) new) (λ t. IsOneServed g t (all reader) unread status (contents writer) (contents after) new) _ _ _ _ next
@@ -199,11 +204,3 @@ module _ {R W S : Type 0} (g : Ghosts S) (all : R → Option (List ℕ)) (reader
       → InHalves g all reader left contents writer after status old new
   halves_sent it (Ok code) next sent = record { next = Ok it; first = next; unserved = tt; second = sent; err = tt }
   halves_sent it (Err e) next sent = record { next = Ok it; first = next; unserved = tt; second = sent; err = broken (all reader) it sent.err next.call }
-
-  -- a request was served
-  pub visited : (status : Result ℕ Io) → ServesOne g all reader left contents writer after status old new → IsVisited g status old new
-  visited status it = answered g old new _ _ _ _ _ _ it (λ t one. one.leaves) (λ gone. tt) (λ reported. reported)
-
-  -- and its answer was not flushed
-  pub unflushed : (status : Result ℕ Io) (e : Io) → ServesOne g all reader left contents writer after status old new → IsVisited g (Err e) old new
-  unflushed status e it = answered g old new _ _ _ _ _ _ it (λ t one. one.leaves) (λ gone. tt) (λ reported. tt)

@@ -10,7 +10,8 @@ use Rattle.office_http.specs.Replies.{Response, failure_response}
 use Rattle.office_http.specs.declared.failure.Failure.TheVariants as failure
 use Rattle.office_http.specs.declared.reply.Reply.{Reply}
 use Rattle.office_wire.specs.Answering.{AnyAnswer, ArePerformed, ArePerformedBy, IsAnswered, IsGiven, IsGivenAt, IsGivenUnavailable, IsGoneGiven, IsPerformed, IsUnavailable, PerformsAsked, RunsOutOfMemory, Serves, TakesMemory, gone_acts, gone_response}
-use Rattle.office_http.specs.Receiving.{Wanted, acts, resumption}
+use Rattle.office_http.specs.Receiving.{Wanted, acts, requested}
+use Rattle.office_http.specs.declared.path_request.PathRequest.TheVariants as path
 use Rattle.office_wire.specs.Serving.{HasReply}
 use Rattle.office_wire.proofs.Calls.{answered}
 use Rattle.office_wire.proofs.Unavailable.{memory_unavailable}
@@ -34,8 +35,8 @@ performed g wanted reply old new takes out it =
     (λ t served. given g t wanted reply new served (out t)) (λ gone. gone_given wanted reply takes gone) (λ reported. reported)
 
 -- the open run
-pub run_performed : {S : Type 0} (g : Ghosts S) (reply : Result Reply Memory) (old new : DeskState S) → IsPerformed g resumption reply old new → IsAnswered g resumption reply old new
-run_performed g reply old new it = performed g resumption reply old new tt (λ t served. served) it
+pub run_performed : {S : Type 0} (g : Ghosts S) (reply : Result Reply Memory) (old new : DeskState S) → IsPerformed g (requested path.Resume) reply old new → IsAnswered g (requested path.Resume) reply old new
+run_performed g reply old new it = performed g (requested path.Resume) reply old new tt (λ t served. served) it
 
 -- the acts of a body
 pub body_performed : {S : Type 0} (g : Ghosts S) (body : List ℕ) (seen done : List Act) (reply : Result Reply Memory) (old new : DeskState S) → seen ≡ done → acts_in body ≡ Ok done

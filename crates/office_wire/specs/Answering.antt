@@ -1,24 +1,22 @@
 -- What is answered to what is asked of the office, and where the desk is then. Source: own.
 use Rattle.std.specs.FinMap.{get}
-use Rattle.std.specs.Prelude.{◌≡◌, ◌≢◌, ◌⊎◌, ℕ, ℤ, suc, IfOk, IsSome, IsTrue, List, MatchResult, [], Option, Some, None, Result, Ok, Err}
+use Rattle.std.specs.Prelude.{◌≡◌, ◌⊎◌, ℕ, ℤ, IfOk, IsSome, IsSomeAnd, IsTrue, List, MatchResult, [], Option, Some, None, Result, Ok, Err}
 use Rattle.sqlite.specs.Held.{state}
 use Rattle.sqlite_trees.specs.declared.store.Store.{Ghosts}
 use Rattle.office_base.specs.declared.refusal.Refusal.TheVariants as refusal
 use Rattle.office_rules.specs.Readings.{ending_entry, record_view}
 use Rattle.office_rules.specs.Registers.{AreDueRows, AreOverdueRows, DueRowView}
-use Rattle.office_rules.specs.Runs.{IsMidway, after_steps, open_run, whole}
 use Rattle.office_rules.specs.State.{Office, State}
 use Rattle.office_rules.specs.declared.act.Act.{Act}
 use Rattle.office_rules.specs.declared.answer.Answer.TheVariants.{Refused, RunClosed}
 use Rattle.office_base.specs.declared.memory.Memory.{Memory}
-use Rattle.office_store.specs.RepresentsRows.{LeavesOffices}
 use Rattle.office_store.specs.declared.fault.Fault.{Fault}
 use Rattle.office_store.specs.declared.fault.Fault.TheVariants as fault
+use Rattle.office_desk.specs.Contents.{IsContentRead}
 use Rattle.office_desk.specs.Desk.{DeskState}
-use Rattle.office_desk.specs.Fates.{LeavesStepFates}
-use Rattle.office_desk.specs.Leaving.{IsContentReported, IsOtherContent, LeavesRowsOf, IsAt, StopsAt, StopsLeaving}
+use Rattle.office_desk.specs.Leaving.{IsAt}
 use Rattle.office_desk.specs.Outcomes.{ActsCameTo, ActsLead, ActsOutcome, all_done, stopped}
-use Rattle.office_desk.specs.Resuming.{LeavesMidway}
+use Rattle.office_desk.specs.Resumptions.{RunCameTo, RunOutcome, none_open, run_closed, run_stopped}
 use Rattle.office_json.specs.Lists.{NoActs, not_json, bad_act, acts_in}
 use Rattle.office_http.specs.Replies.{Response, check_response, failure_response, response}
 use Rattle.office_http.specs.declared.failure.Failure.{Failure}
@@ -26,8 +24,9 @@ use Rattle.office_http.specs.declared.failure.Failure.TheVariants as failure
 use Rattle.office_http.specs.declared.reply.Reply.{Reply}
 use Rattle.office_http.specs.declared.status.Status.TheVariants as status
 use Rattle.office_wire.specs.Calling.{AnsweredAt}
-use Rattle.office_wire.specs.declared.answering.Reported.{Reported}
-use Rattle.office_http.specs.Receiving.{Wanted, refused, cut, acts, resumption, record_reported, content_reported, due_reported, overdue_reported, certificate_reported}
+use Rattle.office_wire.specs.declared.answers.Reported.{Reported}
+use Rattle.office_http.specs.Receiving.{Wanted, acts, cut, refused, requested}
+use Rattle.office_http.specs.declared.path_request.PathRequest.TheVariants as path
 use Rattle.office_wire.specs.Replies.{acts_response, answer_response, bad_act_response, certificate_response, content_response, due_response, fault_response, overdue_response, record_response, stopped_response}
 
 -- ---- acts; Reported says which answer is given
@@ -54,37 +53,15 @@ PerformsAsked Reported g t (Err (bad_act place why)) desk = Reported (bad_act_re
 
 -- ---- the open run
 
--- the open run was resumed and closed, at whatever moment it had been stopped
-pub record IsResumed {S : Type 0} (Reported : Response → Type 0) (g : Ghosts S) (t : State) (run : ℕ)
-    (desk : DeskState S) : Type 0 where
-  pub was_open : open_run t.office ≡ Some run
-  pub reported : Reported (answer_response (RunClosed run))
-  pub closed : IsAt g (whole t run) desk
-  pub never_stopped : (s : State) → open_run s.office ≡ Some run → IsMidway s run t → IsAt g (whole s run) desk
-  pub fates : LeavesStepFates t (state g desk.held)
+-- the answer to a resumption that came to this
+abbrev pub run_reply : RunOutcome → Response
+run_reply (run_closed run) = answer_response (RunClosed run)
+run_reply none_open = answer_response (Refused refusal.NoRun)
+run_reply (run_stopped f) = fault_response f
 
--- none was open
-pub record HasNoRun {S : Type 0} (Reported : Response → Type 0) (g : Ghosts S) (t : State) (desk : DeskState S) : Type 0
-  where
-    pub none_open : open_run t.office ≡ None
-    pub reported : Reported (answer_response (Refused refusal.NoRun))
-    pub represents : IsAt g t desk
-
--- a fault stopped it: a crash leaves the run midway, or the state where none was open
-pub record IsRunStopped {S : Type 0} (Reported : Response → Type 0) (g : Ghosts S) (t : State) (f : Fault)
-    (desk : DeskState S) : Type 0 where
-  pub reported : Reported (fault_response f)
-  pub stopped : (n : ℕ) × StopsAt (after_steps t n).office f desk
-      × StopsLeaving (after_steps t n) (after_steps t (suc n)) f (state g desk.held)
-  pub midway : (s : State) (run : ℕ) → open_run s.office ≡ Some run → IsMidway s run t
-      → LeavesMidway s run (state g desk.held)
-  pub none_open : open_run t.office ≡ None → LeavesRowsOf t (state g desk.held)
-  pub fates : LeavesStepFates t (state g desk.held)
-
+-- the open run was resumed: it came to this, and that is answered
 abbrev pub Resumes : {S : Type 0} → (Response → Type 0) → Ghosts S → State → DeskState S → Type 0
-Resumes Reported g t desk =
-    ((run : ℕ) × IsResumed Reported g t run desk)
-    ⊎ (HasNoRun Reported g t desk ⊎ ((f : Fault) × IsRunStopped Reported g t f desk))
+Resumes Reported g t desk = (o : RunOutcome) × Reported (run_reply o) × RunCameTo g t o desk
 
 -- ---- what is reported
 
@@ -101,27 +78,16 @@ ReportsRecord Reported g t None desk = ReportsNone Reported g t (failure_respons
 ReportsRecord Reported g t (Some r) desk =
     Reports Reported g t (record_response (record_view t.office r) (ending_entry t.office r)) desk
 
--- the content of the record, with its length and digest
-abbrev pub IsReported : {S : Type 0} → (Response → Type 0) → Ghosts S → State → ℕ → DeskState S → Type 0
-IsReported Reported g t r desk =
-    (content : Option (List ℕ)) × IsContentReported t r content × Reported (content_response content) × IsAt g t desk
+-- the answer to the reading of a content that came to this
+abbrev pub content_reply : Result (Option (List ℕ)) Fault → Response
+content_reply (Ok content) = content_response content
+content_reply (Err f) = fault_response f
 
--- a fault kept it from being reported: it is damaged, or memory ran out, or the database failed and the desk is
--- poisoned; a crash leaves the state
-pub record IsUnreported {S : Type 0} (Reported : Response → Type 0) (g : Ghosts S) (t : State) (r : ℕ) (f : Fault)
-    (desk : DeskState S) : Type 0 where
-  pub reported : Reported (fault_response f)
-  pub damaged : f ≡ fault.Damaged → IsOtherContent t r
-  pub kept : f ≢ fault.Store → IsAt g t desk
-  pub poisoned : f ≡ fault.Store → IsTrue desk.is_poisoned
-  pub leaves : LeavesRowsOf t (state g desk.held)
-  pub offices : LeavesOffices (state g desk.held)
-  pub no_other : (f ≢ fault.Reopen) × (f ≢ fault.Version)
-
+-- the content of the record, or why it is not reported
 abbrev pub ReportsContent : {S : Type 0} → (Response → Type 0) → Ghosts S → State → Option ℕ → DeskState S → Type 0
 ReportsContent Reported g t None desk = ReportsNone Reported g t (failure_response failure.Content) desk
 ReportsContent Reported g t (Some r) desk =
-    IsReported Reported g t r desk ⊎ ((f : Fault) × IsUnreported Reported g t r f desk)
+    (found : Result (Option (List ℕ)) Fault) × Reported (content_reply found) × IsContentRead g t r found desk
 
 abbrev pub ReportsDue : {S : Type 0} → (Response → Type 0) → Ghosts S → State → Option ℤ → DeskState S → Type 0
 ReportsDue Reported g t None desk = ReportsNone Reported g t (failure_response failure.Day) desk
@@ -157,12 +123,12 @@ abbrev pub Serves : {S : Type 0} → (Response → Type 0) → Ghosts S → Stat
 Serves Reported g t (refused check) desk = ReportsNone Reported g t (check_response check) desk
 Serves Reported g t cut desk = ReportsNone Reported g t (failure_response failure.Body) desk
 Serves Reported g t (acts body) desk = PerformsAsked Reported g t (acts_in body) desk
-Serves Reported g t resumption desk = Resumes Reported g t desk
-Serves Reported g t (record_reported r) desk = ReportsRecord Reported g t r desk
-Serves Reported g t (content_reported r) desk = ReportsContent Reported g t r desk
-Serves Reported g t (due_reported day) desk = ReportsDue Reported g t day desk
-Serves Reported g t (overdue_reported day n) desk = ReportsOverdue Reported g t day n desk
-Serves Reported g t (certificate_reported run) desk = ReportsCertificate Reported g t run desk
+Serves Reported g t (requested path.Resume) desk = Resumes Reported g t desk
+Serves Reported g t (requested (path.Record r)) desk = ReportsRecord Reported g t r desk
+Serves Reported g t (requested (path.Content r)) desk = ReportsContent Reported g t r desk
+Serves Reported g t (requested (path.Due day)) desk = ReportsDue Reported g t day desk
+Serves Reported g t (requested (path.Overdue day n)) desk = ReportsOverdue Reported g t day n desk
+Serves Reported g t (requested (path.Certificate run)) desk = ReportsCertificate Reported g t run desk
 
 -- it was served with this answer
 abbrev pub Answers : {S : Type 0} → Ghosts S → State → Wanted → Response → DeskState S → Type 0
@@ -190,12 +156,12 @@ abbrev pub gone_response : Wanted → Response
 gone_response (refused check) = check_response check
 gone_response cut = failure_response failure.Body
 gone_response (acts body) = gone_acts (acts_in body)
-gone_response resumption = fault_response fault.Reopen
-gone_response (record_reported r) = gone_reading failure.Record r
-gone_response (content_reported r) = gone_reading failure.Content r
-gone_response (due_reported day) = gone_reading failure.Day day
-gone_response (overdue_reported day count) = gone_overdue day count
-gone_response (certificate_reported run) = gone_reading failure.Certificate run
+gone_response (requested path.Resume) = fault_response fault.Reopen
+gone_response (requested (path.Record r)) = gone_reading failure.Record r
+gone_response (requested (path.Content r)) = gone_reading failure.Content r
+gone_response (requested (path.Due day)) = gone_reading failure.Day day
+gone_response (requested (path.Overdue day count)) = gone_overdue day count
+gone_response (requested (path.Certificate run)) = gone_reading failure.Certificate run
 
 -- an answer that reports a fault, or lack of memory
 abbrev pub IsUnavailable : Response → Type 0
@@ -212,12 +178,12 @@ abbrev pub TakesMemory : Wanted → Type 0
 TakesMemory (refused check) = ⊥
 TakesMemory cut = ⊥
 TakesMemory (acts body) = Unit {0}
-TakesMemory resumption = Unit {0}
-TakesMemory (record_reported r) = IsSome r
-TakesMemory (content_reported r) = IsSome r
-TakesMemory (due_reported day) = IsSome day
-TakesMemory (overdue_reported day n) = IsSome day × IsSome n
-TakesMemory (certificate_reported run) = IsSome run
+TakesMemory (requested path.Resume) = Unit {0}
+TakesMemory (requested (path.Record r)) = IsSome r
+TakesMemory (requested (path.Content r)) = IsSome r
+TakesMemory (requested (path.Due day)) = IsSome day
+TakesMemory (requested (path.Overdue day n)) = IsSome day × IsSome n
+TakesMemory (requested (path.Certificate run)) = IsSome run
 
 -- memory ran out for its answer: what it asks for was done, but for acts that could not be read; of a content only the
 -- answer to a fault takes memory
@@ -225,13 +191,13 @@ abbrev pub RunsOutOfMemory : {S : Type 0} → Ghosts S → State → Wanted → 
 RunsOutOfMemory g t (refused check) desk = ⊥
 RunsOutOfMemory g t cut desk = ⊥
 RunsOutOfMemory g t (acts body) desk = IsAt g t desk ⊎ PerformsAsked AnyAnswer g t (acts_in body) desk
-RunsOutOfMemory g t resumption desk = Resumes AnyAnswer g t desk
-RunsOutOfMemory g t (record_reported r) desk = IsSome r × IsAt g t desk
-RunsOutOfMemory g t (content_reported None) desk = ⊥
-RunsOutOfMemory g t (content_reported (Some r)) desk = (f : Fault) × IsUnreported AnyAnswer g t r f desk
-RunsOutOfMemory g t (due_reported day) desk = IsSome day × IsAt g t desk
-RunsOutOfMemory g t (overdue_reported day n) desk = IsSome day × IsSome n × IsAt g t desk
-RunsOutOfMemory g t (certificate_reported run) desk = IsSome run × IsAt g t desk
+RunsOutOfMemory g t (requested path.Resume) desk = Resumes AnyAnswer g t desk
+RunsOutOfMemory g t (requested (path.Record r)) desk = IsSome r × IsAt g t desk
+RunsOutOfMemory g t (requested (path.Content number)) desk =
+    IsSomeAnd number (λ r. (f : Fault) × IsContentRead g t r (Err f) desk)
+RunsOutOfMemory g t (requested (path.Due day)) desk = IsSome day × IsAt g t desk
+RunsOutOfMemory g t (requested (path.Overdue day n)) desk = IsSome day × IsSome n × IsAt g t desk
+RunsOutOfMemory g t (requested (path.Certificate run)) desk = IsSome run × IsAt g t desk
 
 -- ---- calls at a desk
 

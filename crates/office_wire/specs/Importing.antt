@@ -23,11 +23,11 @@ use Rattle.office_desk.specs.Desk.{DeskState}
 use Rattle.office_desk.specs.Leaving.{IsAt, StopsAt, StopsLeaving}
 use Rattle.office_csv.specs.ImportRows.{Fields, act_asked, fields_in}
 use Rattle.office_csv.specs.ImportText.{AreAtPrefix, HeadsText, IsBadNext, IsEnded, LacksHeader}
-use Rattle.office_csv.specs.declared.reading.RowStop.{RowStop}
-use Rattle.office_csv.specs.declared.reading.RowStop.TheVariants as row_stop
+use Rattle.office_csv.specs.declared.import_text.RowStop.{RowStop}
+use Rattle.office_csv.specs.declared.import_text.RowStop.TheVariants as row_stop
 use Rattle.office_wire.specs.Calling.{CalledAt}
-use Rattle.office_wire.specs.declared.importing.ImportStop.{ImportStop}
-use Rattle.office_wire.specs.declared.importing.ImportStop.TheVariants as stop
+use Rattle.office_wire.specs.declared.record_import.ImportStop.{ImportStop}
+use Rattle.office_wire.specs.declared.record_import.ImportStop.TheVariants as stop
 
 -- ---- one row
 

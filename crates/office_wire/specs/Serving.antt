@@ -1,5 +1,5 @@
 -- One request and its answer. Source: own; requests and the form of answers are those of RFC 9112.
-use Rattle.std.specs.Prelude.{◌≡◌, ◌⊎◌, ℕ, Bool, false, List, IfErr, IfOk, IfSome, OnErr, Option, Some, None, Result, Err}
+use Rattle.std.specs.Prelude.{◌≡◌, ◌⊎◌, ℕ, Bool, false, List, IfErr, IfOk, IfSome, IsSomeAnd, OnErr, Option, Some, None, Result, Err}
 use Rattle.std.specs.Io.KnownBytes.{Appends}
 use Rattle.httparse.specs.Grammar.{RequestHead}
 use Rattle.sqlite_trees.specs.declared.store.Store.{Ghosts}
@@ -10,7 +10,7 @@ use Rattle.office_desk.specs.Desk.{DeskState}
 use Rattle.office_desk.specs.Leaving.{IsAt}
 use Rattle.office_http.specs.RequestPlans.{is_head_method}
 use Rattle.office_http.specs.declared.failure.Failure.{Failure}
-use Rattle.office_wire.specs.declared.serving.OutgoingReply.{OutgoingReply}
+use Rattle.office_wire.specs.declared.exchange.OutgoingReply.{OutgoingReply}
 use Rattle.office_http.specs.Replies.{Response, response, failure_response, response_text, status_number}
 use Rattle.office_http.specs.Requests.{Request, IsRequest, nothing, headless, asks}
 use Rattle.office_http.specs.declared.failure.Failure.TheVariants as failure
@@ -101,8 +101,8 @@ LeavesServed g t desk = (it : Wanted) × Serves AnyAnswer g t it desk
 
 -- an answer from fixed bytes is to be written
 abbrev pub IsFailed : Failure → Bool → Option OutgoingReply → Type 0
-IsFailed why is_head None = ⊥
-IsFailed why is_head (Some it) = (response it.reply ≡ failure_response why) × (it.is_head ≡ is_head)
+IsFailed why is_head sending =
+    IsSomeAnd sending (λ it. (response it.reply ≡ failure_response why) × (it.is_head ≡ is_head))
 
 -- what is to be written is the answer to all bytes of a connection
 abbrev pub IsToSend : {S : Type 0} → Ghosts S → State → List ℕ → Type 0 → Option OutgoingReply → DeskState S → Type 0
@@ -116,8 +116,7 @@ IsGoneToSend bytes unread (Some it) = IsGoneReply bytes unread it.is_head (respo
 
 -- what is to be written reports a fault, or lack of memory
 abbrev pub ReportsUnavailable : Option OutgoingReply → Type 0
-ReportsUnavailable None = ⊥
-ReportsUnavailable (Some it) = IsUnavailable (response it.reply)
+ReportsUnavailable sending = IsSomeAnd sending (λ it. IsUnavailable (response it.reply))
 
 -- it was written, and the status is its
 abbrev pub IsSent : Option OutgoingReply → ℕ → Option (List ℕ) → Option (List ℕ) → Type 0
@@ -126,8 +125,8 @@ IsSent (Some it) status written after = Writes it.is_head (response it.reply) st
 
 -- the first bytes of it were written, or none; where nothing is to be written, nothing fails
 abbrev pub IsSomeSent : Option OutgoingReply → Option (List ℕ) → Option (List ℕ) → Type 0
-IsSomeSent None written after = ⊥
-IsSomeSent (Some it) written after = AppendsSome written after (response_text it.is_head (response it.reply))
+IsSomeSent sending written after =
+    IsSomeAnd sending (λ it. AppendsSome written after (response_text it.is_head (response it.reply)))
 
 -- so the half of serving after it ends
 pub record Sends (sending : Option OutgoingReply) (status : Result ℕ Io) (written after : Option (List ℕ)) : Type 0
@@ -164,18 +163,12 @@ pub record IsOneServed {S : Type 0} (g : Ghosts S) (t : State) (all : Option (Li
   pub ok : IfOk status (λ code. IfSome all (λ bytes. Replies g t bytes unread code written after desk))
   pub leaves : LeavesServed g t desk
 
--- one request was served; at 503 alone the desk may be poisoned by it
-abbrev pub ServesOne : {R W S : Type 0} → Ghosts S → (R → Option (List ℕ)) → (reader left : R) → (W → Option (List ℕ))
-    → (writer after : W) → Result ℕ Io → (old new : DeskState S) → Type 0
-ServesOne g all reader left contents writer after status old new =
-    AnsweredAt g old new
-    (λ t. IsOneServed g t (all reader) (left ≡ reader) status (contents writer) (contents after) new)
-    (IfOk status
-    (λ code. IfSome (all reader)
-    (λ bytes. GoneReplies bytes (left ≡ reader) code (contents writer) (contents after))))
-    (IfOk status (λ code. code ≡ 503))
+-- where the reader reports its bytes, the answer of a poisoned desk to all of them was written
+abbrev pub IsGoneAnswered : Option (List ℕ) → Type 0 → Result ℕ Io → Option (List ℕ) → Option (List ℕ) → Type 0
+IsGoneAnswered all unread status written after =
+    IfOk status (λ code. IfSome all (λ bytes. GoneReplies bytes unread code written after))
 
--- and it was served in two halves
+-- one request was served in two halves
 pub record InHalves {R W S : Type 0} (g : Ghosts S) (all : R → Option (List ℕ)) (reader left : R)
     (contents : W → Option (List ℕ)) (writer after : W) (status : Result ℕ Io) (old new : DeskState S) : Type 0 where
   -- the first gives what is to be written, for which the desk is already

@@ -2,7 +2,7 @@
 ghost use Rattle.std.specs.Prelude.{◌≡◌, ◌||◌, IfOk, OnErr};
 ghost use Rattle.office_wire.specs.Connections.{Ends, ServesAll, Turn, has_failed};
 
-use crate::serving::serve_with;
+use crate::exchange::serve_with;
 use office_base::{Io, Memory, is_interrupted};
 use office_desk::Desk;
 use office_http::{Routes, Timed};
@@ -30,13 +30,19 @@ pub struct Service {
     pub is_poisoned: bool,
 }
 
-/// Reads what the peer still sends, for a while: to close a socket with bytes that were not read
-/// resets the connection, and the peer may lose the answer.
-fn drain<C: Read + OpenStream>(stream: &mut C) {
-    if stream
-        .set_read_timeout(Some(Duration::from_millis(100)))
-        .is_err()
-    {
+/// How many milliseconds pass without a byte before the connection is closed after an answer. A
+/// request that was answered by 200 or 409 was read whole, so that nothing is to come.
+fn last_wait(status: u16) -> Duration {
+    match status {
+        200 | 409 => Duration::from_millis(1),
+        _ => Duration::from_millis(100),
+    }
+}
+
+/// Reads what the peer still sends, until none comes for that long: to close a socket with bytes
+/// that were not read resets the connection, and the peer may lose the answer.
+fn drain<C: Read + OpenStream>(stream: &mut C, wait: Duration) {
+    if stream.set_read_timeout(Some(wait)).is_err() {
         return;
     }
     let mut buf = [0u8; 4_096];
@@ -51,9 +57,9 @@ fn drain<C: Read + OpenStream>(stream: &mut C) {
 
 /// Shuts down the writing side, by which the peer sees that the answer has ended, and drains what
 /// it still sends.
-fn finish<C: Read + OpenStream>(stream: &mut C) {
+fn finish<C: Read + OpenStream>(stream: &mut C, status: u16) {
     if stream.shutdown(Shutdown::Write).is_ok() {
-        drain(stream);
+        drain(stream, last_wait(status));
     }
 }
 
@@ -88,7 +94,7 @@ fn serve_stream<C: Read + Write + OpenStream + Drop, K: Clock, S: Alter>(
     if writer.flush().is_err() {
         return Err(Io);
     }
-    finish(&mut reader.into_stream());
+    finish(&mut reader.into_stream(), status);
     Ok(status)
 }
 

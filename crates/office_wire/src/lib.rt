@@ -9,21 +9,21 @@
 //! ([`LONGEST`]). What serves many makes its routes once: [`serve_with`], [`serve_each`].
 #![tactic(auto)]
 
-mod answering;
+mod answers;
 mod connections;
+mod exchange;
 mod import_lines;
-mod importing;
+mod record_import;
 mod registers;
 mod replies;
-mod serving;
 
-pub use answering::answer;
+pub use answers::answer;
 pub use connections::{Service, serve_all, serve_each};
-pub use importing::{ImportStop, import_records};
+pub use exchange::{OutgoingReply, answer_next, send, serve_one, serve_with};
 pub use office_base::Io;
 pub use office_http::{
-    ActsBody, Asked, LONGEST, Operation, ReceiveStop, Received, Routes, receive,
+    ActsBody, LONGEST, Operation, ParsedRequest, ReceiveStop, Received, Routes, receive,
 };
 pub use office_json::{ReadFault, answer_value, read_act};
+pub use record_import::{ImportStop, import_records};
 pub use registers::{ExportStop, export_due, export_entries, export_overdue};
-pub use serving::{OutgoingReply, answer_next, send, serve_one, serve_with};

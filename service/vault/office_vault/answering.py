@@ -1,6 +1,7 @@
 """What the service answers: it takes objects in, and says which object a record's file is, for nginx to send.
 
     PUT /vault/SHA256          201 a new object, 200 there already; on the disk in both cases
+    GET /vault/limits          the most bytes of an object, and how many bytes fit now
     GET /records/N/files       the files that record N names, as JSON
     GET /records/N/files/K     the K-th of them
 
@@ -23,6 +24,7 @@ from office_vault import asking, manifest
 from office_vault.objects import NoRoom, Vault, WrongBytes, stamp_at
 
 PUT = re.compile(r"/vault/([0-9a-f]{64})")
+LIMITS = "/vault/limits"
 FILES = re.compile(r"/records/([1-9][0-9]{0,9})/files(?:/([1-9][0-9]{0,5}))?")
 SECONDS = 120
 """so long nginx may be silent, which waits for its client for a shorter time"""
@@ -140,6 +142,9 @@ class Handler(BaseHTTPRequestHandler):
     # ---- out
 
     def give(self) -> None:
+        if self.path == LIMITS:
+            self.say(200, {"most": self.settings.most, "room": self.settings.vault.room(self.settings.reserve)})
+            return
         found = FILES.fullmatch(self.path)
         if not found:
             raise Answered(404, "path")

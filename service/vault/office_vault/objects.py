@@ -78,14 +78,18 @@ class Vault:
 
     # ---- in
 
+    def room(self, reserve: int) -> int:
+        """Returns how many bytes an object may have now, so that the reserve stays free."""
+        found = os.statvfs(self.objects)
+        return max(found.f_bavail * found.f_frsize - reserve, 0)
+
     def receive(self, digest: str, length: int, read: Callable[[int], bytes], reserve: int = 0) -> bool:
         """Takes the bytes of an object in and returns whether it is new. It is on the disk then, with a new stamp.
 
         The file gets its name after its bytes are on the disk and have that digest, so a kill leaves nothing.
         """
         path = self.path(digest)
-        room = os.statvfs(path.parent)
-        if room.f_bavail * room.f_frsize - reserve < length:
+        if self.room(reserve) < length:
             raise NoRoom
         try:
             fd = os.open(path.parent, os.O_TMPFILE | os.O_RDWR, 0o440)

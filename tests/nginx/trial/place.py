@@ -1,4 +1,4 @@
-"""Offices behind nginx, put there by the commands of docs/OPERATING.md: ports 80 and 443 of a network of its own."""
+"""Offices behind nginx, put there by the commands of docs/SERVICE.md: ports 80 and 443 of a network of its own."""
 import base64
 import http.client
 import json
@@ -41,7 +41,7 @@ def run(command: str, folder: pathlib.Path = TOP) -> subprocess.CompletedProcess
 
 def commands() -> list[str]:
     """The commands of the section that puts nginx there."""
-    section = (TOP / "docs/OPERATING.md").read_text().split("\n## TLS and access\n")[1].split("\n## ")[0]
+    section = (TOP / "docs/SERVICE.md").read_text().split("\n## TLS and access\n")[1].split("\n## ")[0]
     # a line that ends with a backslash goes on in the next
     return re.findall(r"^    (.+)$", re.sub(r" \\\n *", " ", section), re.M)
 

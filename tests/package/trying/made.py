@@ -107,12 +107,13 @@ def judge_tools(top: pathlib.Path) -> None:
 
 
 def judge_named(top: pathlib.Path) -> None:
-    """What the commands of OPERATING.md copy from service is in the package, but for what it puts elsewhere."""
-    doc, page = top / "usr/share/doc/office", (TOP / "docs/OPERATING.md").read_text()
+    """What the commands of the pages copy from service is in the package, but for what it puts elsewhere."""
+    doc = top / "usr/share/doc/office"
+    page = "\n".join((TOP / f"docs/{it}.md").read_text() for it in ("INSTALL", "SERVICE", "BACKUP", "WATCHING"))
     named = set(re.findall(r"(?m)(?<=[ ])service/[\w@./-]+", "\n".join(re.findall(r"(?m)^    .*", page))))
     elsewhere = {it.source for it in staging.listed() if not f"/{it.folder}".startswith("/usr/share/doc")}
     missing = sorted(it for it in named if TOP / it not in elsewhere and not (doc / it).exists())
-    judge("the package has the files that OPERATING.md copies", not missing and len(named) > 20, missing or named)
+    judge("the package has the files that the pages copy", not missing and len(named) > 20, missing or named)
 
 
 def tree(top: pathlib.Path) -> dict[str, tuple[int, bytes]]:
@@ -155,8 +156,8 @@ def judge_launcher(file: pathlib.Path, top: pathlib.Path, place: pathlib.Path) -
     done = run([launcher, "package", here])
     judge("after a change of a source it says to build", done.status == 2
           and done.err == "office: the sources changed since this program was built: run ./office build first\n", done)
-    named = re.search(r"^    apt-get install \./(office_\S+)$", (TOP / "docs/OPERATING.md").read_text(), re.M)
-    judge("OPERATING.md installs this file", named and fnmatch.fnmatch(file.name, named[1]), file.name)
+    named = re.search(r"^    apt-get install \./(office_\S+)$", (TOP / "docs/INSTALL.md").read_text(), re.M)
+    judge("INSTALL.md installs this file", named and fnmatch.fnmatch(file.name, named[1]), file.name)
 
 
 def refused(name: str, words: list[object], says: str, **env: str) -> None:

@@ -10,18 +10,21 @@ GROUP = manifest.Named("a" * 64, 7, "a.pdf").text()
 MOST = manifest.MOST_BYTES // len(GROUP)
 
 
+# texts, and of how many files each is a manifest
+OTHER = GROUP.replace("a" * 64, "b" * 64)
+ROWS = [(GROUP, 1), (GROUP * 3, 3), (GROUP + OTHER, 2), ("", None), (GROUP[:-1], None), (GROUP + "\n", None),
+        (GROUP.replace("a" * 64, "A" * 64), None), (GROUP.replace("\n", "\r\n"), None),
+        (GROUP.replace(" 7", " 07"), None), (GROUP.replace(" 7", " -7"), None), (GROUP.replace(" 7", " 7.0"), None),
+        (GROUP.replace(" 7", " " + "9" * 18), 1), (GROUP.replace(" 7", " " + "9" * 19), None),
+        (GROUP.replace("a.pdf", "../../etc/passwd"), 1), (GROUP.replace("a.pdf", "a\0b"), None),
+        (GROUP.replace("a.pdf", "x" * 1024), 1), (GROUP.replace("a.pdf", "x" * 1025), None),
+        (GROUP.replace("a.pdf", ""), None), (GROUP + "KEY 1\n", None), ("\ufeff" + GROUP, None),
+        (GROUP * MOST, MOST), (GROUP * (MOST + 1), None), ("SHA256 " + "a" * 262_000, None)]
+
+
 def read() -> None:
     """Which texts are manifests, and of how many files."""
-    other = GROUP.replace("a" * 64, "b" * 64)
-    rows = [(GROUP, 1), (GROUP * 3, 3), (GROUP + other, 2), ("", None), (GROUP[:-1], None), (GROUP + "\n", None),
-            (GROUP.replace("a" * 64, "A" * 64), None), (GROUP.replace("\n", "\r\n"), None),
-            (GROUP.replace(" 7", " 07"), None), (GROUP.replace(" 7", " -7"), None), (GROUP.replace(" 7", " 7.0"), None),
-            (GROUP.replace(" 7", " " + "9" * 18), 1), (GROUP.replace(" 7", " " + "9" * 19), None),
-            (GROUP.replace("a.pdf", "../../etc/passwd"), 1), (GROUP.replace("a.pdf", "a\0b"), None),
-            (GROUP.replace("a.pdf", "x" * 1024), 1), (GROUP.replace("a.pdf", "x" * 1025), None),
-            (GROUP.replace("a.pdf", ""), None), (GROUP + "KEY 1\n", None), ("\ufeff" + GROUP, None),
-            (GROUP * MOST, MOST), (GROUP * (MOST + 1), None), ("SHA256 " + "a" * 262_000, None)]
-    for text, count in rows:
+    for text, count in ROWS:
         found = manifest.read(text.encode())
         same(f"{text[-40:]!r} has {count}", None if found is None else len(found), count)
     same("bytes that are no text are none", manifest.read(b"\xff" * 100), None)

@@ -1,6 +1,5 @@
 """An object of 4 GB: it comes in, is checked, mirrored and renewed, with little memory."""
 import hashlib
-import os
 import pathlib
 import shutil
 import subprocess
@@ -35,12 +34,18 @@ def most_memory(pid: int) -> int:
 
 
 def measured(*words: object) -> tuple[int, float, int]:
-    """Runs a command: its status, its seconds, and the most bytes of memory that it had."""
+    """Runs a command: its status, its seconds, and the most bytes of memory that it had.
+
+    The kernel's own sum at its end counts what this trial had before it, too.
+    """
     began = time.monotonic()
     call = [sys.executable, "-I", COMMAND, *map(str, words)]
     done = subprocess.Popen(call, stdout=subprocess.DEVNULL)
-    _, status, used = os.wait4(done.pid, 0)
-    return os.waitstatus_to_exitcode(status), time.monotonic() - began, used.ru_maxrss << 10
+    most = 0
+    while done.poll() is None:
+        most = max(most, most_memory(done.pid))
+        time.sleep(0.05)
+    return done.returncode, time.monotonic() - began, most
 
 
 def tried(folder: pathlib.Path) -> None:

@@ -1,4 +1,5 @@
 """In place of an office, for what needs none: it says what a record is, and gives its content to who may read it."""
+import base64
 import contextlib
 import hashlib
 import http.server
@@ -18,6 +19,7 @@ class StandIn:
         self.readers: dict[int, set[str]] = {}
         self.asked: list[tuple[str, dict[str, str]]] = []
         self.status = 0
+        self.aggregations = 0
         self.server: http.server.ThreadingHTTPServer | None = None
 
     def start(self) -> None:
@@ -39,6 +41,15 @@ class StandIn:
         self.records[number] = Record(kind, names, hashlib.sha256(content).hexdigest())
         self.contents[number] = content
         return number
+
+    def act(self, it: dict[str, str]) -> dict[str, object]:
+        """Does one act that adds something; a record with a content that is there is the same one."""
+        if it["act"] == "add-aggregation":
+            self.aggregations += 1
+            return {"number": self.aggregations}
+        content = base64.b64decode(it["content"])
+        there = [number for number, one in self.contents.items() if one == content]
+        return {"number": there[0], "same": True} if there else {"number": self.add("K", content, set())}
 
     def end(self, number: int) -> None:
         self.records[number].status, self.records[number].run = "ended", 1
@@ -76,6 +87,10 @@ class Answering(http.server.BaseHTTPRequestHandler):
             self.say(404, b'{"error":"content"}')
         else:
             self.say(200, office.contents[number])
+
+    def do_POST(self) -> None:
+        acts = json.loads(self.rfile.read(int(self.headers["Content-Length"])))
+        self.say(200, json.dumps([self.office.act(it) for it in acts]).encode())
 
     def say(self, status: int, body: bytes) -> None:
         self.send_response(status)

@@ -1,0 +1,21 @@
+use Rattle.std.proofs.Common.{inl, inr, refl}
+use Rattle.sqlite.specs.Held.{state}
+use Rattle.office_commands.specs.Making.{InitEnds}
+use Rattle.office_commands.proofs.Callings.{clean_closed, once_closed}
+use Rattle.office_commands.proofs.Desks.{opened}
+use Rattle.office_commands.proofs.Unopened.{unopened}
+use Rattle.office_commands.proofs.init.init_on.Goals as goal
+
+pub returns-in-Ok-clause-ends : goal.returns-in-Ok-clause-ends
+returns-in-Ok-clause-ends g c =
+    once_closed _ _ c.close.ensures.same (λ h. InitEnds (state g.S.Store c.args.conn) (state g.S.Store h) (g.W.Write.contents c.args.out.now) (g.W.Write.contents c.report_version.new.out) c.report_version.result)
+    (inr (opened g.S.Store c.args.conn c.in-Ok.desk c.in-Ok.ensures.ok, c.report_version.ensures))
+
+pub returns-in-Ok-clause-clean : goal.returns-in-Ok-clause-clean
+returns-in-Ok-clause-clean g c = clean_closed g.S.Store c.args.conn c.in-Ok.desk.held c.close.result c.close.ensures.same c.in-Ok.ensures.ok.clean
+
+pub returns-in-Err-clause-ends : goal.returns-in-Err-clause-ends
+returns-in-Err-clause-ends g c = inl (c.in-Err.fault, refl, unopened g.S.Store c.args.conn c.in-Err.fault c.in-Err.conn c.in-Err.ensures.err, refl)
+
+pub returns-in-Err-clause-clean : goal.returns-in-Err-clause-clean
+returns-in-Err-clause-clean g c = c.in-Err.ensures.err.clean

@@ -1,6 +1,0 @@
-use Rattle.std.proofs.Common.{sym, ◌∙◌}
-use Rattle.office_commands.proofs.Reopenings.{held_crashed}
-use Rattle.office_commands.proofs.reopening.law_of_a_killed_word.Goals as goal
-
-pub returns : goal.returns
-returns g c = record { crashed = λ clean. held_crashed c.args.conn (sym c.into_store.ensures.undone.numbered ∙ c.into_store.ensures.numbered clean) }

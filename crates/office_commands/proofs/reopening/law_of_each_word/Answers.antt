@@ -1,9 +1,0 @@
-use Rattle.office_commands.proofs.NextFiles.{service_leaves, whole_office, word_leaves}
-use Rattle.office_commands.proofs.reopening.law_of_each_word.Goals as goal
-
-pub returns : goal.returns
-returns g c =
-    let one = c.law_of_one_database.ensures.one in
-    let stay = c.law_of_soundness.ensures.step in
-    let ends = c.law_of_resumption.ensures.ends in
-    record { word = word_leaves one stay ends; service = service_leaves one stay ends; whole = whole_office }

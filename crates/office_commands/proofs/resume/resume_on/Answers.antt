@@ -1,0 +1,33 @@
+use Rattle.std.proofs.Common.{inl, inr, refl}
+use Rattle.sqlite.specs.Held.{state}
+use Rattle.office_desk.specs.Outcomes.{FromEach}
+use Rattle.office_commands.specs.Opening.{FromOpened}
+use Rattle.office_commands.specs.Resuming.{ResumeEnds}
+use Rattle.office_commands.proofs.Callings.{clean_closed, once_closed}
+use Rattle.office_commands.proofs.Desks.{of_desk}
+use Rattle.office_commands.proofs.KeptRest.{kept_after}
+use Rattle.office_commands.proofs.Resumptions.{resumes_of}
+use Rattle.office_commands.proofs.Unopened.{unopened}
+use Rattle.office_commands.proofs.resume.resume_on.Goals as goal
+
+pub returns-in-Ok-clause-ends : goal.returns-in-Ok-clause-ends
+returns-in-Ok-clause-ends g c =
+    let desk = c.resume_at-ending.new.desk in
+    let opened = c.in-Ok.ensures.ok in
+    let spared = c.resume_at-ending.ensures.rest in
+    once_closed _ _ c.close.ensures.same
+    (λ h. ResumeEnds (state g.S.Store c.args.conn) (state g.S.Store h) (g.W.Write.contents c.args.out.now) (g.W.Write.contents c.resume_at-ending.new.out) c.resume_at-ending.result)
+    (inr (
+      kept_after g.S.Store c.args.conn c.in-Ok.desk opened desk spared.clean spared.rest,
+      resumes_of (FromEach g.S.Store c.in-Ok.desk desk) (FromOpened (state g.S.Store c.args.conn) (state g.S.Store desk.held)) (of_desk g.S.Store c.args.conn c.in-Ok.desk opened desk spared.clean)
+          _ _ _ _ c.resume_at-ending.ensures.done,
+    ))
+
+pub returns-in-Ok-clause-clean : goal.returns-in-Ok-clause-clean
+returns-in-Ok-clause-clean g c = clean_closed g.S.Store c.args.conn c.resume_at-ending.new.desk.held c.close.result c.close.ensures.same (λ clean. c.in-Ok.ensures.ok.clean (c.resume_at-ending.ensures.rest.clean clean))
+
+pub returns-in-Err-clause-ends : goal.returns-in-Err-clause-ends
+returns-in-Err-clause-ends g c = inl (c.in-Err.fault, refl, unopened g.S.Store c.args.conn c.in-Err.fault c.in-Err.conn c.in-Err.ensures.err, refl)
+
+pub returns-in-Err-clause-clean : goal.returns-in-Err-clause-clean
+returns-in-Err-clause-clean g c = c.in-Err.ensures.err.clean

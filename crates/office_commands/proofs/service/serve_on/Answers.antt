@@ -1,0 +1,23 @@
+use Rattle.std.proofs.Common.{inl, inr, refl}
+use Rattle.office_commands.specs.Serving.{ServiceEnds}
+use Rattle.office_commands.proofs.Callings.{clean_closed, once_closed}
+use Rattle.office_commands.proofs.Services.{clean_served, desk_of}
+use Rattle.office_commands.proofs.Unopened.{unopened}
+use Rattle.office_commands.proofs.service.serve_on.Goals as goal
+
+pub returns-in-Ok-clause-ends : goal.returns-in-Ok-clause-ends
+returns-in-Ok-clause-ends g c =
+    let desk = c.serve_at-ending.new.desk in
+    once_closed _ _ c.close.ensures.same
+    (λ h. ServiceEnds g.S.Store c.args.port c.args.count c.args.conn h (g.W.Write.contents c.args.out.now) (g.W.Write.contents c.serve_at-ending.new.out) c.serve_at-ending.result)
+    (inr (c.in-Ok.desk, desk, desk_of g.S.Store c.args.conn c.in-Ok.desk c.in-Ok.ensures.ok, c.serve_at-ending.ensures, refl))
+
+pub returns-in-Ok-clause-clean : goal.returns-in-Ok-clause-clean
+returns-in-Ok-clause-clean g c =
+    clean_closed g.S.Store c.args.conn c.serve_at-ending.new.desk.held c.close.result c.close.ensures.same (λ clean. c.in-Ok.ensures.ok.clean (clean_served g.S.Store c.args.port c.args.count c.in-Ok.desk c.serve_at-ending.new.desk _ _ _ c.serve_at-ending.ensures clean))
+
+pub returns-in-Err-clause-ends : goal.returns-in-Err-clause-ends
+returns-in-Err-clause-ends g c = inl (c.in-Err.fault, refl, unopened g.S.Store c.args.conn c.in-Err.fault c.in-Err.conn c.in-Err.ensures.err, refl)
+
+pub returns-in-Err-clause-clean : goal.returns-in-Err-clause-clean
+returns-in-Err-clause-clean g c = c.in-Err.ensures.err.clean

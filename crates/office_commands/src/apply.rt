@@ -1,0 +1,100 @@
+//! The acts of a JSON array, at the office in a file.
+ghost use Rattle.std.specs.Prelude.{◌≡◌, false};
+ghost use Rattle.sqlite.specs.Held.{state};
+ghost use Rattle.sqlite.specs.State.{HasCleanDisk};
+ghost use Rattle.office_desk.specs.Outcomes.{FromEach, SparesTheRest};
+ghost use Rattle.office_commands.specs.Applying.{Applies, ApplyEnds, Performs, TextEnds};
+
+use crate::ending::Ending;
+use office_base::{Stop, read_whole};
+use office_desk::Desk;
+use office_json::{ListFault, read_acts, write_answers};
+use office_rules::Act;
+use office_store::Fault;
+use sqlite::{Alter, Connection};
+use std::alloc::Global;
+use std::io::{Read, Write};
+
+/// Does acts at a desk that is open, and reports their answers.
+fn perform_at<W: Write, S: Alter>(
+    alloc: Global,
+    desk: &mut Desk<S>,
+    acts: &[Act],
+    out: &mut W,
+) -> Ending
+    requires { desk.old.is_poisoned ≡ false }
+    ensures done { Performs (FromEach S.Store desk.old desk.new) acts.now
+        (state S.Store desk.new.held) (W.contents out.old) (W.contents out.new) result }
+    ensures rest { SparesTheRest S.Store desk.old desk.new }
+{
+    let mut answers = Vec::new(alloc);
+    let done = desk.perform_all(acts, &mut answers);
+    match write_answers(answers.as_slice(), out) {
+        Ok(()) => Ending::of_acts(done, answers.as_slice()),
+        Err(_) => Ending::File,
+    }
+}
+
+/// Does the acts of a text at a desk that is open.
+fn apply_at<W: Write, S: Alter>(
+    alloc: Global,
+    desk: &mut Desk<S>,
+    text: &[u8],
+    out: &mut W,
+) -> Ending
+    requires { desk.old.is_poisoned ≡ false }
+    ensures done { Applies (FromEach S.Store desk.old desk.new) text.now
+        (state S.Store desk.new.held) (W.contents out.old) (W.contents out.new) result }
+    ensures rest { SparesTheRest S.Store desk.old desk.new }
+{
+    match read_acts(alloc, text) {
+        Ok(acts) => perform_at(alloc, desk, acts.as_slice(), out),
+        Err(ListFault::NotJson) => Ending::NotJson,
+        Err(ListFault::BadAct(place, refusal)) => Ending::ActRefused(place, refusal),
+        Err(ListFault::Memory) => Ending::Fault(Fault::Memory),
+    }
+}
+
+/// Does the acts of a text over a connection to the office's file.
+fn apply_text<W: Write, S: Alter>(
+    alloc: Global,
+    conn: Connection<S>,
+    text: &[u8],
+    out: &mut W,
+) -> (Ending, Connection<S>)
+    requires { conn.in_transaction ≡ false }
+    ensures ends { TextEnds text.now (state S.Store conn) (state S.Store result.1)
+        (W.contents out.old) (W.contents out.new) result.0 }
+    ensures clean { HasCleanDisk (state S.Store result.1) → HasCleanDisk (state S.Store conn) }
+{
+    match Desk::open(alloc, conn) {
+        Ok(mut desk) => {
+            let ending = apply_at(alloc, &mut desk, text, out);
+            (ending, desk.close())
+        }
+        Err((fault, conn)) => (Ending::Fault(fault), conn),
+    }
+}
+
+/// `apply FILE ACTS` over a connection to the file, outside a transaction; `input` is the text of
+/// acts. The answers go to `out`, a line for each, and the connection is given back.
+pub fn apply_on<R: Read, W: Write, S: Alter>(
+    alloc: Global,
+    conn: Connection<S>,
+    input: &mut R,
+    out: &mut W,
+) -> (Ending, Connection<S>)
+    requires { conn.in_transaction ≡ false }
+    // The acts of the text are done in order and their answers written; or none is done.
+    ensures ends { ApplyEnds S.Store (R.remaining input.old) conn result.1 (W.contents out.old)
+        (W.contents out.new) result.0 }
+
+    // A disk that is clean afterwards was clean before.
+    ensures clean { HasCleanDisk (state S.Store result.1) → HasCleanDisk (state S.Store conn) }
+{
+    match read_whole(alloc, input) {
+        Ok(text) => apply_text(alloc, conn, text.as_slice(), out),
+        Err(Stop::Io) => (Ending::File, conn),
+        Err(Stop::Memory) => (Ending::Fault(Fault::Memory), conn),
+    }
+}

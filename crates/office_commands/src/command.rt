@@ -1,0 +1,86 @@
+//! The commands that run on the office in a file, over a connection to it.
+ghost use Rattle.std.specs.Prelude.{◌≡◌, false, OnOk};
+ghost use Rattle.std.specs.Io.KnownBytes.{Appends};
+ghost use Rattle.sqlite.specs.Held.{state};
+ghost use Rattle.sqlite.specs.State.{HasCleanDisk};
+ghost use Rattle.office_command_line.specs.Orders.{command};
+ghost use Rattle.office_commands.specs.Calling.{Exits};
+ghost use Rattle.office_commands.specs.Running.{RunEnds, listening_line};
+
+use crate::apply::apply_on;
+use crate::certificate::certificate_on;
+use crate::ending::Ending;
+use crate::ending_line::report;
+use crate::export::export_on;
+use crate::init::init_on;
+use crate::record_import::import_on;
+use crate::resume::resume_on;
+use office_base::Io;
+use office_command_line::{Order, Register};
+use sqlite::{Alter, Connection};
+use std::alloc::Global;
+use std::io::{Read, Write};
+
+/// Reports the port of this machine at which a service listens, and sends the line out. `Io` comes
+/// where the writer answered an error, and some of the line may have gone out then.
+pub fn report_listening<W: Write>(port: u16, out: &mut W) -> Result<(), Io>
+    ensures { OnOk result
+        (Appends (W.contents out.old) (W.contents out.new) (listening_line port)) }
+{
+    writeln!(out, "listening 127.0.0.1:{port}").or(Err(Io))?;
+    out.flush().or(Err(Io))
+}
+
+/// What an order does over a connection to the office's file.
+fn carry_out<R: Read, W: Write, S: Alter>(
+    alloc: Global,
+    conn: Connection<S>,
+    order: &Order<'_>,
+    input: &mut R,
+    out: &mut W,
+) -> (Ending, Connection<S>)
+    requires { conn.in_transaction ≡ false }
+    ensures ends { RunEnds S.Store (command order.now) (R.remaining input.old) conn result.1
+        (W.contents out.old) (W.contents out.new) result.0 }
+    ensures clean { HasCleanDisk (state S.Store result.1) → HasCleanDisk (state S.Store conn) }
+{
+    match order {
+        Order::Init { .. } => init_on(alloc, conn, out),
+        Order::Apply { .. } => apply_on(alloc, conn, input, out),
+        Order::Import { day, .. } => import_on(alloc, conn, *day, input, out),
+        Order::Export { register, .. } => export_on(alloc, conn, *register, out),
+        Order::Overdue { day, days, .. } => {
+            export_on(alloc, conn, Register::Overdue(*day, *days), out)
+        }
+        Order::Resume { .. } => resume_on(alloc, conn, out),
+        Order::Certificate { run, .. } => certificate_on(alloc, conn, *run, out),
+        Order::Due { .. } | Order::Plan { .. } | Order::Serve { .. } | Order::Nothing => {
+            (Ending::BadWords, conn)
+        }
+    }
+}
+
+/// Carries out an order over a connection to the office's file, outside a transaction: what it
+/// reads comes from `input`, what it answers goes to `out`, and the line of its ending to `err`. It
+/// gives the exit status, and the connection back. An order that is not carried out over a
+/// connection is no order here: status 2, with nothing done.
+pub fn run_on<R: Read, W: Write, E: Write, S: Alter>(
+    alloc: Global,
+    conn: Connection<S>,
+    order: &Order<'_>,
+    input: &mut R,
+    out: &mut W,
+    err: &mut E,
+) -> (u8, Connection<S>)
+    requires { conn.in_transaction ≡ false }
+    // The command is carried out, and the status is that of its ending.
+    ensures runs { Exits result.0 (RunEnds S.Store (command order.now) (R.remaining input.old) conn
+        result.1 (W.contents out.old) (W.contents out.new)) }
+
+    // A disk that is clean afterwards was clean before.
+    ensures clean { HasCleanDisk (state S.Store result.1) → HasCleanDisk (state S.Store conn) }
+{
+    let (ending, conn) = carry_out(alloc, conn, order, input, out);
+    let _ = report(ending, err);
+    (ending.status(), conn)
+}

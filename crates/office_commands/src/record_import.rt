@@ -1,0 +1,71 @@
+//! The records of a CSV file, at the office in a file.
+ghost use Rattle.std.specs.Prelude.{◌≡◌, false, option_map};
+ghost use Rattle.csv.specs.Reading.{strip_bom};
+ghost use Rattle.sqlite.specs.Held.{state};
+ghost use Rattle.sqlite.specs.State.{HasCleanDisk};
+ghost use Rattle.office_desk.specs.Outcomes.{FromEach};
+ghost use Rattle.office_commands.specs.Importing.{ImportEnds, ImportsAt, ending_of_import};
+
+use crate::ending::Ending;
+use office_days::Day;
+use office_desk::Desk;
+use office_wire::{ImportStop, import_records};
+use sqlite::{Alter, Connection};
+use std::alloc::Global;
+use std::io::{Read, Write};
+
+/// The ending of an import, of whose rows so many were refused.
+fn ending_of_import(done: Result<u64, ImportStop>) -> Ending
+    ensures { result ≡ ending_of_import done }
+{
+    match done {
+        Ok(0) => Ending::Done,
+        Ok(_) => Ending::SomeRefused,
+        Err(ImportStop::Header) => Ending::CsvHeader,
+        Err(ImportStop::Row(number)) => Ending::CsvRow(number),
+        Err(ImportStop::Fault(fault)) => Ending::Fault(fault),
+        Err(ImportStop::Io) => Ending::File,
+    }
+}
+
+/// Adds the records of a text at a desk.
+fn import_at<R: Read, W: Write, S: Alter>(
+    alloc: Global,
+    desk: &mut Desk<S>,
+    day: Day,
+    input: &mut R,
+    out: &mut W,
+) -> Ending
+    ensures done { ImportsAt (FromEach S.Store desk.old desk.new) day
+        (option_map strip_bom (R.remaining input.old)) (state S.Store desk.new.held)
+        (W.contents out.old) (W.contents out.new) result }
+    ensures clean { HasCleanDisk (state S.Store desk.new.held)
+        → HasCleanDisk (state S.Store desk.old.held) }
+{
+    ending_of_import(import_records(alloc, desk, day, input, out))
+}
+
+/// `import FILE DAY CSV` over a connection to the file; `input` is the text of CSV.
+pub fn import_on<R: Read, W: Write, S: Alter>(
+    alloc: Global,
+    conn: Connection<S>,
+    day: Day,
+    input: &mut R,
+    out: &mut W,
+) -> (Ending, Connection<S>)
+    requires { conn.in_transaction ≡ false }
+    // The records of the rows are added in order; or the ending says why not all of them.
+    ensures ends { ImportEnds day (R.remaining input.old) (state S.Store conn)
+        (state S.Store result.1) (W.contents out.old) (W.contents out.new) result.0 }
+
+    // A disk that is clean afterwards was clean before.
+    ensures clean { HasCleanDisk (state S.Store result.1) → HasCleanDisk (state S.Store conn) }
+{
+    match Desk::open(alloc, conn) {
+        Ok(mut desk) => {
+            let ending = import_at(alloc, &mut desk, day, input, out);
+            (ending, desk.close())
+        }
+        Err((fault, conn)) => (Ending::Fault(fault), conn),
+    }
+}

@@ -1,0 +1,100 @@
+//! The office in a file, served over TCP.
+ghost use Rattle.std.specs.Prelude.{◌≡◌, false};
+ghost use Rattle.sqlite_wal.specs.Files.{image_at};
+ghost use Rattle.sqlite.specs.Held.{state};
+ghost use Rattle.sqlite.specs.State.{HasCleanDisk};
+ghost use Rattle.office_commands.specs.Files.{ServesInFiles};
+ghost use Rattle.office_commands.specs.Serving.{ServesAt, ServiceEnds};
+
+use crate::command::report_listening;
+use crate::ending::Ending;
+use crate::office_files::{FilesLeft, close, law_of_the_last_commit};
+use office_desk::Desk;
+use office_store::Fault;
+use office_wire::{Routes, serve_each};
+use sqlite::{Alter, Connection, FileFrom, Start};
+use std::io::{Read, Write};
+use std::net::{OpenListener, OpenStream};
+
+/// Reports where an open office is served, and serves so many connections.
+fn serve_at<L: OpenListener, W: Write, E: Write, S: Alter>(
+    rt: &HostRuntime,
+    routes: &Routes,
+    listener: &L,
+    port: u16,
+    count: u32,
+    desk: &mut Desk<S>,
+    out: &mut W,
+    err: &mut E,
+) -> Ending
+where
+    L::Stream: Read + Write + OpenStream,
+    ensures { ServesAt S.Store port count desk.old desk.new (W.contents out.old)
+        (W.contents out.new) result }
+{
+    match report_listening(port, out) {
+        Ok(()) => {
+            let service = serve_each(rt.alloc(), routes, listener, rt, count, desk, err);
+            Ending::of_service(service.has_failed, service.is_poisoned)
+        }
+        Err(_) => Ending::File,
+    }
+}
+
+/// `serve FILE PORT COUNT` over a connection to the file.
+fn serve_on<L: OpenListener, W: Write, E: Write, S: Alter>(
+    rt: &HostRuntime,
+    routes: &Routes,
+    listener: &L,
+    port: u16,
+    count: u32,
+    conn: Connection<S>,
+    out: &mut W,
+    err: &mut E,
+) -> (Ending, Connection<S>)
+where
+    L::Stream: Read + Write + OpenStream,
+    requires { conn.in_transaction ≡ false }
+    ensures ends { ServiceEnds S.Store port count conn result.1 (W.contents out.old)
+        (W.contents out.new) result.0 }
+    ensures clean { HasCleanDisk (state S.Store result.1) → HasCleanDisk (state S.Store conn) }
+{
+    match Desk::open(rt.alloc(), conn) {
+        Ok(mut desk) => {
+            let ending = serve_at(rt, routes, listener, port, count, &mut desk, out, err);
+            (ending, desk.close())
+        }
+        Err((fault, conn)) => (Ending::Fault(fault), conn),
+    }
+}
+
+/// Opens the office's file, which is made where there is none, reports on `out` where it is served,
+/// serves so many connections of a listener, and closes the file. It gives how that ends, which is
+/// not reported yet, and what is left of the file, as [`crate::open_and_run`] does. The listener is
+/// bound to that port of this machine.
+pub fn open_and_serve<L: OpenListener, S: Start, W: Write, E: Write>(
+    rt: &HostRuntime,
+    routes: &Routes,
+    listener: &L,
+    port: u16,
+    count: u32,
+    file: &str,
+    start: S,
+    out: &mut W,
+    err: &mut E,
+) -> (Ending, FilesLeft<FileFrom<S>>)
+where
+    L::Stream: Read + Write + OpenStream,
+    ensures { ServesInFiles result.1 (image_at S.Start) port count (W.contents out.old)
+        (W.contents out.new) result.0 }
+{
+    match Connection::open_from(rt, file, false, start) {
+        Ok(conn) => {
+            law_of_the_last_commit(&conn);
+            let (ending, conn) = serve_on(rt, routes, listener, port, count, conn, out, err);
+            law_of_the_last_commit(&conn);
+            (ending, close(conn))
+        }
+        Err((_, left)) => (Ending::Fault(Fault::Store), FilesLeft::Unopened(left)),
+    }
+}

@@ -1,5 +1,0 @@
-use Rattle.office_rules.proofs.KeptHolds.{kept_step}
-use Rattle.office_rules.proofs.laws.lasting.law_of_lasting_holds.Goals as goal
-
-pub returns : goal.returns
-returns c = record { step = kept_step }

@@ -1,5 +1,0 @@
-use Rattle.office_rules.proofs.Refused.{answered, least}
-use Rattle.office_rules.proofs.laws.refusing.law_of_the_least_refusal.Goals as goal
-
-pub returns : goal.returns
-returns c = record { least = least; answered = answered }

@@ -1,5 +1,0 @@
-use Rattle.office_rules.proofs.Repeating.{reported_again, reported_each}
-use Rattle.office_rules.proofs.laws.repeating.law_of_repeated_records.Goals as goal
-
-pub returns : goal.returns
-returns c = record { reported = reported_again; again = reported_each }

@@ -1,5 +1,0 @@
-use Rattle.office_rules.proofs.Listing.{listed_aggregations, spent_by_number}
-use Rattle.office_rules.proofs.laws.running.law_of_listed_aggregations.Goals as goal
-
-pub returns : goal.returns
-returns c = record { these = listed_aggregations; by_number = spent_by_number }

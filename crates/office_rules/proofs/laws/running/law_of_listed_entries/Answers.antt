@@ -1,5 +1,0 @@
-use Rattle.office_rules.proofs.Listing.{listed_entries, listed_by_number}
-use Rattle.office_rules.proofs.laws.running.law_of_listed_entries.Goals as goal
-
-pub returns : goal.returns
-returns c = record { these = listed_entries; by_number = listed_by_number }

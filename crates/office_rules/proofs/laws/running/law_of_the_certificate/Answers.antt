@@ -1,5 +1,0 @@
-use Rattle.office_rules.proofs.Certifying.{certificate_stored, other_certificates}
-use Rattle.office_rules.proofs.laws.running.law_of_the_certificate.Goals as goal
-
-pub returns : goal.returns
-returns c = record { closed = certificate_stored; others = other_certificates }

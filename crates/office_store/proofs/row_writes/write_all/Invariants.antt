@@ -1,0 +1,12 @@
+use Rattle.std.proofs.Common.{◌≡◌, take}
+use Rattle.sqlite.specs.Held.{state}
+use Rattle.office_sql.specs.Editions.{version_2}
+use Rattle.office_sql.proofs.Inside.{HasGone}
+use Rattle.office_store.specs.Written.{AreWritten}
+use Rattle.office_store.proofs.row_writes.write_all.Given as goal
+
+abbrev pub invariant-loop-at : goal.invariant-loop-at
+invariant-loop-at g l = record {
+  same_reference : l.tx.conn.ghost_name ≡ l.initial.tx.conn.ghost_name;
+  gone : HasGone version_2 (AreWritten (take l.at l.writes)) (state g.S.Store l.initial.tx.conn.now) (state g.S.Store l.tx.conn.now);
+}

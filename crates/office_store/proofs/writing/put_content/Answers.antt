@@ -1,8 +1,0 @@
-use Rattle.std.proofs.Common.{rules}
-use Rattle.office_sql.specs.declared.tables.OfficeTable.TheVariants as table
-use Rattle.office_sql.proofs.Columns.{given_columns}
-use Rattle.office_sql.proofs.SuitedShown.{content_suits, puts_as}
-use Rattle.office_store.proofs.writing.put_content.Goals as goal
-
-pub returns-clause-written : goal.returns-clause-written
-returns-clause-written g c = puts_as table.Contents (content_suits _ _) (search (rules, given_columns) depth 14) c.put.ensures.put

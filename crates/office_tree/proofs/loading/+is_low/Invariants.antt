@@ -1,4 +1,0 @@
-use Rattle.office_tree.proofs.loading.+is_low.Given as goal
-
-abbrev pub decreases-is_low : goal.decreases-is_low
-decreases-is_low l = l.steps

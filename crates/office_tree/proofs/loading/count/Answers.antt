@@ -1,6 +1,0 @@
-use Rattle.std.proofs.Common.{◌∙◌, sym}
-use Rattle.office_records.proofs.Maps.{len_is}
-use Rattle.office_tree.proofs.loading.count.Goals as goal
-
-pub returns : goal.returns
-returns g c = c.len.ensures.len ∙ sym (len_is c.args.things.now.entries c.len.ensures.ordered)

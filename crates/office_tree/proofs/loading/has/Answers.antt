@@ -1,6 +1,0 @@
-use Rattle.std.proofs.Common.{◌∙◌, sym}
-use Rattle.office_records.proofs.Plan.{contains_is}
-use Rattle.office_tree.proofs.loading.has.Goals as goal
-
-pub returns : goal.returns
-returns g c = c.contains_key.ensures ∙ sym (contains_is c.args.things.now.entries c.args.code.now)
