@@ -50,6 +50,12 @@ export const getNewest = (path) => read(path, { "Office-Read": "newest" });
 /** Asks for nothing but the answer's Date, which is heard (clock.js). */
 export const askTime = () => ask("web/icon.svg", "HEAD");
 
+/** The reason that somebody wrote, for the journal of a gate; percent signs make it a line of a head. */
+function reasonLine() {
+  const text = document.getElementById("office-reason")?.value.trim();
+  return text ? { "Office-Reason": encodeURIComponent(text) } : {};
+}
+
 /**
  * Sends a request that acts, with a key of its own: the same key again if the same is sent after an answer was lost.
  * @param {string} path
@@ -59,7 +65,7 @@ export const askTime = () => ask("web/icon.svg", "HEAD");
 export async function post(path, body, seen = "") {
   const sent = JSON.stringify([path, body ?? "", seen]);
   const key = keyFor(sent);
-  const answer = await ask(path, "POST", body, { "Idempotency-Key": key });
+  const answer = await ask(path, "POST", body, { "Idempotency-Key": key, ...reasonLine() });
   note(sent, key, answer.status);
   return answer;
 }
