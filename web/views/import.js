@@ -190,7 +190,7 @@ async function take([file], folders = []) {
   await findKind();
   const days = recall();
   refresh();
-  documentsChosen();
+  if (sheet.options.documents) documentsChosen();
   const order = t(`import.orders.${days}`);
   if (days && sheet.found) say(place, "unknown", paragraph(t("import.recalledDays", { order })));
 }
